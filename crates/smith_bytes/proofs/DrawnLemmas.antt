@@ -1,4 +1,4 @@
--- A number that is drawn is in its range.
+-- A drawn number is in its range.
 use Rattle.std.proofs.Common.{ℕ, ◌+◌, ◌-◌, ◌≤◌, List, take, arith}
 use Rattle.std.proofs.lemmas.Nat.{mod_below}
 use Rattle.smith_bytes.specs.Draws.{range_at, big_endian, digit_count}

@@ -1,4 +1,4 @@
--- Numbers of few base-256 digits.
+-- Numbers with few base-256 digits.
 use Rattle.std.proofs.Common.{◌≡◌, ℕ, zero, refl, ◌+◌, ◌-◌, ◌*◌, ◌<◌, ◌≤◌, ◌^◌, suc, fold, List, [], ◌∷◌, length, take, drop, get_or, arith, sym, ap, ◌∙◌, add-one, length-take, length-drop}
 use Rattle.std.proofs.Math.Nat.{pow-succ', pow-le-pow_right}
 use Rattle.std.proofs.Math.Seq.{take-suc, drop-cons}
@@ -6,11 +6,11 @@ use Rattle.std.proofs.lemmas.List.Sums.{fold-append}
 use Rattle.std.proofs.lemmas.List.{take-append-drop}
 use Rattle.smith_bytes.specs.Draws.{big_endian, little_endian}
 
--- a number with one digit more
+-- the bound of a number after one more digit
 pub digit_more : (k number digit : ℕ) → number < 256 ^ k → digit < 256 → 256 * number + digit < 256 ^ (k + 1)
 digit_more k number digit fits small = rw (add-one, pow-succ') (omega arith)
 
--- eight digits fit 64 bits
+-- eight digits fit in 64 bits
 pub digit_fits : (k number digit : ℕ) → number < 256 ^ k → digit < 256 → k < 8 → 256 * number + digit < 2 ^ 64
 digit_fits k number digit fits small few =
     let room : k + 1 ≤ 8 = omega arith in
@@ -28,14 +28,14 @@ little_endian_more digits k i number digit next within is here =
     let all : little_endian (drop k digits) ≡ get_or digits k 0 + 256 * little_endian (drop i digits) = ap little_endian front in
     omega arith
 
--- a front of n digits
+-- a prefix of n digits
 pub front_fits : (digits : List ℕ) (n number : ℕ) → number < 256 ^ length (take n digits) → number < 256 ^ n
 front_fits digits n number fits =
     let few : length (take n digits) ≤ n = omega (arith, length-take n digits) in
     let top : 256 ^ length (take n digits) ≤ 256 ^ n = pow-le-pow_right {n = 256} (omega arith) few in
     omega arith
 
--- digits behind a number
+-- digits after a number
 read_behind : (number : ℕ) (digits : List ℕ) → fold (λ x b. 256 * x + b) number digits ≡ number * 256 ^ length digits + big_endian digits
 read_behind number [] = omega arith
 read_behind number (digit ∷ digits) =
@@ -44,7 +44,7 @@ read_behind number (digit ∷ digits) =
     omega (arith, read_behind (256 * number + digit) digits, read_behind (256 * 0 + digit) digits) in
     rw size all
 
--- the digits before the last eight, and the last eight digits
+-- a number split into the digits before the last eight and the last eight
 pub big_endian_halves : (digits : List ℕ) (k : ℕ) → k ≡ length digits - 8 → big_endian digits ≡ big_endian (take k digits) * 2 ^ 64 + big_endian (drop k digits)
 big_endian_halves digits zero is = omega arith
 big_endian_halves digits (suc k) is =

@@ -3,7 +3,7 @@ use Rattle.std.proofs.Common.{◌≡◌, ℕ, suc, ◌-◌, ◌+◌, ◌≤◌, 
 use Rattle.smith_bytes.specs.Source.{KeepsPieces}
 use Rattle.smith_bytes.specs.Growth.{goes_at, grow_at}
 
--- the list has n items, and what is drawn from here on completes the whole
+-- the list has n items, and the remaining draws complete it to total
 pub record IsGrowing {A : Type 0} (draw : List A → List ℕ → A × List ℕ) (least most n : ℕ) (made : List A) (start bytes : List ℕ) (total : List A × List ℕ) : Type 0 where
   pub len : length made ≡ n
   pub so_far : grow_at draw least (most - n) made bytes ≡ total

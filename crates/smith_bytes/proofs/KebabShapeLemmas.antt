@@ -1,4 +1,4 @@
--- A kebab name has its shape, also with digits behind it.
+-- A kebab name satisfies IsKebab, also with digits appended.
 use Rattle.std.proofs.Common.{◌≡◌, ◌≤◌, ◌<◌, ◌⊎◌, inl, inr, ℕ, zero, suc, ◌+◌, ◌-◌, ◌/◌, ◌%◌, ◌||◌, Bool, true, false, eqb, ltb, List, [], ◌∷◌, ◌++◌, length, get_or, refl, sym, ◌∙◌, arith, below_more, length-append, append_assoc, min, All, subst}
 use Rattle.std.proofs.lemmas.List.{get_or_push, get_or_past, append-nil}
 use Rattle.std.proofs.lemmas.List.Elements.{All-nil, All-cons, All-head, All-tail}
@@ -15,7 +15,7 @@ use Rattle.smith_bytes.proofs.DrawnLemmas.{range_within}
 use Rattle.smith_bytes.proofs.GrownLemmas.{cond_both}
 use Rattle.smith_bytes.specs.Kebab.{dash, letter, is_open, character, character_at, characters_at, closed, kebab_at, IsLetter, IsDigit, IsLetterOrDigit, IsKebab}
 
--- what may stand next in a name
+-- c may follow name in a kebab name
 pub record IsNext (name : List ℕ) (c : ℕ) : Type 0 where
   pub first : length name ≡ 0 → IsLetter c
   pub allowed : IsLetterOrDigit c ⊎ (c ≡ dash)
@@ -53,7 +53,7 @@ next_by name n false false empty false few l m e o =
 pub character_next : (name : List ℕ) (n : ℕ) → n ≤ 36 → IsNext name (character name n)
 character_next name n few = next_by name n (ltb n 26) (ltb n 36) (eqb (length name) 0) (is_open name) few refl refl refl refl
 
--- the front of a name, which may still end in a dash
+-- a prefix of a kebab name, which may end in a dash
 pub record IsFront (name : List ℕ) : Type 0 where
   pub starts : 0 < length name → IsLetter (get_or name 0 0)
   pub characters : (i : ℕ) → i < length name → IsLetterOrDigit (get_or name i 0) ⊎ (get_or name i 0 ≡ dash)
@@ -66,7 +66,7 @@ starts_push : (name : List ℕ) (c : ℕ) → IsFront name → IsNext name c →
 starts_push [] c front next = next.first refl
 starts_push (d ∷ name) c front next = front.starts (omega arith)
 
--- by the test whether the dash at i stood before the last character
+-- by cases on whether the dash at i was before the last character
 dashes_push : (name : List ℕ) (c i : ℕ) (b : Bool) → IsFront name → IsNext name c → ltb (i + 1) (length name) ≡ b → i < length name → get_or (name ++ c ∷ []) i 0 ≡ dash → IsLetterOrDigit (get_or (name ++ c ∷ []) (i + 1) 0)
 dashes_push name c i true front next inside below is =
     let later = ltb-true (i + 1) (length name) inside in
@@ -84,7 +84,7 @@ front_push name c front next = record {
   dashes = λ i below. dashes_push name c i (ltb (i + 1) (length name)) front next refl (omega (arith, length-append name (c ∷ [])));
 }
 
--- by the test whether i is the last place, or past it
+-- by cases on whether i is the last index or past it
 last_dash : {P : Type 0} (name : List ℕ) (i : ℕ) (b : Bool) → length name ≤ i + 1 → (get_or name (length name - 1) 0 ≡ dash → ⊥) → ltb i (length name) ≡ b → get_or name i 0 ≡ dash → P
 last_dash name i true over shut inside is =
     let below = ltb-true i (length name) inside in
@@ -92,14 +92,14 @@ last_dash name i true over shut inside is =
     absurd (shut (rw last is))
 last_dash name i false over shut inside is = absurd (omega (arith, get_or_past name i 0 (ltb-false i (length name) inside), is))
 
--- by the test whether the dash at i stands before the last character
+-- by cases on whether the dash at i is before the last character
 dashes_within : (name : List ℕ) (i : ℕ) (b : Bool) → IsFront name → (get_or name (length name - 1) 0 ≡ dash → ⊥) → ltb (i + 1) (length name) ≡ b → get_or name i 0 ≡ dash → IsLetterOrDigit (get_or name (i + 1) 0)
 dashes_within name i true front shut inside is = front.dashes i (ltb-true (i + 1) (length name) inside) is
 dashes_within name i false front shut inside is =
     let over = ltb-false (i + 1) (length name) inside in
     last_dash name i (ltb i (length name)) over shut refl is
 
--- a front that doesn't end in a dash is a name
+-- a prefix that does not end in a dash is a kebab name
 pub kebab_front : (name : List ℕ) → IsFront name → 0 < length name → (get_or name (length name - 1) 0 ≡ dash → ⊥) → IsKebab name
 kebab_front name front some shut = record { starts = front.starts some; characters = front.characters; dashes = λ i. dashes_within name i (ltb (i + 1) (length name)) front shut refl }
 
@@ -107,7 +107,7 @@ not_dash : (c : ℕ) → IsLetterOrDigit c → c ≡ dash → ⊥
 not_dash c (inl l) is = omega arith
 not_dash c (inr d) is = omega arith
 
--- with a letter or a digit behind it a front is a name
+-- a prefix with a letter or a digit appended is a kebab name
 kebab_plain : (name : List ℕ) (c : ℕ) → IsFront name → IsNext name c → IsLetterOrDigit c → IsKebab (name ++ c ∷ [])
 kebab_plain name c front next plain =
     let len = length-append name (c ∷ []) in
@@ -122,13 +122,13 @@ kebab_push name c k plain = kebab_plain name c
     (record { starts = λ _. k.starts; characters = k.characters; dashes = λ i _. k.dashes i })
     (record { first = λ none. absurd (kebab_some name k none); allowed = inl plain; after_dash = λ _. plain }) plain
 
--- a name with digits behind it
+-- a kebab name with digits appended is one
 kebab_digits : (name ds : List ℕ) → IsKebab name → All IsDigit ds → IsKebab (name ++ ds)
 kebab_digits name [] k each = rw append-nil k
 kebab_digits name (d ∷ ds) k each =
     rw (← append_assoc name (d ∷ []) ds) (kebab_digits (name ++ d ∷ []) ds (kebab_push name d k (inr (All-head IsDigit d ds each))) (All-tail IsDigit d ds each))
 
--- the digits of a number are digits
+-- the decimal digits of a number are digits
 digit_below : (d : ℕ) → d < 10 → IsDigit (digit_glyph false d)
 digit_below d below = rw (lt-ltb d 10 below) (omega arith, omega arith)
 
@@ -155,7 +155,7 @@ characters_front (suc n) name bytes front =
     let c = character name k.0 in
     characters_front n (name ++ c ∷ []) k.1 (front_push name c front (character_next name k.0 (range_within 0 36 bytes (omega arith))))
 
--- by the test whether the front can't end
+-- by cases on whether the prefix cannot end
 closed_kebab : (name : List ℕ) (b : Bool) → is_open name ≡ b → IsFront name → IsKebab (closed name)
 closed_kebab name true opened front =
     let a : IsLetter (letter 0) = (omega arith, omega arith) in
@@ -169,7 +169,7 @@ kebab_shape max_size bytes =
     let name = (characters_at (min size.0 max_size) [] size.1).0 in
     closed_kebab name (is_open name) refl (characters_front (min size.0 max_size) [] size.1 front_none)
 
--- a kebab name that was made new
+-- a kebab name that was made new is a kebab name
 pub kebab_new : {S : Type 0} (names : HashSet (String Global) S) (max_size : ℕ) (bytes text rest name : List ℕ) → kebab_at max_size bytes ≡ (text, rest) → IsMadeNew names text name → IsKebab name
 kebab_new names max_size bytes text rest name drawn new =
     let shape : IsKebab text = subst (λ (r : List ℕ × List ℕ). IsKebab r.0) drawn (kebab_shape max_size bytes) in

@@ -1,4 +1,4 @@
--- A name that is made new grows at each turn, and is new once it is longer than each name there is.
+-- A name that is being made new grows at each turn, and is new once it is longer than every name in the set.
 use Rattle.std.proofs.Common.{◌≡◌, ℕ, suc, ◌+◌, ◌≤◌, ◌<◌, Bool, true, false, List, [], ◌∷◌, ◌++◌, length, max, refl, sym, ap, ◌||◌, not, ◌∙◌, arith, below_more, string_bytes}
 use Rattle.std.specs.Prelude.{if◌then◌else◌}
 use Rattle.std.specs.Str.{bytes_eq}
@@ -15,7 +15,7 @@ abbrev pub longest : List (String Global) → ℕ
 longest [] = 0
 longest (name ∷ names) = max (length (string_bytes name)) (longest names)
 
--- a text that is among the names is no longer than the longest, by the test on the first name
+-- a text that is in the names is no longer than the longest, by cases on the first name
 short_by : (text : List ℕ) (name : String Global) (names : List (String Global)) (b : Bool) → bytes_eq text (string_bytes name) ≡ b → (b || list_any (λ k. bytes_eq text (string_bytes k)) names) ≡ true
     → (list_any (λ k. bytes_eq text (string_bytes k)) names ≡ true → length text ≤ longest names) → length text ≤ longest (name ∷ names)
 short_by text name names true same there later = omega (arith, ap length ((bytes_eq-Decides text (string_bytes name)).0 same))
@@ -25,7 +25,7 @@ pub present_short : (text : List ℕ) (names : List (String Global)) → list_an
 present_short text [] there = absurd cc
 present_short text (name ∷ names) there = short_by text name names (bytes_eq text (string_bytes name)) refl there (present_short text names)
 
--- name is the text with some copies behind it, and with fewer it was not new
+-- name is the text followed by some copies, and with fewer copies it was not new
 pub record IsMaking {S : Type 0} (names : HashSet (String Global) S) (text name : List ℕ) : Type 0 where
   pub copies : ℕ
   pub made : name ≡ with_copies text (decimal (hash_set_len names)) copies
@@ -51,7 +51,7 @@ no_sooner {names = names} {first = first} a b sooner =
     let there : contains_text names first ≡ true = rw a.made (b.needed a.copies sooner) in
     cc (sym a.fresh ∙ there)
 
--- a text is made new in one way
+-- a text is made new in only one way
 pub new_alone : {S : Type 0} {names : HashSet (String Global) S} {text first second : List ℕ} → IsMadeNew names text first → IsMadeNew names text second → first ≡ second
 new_alone a b =
     let not_before = no_sooner a b in
@@ -59,6 +59,6 @@ new_alone a b =
     let same : a.copies ≡ b.copies = omega arith in
     a.made ∙ (rw same (sym b.made))
 
--- the size of a set to which what was not there was added
+-- the size of a set after an element that it did not have was added
 pub added_size : {added there : Bool} (old new : ℕ) → new ≡ old + (if added then 1 else 0) → added ≡ not there → there ≡ false → new ≡ old + 1
 added_size old new size is fresh = size ∙ rw (is, fresh) refl

@@ -13,7 +13,7 @@ piece_then {a = a} {b = b} {c = c} p q = record {
   parts = p.parts ∙ ap (λ (x : List ℕ). p.before ++ (x ++ p.after)) q.parts ∙ simp append_assoc;
 }
 
--- what stands behind the first n bytes
+-- the bytes after the first n
 pub piece_drop : (n : ℕ) (bytes : List ℕ) → IsPiece bytes (drop n bytes)
 piece_drop n bytes = record { before = take n bytes; after = []; parts = rw (append-nil, take-append-drop) refl }
 

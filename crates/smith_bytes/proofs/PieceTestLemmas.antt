@@ -1,16 +1,16 @@
--- A test whether bytes have a piece.
+-- A test whether bytes contain a piece.
 use Rattle.std.proofs.Common.{◌≡◌, ℕ, Bool, true, false, ◌&&◌, ◌||◌, nat_eq, List, [], ◌∷◌, ◌++◌, refl, ap, ◌∙◌}
 use Rattle.std.proofs.Math.Bool.{or-true}
 use Rattle.std.proofs.lemmas.Bool.{eq-eqb}
 use Rattle.smith_bytes.specs.Source.{IsPiece}
 
--- whether the bytes begin with the piece
+-- whether the bytes start with the piece
 abbrev pub begins : List ℕ → List ℕ → Bool
 begins bytes [] = true
 begins [] (p ∷ piece) = false
 begins (b ∷ bytes) (p ∷ piece) = nat_eq b p && begins bytes piece
 
--- whether the bytes from some place on begin with the piece
+-- whether the piece occurs at some position
 abbrev pub has : List ℕ → List ℕ → Bool
 has [] piece = begins [] piece
 has (b ∷ bytes) piece = begins (b ∷ bytes) piece || has bytes piece

@@ -1,4 +1,4 @@
--- A source that begins with a piece gives what the piece spells, and leaves what follows.
+-- From a source that starts with a piece, a draw returns the value that the piece spells and leaves the bytes after it.
 use Rattle.std.proofs.Common.{◌≡◌, ℕ, zero, suc, ◌+◌, ◌-◌, ◌<◌, Bool, true, false, List, [], ◌∷◌, ◌++◌, length, take, drop, refl, sym, ap, ◌∙◌, arith, append_assoc, length-append}
 use Rattle.std.specs.List.{AllByRecursion as ByRecursion}
 use Rattle.std.proofs.lemmas.Bool.{le-ltb, lt-ltb, lt-leb}
@@ -10,7 +10,7 @@ use Rattle.smith_bytes.specs.Spelling.{SpellsBool, SpellsNumber, SpellsRefusal, 
 use Rattle.smith_bytes.specs.ReadLaws.{ReadsEach}
 use Rattle.smith_bytes.specs.Takes.{Takes, SpellsSuch}
 
--- what follows a joined piece, by its parts
+-- the bytes after a joined piece, by its parts
 pub joined_parts : {First Second : List ℕ → Type 0} {piece : List ℕ} (h : Joined First Second piece) (after : List ℕ) → piece ++ after ≡ h.first ++ (h.second ++ after)
 joined_parts h after = rw h.whole (append_assoc h.first h.second after)
 
@@ -63,7 +63,7 @@ each_read Item draw least made (x ∷ xs) piece after each enough h =
     rw (joined_parts h after, lt-ltb (length made) least few, each made x h.first (h.second ++ after) h.is_first)
     (again ∙ ap (λ (l : List _). (l, after)) (append_assoc made (x ∷ []) xs))
 
--- each item of a spelled list, of items for which this holds
+-- each item of a spelled list is spelled and satisfies Holds
 pub listed_such : {A : Type 0} (Holds : A → Type 0) (Item : A → List ℕ → Type 0) (most : ℕ) (xs : List A) (piece : List ℕ) → ByRecursion Holds xs → Listed Item most xs piece → Listed (SpellsSuch Holds Item) most xs piece
 unfolding Listed
 listed_such Holds Item zero [] piece all h = h

@@ -1,4 +1,4 @@
--- What a part of some bytes tells of the longest front of all that is UTF-8.
+-- Bounds of the longest UTF-8 prefix of some bytes, from a part of them.
 use Rattle.std.proofs.Common.{◌≡◌, ℕ, zero, suc, ◌+◌, ◌-◌, ◌<◌, ◌≤◌, Bool, true, false, cond, List, [], ◌∷◌, length, take, drop, get_or, IsUtf8, subst, sym, ap, ◌∙◌, refl, arith, length-take, length-drop, length-append, take-take}
 use Rattle.std.specs.Str.{IsCharBoundary, all_scalars, encode_utf8_all, is_utf8}
 use Rattle.std.specs.Str.Lossy.{valid_len_up_to, utf8_valid_len}
@@ -10,7 +10,7 @@ use Rattle.std.proofs.Math.Logic.{⊎_elim}
 use Rattle.std.proofs.Math.Seq.{take-append_seam}
 use Rattle.simdutf8.proofs.Parts.{front_and_part, rest_of_whole}
 
--- the first n bytes are text, and no longer front of at most `most` bytes is
+-- the first n bytes are UTF-8, and no longer prefix of at most `most` bytes is
 record IsLongestFront (bs : List ℕ) (most n : ℕ) : Type 0 where
   pub front : IsUtf8 (take n bs)
   pub longest : (m : ℕ) → n < m → m ≤ most → ¬ (IsUtf8 (take m bs))
@@ -40,7 +40,7 @@ unfolding utf8_valid_len
 valid_len_longest bs n within text =
     ⊎_elim (λ more. absurd ((longest_front bs (length bs)).longest n more within text)) (λ most. most) (cases_lt (utf8_valid_len bs) n)
 
--- a text that is not empty begins with a character, which takes at most four bytes
+-- a UTF-8 text that is not empty starts with a character of at most four bytes
 record BeginsWithText (bs : List ℕ) : Type 0 where
   pub size : ℕ
   pub some : 0 < size
@@ -67,7 +67,7 @@ longer_text bs n m size some within front part =
     let begun = subst IsUtf8 (sym (take-take n m bs (omega arith))) front in
     subst IsUtf8 (take-take (n + size) m bs within) (front_and_part (take m bs) n some begun size part)
 
--- where the first n bytes are text, and the first m of which there are more, there is a text of at most one character more
+-- if the first n bytes and the first m > n bytes are UTF-8, some UTF-8 prefix is longer than n by at most one character
 record ReachesFurther (bs : List ℕ) (n m : ℕ) : Type 0 where
   pub to : ℕ
   pub further : n < to
@@ -98,7 +98,7 @@ part_longest : (bs : List ℕ) (part n : ℕ) → part ≤ length bs → n ≤ p
 part_longest bs part n within inside text =
     valid_len_longest (take part bs) n (omega (arith, length-take part bs)) (subst IsUtf8 (sym (take-take n part bs inside)) text)
 
--- where the longest front ends within a part at the front, it is that of the part
+-- if the longest UTF-8 prefix ends within a prefix of the bytes, the longest UTF-8 prefix of that part is the same
 pub valid_len_by_part : (bs : List ℕ) (part : ℕ) → part ≤ length bs → utf8_valid_len bs ≤ part → utf8_valid_len bs ≡ utf8_valid_len (take part bs)
 valid_len_by_part bs part within inside =
     let most = utf8_valid_len_le (take part bs) in
@@ -106,7 +106,7 @@ valid_len_by_part bs part within inside =
     let down = valid_len_longest bs (utf8_valid_len (take part bs)) (omega (arith, length-take part bs)) (part_text bs part within) in
     omega arith
 
--- where a whole character would still have room behind the longest front of the window, no text reaches beyond the window
+-- if a whole character still fits after the longest UTF-8 prefix of the window, no UTF-8 prefix extends beyond the window
 pub valid_len_by_window : (bs : List ℕ) (window : ℕ) → window ≤ length bs → utf8_valid_len (take window bs) + 4 ≤ window → utf8_valid_len bs ≤ window
 valid_len_by_window bs window within room =
     let n = utf8_valid_len (take window bs) in
@@ -120,7 +120,7 @@ valid_len_by_window bs window within room =
     (λ done. done)
     (cases_lt window m)
 
--- from a place where a character begins, if any stands there, the longest front of what follows tells how far text may reach
+-- from a position where a character starts, or the end, the longest UTF-8 prefix of the rest bounds that of all bytes
 pub valid_len_by_rest : (bs : List ℕ) (start : ℕ) → start ≤ length bs → (start < length bs → 192 ≤ get_or bs start 0) → utf8_valid_len bs ≤ start + utf8_valid_len (drop start bs)
 valid_len_by_rest bs start within begins =
     let m = utf8_valid_len bs in

@@ -1,48 +1,49 @@
--- What each draw gives, and the bytes that it leaves. Past the end of the source a draw reads zeros.
+-- Each draw as a function of the bytes of the source: the value drawn, and the remaining bytes. Past the end a draw reads
+-- zeros.
 use Rattle.std.specs.Prelude.{ℕ, zero, suc, ◌+◌, ◌-◌, ◌*◌, ◌/◌, ◌%◌, ◌^◌, ◌==◌, Bool, List, [], ◌∷◌, take, drop, fold, length, nat_le, if◌then◌else◌, slice_index, slice_get, Option}
 
--- the number whose base-256 digits these are, the lowest first
+-- the number with these base-256 digits, least significant first
 abbrev pub little_endian : List ℕ → ℕ
 little_endian [] = 0
 little_endian (b ∷ bs) = b + 256 * little_endian bs
 
--- the number whose base-256 digits these are, the highest first
+-- the number with these base-256 digits, most significant first
 abbrev pub big_endian : List ℕ → ℕ
 big_endian = fold (λ x b. 256 * x + b) 0
 
--- how many base-256 digits a number has, none for zero, looking at no more than n of them
+-- the number of base-256 digits of d, at most n; 0 for zero
 abbrev pub digit_count_within : ℕ → ℕ → ℕ
 digit_count_within zero d = 0
 digit_count_within (suc n) zero = 0
 digit_count_within (suc n) (suc d) = 1 + digit_count_within n (suc d / 256)
 
--- how many base-256 digits a number below 2^128 has, none for zero
+-- the number of base-256 digits of a number below 2^128; 0 for zero
 unfoldable pub digit_count : ℕ → ℕ
 digit_count d = digit_count_within 16 d
 
--- a whole number of n bytes: up to n bytes, the lowest first, missing ones 0
+-- a whole number of n bytes, least significant byte first; missing bytes are 0
 unfoldable pub whole_at : ℕ → List ℕ → ℕ × List ℕ
 whole_at n bytes = (little_endian (take n bytes), drop n bytes)
 
--- a bool: one byte, of which the lowest bit counts
+-- a bool: the lowest bit of one byte
 unfoldable pub bool_at : List ℕ → Bool × List ℕ
 bool_at bytes = (slice_index bytes 0 % 2 == 1, drop 1 bytes)
 
--- a number of lo to hi: as many bytes as hi - lo has digits, the highest first
+-- a number in lo..=hi, from as many bytes as hi - lo has digits, most significant byte first
 unfoldable pub range_at : ℕ → ℕ → List ℕ → ℕ × List ℕ
 range_at lo hi bytes =
     let n = digit_count (hi - lo) in
     (lo + big_endian (take n bytes) % (hi - lo + 1), drop n bytes)
 
--- true n times of m: a number of 1 to m is at most n
+-- true with probability n in m: a number drawn in 1..=m is at most n
 unfoldable pub ratio_at : ℕ → ℕ → List ℕ → Bool × List ℕ
 ratio_at n m bytes = let drawn = range_at 1 m bytes in (nat_le drawn.0 n, drawn.1)
 
--- the item at a drawn place, none of an empty list
+-- the item at a drawn index, or none if the list is empty
 unfoldable pub choose_at : {A : Type 0} → List A → List ℕ → Option A × List ℕ
 choose_at items bytes = let place = range_at 0 (length items - 1) bytes in (slice_get items place.0, place.1)
 
--- how many bytes at the end of n bytes tell a length
+-- the number of bytes at the end of n bytes that encode a length
 abbrev pub length_size : ℕ → ℕ
 length_size n =
     if n == 0 then 0
@@ -51,7 +52,7 @@ length_size n =
     else if nat_le n (2 ^ 32 + 3) then 4
     else 8
 
--- a length: it is at most the number of bytes that are left when those that tell it are taken from the end
+-- a length, encoded by bytes at the end; at most the number of bytes that remain without them
 unfoldable pub len_at : List ℕ → ℕ × List ℕ
 len_at bytes =
     let most = length bytes - length_size (length bytes) in

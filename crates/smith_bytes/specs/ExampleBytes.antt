@@ -1,4 +1,4 @@
--- Bytes and names that the examples speak of.
+-- Bytes and names used by the examples.
 use Rattle.std.specs.Prelude.{◌≡◌, ℕ, List, length}
 use Rattle.std.specs.List.{list_any}
 use Rattle.std.specs.Str.{bytes_eq}
@@ -8,15 +8,15 @@ use Rattle.std.specs.declared.alloc.Global.{Global}
 use Rattle.smith_bytes.specs.Draws.{whole_at}
 use Rattle.smith_bytes.specs.Spelling.{SpellsNumber}
 
--- one byte more, whatever there is
+-- a draw of one byte, whatever the items before it
 abbrev pub any_byte : List ℕ → List ℕ → ℕ × List ℕ
 any_byte made = whole_at 1
 
--- a number of 0 to 255
+-- a number in 0..=255
 abbrev pub SpellsByte : ℕ → List ℕ → Type 0
 SpellsByte value = SpellsNumber value 0 255
 
--- a set has these names, and no others
+-- the set has exactly these names
 pub record HasNames {S : Type 0} (names : HashSet (String Global) S) (texts : List (List ℕ)) : Type 0 where
   pub count : hash_set_len names ≡ length texts
   pub has : (other : List ℕ) → contains_text names other ≡ list_any (λ text. bytes_eq text other) texts

@@ -1,13 +1,13 @@
--- Lists that grow by draws.
+-- Lists grown by draws.
 use Rattle.std.specs.Prelude.{ℕ, zero, suc, Bool, true, false, List, [], ◌∷◌, ◌++◌, length, nat_lt, if◌then◌else◌}
 use Rattle.smith_bytes.specs.Draws.{bool_at}
 
--- whether a list goes on: without a draw where it has too few items, else by a drawn bool
+-- whether a list continues: always if it has too few items, otherwise as a drawn bool says
 abbrev pub goes_at : Bool → List ℕ → Bool × List ℕ
 goes_at true bytes = (true, bytes)
 goes_at false bytes = bool_at bytes
 
--- a list to which at most `most` items are added, each drawn after the items before it
+-- a list after at most `most` more items, each drawn after the items before it
 unfoldable pub grow_at : {A : Type 0} → (List A → List ℕ → A × List ℕ) → ℕ → ℕ → List A → List ℕ → List A × List ℕ
 grow_at draw least zero made bytes = (made, bytes)
 grow_at draw least (suc most) made bytes =

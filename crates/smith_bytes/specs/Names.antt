@@ -1,4 +1,4 @@
--- Texts and names that are drawn, and names that are made new.
+-- Drawn strings and names, and names made new.
 use Rattle.std.specs.Prelude.{◌≡◌, ◌<◌, ℕ, zero, suc, ◌+◌, true, false, List, ◌++◌, take, drop, length, min, codes, if◌then◌else◌}
 use Rattle.std.specs.Str.{bytes_eq}
 use Rattle.std.specs.Str.Lossy.{utf8_valid_len}
@@ -8,35 +8,35 @@ use Rattle.std.specs.declared.string.String.{String}
 use Rattle.std.specs.declared.alloc.Global.{Global}
 use Rattle.smith_bytes.specs.Draws.{len_at}
 
--- a text: of as many bytes as a drawn length says, but at most max_size, the longest front that is UTF-8
+-- a string: the longest UTF-8 prefix of as many bytes as a drawn length, but at most max_size
 unfoldable pub text_at : ℕ → List ℕ → List ℕ × List ℕ
 text_at max_size bytes =
     let size = len_at bytes in
     let n = utf8_valid_len (take (min size.0 max_size) size.1) in
     (take n size.1, drop n size.1)
 
--- a text with a number of copies of these digits behind it
+-- the text, followed by this number of copies of the digits
 abbrev pub with_copies : List ℕ → List ℕ → ℕ → List ℕ
 with_copies text digits zero = text
 with_copies text digits (suc n) = with_copies text digits n ++ digits
 
 module _ {S : Type 0} where
-  -- name is the text, and behind it the number of names as often as it takes until it is new
+  -- name is the text, followed by the size of the set as many times as it takes to be new
   pub record IsMadeNew (names : HashSet (String Global) S) (text name : List ℕ) : Type 0 where
     pub copies : ℕ
     pub made : name ≡ with_copies text (decimal (hash_set_len names)) copies
     pub fresh : contains_text names name ≡ false
     pub needed : (n : ℕ) → n < copies → contains_text names (with_copies text (decimal (hash_set_len names)) n) ≡ true
 
-  -- new has the names of old and the added name, and is larger by one
+  -- new has the names of old and the added name, and its size is larger by one
   pub record AddsName (old new : HashSet (String Global) S) (name : List ℕ) : Type 0 where
     pub has : (other : List ℕ) → contains_text new other ≡ (if bytes_eq name other then true else contains_text old other)
     pub size : hash_set_len new ≡ hash_set_len old + 1
 
--- what stands before the path of an address
+-- the part of a URL before its path
 abbrev pub url_front : List ℕ
 url_front = codes "https://example.com/"
 
--- the path of an address, behind its front
+-- the path of a URL
 abbrev pub url_path : List ℕ → List ℕ
 url_path url = drop (length url_front) url

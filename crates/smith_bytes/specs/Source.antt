@@ -1,4 +1,4 @@
--- What is left of a byte source.
+-- The remaining bytes of a byte source.
 use Rattle.std.specs.Prelude.{◌≡◌, ℕ, List, ◌++◌}
 
 -- new is a contiguous piece of old
@@ -7,6 +7,6 @@ pub record IsPiece (old new : List ℕ) : Type 0 where
   pub after : List ℕ
   pub parts : old ≡ before ++ (new ++ after)
 
--- whatever old was a piece of, new is a piece of
+-- new is a piece of every whole that old is a piece of
 abbrev pub KeepsPieces : List ℕ → List ℕ → Type 0
 KeepsPieces old new = (whole : List ℕ) → IsPiece whole old → IsPiece whole new

@@ -3,18 +3,18 @@ ghost use Rattle.smith_bytes.specs.Source.{KeepsPieces};
 
 use crate::unstructured::Unstructured;
 
-/// An unsigned integer type, of which [`Unstructured::int_in_range`] can draw a range.
+/// An unsigned integer type that [`Unstructured::int_in_range`] can draw from.
 pub trait Int: Copy {
     ghost use Rattle.std.specs.Prelude.{ℕ};
 
-    /// The number that a value stands for.
+    /// The mathematical value of an integer.
     ghost number: { Self → ℕ };
 
-    /// Converts the number to 128 bits.
+    /// Widens `self` to 128 bits.
     fn widen(self) -> u128
         ensures { result ≡ number self };
 
-    /// Converts `wide`, which is at most the number `most` of the type, to the type.
+    /// Narrows `wide` to this type. Requires `wide` to be at most `most`.
     fn narrow(wide: u128, most: Self) -> Self
         requires { wide ≤ number most }
         ensures { number result ≡ wide };
@@ -92,12 +92,14 @@ impl Int for usize {
     }
 }
 
-/// A type of which a value can be drawn. An integer is read from as many bytes as it has, the lowest first. A bool is the lowest
-/// bit of a byte.
+/// A type whose values can be drawn from an [`Unstructured`].
+///
+/// An integer is read from as many bytes as it has, least significant byte first. A `bool` is the
+/// lowest bit of one byte.
 pub trait Arbitrary: Drop {
     ghost use Rattle.std.specs.Prelude.{ℕ, List};
 
-    /// The value that is drawn from some bytes, and the bytes that are left.
+    /// Returns the value drawn from the given bytes, and the remaining bytes.
     ghost drawn: { List ℕ → Self × List ℕ };
 
     /// Draws a value from the front of `u`. Bytes past the end are read as zeros.

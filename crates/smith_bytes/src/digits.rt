@@ -1,7 +1,7 @@
 ghost use Rattle.std.specs.Prelude.{◌≡◌, ◌≤◌, ◌<◌, ◌^◌, length};
 ghost use Rattle.smith_bytes.specs.Draws.{little_endian, big_endian, digit_count};
 
-/// Counts the base-256 digits of `number`, none for zero.
+/// Returns the number of base-256 digits of `number`, which is 0 for zero.
 pub(crate) fn count_digits(number: u128) -> usize
     ensures exact { result ≡ digit_count number }
     ensures within { result ≤ 16 }
@@ -10,7 +10,7 @@ pub(crate) fn count_digits(number: u128) -> usize
     16 - number.leading_zeros() as usize / 8
 }
 
-/// Reads the number whose base-256 digits are `digits`, at most eight, the lowest first.
+/// Reads a number from at most eight base-256 digits, least significant first.
 pub(crate) fn read_little_endian(digits: &[u8]) -> u64
     requires few { length digits.now ≤ 8 }
     ensures exact { result ≡ little_endian digits.now }
@@ -23,7 +23,7 @@ pub(crate) fn read_little_endian(digits: &[u8]) -> u64
     number
 }
 
-/// Reads the number whose base-256 digits are `digits`, at most sixteen, the lowest first.
+/// Reads a number from at most sixteen base-256 digits, least significant first.
 pub(crate) fn read_wide_little_endian(digits: &[u8]) -> u128
     requires few { length digits.now ≤ 16 }
     ensures exact { result ≡ little_endian digits.now }
@@ -32,7 +32,7 @@ pub(crate) fn read_wide_little_endian(digits: &[u8]) -> u128
     (u128::from(read_little_endian(high)) << 64) + u128::from(read_little_endian(low))
 }
 
-/// Reads the number whose base-256 digits are `digits`, at most eight, the highest first.
+/// Reads a number from at most eight base-256 digits, most significant first.
 pub(crate) fn read_big_endian(digits: &[u8]) -> u64
     requires few { length digits.now ≤ 8 }
     ensures exact { result ≡ big_endian digits.now }
@@ -44,7 +44,7 @@ pub(crate) fn read_big_endian(digits: &[u8]) -> u64
     number
 }
 
-/// Reads the number whose base-256 digits are `digits`, at most sixteen, the highest first.
+/// Reads a number from at most sixteen base-256 digits, most significant first.
 pub(crate) fn read_wide_big_endian(digits: &[u8]) -> u128
     requires few { length digits.now ≤ 16 }
     ensures exact { result ≡ big_endian digits.now }

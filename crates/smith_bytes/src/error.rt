@@ -4,7 +4,8 @@ ghost use Rattle.smith_bytes.specs.declared.error.Error.TheVariants.{Memory};
 use std::alloc::{AllocError, AllocFailed};
 use thiserror::Error;
 
-/// A count that a configuration bounds from both sides. Configurations are checked in the order of the variants.
+/// A count with a minimum and a maximum in the configuration. The check of a configuration follows
+/// the order of the variants.
 #[derive(Clone, Copy, Debug, PartialEq, Eq, Error)]
 pub enum Count {
     /// Bounded by `min_types` and `max_types`.
@@ -42,30 +43,30 @@ pub enum Count {
     Tables,
 }
 
-/// Why the input gives nothing of the form that was asked for.
+/// The reason why the input cannot produce a module of the requested form.
 #[derive(Clone, Copy, Debug, PartialEq, Eq, Error)]
 pub enum Why {
-    /// The count ends below its minimum.
+    /// The count cannot reach its minimum.
     #[error("the minimum of {0} can't be met")]
     Unmet(Count),
-    /// The exports would take the type size above `max_type_size`, where everything is exported.
+    /// With `export_everything`, the exports would exceed `max_type_size`.
     #[error("the exports would pass the type size")]
     TypeSize,
-    /// A shape brings a second memory, and `max_memories` is at most 1.
+    /// A shape needs a second memory, and `max_memories` is at most 1.
     #[error("a shape brings a second memory, and only one is enabled")]
     SeveralMemories,
-    /// A shape brings a second table, without `reference_types_enabled`.
+    /// A shape needs a second table, and `reference_types_enabled` is off.
     #[error("a shape brings a second table, and only one is enabled")]
     SeveralTables,
-    /// The closure of a loop answered false among the calls that its minimum asks for.
+    /// The closure of a loop returned `false` before the minimum number of calls.
     #[error("a loop ended below its minimum")]
     Loop,
-    /// A body is raw bytes, which can't be made to terminate.
+    /// A body is raw bytes, which cannot be made to terminate.
     #[error("a body is raw bytes")]
     RawBody,
 }
 
-/// What is wrong with a configuration.
+/// A fault of a configuration.
 #[derive(Clone, Copy, Debug, PartialEq, Eq, Error)]
 pub enum ConfigFault {
     /// The minimum of the count is above its maximum.
@@ -82,42 +83,47 @@ pub enum ConfigFault {
     Memory64Bytes,
 }
 
-/// The use of a shape, named after the field of the configuration that holds the shape.
+/// The use of a shape. Each variant is named after the field of the configuration that holds the
+/// shape.
 #[derive(Clone, Copy, Debug, PartialEq, Eq, Error)]
 pub enum Which {
-    /// The imports of which a module has some: `available_imports`.
+    /// Imports to choose from: `available_imports`.
     #[error("available imports")]
     AvailableImports,
     /// The exports of a module: `exports`.
     #[error("exports")]
     Exports,
-    /// The first types of a module, and all imports and exports: `module_shape`.
+    /// The first types of a module and all of its imports and exports: `module_shape`.
     #[error("module shape")]
     ModuleShape,
 }
 
-/// What is wrong with a shape. Faults are looked for in the order of the variants.
+/// A fault of a shape. The check of a shape looks for faults in the order of the variants.
 #[derive(Clone, Copy, Debug, PartialEq, Eq, Error)]
 pub enum ShapeFault {
-    /// A list has more than `2^29` items, or all groups together have more types or imports.
+    /// A list has more than `2^29` items, or the groups have more than `2^29` types or imports in
+    /// total.
     #[error("a list is too long")]
     TooLong,
-    /// A type, or a reference to a type, isn't valid even where every feature is on.
+    /// A type or a reference to a type is not valid, even with every feature enabled.
     #[error("a reference or supertype isn't valid")]
     BadType,
-    /// A function, a tag or an export names what doesn't stand or is of another kind.
+    /// A function, a tag or an export has an index that is out of range or refers to an item of
+    /// another kind.
     #[error("an index is out of its space, or of the wrong kind")]
     Index,
-    /// A memory type or the limits of a table aren't valid, or a type has more than 62 supertypes above it.
+    /// A memory type or the limits of a table are not valid, or a type is more than 62 supertypes
+    /// deep.
     #[error("a limit isn't in range")]
     Limit,
-    /// The configuration lacks a feature that the shape needs.
+    /// The shape needs a feature that the configuration disables.
     #[error("a feature isn't enabled")]
     Feature,
     /// Two exports have the same name.
     #[error("two exports have one name")]
     DuplicateExport,
-    /// A shape for exports has a type that isn't a final function type without a supertype, or a concrete reference.
+    /// A shape for exports has a concrete reference, or a type that is not a final function type
+    /// without a supertype.
     #[error("a type of an export isn't plain")]
     NotPlain,
     /// Something other than a memory is shared, or a reference is exact.
@@ -125,22 +131,22 @@ pub enum ShapeFault {
     LeftOut,
 }
 
-/// Why a call gave no value.
+/// The error of every fallible call.
 #[derive(Clone, Copy, Debug, PartialEq, Eq, Error)]
 pub enum Error {
-    /// A choice was asked for among no items.
+    /// There were no items to choose from.
     #[error("nothing to choose from")]
     EmptyChoose,
-    /// Fewer bytes are left than were asked for.
+    /// Fewer bytes remain than were requested.
     #[error("not enough bytes are left")]
     NotEnoughData,
-    /// The input gives nothing of the form that was asked for.
+    /// The input cannot produce a module of the requested form.
     #[error("incorrect format: {0}")]
     IncorrectFormat(Why),
-    /// The sanitised configuration fails its check.
+    /// The sanitised configuration does not pass its check.
     #[error("configuration: {0}")]
     Config(ConfigFault),
-    /// A shape fails its check.
+    /// A shape does not pass its check.
     #[error("shape of {0}: {1}")]
     Shape(Which, ShapeFault),
     /// The allocator refused memory.
@@ -151,7 +157,7 @@ pub enum Error {
 impl Error {
     ghost use Rattle.smith_bytes.specs.ErrorNames.{kind_name};
 
-    /// The name of the variant without what the variant holds, for lines of text: `Memory`, `Config`.
+    /// Returns the name of the variant without its fields, such as `Memory` or `Config`.
     pub fn name(&self) -> &'static str
         ensures name { result.now ≡ kind_name self.now }
         ensures short { length result.now ≤ 15 }

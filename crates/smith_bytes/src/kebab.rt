@@ -6,7 +6,8 @@ use crate::error::Error;
 use crate::unstructured::Unstructured;
 use std::alloc::Global;
 
-/// Draws a kebab name of at most `max_size` characters, with a letter more where the name could not end.
+/// Draws a kebab name of at most `max_size` characters. Appends an `a` if the name is empty or ends
+/// in a dash.
 #[tactic(auto, unfolding(crate::specs::Kebab::kebab_at))]
 pub(crate) fn draw_kebab_string(
     alloc: Global,
@@ -39,7 +40,7 @@ fn draw_characters(alloc: Global, size: usize, u: &mut Unstructured<'_>) -> Resu
     Ok(name)
 }
 
-/// Draws the character that follows `name`.
+/// Draws the character that follows `name` in a kebab name.
 #[tactic(auto, unfolding(crate::specs::Kebab::character_at))]
 fn draw_character(name: &str, u: &mut Unstructured<'_>) -> u8
     ensures exact { character_at name.now u.old ≡ (result, u.new) }
@@ -49,7 +50,7 @@ fn draw_character(name: &str, u: &mut Unstructured<'_>) -> u8
     character_of(name, u.int_in_range(0..=36u8))
 }
 
-/// The character that `number`, which is at most 36, stands for behind `name`.
+/// Returns the character that `number` encodes after `name`. Requires `number` to be at most 36.
 fn character_of(name: &str, number: u8) -> u8
     requires few { number ≤ 36 }
     ensures exact { result ≡ character name.now number }
@@ -64,7 +65,7 @@ fn character_of(name: &str, number: u8) -> u8
     }
 }
 
-/// Whether a kebab name can't end as `name` does: `name` is empty, or ends in a dash.
+/// Returns whether `name` is empty or ends in a dash, so that a kebab name cannot end there.
 fn is_open_name(name: &str) -> bool
     ensures { result ≡ is_open name.now }
 {

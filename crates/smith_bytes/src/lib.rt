@@ -1,4 +1,5 @@
-//! The byte source of the generator: what is drawn from it, names, and the errors of every crate.
+//! The byte source of the generator, the values and names drawn from it, and the errors of all
+//! crates.
 #![tactic(auto)]
 
 mod arbitrary;
@@ -7,7 +8,7 @@ mod error;
 mod examples;
 mod growth;
 mod kebab;
-/// Laws: functions that do nothing, whose clauses say what holds.
+/// Laws: functions with empty bodies whose clauses state theorems.
 pub mod laws;
 mod names;
 mod repeat;

@@ -12,8 +12,19 @@ use std::alloc::Global;
 use std::collections::HashSet;
 use std::fmt::Write;
 
-/// Draws a text that is not among `names`, and adds the text to `names`. The text has at most `max_size` drawn bytes. Behind
-/// these stands the size of `names` in decimal digits, as often as it takes until the text is new.
+/// Draws a string that is not in `names`, and adds it to `names`.
+///
+/// The string starts with at most `max_size` drawn bytes. The size of `names`, in decimal digits,
+/// is then appended repeatedly until the string is new.
+///
+/// # Examples
+///
+/// ```rust
+/// let mut names = HashSet::new(rt.alloc());
+/// let mut u = Unstructured::new(b"aa\x01\x01");
+/// assert_eq!(rt; unique_string(rt.alloc(), 1, &mut names, &mut u)?.as_str(), "a");
+/// assert_eq!(rt; unique_string(rt.alloc(), 1, &mut names, &mut u)?.as_str(), "a1");
+/// ```
 pub fn unique_string(
     alloc: Global,
     max_size: usize,
@@ -30,8 +41,18 @@ pub fn unique_string(
     unique(names, limited_string(alloc, max_size, u)?)
 }
 
-/// Draws a kebab name that is not among `names`, and adds the name to `names`. The name has at most `max_size` drawn characters.
-/// Behind these stands a letter where the name could not end without, then what makes the name new, as in [`unique_string`].
+/// Draws a kebab name that is not in `names`, and adds it to `names`.
+///
+/// The name starts with at most `max_size` drawn characters. An `a` is appended if the name would
+/// otherwise be empty or end in a dash. The name is then made new as in [`unique_string`].
+///
+/// # Examples
+///
+/// ```rust
+/// let mut names = HashSet::new(rt.alloc());
+/// let mut u = Unstructured::new(&[26, 26, 2]);
+/// assert_eq!(rt; unique_kebab_string(rt.alloc(), 9, &mut names, &mut u)?.as_str(), "a0");
+/// ```
 pub fn unique_kebab_string(
     alloc: Global,
     max_size: usize,
@@ -49,8 +70,20 @@ pub fn unique_kebab_string(
     unique(names, draw_kebab_string(alloc, max_size, u)?)
 }
 
-/// Draws the address of a page of `https://example.com/`. The path is a kebab name of at most `max_size` drawn characters, as in
-/// [`unique_kebab_string`]. The path alone is what is not among `names`, and what is added to `names`.
+/// Draws a URL below `https://example.com/`. Its path is a kebab name of at most `max_size` drawn
+/// characters, as in [`unique_kebab_string`].
+///
+/// `names` holds paths: the path is not in `names`, and is added to `names`.
+///
+/// # Examples
+///
+/// ```rust
+/// let mut names = HashSet::new(rt.alloc());
+/// let mut u = Unstructured::new(&[26, 26, 2]);
+/// let url = unique_url(rt.alloc(), 9, &mut names, &mut u)?;
+/// assert_eq!(rt; url.as_str(), "https://example.com/a0");
+/// assert!(rt; names.contains("a0"));
+/// ```
 pub fn unique_url(
     alloc: Global,
     max_size: usize,
@@ -72,7 +105,7 @@ pub fn unique_url(
     Ok(url)
 }
 
-/// The address of the page `path`.
+/// Returns the URL with the path `path`.
 fn url_of(alloc: Global, path: &str) -> Result<String, Error>
     ensures exact { IfOk result (λ url. string_bytes url ≡ url_front ++ path.now) }
     ensures memory { IfErr result (λ e. e ≡ Error.Memory) }
@@ -80,7 +113,7 @@ fn url_of(alloc: Global, path: &str) -> Result<String, Error>
     Ok(format!(in alloc; "https://example.com/{path}")?)
 }
 
-/// Makes `text` a name that is new among `names`, and adds the name to `names`.
+/// Makes `text` new in `names` as [`made_new`] does, and adds the result to `names`.
 fn unique(names: &mut HashSet<String>, text: String) -> Result<String, Error>
     ensures made { IfOk result (λ name. IsMadeNew names.old (string_bytes text) (string_bytes name)) }
     ensures added { IfOk result (λ name. AddsName names.old names.new (string_bytes name)) }
@@ -92,7 +125,7 @@ fn unique(names: &mut HashSet<String>, text: String) -> Result<String, Error>
     Ok(name)
 }
 
-/// Makes `text` new among `names`: behind it stands the size of `names` as often as that takes.
+/// Appends the size of `names` to `text` repeatedly until `text` is not in `names`.
 fn made_new(names: &HashSet<String>, text: String) -> Result<String, Error>
     ensures made { IfOk result (λ name. IsMadeNew names.now (string_bytes text) (string_bytes name)) }
     ensures memory { IfErr result (λ e. e ≡ Error.Memory) }

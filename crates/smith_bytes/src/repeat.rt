@@ -7,12 +7,30 @@ use crate::error::{Error, Why};
 use crate::growth::goes_on;
 use crate::unstructured::Unstructured;
 
-/// Calls `f` with `u` at least `min` and at most `max` times. Behind the first `min` calls a bool is drawn from `u` before each
-/// call: a false one ends the loop. A false answer of `f` ends the loop too.
+/// Calls `f` with `u` at least `min` and at most `max` times.
 ///
-/// `min` is at most `max`, and `f` may be called with any source, and again after each call.
+/// After the first `min` calls, a bool is drawn from `u` before each call. The loop ends if that
+/// bool is `false`, or if `f` returns `false`.
 ///
-/// A false answer among the first `min` calls is refused by `Why::Loop`. An error of `f` is handed on at once.
+/// Requires `min` to be at most `max`, and `f` to be callable with any source, repeatedly.
+///
+/// # Errors
+///
+/// Returns [`Why::Loop`] if `f` returns `false` in one of the first `min` calls. Returns an error
+/// of `f` at once.
+///
+/// # Examples
+///
+/// ```rust
+/// let mut u = Unstructured::new(&[5, 1, 6, 0, 9]);
+/// let mut last = 0u8;
+/// arbitrary_loop(&mut u, 1, 3, |u| {
+///     last = u.arbitrary();
+///     Ok(true)
+/// })?;
+/// assert_eq!(rt; last, 6);
+/// assert_eq!(rt; u.len(), 1);
+/// ```
 pub fn arbitrary_loop<'a, F: FnMut(&mut Unstructured<'a>) -> Result<bool, Error>>(
     u: &mut Unstructured<'a>,
     min: usize,
@@ -37,7 +55,7 @@ pub fn arbitrary_loop<'a, F: FnMut(&mut Unstructured<'a>) -> Result<bool, Error>
     Ok(())
 }
 
-/// Calls `f` once, with `u`. `f` may be called with any source, and again after each call.
+/// Calls `f` once with `u`. Requires `f` to be callable with any source, repeatedly.
 fn called<'a, F: FnMut(&mut Unstructured<'a>) -> Result<bool, Error>>(
     f: &mut F,
     u: &mut Unstructured<'a>,
@@ -50,7 +68,7 @@ fn called<'a, F: FnMut(&mut Unstructured<'a>) -> Result<bool, Error>>(
     f(u)
 }
 
-/// The result of a loop of at least `min` calls that is answered false behind `calls` calls answered true.
+/// Returns the result of a loop in which `f` returned `true` in `calls` calls and then `false`.
 fn at_false(min: usize, calls: usize) -> Result<(), Error>
     ensures few { calls < min → result ≡ Err (Error.IncorrectFormat Why.Loop) }
     ensures enough { min ≤ calls → result ≡ Ok tt }

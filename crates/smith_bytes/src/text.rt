@@ -7,9 +7,18 @@ use crate::error::Error;
 use crate::unstructured::Unstructured;
 use std::alloc::Global;
 
-/// Draws a text of at most `max_size` bytes: a length is drawn, and the longest front of as many bytes that is UTF-8 is the text.
+/// Draws a string of at most `max_size` bytes. Draws a length, cuts it to `max_size`, and takes the
+/// longest UTF-8 prefix of that many bytes.
 ///
-/// The text lives as long as the input, not only as long as the loan of `u`.
+/// The string borrows from the input and outlives the borrow of `u`.
+///
+/// # Examples
+///
+/// ```rust
+/// let mut u = Unstructured::new(b"ab\xff\x03");
+/// assert_eq!(rt; limited_str(1000, &mut u), "ab");
+/// assert_eq!(rt; u.len(), 1);
+/// ```
 #[tactic(auto, unfolding(crate::specs::Names::text_at))]
 pub fn limited_str<'a>(max_size: usize, u: &mut Unstructured<'a>) -> &'a str
     ensures exact { text_at max_size u.old ≡ (result.now, u.new) }
@@ -21,7 +30,15 @@ pub fn limited_str<'a>(max_size: usize, u: &mut Unstructured<'a>) -> &'a str
     text
 }
 
-/// Draws a text of at most `max_size` bytes as [`limited_str`] does, and copies the text into memory of `alloc`.
+/// Draws a string of at most `max_size` bytes as [`limited_str`] does, and copies it into memory
+/// from `alloc`.
+///
+/// # Examples
+///
+/// ```rust
+/// let mut u = Unstructured::new(b"ab\x02");
+/// assert_eq!(rt; limited_string(rt.alloc(), 1, &mut u)?.as_str(), "a");
+/// ```
 pub fn limited_string(
     alloc: Global,
     max_size: usize,
@@ -34,19 +51,20 @@ pub fn limited_string(
     Ok(limited_str(max_size, u).to_string(alloc)?)
 }
 
-/// How many bytes the narrow test looks at before the wide one looks at more.
+/// The number of bytes that [`narrow_front`] reads before [`wide_front`] is tried.
 const WINDOW: usize = 64;
 
-/// How many bytes a character has at most.
+/// The greatest number of bytes in a UTF-8 character.
 const LONGEST_CHARACTER: usize = 4;
 
-/// A character of several bytes begins with this one or a higher one, and has lower ones behind it.
+/// The lowest first byte of a character of several bytes. Its other bytes are lower.
 const FIRST_OF_SEVERAL: u8 = 0xC0;
 
-/// The longest front of `bytes` that is UTF-8.
+/// Returns the longest UTF-8 prefix of `bytes`.
 ///
-/// Drawn bytes are seldom text for long, and the wide test looks at all before it tells. So it is asked only where the first [`WINDOW`]
-/// bytes are text, or may end within a character.
+/// Most drawn bytes are UTF-8 only for a short prefix, and [`wide_front`] always reads all bytes.
+/// So it is called only if the UTF-8 prefix of the first [`WINDOW`] bytes ends in the last bytes of
+/// the window, where a character may be cut.
 fn utf8_front(bytes: &[u8]) -> &str
     ensures exact { result.now ≡ take (utf8_valid_len bytes.now) bytes.now }
     ensures size { length result.now ≡ utf8_valid_len bytes.now }
@@ -62,7 +80,8 @@ fn utf8_front(bytes: &[u8]) -> &str
     wide_front(&bytes[..reach(bytes)])
 }
 
-/// Where the longest front of `bytes` that is UTF-8 ends at the latest: before a last character that is cut.
+/// Returns an upper bound of the longest UTF-8 prefix of `bytes`: the end, or the start of a last
+/// character that is cut.
 fn reach(bytes: &[u8]) -> usize
     ensures within { result ≤ length bytes.now }
     ensures most { utf8_valid_len bytes.now ≤ result }
@@ -71,7 +90,8 @@ fn reach(bytes: &[u8]) -> usize
     last + narrow_front(&bytes[last..]).len()
 }
 
-/// Where a character begins that the end of `bytes` may cut, or else the end.
+/// Returns the start of the last character of several bytes if the end of `bytes` may cut it,
+/// otherwise the length of `bytes`.
 fn last_start(bytes: &[u8]) -> usize
     ensures within { result ≤ length bytes.now }
     ensures start { result < length bytes.now → FIRST_OF_SEVERAL ≤ slice_index bytes.now result }
@@ -83,7 +103,7 @@ fn last_start(bytes: &[u8]) -> usize
     }
 }
 
-/// The longest front of `bytes` that is UTF-8, by wide instructions, which look at all of them.
+/// Returns the longest UTF-8 prefix of `bytes`. Uses wide instructions, which read all bytes.
 fn wide_front(bytes: &[u8]) -> &str
     ensures exact { result.now ≡ take (utf8_valid_len bytes.now) bytes.now }
     ensures size { length result.now ≡ utf8_valid_len bytes.now }
@@ -95,7 +115,8 @@ fn wide_front(bytes: &[u8]) -> &str
     }
 }
 
-/// The longest front of `bytes` that is UTF-8, one character after another, with no look at what follows it.
+/// Returns the longest UTF-8 prefix of `bytes`. Reads one character after another and nothing after
+/// the prefix.
 fn narrow_front(bytes: &[u8]) -> &str
     ensures exact { result.now ≡ take (utf8_valid_len bytes.now) bytes.now }
     ensures size { length result.now ≡ utf8_valid_len bytes.now }

@@ -12,10 +12,21 @@ use crate::error::Error;
 use std::marker::Model;
 use std::ops::RangeInclusive;
 
-/// A source of bytes, from which values are drawn. A clause sees the bytes that are left.
+/// A source of bytes from which values are drawn. Clauses see the remaining bytes.
 ///
-/// Past the end of the bytes a draw reads zeros, so that each draw gives a value.
-#[derive(Drop)]
+/// A draw past the end of the bytes reads zeros, so a draw never runs out of bytes.
+///
+/// # Examples
+///
+/// ```rust
+/// use smith_bytes::Unstructured;
+///
+/// let mut u = Unstructured::new(&[1, 0x2c, 0x01, 9]);
+/// assert!(rt; u.arbitrary::<bool>());
+/// assert_eq!(rt; u.arbitrary::<u16>(), 300);
+/// assert_eq!(rt; u.len(), 1);
+/// ```
+#[derive(Debug, Drop)]
 pub struct Unstructured<'a> {
     bytes: &'a [u8],
 }
@@ -29,28 +40,58 @@ impl<'a> Model for Unstructured<'a> {
 }
 
 impl<'a> Unstructured<'a> {
-    /// Makes a source of the bytes `bytes`.
+    /// Creates a source of the given bytes.
+    ///
+    /// # Examples
+    ///
+    /// ```rust
+    /// let u = Unstructured::new(&[7, 8]);
+    /// assert_eq!(rt; u.len(), 2);
+    /// ```
     pub fn new(bytes: &'a [u8]) -> Self
         ensures { result ≡ bytes.now }
     {
         Unstructured { bytes }
     }
 
-    /// The number of bytes that are left.
+    /// Returns the number of remaining bytes.
+    ///
+    /// # Examples
+    ///
+    /// ```rust
+    /// let mut u = Unstructured::new(&[1, 2, 3]);
+    /// let _first = u.arbitrary::<u8>();
+    /// assert_eq!(rt; u.len(), 2);
+    /// ```
     pub fn len(&self) -> usize
         ensures { result ≡ length self.now }
     {
         self.bytes.len()
     }
 
-    /// Whether no byte is left.
+    /// Returns `true` if no bytes remain.
+    ///
+    /// # Examples
+    ///
+    /// ```rust
+    /// assert!(rt; Unstructured::new(&[]).is_empty());
+    /// assert!(rt; !Unstructured::new(&[0]).is_empty());
+    /// ```
     pub fn is_empty(&self) -> bool
         ensures { IsTrue result ↔ (length self.now ≡ 0) }
     {
         self.bytes.is_empty()
     }
 
-    /// Draws a value of the type `T`, as the type says by [`Arbitrary`].
+    /// Draws a value of type `T` as defined by its implementation of [`Arbitrary`].
+    ///
+    /// # Examples
+    ///
+    /// ```rust
+    /// let mut u = Unstructured::new(&[1, 2]);
+    /// assert_eq!(rt; u.arbitrary::<u32>(), 513);
+    /// assert_eq!(rt; u.arbitrary::<u32>(), 0);
+    /// ```
     pub fn arbitrary<T: Arbitrary>(&mut self) -> T
         ensures exact { T.drawn self.old ≡ (result, self.new) }
         ensures left { KeepsPieces self.old self.new }
@@ -58,7 +99,15 @@ impl<'a> Unstructured<'a> {
         T::arbitrary(self)
     }
 
-    /// Draws a number of `range`. The start of `range` is at most its end.
+    /// Draws a number in `range`. Requires the start of `range` to be at most its end.
+    ///
+    /// # Examples
+    ///
+    /// ```rust
+    /// let mut u = Unstructured::new(&[3, 232]);
+    /// assert_eq!(rt; u.int_in_range(0u32..=1000), 1000);
+    /// assert_eq!(rt; u.int_in_range(5u8..=9), 5);
+    /// ```
     #[tactic(auto, unfolding(crate::specs::Draws::range_at))]
     pub fn int_in_range<T: Int>(&mut self, range: RangeInclusive<T>) -> T
         requires ordered { T.number (range_inclusive_start range) ≤ T.number (range_inclusive_end range) }
@@ -73,7 +122,16 @@ impl<'a> Unstructured<'a> {
         T::narrow(lowest + self.offset(end.widen() - lowest), end)
     }
 
-    /// Draws a bool that is true in `n` of `m` cases. `n` is at least 1 and at most `m`.
+    /// Draws a bool that is `true` with probability `n` in `m`. Requires `n` to be at least 1 and
+    /// at most `m`.
+    ///
+    /// # Examples
+    ///
+    /// ```rust
+    /// let mut u = Unstructured::new(&[255, 1]);
+    /// assert!(rt; u.ratio(1u8, 255));
+    /// assert!(rt; !u.ratio(1u8, 255));
+    /// ```
     #[tactic(auto, unfolding(crate::specs::Draws::range_at, crate::specs::Draws::ratio_at))]
     pub fn ratio<T: Int>(&mut self, n: T, m: T) -> bool
         requires some { 0 < T.number n }
@@ -84,7 +142,18 @@ impl<'a> Unstructured<'a> {
         1 + self.offset(m.widen() - 1) <= n.widen()
     }
 
-    /// Draws a place in `items` and lends the item at that place. Refuses empty `items` alone, by `EmptyChoose`.
+    /// Draws an index of `items` and returns the item at that index.
+    ///
+    /// # Errors
+    ///
+    /// Returns [`Error::EmptyChoose`] if `items` is empty.
+    ///
+    /// # Examples
+    ///
+    /// ```rust
+    /// let mut u = Unstructured::new(&[4]);
+    /// assert_eq!(rt; u.choose(&[10, 20, 30]), Ok(&20));
+    /// ```
     #[tactic(auto, unfolding(crate::specs::Draws::choose_at))]
     pub fn choose<'b, T>(&mut self, items: &'b [T]) -> Result<&'b T, Error>
         ensures exact { IfOk result (λ item. choose_at items.now self.old ≡ (Some item.now, self.new)) }
@@ -99,9 +168,20 @@ impl<'a> Unstructured<'a> {
         Ok(&items[self.int_in_range(0..=items.len() - 1)])
     }
 
-    /// Takes the first `n` bytes. Refuses by `NotEnoughData` where fewer bytes are left, and takes none.
+    /// Takes the first `n` bytes. They borrow from the input and outlive the borrow of `self`.
     ///
-    /// The bytes live as long as the input, not only as long as the loan of the source.
+    /// # Errors
+    ///
+    /// Returns [`Error::NotEnoughData`] if fewer than `n` bytes remain, and takes none.
+    ///
+    /// # Examples
+    ///
+    /// ```rust
+    /// let mut u = Unstructured::new(&[1, 2, 3]);
+    /// assert_eq!(rt; u.bytes(2), Ok([1, 2].as_slice()));
+    /// assert_eq!(rt; u.bytes(2), Err(Error::NotEnoughData));
+    /// assert_eq!(rt; u.len(), 1);
+    /// ```
     pub fn bytes(&mut self, n: usize) -> Result<&'a [u8], Error>
         ensures enough { IsOk result ↔ (n ≤ length self.old) }
         ensures lent { IfOk result (λ piece. piece.now ≡ take n self.old) }
@@ -116,7 +196,15 @@ impl<'a> Unstructured<'a> {
         Ok(self.up_to(n))
     }
 
-    /// Lends the first `n` bytes, which stay in the source, or gives None where fewer bytes are left.
+    /// Returns the first `n` bytes without taking them, or `None` if fewer than `n` bytes remain.
+    ///
+    /// # Examples
+    ///
+    /// ```rust
+    /// let u = Unstructured::new(&[1, 2, 3]);
+    /// assert_eq!(rt; u.peek_bytes(2), Some([1, 2].as_slice()));
+    /// assert_eq!(rt; u.peek_bytes(4), None);
+    /// ```
     pub fn peek_bytes(&self, n: usize) -> Option<&'a [u8]>
         ensures enough { IsSome result ↔ (n ≤ length self.now) }
         ensures lent { IfSome result (λ piece. piece.now ≡ take n self.now) }
@@ -124,7 +212,16 @@ impl<'a> Unstructured<'a> {
         self.bytes.get(..n)
     }
 
-    /// Draws a length by bytes that are taken from the end. The length is at most the number of bytes that are left.
+    /// Draws a length from bytes at the end of the source. The length is at most the number of
+    /// bytes that remain afterwards.
+    ///
+    /// # Examples
+    ///
+    /// ```rust
+    /// let mut u = Unstructured::new(&[5, 6, 2]);
+    /// assert_eq!(rt; u.arbitrary_len(), 2);
+    /// assert_eq!(rt; u.len(), 2);
+    /// ```
     #[tactic(auto, using(crate::proofs::PieceLemmas::keeps_take), unfolding(crate::specs::Draws::len_at))]
     pub fn arbitrary_len(&mut self) -> usize
         ensures exact { len_at self.old ≡ (result, self.new) }
@@ -137,7 +234,7 @@ impl<'a> Unstructured<'a> {
         Unstructured { bytes: end }.int_in_range(0..=most)
     }
 
-    /// Takes the first `n` bytes, or all bytes where fewer are left.
+    /// Takes the first `n` bytes, or all bytes if fewer remain.
     #[tactic(auto, using(crate::proofs::PieceLemmas::keeps_drop))]
     pub(crate) fn up_to(&mut self, n: usize) -> &'a [u8]
         ensures taken { result.now ≡ take n self.old }
@@ -149,7 +246,7 @@ impl<'a> Unstructured<'a> {
         piece
     }
 
-    /// Draws a number of one byte.
+    /// Draws a number from one byte.
     #[tactic(auto, using(crate::proofs::PieceLemmas::keeps_drop), unfolding(crate::specs::Draws::whole_at))]
     pub(crate) fn byte(&mut self) -> u8
         ensures exact { whole_at 1 self.old ≡ (result, self.new) }
@@ -164,7 +261,7 @@ impl<'a> Unstructured<'a> {
         }
     }
 
-    /// Draws a number of `n` bytes, at most eight.
+    /// Draws a number from `n` bytes. Requires `n` to be at most 8.
     #[tactic(auto, using(crate::proofs::EndianLemmas::front_fits), unfolding(crate::specs::Draws::whole_at))]
     pub(crate) fn whole(&mut self, n: usize) -> u64
         requires { n ≤ 8 }
@@ -175,7 +272,7 @@ impl<'a> Unstructured<'a> {
         read_little_endian(self.up_to(n))
     }
 
-    /// Draws a number of sixteen bytes.
+    /// Draws a number from sixteen bytes.
     #[tactic(auto, unfolding(crate::specs::Draws::whole_at))]
     pub(crate) fn wide(&mut self) -> u128
         ensures exact { whole_at 16 self.old ≡ (result, self.new) }
@@ -184,7 +281,7 @@ impl<'a> Unstructured<'a> {
         read_wide_little_endian(self.up_to(16))
     }
 
-    /// Draws a number of at most `most`, by one byte at most.
+    /// Draws a number that is at most `most`, from at most one byte.
     #[tactic(auto, unfolding(crate::specs::Draws::range_at, crate::specs::Draws::whole_at, crate::specs::Draws::digit_count))]
     fn byte_offset(&mut self, most: u8) -> u8
         ensures exact { range_at 0 most self.old ≡ (result, self.new) }
@@ -197,7 +294,7 @@ impl<'a> Unstructured<'a> {
         (u16::from(self.byte()) % (u16::from(most) + 1)) as u8
     }
 
-    /// Draws a number of at most `most`.
+    /// Draws a number that is at most `most`.
     #[tactic(auto, unfolding(crate::specs::Draws::range_at))]
     fn offset(&mut self, most: u128) -> u128
         ensures exact { range_at 0 most self.old ≡ (result, self.new) }
@@ -220,7 +317,7 @@ impl<'a> Unstructured<'a> {
     }
 }
 
-/// The number of bytes at the end of `n` bytes that tell a length.
+/// Returns the number of bytes at the end of `n` bytes that encode a length.
 fn size_of_length(n: usize) -> usize
     ensures exact { result ≡ length_size n }
     ensures within { result ≤ n }

@@ -1,4 +1,4 @@
--- A type has one depth.
+-- The depth of a type is unique.
 use Rattle.std.proofs.Common.{◌≡◌, ℕ, suc, ◌<◌, List, length, refl, ap, sym, ◌∙◌, subst}
 use Rattle.std.proofs.lemmas.Option.{same_Some, slice_get_within}
 use Rattle.smith_types.specs.declared.composite_type.SubType.{SubType}

@@ -1,4 +1,4 @@
--- What passes has no fault, and what has none passes.
+-- A configuration that passes has no fault, and one without faults passes.
 use Rattle.std.proofs.Common.{◌≡◌, ℕ, ◌+◌, ◌<◌, ◌≤◌, ◌^◌, take, drop, get_or, arith, subst, refl, suc}
 use Rattle.std.proofs.Math.Seq.{split_at}
 use Rattle.std.specs.List.{All, AllByRecursion as Each}
@@ -33,7 +33,7 @@ no_fault config p (MaxTooLarge count) h = let le = p.few count in omega arith
 no_fault config p Memory32Bytes h = let le = p.memory32 in omega arith
 no_fault config p Memory64Bytes h = let le = p.memory64 in omega arith
 
--- the place of a count among the counts
+-- the position of a count among the counts
 abbrev place_of : Count → ℕ
 place_of Types = 0
 place_of Imports = 1
@@ -83,7 +83,7 @@ first_fault config i d lt none there = record {
   there = there;
 }
 
--- what holds of each count in turn holds of any
+-- a property of each count in turn holds for all counts
 of_each : (P : Count → Type 0) → Each P counts → (count : Count) → P count
 of_each P h Types = h.0
 of_each P h Imports = h.1.0

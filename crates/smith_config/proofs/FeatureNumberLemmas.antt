@@ -1,4 +1,4 @@
--- Bits that differ from one another, joined, are their sum.
+-- Distinct bits, joined, are their sum.
 use Rattle.std.proofs.Common.{◌≡◌, ◌==◌, ℕ, ◌+◌, Bool, true, false, List, [], ◌∷◌, refl, sym, ap, ◌∙◌, bit_and, arith, add-zero, eq-eqb}
 use Rattle.std.specs.Prelude.{sum_by, ◌&&◌}
 use Rattle.std.specs.Int.Bits.{or_add_and}
@@ -10,12 +10,12 @@ use Rattle.smith_types.specs.FeatureBits.{joined}
 use Rattle.smith_types.proofs.FeatureBitLemmas.{feature_rows, joined_all}
 use Rattle.smith_config.specs.Features.{bit_of, number_of}
 
--- whether these bits are in no row
+-- whether no row has any of these bits
 abbrev is_clear : ℕ → List (Bool × ℕ) → Bool
 is_clear bits [] = true
 is_clear bits (row ∷ rows) = (bit_and bits row.1 == 0) && is_clear bits rows
 
--- whether no bit is in two rows
+-- whether no two rows have a common bit
 abbrev are_apart : List (Bool × ℕ) → Bool
 are_apart [] = true
 are_apart (row ∷ rows) = is_clear row.1 rows && are_apart rows

@@ -21,14 +21,14 @@ use Rattle.smith_config.specs.ShapeFaults.{AreTypesRight, AreIndicesRight, AreLi
 use Rattle.smith_config.specs.Decided.{IsMade}
 use Rattle.smith_config.proofs.ShapeLemmas.{would_do}
 
--- a test that says yes, and one that says no
+-- a test that succeeds, and one that fails
 pub passed : {P : Type 0} (r : Bool) → IsTrue r ↔ P → r ≡ true → P
 passed r decides holds = decides.0 holds
 
 pub failed : {P : Type 0} (r : Bool) → IsTrue r ↔ P → r ≡ false → P → ⊥
 failed r decides bad h = let holds : r ≡ true = decides.1 h in cc
 
--- what holds of the types and spaces as they were made holds of the shape's, and the other way round
+-- a property of the constructed types and spaces holds for those of the shape, and conversely
 pub moved : (P : Space → IndexSpaces → Type 0) (shape : Shape) (space : Space) (spaces : IndexSpaces) → IsMade shape space spaces → P space spaces → P (space_of shape.groups) (shape_spaces shape)
 moved P shape space spaces made h = subst (λ (s : Space). P s (shape_spaces shape)) made.types_are (subst (λ (s : IndexSpaces). P space s) made.spaces_are h)
 

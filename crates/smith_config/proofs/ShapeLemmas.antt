@@ -1,4 +1,4 @@
--- A valid shape has no fault, and a shape without a fault is valid.
+-- A valid shape has no fault, and a shape without a fault is not invalid.
 use Rattle.std.proofs.Common.{rules, ◌≡◌, ℕ, IsTrue, List, [], ◌∷◌, ◌++◌, map, length, get_or, refl, arith}
 use Rattle.std.specs.List.{All, flat_map, AllByRecursion as Each}
 use Rattle.std.specs.declared.ops.Range.{Range}
@@ -33,11 +33,11 @@ use Rattle.smith_config.specs.Features.{features_of}
 use Rattle.smith_config.specs.Shapes.{IsShapeValid, AreCountsFit, IsPlain, space_of, shape_types, shape_spaces, shape_values}
 use Rattle.smith_config.specs.ShapeFaults.{HasShapeFault, AreTypesRight, AreLimitsRight, AreFeaturesOn}
 
--- every abstract type is enabled where every feature is
+-- every abstract type is enabled if every feature is
 abstract_on : (shared : _) (ty : AbstractHeapType) (end : ℕ) → IsHeapTypeValid every_feature end (Abstract shared ty)
 abstract_on shared ty end = search rules
 
--- what is valid is right where every feature is on
+-- validity for some features implies validity with every feature enabled
 module _ (features : Features) where
   heap_type_right : (end : ℕ) (heap_type : HeapType) → IsHeapTypeValid features end heap_type → IsHeapTypeValid every_feature end heap_type
   heap_type_right end (Abstract shared ty) h = abstract_on shared ty end
@@ -84,12 +84,12 @@ module _ (features : Features) where
   memory_right : (memory : MemoryType) → IsMemoryValid features memory → IsMemoryValid every_feature memory
   memory_right memory h = search rules
 
--- what holds of all parts of each item holds of the parts of all items
+-- a property of all parts of each item holds for the parts of all items
 all_flat_map : {A B : Type 0} (P : B → Type 0) (f : A → List B) (items : List A) → Each (λ item. All P (f item)) items → All P (flat_map f items)
 all_flat_map P f [] each = All-nil P
 all_flat_map P f (item ∷ items) each = All-append P (f item) (flat_map f items) each.0 (all_flat_map P f items each.1)
 
--- what holds of all items of a list holds of those of its parts
+-- a property of all items of a concatenation holds for the items of both parts
 parts_of_all : {A : Type 0} (P : A → Type 0) (xs ys : List A) → Each P (xs ++ ys) → Each P xs × Each P ys
 parts_of_all P [] ys each = (tt, each)
 parts_of_all P (x ∷ xs) ys each = let rest = parts_of_all P xs ys each.1 in ((each.0, rest.0), rest.1)
@@ -98,12 +98,12 @@ before_map : {A B : Type 0} (P : B → Type 0) (f : A → B) (items : List A) �
 before_map P f [] each = tt
 before_map P f (item ∷ items) each = (each.0, before_map P f items each.1)
 
--- each type is valid among all of them
+-- each type is valid for the end of all types
 types_valid : (features : Features) (space : Space) → AreTypesValid features space → All (IsTypeValid features space.types (length space.types)) space.types
 types_valid features space valid i d inside =
     AreTypesOpen-at features (length space.types) space (AreTypesOpen-start features (length space.types) space (omega arith) valid) i (get_or space.types i d) (slice_get-get_or space.types i d inside)
 
--- the values of types, tables and globals that are valid
+-- the value types of types, tables and globals are valid
 values_valid : (features : Features) (shape : Shape) → AreTypesValid features (space_of shape.groups)
     → All (λ (table : TableType). IsValTypeValid features (length (shape_types shape)) (Ref table.element_type)) (shape_spaces shape).tables
     → All (λ (global : GlobalType). IsValTypeValid features (length (shape_types shape)) global.val_type) (shape_spaces shape).globals
@@ -121,7 +121,7 @@ values_valid features shape types tables globals =
     (All-map P (λ (table : TableType). Ref table.element_type) (shape_spaces shape).tables tables)
     (All-map P (λ (global : GlobalType). global.val_type) (shape_spaces shape).globals globals))
 
--- the tables and globals whose values are right
+-- tables and globals, if their value types have a property
 entity_values : (P : ValType → Type 0) (shape : Shape) → All P (shape_values shape)
     → All (λ (table : TableType). P (Ref table.element_type)) (shape_spaces shape).tables × All (λ (global : GlobalType). P global.val_type) (shape_spaces shape).globals
 entity_values P shape values =
@@ -136,7 +136,7 @@ entity_values P shape values =
       All-from_recursion (λ (global : GlobalType). P global.val_type) globals (before_map P of_global globals apart.1),
     )
 
--- with every feature there may be any number of each
+-- with every feature, any number of each is permitted
 counts_on : (which : Which) (shape : Shape) → AreCountsFit which every_feature shape
 counts_on AvailableImports shape = tt
 counts_on Exports shape = record { tags = λ _. refl; several_tables = λ _. refl; several_memories = λ _. refl }
@@ -196,7 +196,7 @@ module _ (which : Which) (config : Config) (shape : Shape) where
   no_fault valid fault.NotPlain = λ wrong. wrong.1 (valid.plain wrong.0)
   no_fault valid fault.LeftOut = λ wrong. wrong valid.nothing_left_out
 
-  -- every feature would do where types and limits are right
+  -- every feature suffices if types and limits are right
   pub would_do : AreTypesRight shape → AreLimitsRight shape → AreFeaturesOn which every_feature shape
   would_do right limits =
       let values = entity_values (IsValTypeValid every_feature (length types)) shape right.values in

@@ -1,4 +1,4 @@
--- The configuration that bytes give. Rules of this project.
+-- The configuration drawn from bytes. Rules of this project.
 use Rattle.std.specs.Prelude.{ℕ, ◌^◌, Bool, false, List, [], ◌∷◌}
 use Rattle.smith_bytes.specs.Draws.{range_at, bool_at}
 use Rattle.smith_types.specs.Instructions.{no_kind, with_kind}
@@ -20,20 +20,20 @@ use Rattle.smith_config.specs.Config.{default_config}
 use Rattle.smith_config.specs.Sanitized.{sanitized}
 use Rattle.smith_config.specs.declared.config.Config.{Config}
 
--- what sets a field to a number of 0 to most
+-- a draw of a field as a number in 0..=most
 abbrev pub up_to : ℕ → (Config → ℕ → Config) → Config → List ℕ → Config × List ℕ
 up_to most put config bytes = let number = range_at 0 most bytes in (put config number.0, number.1)
 
--- what sets a field to a bool
+-- a draw of a field as a bool
 abbrev pub coin : (Config → Bool → Config) → Config → List ℕ → Config × List ℕ
 coin put config bytes = let drawn = bool_at bytes in (put config drawn.0, drawn.1)
 
--- draws one after the other
+-- draws in sequence
 abbrev pub in_turn : List (Config → List ℕ → Config × List ℕ) → Config → List ℕ → Config × List ℕ
 in_turn [] config bytes = (config, bytes)
 in_turn (draw ∷ draws) config bytes = let drawn = draw config bytes in in_turn draws drawn.0 drawn.1
 
--- the greatest counts, and the length of bodies
+-- the maximum counts, and the length of bodies
 unfoldable pub counts_at : Config → List ℕ → Config × List ℕ
 counts_at config bytes = in_turn (
     up_to 1000 (λ config n. record config { max_types = n }) ∷
@@ -48,7 +48,7 @@ counts_at config bytes = in_turn (
     up_to 1000 (λ config n. record config { max_instructions = n }) ∷
     []) config bytes
 
--- memories and tables, and sizes
+-- memories, tables and sizes
 unfoldable pub sizes_at : Config → List ℕ → Config × List ℕ
 sizes_at config bytes = in_turn (
     up_to 100 (λ config n. record config { max_memories = n }) ∷
@@ -58,7 +58,7 @@ sizes_at config bytes = in_turn (
     up_to 5 (λ config n. record config { min_uleb_size = n }) ∷
     []) config bytes
 
--- the proposals, the limits of components among them
+-- the proposals and the limits of components
 unfoldable pub proposals_at : Config → List ℕ → Config × List ℕ
 proposals_at config bytes = in_turn (
     coin (λ config b. record config { bulk_memory_enabled = b }) ∷
@@ -107,7 +107,7 @@ rules_at config bytes = in_turn (
     coin (λ config b. record config { limit_arrays_in_const_exprs = b }) ∷
     []) config bytes
 
--- what isn't drawn: each least count is 0, and what few engines have is off
+-- the fields that are not drawn: minimums are 0, and proposals with little support in engines are off
 abbrev pub undrawn_config : Config
 undrawn_config = record default_config {
   max_components = 0;
@@ -118,7 +118,7 @@ undrawn_config = record default_config {
   wide_arithmetic_enabled = false;
 }
 
--- the configuration that bytes give, and the bytes that it leaves
+-- the configuration drawn from bytes, and the remaining bytes
 unfoldable pub config_at : List ℕ → Config × List ℕ
 config_at bytes =
     let drawn = in_turn (counts_at ∷ sizes_at ∷ proposals_at ∷ kinds_at ∷ rules_at ∷ []) undrawn_config bytes in

@@ -1,10 +1,10 @@
--- The configuration that is asked for where nothing else is said. Rules of this project.
+-- The default configuration. Rules of this project.
 use Rattle.std.specs.Prelude.{true, false, ◌^◌, None}
 use Rattle.smith_types.specs.Instructions.{every_kind}
 use Rattle.smith_config.specs.OffsetChoices.{default_choices}
 use Rattle.smith_config.specs.declared.config.Config.{Config}
 
--- every field has the value that its documentation states
+-- every field has its documented default
 abbrev pub default_config : Config
 default_config = record {
   min_types = 0;

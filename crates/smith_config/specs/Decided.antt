@@ -1,4 +1,5 @@
--- Facts of a whole by its parts, as decisions meet them: proofs turn each into the definition that it stands for.
+-- Properties of a whole stated part by part, as the decision procedures establish them. Proofs derive the definitions from
+-- them.
 use Rattle.std.specs.Prelude.{◌≡◌, ℕ, ◌≤◌, List, length}
 use Rattle.smith_types.specs.Space.{Space}
 use Rattle.smith_types.specs.Imports.{IndexSpaces}
@@ -10,7 +11,7 @@ use Rattle.smith_config.specs.declared.shape.Shape.{Shape}
 use Rattle.smith_config.specs.Faults.{minimum_of, maximum_of, IsBounded}
 use Rattle.smith_config.specs.Shapes.{most_listed, space_of, shape_spaces}
 
--- no list that a shape holds itself is too long
+-- no list that a shape holds directly is too long
 pub record AreListsShort (shape : Shape) : Type 0 where
   pub groups : length shape.groups ≤ most_listed
   pub import_groups : length shape.imports ≤ most_listed
@@ -21,17 +22,17 @@ pub record AreListsShort (shape : Shape) : Type 0 where
   pub globals : length shape.globals ≤ most_listed
   pub exports : length shape.exports ≤ most_listed
 
--- functions, tags and exports name what stands, list by list
+-- functions, tags and exports refer to existing items, list by list
 pub record AreIndicesFound (space : Space) (spaces : IndexSpaces) (exported : List (List ℕ × ExportKind × ℕ)) : Type 0 where
   pub of_funcs : AreFuncsValid space.types spaces.funcs
   pub of_tags : AreTagsValid space.types spaces.tags
   pub of_exports : AreExportsFound spaces exported
 
--- a type space and index spaces that were made of a shape
+-- the type space and the index spaces are those of the shape
 pub record IsMade (shape : Shape) (space : Space) (spaces : IndexSpaces) : Type 0 where
   pub types_are : space ≡ space_of shape.groups
   pub spaces_are : spaces ≡ shape_spaces shape
 
--- the minimum of a count has no effect, or is at most the maximum
+-- the minimum of a count is not in effect, or is at most the maximum
 pub record IsInOrder (config : Config) (count : Count) : Type 0 where
   pub kept : IsBounded config count → minimum_of config count ≤ maximum_of config count

@@ -1,25 +1,25 @@
--- Bytes that give a configuration, in which no two bools drawn one after the other agree.
+-- Bytes from which a configuration is drawn in which consecutive bools differ.
 use Rattle.std.specs.Prelude.{ℕ, true, List, [], ◌∷◌}
 use Rattle.smith_config.specs.ExampleConfigs.{least_config}
 use Rattle.smith_config.specs.declared.config.Config.{Config}
 
--- bools that change at each draw, and numbers of their own
+-- bools that alternate, and distinct numbers
 abbrev pub changing_bytes : List ℕ
 changing_bytes =
     -- counts
     0 ∷ 21 ∷ 0 ∷ 22 ∷ 0 ∷ 23 ∷ 0 ∷ 24 ∷ 0 ∷ 25 ∷ 0 ∷ 26 ∷ 0 ∷ 27 ∷ 0 ∷ 28 ∷ 0 ∷ 29 ∷ 0 ∷ 30 ∷
     -- memories, tables, bytes, lengths of numbers
     31 ∷ 32 ∷ 0 ∷ 0 ∷ 0 ∷ 0 ∷ 33 ∷ 0 ∷ 0 ∷ 0 ∷ 0 ∷ 0 ∷ 0 ∷ 0 ∷ 0 ∷ 34 ∷ 5 ∷
-    -- references and several results of the first four proposals, aliases, depth
+    -- of the first four proposals, reference types and multi-value; aliases, depth
     0 ∷ 1 ∷ 0 ∷ 1 ∷ 0 ∷ 35 ∷ 6 ∷
-    -- the first, third, fifth, seventh and ninth of the other nine, of which the third needs vectors
+    -- the first, third, fifth, seventh and ninth of the other nine proposals, of which the third requires SIMD
     1 ∷ 0 ∷ 1 ∷ 0 ∷ 1 ∷ 0 ∷ 1 ∷ 0 ∷ 1 ∷
     -- numeric, vector, parametric, table, memory and aggregate instructions
     0 ∷ 1 ∷ 0 ∷ 1 ∷ 0 ∷ 1 ∷ 0 ∷ 1 ∷ 0 ∷ 1 ∷ 0 ∷ 1 ∷
     -- rules
     0 ∷ 0 ∷ 0 ∷ 36 ∷ 1 ∷ 0 ∷ 1 ∷ 37 ∷ 0 ∷ []
 
--- the numbers that they give
+-- the numbers drawn from them
 abbrev counted_config : Config
 counted_config = record least_config {
   max_types = 21;
@@ -42,7 +42,7 @@ counted_config = record least_config {
   const_expr_fuel = 37;
 }
 
--- what they give
+-- the configuration drawn from them
 abbrev pub changing_config : Config
 changing_config = record counted_config {
   max_tables = 32;
@@ -57,7 +57,7 @@ changing_config = record counted_config {
   extended_const_enabled = true;
 }
 
--- the same numbers, and each bool the other way round
+-- the same numbers, and every bool inverted
 abbrev pub turned_bytes : List ℕ
 turned_bytes =
     0 ∷ 21 ∷ 0 ∷ 22 ∷ 0 ∷ 23 ∷ 0 ∷ 24 ∷ 0 ∷ 25 ∷ 0 ∷ 26 ∷ 0 ∷ 27 ∷ 0 ∷ 28 ∷ 0 ∷ 29 ∷ 0 ∷ 30 ∷
@@ -67,7 +67,7 @@ turned_bytes =
     1 ∷ 0 ∷ 1 ∷ 0 ∷ 1 ∷ 0 ∷ 1 ∷ 0 ∷ 1 ∷ 0 ∷ 1 ∷ 0 ∷
     1 ∷ 0 ∷ 0 ∷ 36 ∷ 0 ∷ 1 ∷ 0 ∷ 37 ∷ 1 ∷ []
 
--- what these give
+-- the configuration drawn from these
 abbrev pub turned_config : Config
 turned_config = record counted_config {
   max_tables = 1;

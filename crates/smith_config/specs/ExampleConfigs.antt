@@ -1,10 +1,10 @@
--- Configurations that the examples speak of.
+-- Configurations used by the examples.
 use Rattle.std.specs.Prelude.{ℕ, true, false, List, [], ◌∷◌}
 use Rattle.smith_types.specs.Instructions.{no_kind}
 use Rattle.smith_config.specs.Config.{default_config}
 use Rattle.smith_config.specs.declared.config.Config.{Config}
 
--- all that is drawn is zero or off
+-- everything that is drawn is zero or off
 abbrev pub least_config : Config
 least_config = record default_config {
   max_types = 0;
@@ -49,25 +49,25 @@ least_config = record default_config {
   max_values = 0;
 }
 
--- bytes for every draw, most of which give a number of their own, and two more bytes
+-- bytes for every draw, most of which yield distinct numbers, and two more bytes
 abbrev pub counting_bytes : List ℕ
 counting_bytes =
     -- counts
     0 ∷ 1 ∷ 0 ∷ 2 ∷ 0 ∷ 3 ∷ 0 ∷ 4 ∷ 0 ∷ 5 ∷ 0 ∷ 6 ∷ 0 ∷ 7 ∷ 0 ∷ 8 ∷ 0 ∷ 9 ∷ 0 ∷ 10 ∷
     -- memories, tables, bytes, lengths of numbers
     11 ∷ 12 ∷ 0 ∷ 0 ∷ 0 ∷ 0 ∷ 13 ∷ 0 ∷ 0 ∷ 0 ∷ 0 ∷ 0 ∷ 0 ∷ 0 ∷ 0 ∷ 14 ∷ 3 ∷
-    -- bulk memory, references and several results, aliases, depth
+    -- bulk memory, reference types and multi-value, aliases, depth
     1 ∷ 1 ∷ 0 ∷ 1 ∷ 0 ∷ 15 ∷ 7 ∷
-    -- sign extension, relaxed vectors, exceptions, tail calls, garbage collection, wide addresses
+    -- sign extension, relaxed SIMD, exceptions, tail calls, garbage collection, 64-bit memories
     0 ∷ 1 ∷ 1 ∷ 1 ∷ 0 ∷ 1 ∷ 1 ∷ 0 ∷ 1 ∷
-    -- instructions: numbers without floats, and control
+    -- instructions: numeric without floats, and control
     1 ∷ 0 ∷ 0 ∷ 0 ∷ 0 ∷ 0 ∷ 0 ∷ 0 ∷ 0 ∷ 0 ∷ 1 ∷ 0 ∷
     -- rules
     1 ∷ 0 ∷ 1 ∷ 0 ∷ 1 ∷ 0 ∷ 1 ∷ 17 ∷ 1 ∷
-    -- left
+    -- remaining bytes
     98 ∷ 99 ∷ []
 
--- what they give
+-- the configuration drawn from them
 abbrev pub counting_config : Config
 counting_config = record least_config {
   max_types = 1;

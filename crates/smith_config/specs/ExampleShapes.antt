@@ -1,4 +1,4 @@
--- Shapes that the examples speak of.
+-- Shapes used by the examples.
 use Rattle.std.specs.Prelude.{ℕ, zero, suc, List, [], ◌∷◌, ◌++◌, Option, Some, None, codes}
 use Rattle.smith_types.specs.declared.composite_type.SubType.{SubType}
 use Rattle.smith_types.specs.declared.value_type.ValType.{ValType}
@@ -15,7 +15,7 @@ use Rattle.smith_types.specs.Flags.{funcref}
 use Rattle.smith_types.specs.ExampleEntities.{memory, table, constant_global}
 use Rattle.smith_config.specs.declared.shape.Shape.{Shape}
 
--- nothing is asked for
+-- nothing is required
 abbrev pub empty_shape : Shape
 empty_shape = record { groups = []; imports = []; funcs = []; tags = []; tables = []; memories = []; globals = []; exports = [] }
 
@@ -26,14 +26,14 @@ of_types types = record empty_shape { groups = types ∷ [] }
 abbrev pub of_global : ValType → Shape
 of_global value = record empty_shape { globals = constant_global value ∷ [] }
 
--- a tag of a type that takes a number
+-- an imported tag whose type has a number as its parameter
 abbrev pub imported_tag : Shape
 imported_tag = record empty_shape {
   groups = (final_type (taking (I32 ∷ [])) ∷ []) ∷ [];
   imports = Single (import_of (codes "m") (codes "t") (entity.Tag 0)) ∷ [];
 }
 
--- a function is imported and exported
+-- an imported function that is exported
 abbrev pub passed_on : Shape
 passed_on = record empty_shape {
   groups = (final_type plain_func ∷ []) ∷ [];
@@ -41,19 +41,19 @@ passed_on = record empty_shape {
   exports = (codes "a", kind.Func, 0) ∷ [];
 }
 
--- an import of a memory of one page
+-- an import of a memory with one page
 abbrev pub imported_memory : Imports
 imported_memory = Single (import_of (codes "m") (codes "n") (entity.Memory (memory 1 None)))
 
--- a memory is imported and exported
+-- an imported memory that is exported
 abbrev pub memory_passed_on : Shape
 memory_passed_on = record empty_shape { imports = imported_memory ∷ []; exports = (codes "m", kind.Memory, 0) ∷ [] }
 
--- a table of functions is exported
+-- an exported table of functions
 abbrev pub exported_table : Shape
 exported_table = record empty_shape { tables = table funcref 0 None ∷ []; exports = (codes "t", kind.Table, 0) ∷ [] }
 
--- one item of each kind is exported
+-- one exported item of each kind
 abbrev pub one_of_each_kind : Shape
 one_of_each_kind = record {
   groups = (final_type (Func (func I32 I64)) ∷ []) ∷ (final_type (taking (F32 ∷ [])) ∷ []) ∷ [];
@@ -77,7 +77,7 @@ abbrev pub before : ℕ → Option ℕ
 before zero = None
 before (suc index) = Some index
 
--- a number of struct types, each below the type before it
+-- a number of struct types, each declared as a subtype of the one before
 abbrev pub chain : ℕ → List SubType
 chain zero = []
 chain (suc count) = chain count ++ open_type (before count) empty_struct ∷ []

@@ -1,4 +1,4 @@
--- What is wrong with a configuration. Rules of this project.
+-- The faults of a configuration. Rules of this project.
 use Rattle.std.specs.Prelude.{◌≡◌, ℕ, ◌≤◌, ◌<◌, ◌^◌, false, ⊤, List, [], ◌∷◌, ◌++◌, map, All}
 use Rattle.smith_bytes.specs.declared.error.Count.{Count}
 use Rattle.smith_bytes.specs.declared.error.Count.TheVariants.{
@@ -24,7 +24,7 @@ use Rattle.smith_bytes.specs.declared.error.ConfigFault.TheVariants.{
 use Rattle.smith_config.specs.declared.config.Config.{Config}
 use Rattle.smith_config.specs.InUse.{FixesImports, FixesExports}
 
--- the least number of items of a kind
+-- the minimum number of items of a kind
 abbrev pub minimum_of : Config → Count → ℕ
 minimum_of config Types = config.min_types
 minimum_of config Imports = config.min_imports
@@ -38,7 +38,7 @@ minimum_of config DataSegments = config.min_data_segments
 minimum_of config Memories = config.min_memories
 minimum_of config Tables = config.min_tables
 
--- the greatest number of items of a kind
+-- the maximum number of items of a kind
 abbrev pub maximum_of : Config → Count → ℕ
 maximum_of config Types = config.max_types
 maximum_of config Imports = config.max_imports
@@ -52,37 +52,37 @@ maximum_of config DataSegments = config.max_data_segments
 maximum_of config Memories = config.max_memories
 maximum_of config Tables = config.max_tables
 
--- whether both bounds of a count have an effect: those of imports have none where a shape fixes them, those of exports
--- neither where everything is exported
+-- the bounds of a count are in effect: not for imports if a shape fixes them, and not for exports if a shape fixes them or
+-- everything is exported
 abbrev pub IsBounded : Config → Count → Type 0
 IsBounded config Imports = FixesImports config → ⊥
 IsBounded config Exports = (FixesExports config → ⊥) × (config.export_everything ≡ false)
 IsBounded config count = ⊤
 
--- a configuration that a module can be drawn for
+-- a configuration for which a module can be drawn
 pub record Passes (config : Config) : Type 0 where
   pub ordered : (count : Count) → IsBounded config count → minimum_of config count ≤ maximum_of config count
   pub few : (count : Count) → maximum_of config count ≤ 2 ^ 31
   pub memory32 : config.max_memory32_bytes ≤ 2 ^ 32
   pub memory64 : config.max_memory64_bytes ≤ 2 ^ 64
 
--- what each fault says
+-- the meaning of each fault
 abbrev pub HasFault : Config → ConfigFault → Type 0
 HasFault config (MinAboveMax count) = IsBounded config count × (maximum_of config count < minimum_of config count)
 HasFault config (MaxTooLarge count) = 2 ^ 31 < maximum_of config count
 HasFault config Memory32Bytes = 2 ^ 32 < config.max_memory32_bytes
 HasFault config Memory64Bytes = 2 ^ 64 < config.max_memory64_bytes
 
--- the counts in their order
+-- the counts, in order
 abbrev pub counts : List Count
 counts =
     Types ∷ Imports ∷ Tags ∷ Funcs ∷ Globals ∷ Exports ∷ ElementSegments ∷ Elements ∷ DataSegments ∷ Memories ∷ Tables ∷ []
 
--- the faults in their order
+-- the faults, in order
 abbrev pub faults : List ConfigFault
 faults = map MinAboveMax counts ++ map MaxTooLarge counts ++ Memory32Bytes ∷ Memory64Bytes ∷ []
 
--- the configuration has this fault, and none that comes before it
+-- the configuration has this fault, and none of those before it
 pub record IsFirstFault (config : Config) (fault : ConfigFault) : Type 0 where
   pub before : List ConfigFault
   pub after : List ConfigFault

@@ -1,10 +1,10 @@
--- The features that a configuration turns on. Rules of this project.
+-- The features that a configuration enables. Rules of this project.
 use Rattle.std.specs.Prelude.{ℕ, Bool, true, [], ◌∷◌, sum_by, nat_lt, if◌then◌else◌}
 use Rattle.smith_types.specs.Features.{Features}
 use Rattle.smith_config.specs.declared.config.Config.{Config}
 
--- mutable globals and what was there from the start always, several memories where there may be several, function references
--- with garbage collection, each other feature as its field says
+-- mutable globals and the first version of the standard always; multi-memory if several memories are permitted; function
+-- references with garbage collection; each other feature according to its field
 abbrev pub features_of : Config → Features
 features_of config = record {
   mutable_global = true;
@@ -33,11 +33,11 @@ features_of config = record {
   custom_descriptors = config.custom_descriptors_enabled;
 }
 
--- a feature's bit, or 0 where the feature is off
+-- the bit of an enabled feature, or 0
 abbrev pub bit_of : Bool × ℕ → ℕ
 bit_of row = if row.0 then row.1 else 0
 
--- the features as a number: the sum of the bits of those that are on
+-- the features as a number: the sum of the bits of those that are enabled
 abbrev pub number_of : Features → ℕ
 number_of features = sum_by bit_of (
     (features.mutable_global, 1) ∷

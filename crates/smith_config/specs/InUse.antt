@@ -1,9 +1,9 @@
--- The shapes that a configuration uses, and what they fix. Rules of this project.
+-- The shapes in effect in a configuration, and the parts that they fix. Rules of this project.
 use Rattle.std.specs.Prelude.{◌≡◌, ◌⊎◌, None, IsSome}
 use Rattle.smith_config.specs.declared.config.Config.{Config}
 use Rattle.smith_config.specs.Shapes.{Shapes, in_use}
 
--- the shapes that are used: beside a module shape no other is
+-- the shapes in effect: a module shape replaces the others
 abbrev pub shapes_of : Config → Shapes
 shapes_of config = in_use (record { available_imports = config.available_imports; exports = config.exports; module_shape = config.module_shape })
 

@@ -1,4 +1,4 @@
--- How often an offset is inside a memory, and how that is written. Rules of this project.
+-- The weights for offsets of memory accesses, and their text form. Rules of this project.
 use Rattle.std.specs.Prelude.{◌≡◌, ℕ, ◌<◌, ◌≢◌, List, [], ◌∷◌, length, take, Result, Ok, Err, slice_get, Some}
 use Rattle.std.specs.List.{AllZip}
 use Rattle.smith_types.specs.Parts.{parts_of}
@@ -7,15 +7,15 @@ use Rattle.smith_config.specs.declared.offset_choices.MemoryOffsetChoices.{Memor
 use Rattle.smith_config.specs.declared.offset_choices.OffsetChoicesFault.{OffsetChoicesFault}
 use Rattle.smith_config.specs.declared.offset_choices.OffsetChoicesFault.TheVariants.{NeedThree, Number, TooMany, AllZero}
 
--- ninety of a hundred inside, nine where a growth may reach, one outside
+-- 90 of 100 offsets are below the minimum size, 9 up to the maximum size, and 1 past it
 abbrev pub default_choices : MemoryOffsetChoices
 default_choices = record { 0 = 90; 1 = 9; 2 = 1 }
 
--- no weight at all
+-- three weights of zero
 abbrev pub zero_choices : MemoryOffsetChoices
 zero_choices = record { 0 = 0; 1 = 0; 2 = 0 }
 
--- a text is a number of 32 bits: a plus sign or none, and decimal digits
+-- the text is a 32-bit number: an optional plus sign and decimal digits
 abbrev pub IsNumber : List ℕ → ℕ → Type 0
 IsNumber text number = ParsesUnsigned {E = Unit {0}} 32 10 text (Ok number)
 
@@ -23,7 +23,7 @@ IsNumber text number = ParsesUnsigned {E = Unit {0}} 32 10 text (Ok number)
 abbrev pub AllNumbers : List (List ℕ) → Type 0
 AllNumbers texts = (numbers : List ℕ) × AllZip IsNumber texts numbers
 
--- the part at a place is no number, and each part before it is one
+-- the part at this position is not a number, and each part before it is one
 pub record IsFirstWrong (parts : List (List ℕ)) (place : ℕ) : Type 0 where
   pub early : place < 3
   pub text : List ℕ
@@ -31,7 +31,7 @@ pub record IsFirstWrong (parts : List (List ℕ)) (place : ℕ) : Type 0 where
   pub wrong : (number : ℕ) → ¬ IsNumber text number
   pub before : AllNumbers (take place parts)
 
--- three numbers, not all zero, or what is wrong first, from the left
+-- the result of parsing: three numbers, not all zero, or the first fault from the left
 abbrev pub AreReadChoices : List ℕ → Result MemoryOffsetChoices OffsetChoicesFault → Type 0
 AreReadChoices text (Ok choices) =
     AllZip IsNumber (parts_of text) (choices.0 ∷ choices.1 ∷ choices.2 ∷ []) × (choices ≢ zero_choices)

@@ -1,9 +1,9 @@
--- Configurations whose fields agree with one another. Rules of this project.
+-- Configurations without contradictions between fields. Rules of this project.
 use Rattle.std.specs.Prelude.{◌≡◌, ◌≤◌, ◌⊎◌, false, ◌&&◌, IsTrue, IsSome, None, is_some, min, if◌then◌else◌}
 use Rattle.smith_config.specs.declared.config.Config.{Config}
 
--- each field that needs others is on only where these are; without reference types there is one table at most; beside a
--- module shape no other shape is given
+-- each field that requires others is on only if these are; without reference types there is at most one table; a module
+-- shape replaces the other shapes
 abbrev pub sanitized : Config → Config
 sanitized config =
     let gc = config.reference_types_enabled && config.gc_enabled in
@@ -20,7 +20,8 @@ sanitized config =
       exports = if is_some config.module_shape then None else config.exports;
     }
 
--- nothing is on that needs what is off, several tables need reference types, and a module shape stands alone
+-- no field is on that requires a field that is off; several tables require reference types; beside a module shape there is
+-- no other shape
 pub record IsSanitized (config : Config) : Type 0 where
   pub one_table : config.reference_types_enabled ≡ false → config.max_tables ≤ 1
   pub gc : IsTrue config.gc_enabled → IsTrue config.reference_types_enabled
@@ -34,7 +35,7 @@ pub record IsSanitized (config : Config) : Type 0 where
   pub imports : IsSome config.module_shape → config.available_imports ≡ None
   pub exports : IsSome config.module_shape → config.exports ≡ None
 
--- new is old with these ten fields turned off, lowered, taken away or as they were: nothing is turned on, raised or added
+-- in new, each of these ten fields of old is turned off, lowered, cleared or unchanged; none is turned on, raised or set
 pub record IsLowered (old new : Config) : Type 0 where
   pub tables : new.max_tables ≤ old.max_tables
   pub gc : IsTrue new.gc_enabled → IsTrue old.gc_enabled

@@ -1,4 +1,4 @@
--- What is wrong with a shape: which of its faults is told. Rules of this project.
+-- The faults of a shape, and which of them is reported. Rules of this project.
 use Rattle.std.specs.Prelude.{◌≡◌, ℕ, IsTrue, List, [], ◌∷◌, ◌++◌, length, map, All}
 use Rattle.smith_bytes.specs.declared.error.Which.{Which}
 use Rattle.smith_bytes.specs.declared.error.Which.TheVariants.{Exports}
@@ -22,26 +22,27 @@ use Rattle.smith_config.specs.declared.shape.Shape.{Shape}
 use Rattle.smith_config.specs.Features.{features_of}
 use Rattle.smith_config.specs.Shapes.{IsShort, IsShallow, IsPlain, HasNothingLeftOut, AreCountsFor, space_of, shape_spaces}
 
--- types, and what refers to them, are right where every feature is on; what is shared holds what may be shared
+-- types, and the entities that refer to them, are valid with every feature enabled; shared ones hold only values that may be
+-- shared
 pub record AreTypesSound (space : Space) (spaces : IndexSpaces) : Type 0 where
   pub types : AreTypesValid every_feature space
   pub values : All (IsValTypeValid every_feature (length space.types)) (values_in space.types spaces)
   pub tables : All (λ (table : TableType). IsTrue table.shared → IsShareable space.types (Ref table.element_type)) spaces.tables
   pub globals : All (λ (global : GlobalType). IsTrue global.shared → IsShareable space.types global.val_type) spaces.globals
 
--- functions, tags and exports name what stands and is of the right kind
+-- functions, tags and exports refer to existing items of the right kind
 pub record AreIndicesSound (space : Space) (spaces : IndexSpaces) (exported : List (List ℕ × ExportKind × ℕ)) : Type 0 where
   pub funcs : All (IsFuncValid space.types) spaces.funcs
   pub tags : All (IsTagValid space.types) spaces.tags
   pub exports : AreExportsStanding spaces exported
 
--- tables have limits that fit, memories are right where every feature is on, and supertypes are not too far away
+-- the limits of tables fit, memories are valid with every feature enabled, and types are not too deep
 pub record AreLimitsSound (space : Space) (spaces : IndexSpaces) : Type 0 where
   pub tables : All (λ (table : TableType). AreLimitsValid (most_elements table.table64) table.minimum table.maximum) spaces.tables
   pub memories : All (IsMemoryValid every_feature) spaces.memories
   pub shallow : IsShallow space.types
 
--- these features are enough
+-- the features suffice
 pub record AreFeaturesEnough (which : Which) (features : Features) (space : Space) (spaces : IndexSpaces) : Type 0 where
   pub types : AreTypesValid features space
   pub tables : All (IsTableValid features space.types) spaces.tables
@@ -49,7 +50,7 @@ pub record AreFeaturesEnough (which : Which) (features : Features) (space : Spac
   pub globals : All (IsGlobalValid features space.types) spaces.globals
   pub counts : AreCountsFor which features spaces
 
--- the same of the types and the index spaces of a shape
+-- as above, for the types and the index spaces of a shape
 abbrev pub AreTypesRight : Shape → Type 0
 AreTypesRight shape = AreTypesSound (space_of shape.groups) (shape_spaces shape)
 
@@ -62,7 +63,7 @@ AreLimitsRight shape = AreLimitsSound (space_of shape.groups) (shape_spaces shap
 abbrev pub AreFeaturesOn : Which → Features → Shape → Type 0
 AreFeaturesOn which features shape = AreFeaturesEnough which features (space_of shape.groups) (shape_spaces shape)
 
--- what each fault says; a missing feature is one only where every feature would do
+-- the meaning of each fault; a missing feature is a fault only if all features together suffice
 abbrev pub HasShapeFault : Which → Config → Shape → ShapeFault → Type 0
 HasShapeFault which config shape fault.TooLong = IsShort shape → ⊥
 HasShapeFault which config shape fault.BadType = AreTypesRight shape → ⊥
@@ -73,11 +74,11 @@ HasShapeFault which config shape fault.DuplicateExport = AreDistinct (map (λ (o
 HasShapeFault which config shape fault.NotPlain = (which ≡ Exports) × (IsPlain shape → ⊥)
 HasShapeFault which config shape fault.LeftOut = HasNothingLeftOut shape → ⊥
 
--- the faults, in the order in which they are looked for
+-- the faults, in the order of the check
 abbrev pub shape_faults : List ShapeFault
 shape_faults = fault.TooLong ∷ fault.BadType ∷ fault.Index ∷ fault.Limit ∷ fault.Feature ∷ fault.DuplicateExport ∷ fault.NotPlain ∷ fault.LeftOut ∷ []
 
--- the shape has this fault, and none that comes before it
+-- the shape has this fault, and none of those before it
 pub record IsFirstShapeFault (which : Which) (config : Config) (shape : Shape) (found : ShapeFault) : Type 0 where
   pub before : List ShapeFault
   pub after : List ShapeFault
@@ -85,7 +86,8 @@ pub record IsFirstShapeFault (which : Which) (config : Config) (shape : Shape) (
   pub earlier : All (λ other. ¬ HasShapeFault which config shape other) before
   pub there : HasShapeFault which config shape found
 
--- why the check refuses a shape: its first fault, or want of memory, of which a shape that is too long takes none
+-- the errors of the check of a shape: its first fault, or a failed allocation; the check of a shape that is too long does
+-- not allocate
 abbrev pub IsRefused : Which → Config → Shape → Error → Type 0
 IsRefused which config shape error.Memory = IsShort shape
 IsRefused which config shape (error.Shape named found) = (named ≡ which) × IsFirstShapeFault which config shape found

@@ -1,5 +1,5 @@
--- Shapes that a module may be asked to have. What a module must meet is the standard's, by the definitions of validity; which
--- shapes may be handed in is a rule of this project.
+-- Shapes that a module may be required to have. The conditions on the module are those of the standard, by the definitions
+-- of validity; which shapes are accepted is a rule of this project.
 use Rattle.std.specs.Prelude.{◌≡◌, ℕ, ◌≤◌, ◌^◌, false, IsTrue, List, ◌++◌, Option, None, is_some, length, All, if◌then◌else◌}
 use Rattle.smith_bytes.specs.declared.error.Which.{Which}
 use Rattle.smith_bytes.specs.declared.error.Which.TheVariants.{AvailableImports, Exports, ModuleShape}
@@ -27,7 +27,7 @@ use Rattle.smith_config.specs.declared.config.Config.{Config}
 use Rattle.smith_config.specs.declared.shape.Shape.{Shape}
 use Rattle.smith_config.specs.Features.{features_of}
 
--- the shapes that a configuration holds, each where it is given
+-- the shapes of a configuration, if given
 pub record Shapes : Type 0 where
   pub available_imports : Option Shape
   pub exports : Option Shape
@@ -37,8 +37,8 @@ pub record Shapes : Type 0 where
 abbrev pub no_shapes : Shapes
 no_shapes = record { available_imports = None; exports = None; module_shape = None }
 
--- the shapes that are used: beside a module shape no other is. The definitions of modules speak of these, or of fields that a
--- sanitised configuration has alike
+-- the shapes in effect: a module shape replaces the others. The definitions of modules refer to these, or to fields that are
+-- equal to these in a sanitised configuration
 abbrev pub in_use : Shapes → Shapes
 in_use shapes = if is_some shapes.module_shape then record no_shapes { module_shape = shapes.module_shape } else shapes
 
@@ -46,7 +46,7 @@ in_use shapes = if is_some shapes.module_shape then record no_shapes { module_sh
 abbrev pub shape_types : Shape → List SubType
 shape_types shape = (space_of shape.groups).types
 
--- the imports of a shape, one by one: empty groups give none
+-- the imports of a shape, one by one; empty groups have none
 abbrev pub shape_imports : Shape → List Import
 shape_imports shape = flattened shape.imports
 
@@ -62,7 +62,7 @@ shape_spaces shape =
       globals = before.globals ++ shape.globals;
     }
 
--- the greatest length of a list of a shape
+-- the maximum length of a list in a shape
 abbrev pub most_listed : ℕ
 most_listed = 2 ^ 29
 
@@ -72,7 +72,7 @@ IsInnerShort (Array array) = Unit {0}
 IsInnerShort (Func function) = (length function.params ≤ most_listed) × (length function.results ≤ most_listed)
 IsInnerShort (Struct structure) = length structure.fields ≤ most_listed
 
--- no list is too long, nor are the types and the imports of all groups together
+-- no list is too long, and neither are the types or the imports of all groups together
 pub record IsShort (shape : Shape) : Type 0 where
   pub groups : length shape.groups ≤ most_listed
   pub types : length (shape_types shape) ≤ most_listed
@@ -90,76 +90,77 @@ pub record IsShort (shape : Shape) : Type 0 where
 pub record IsShallow (types : List SubType) : Type 0 where
   pub each : (index depth : ℕ) → HasDepth types index depth → depth ≤ 63
 
--- the value types that a shape names: those of its types, tables and globals
+-- the value types in a shape: those of its types, tables and globals
 abbrev pub shape_values : Shape → List ValType
 shape_values shape = values_in (shape_types shape) (shape_spaces shape)
 
--- a heap type that a shape may name: it is not exact and not shared
+-- a heap type that may occur in a shape: neither exact nor shared
 abbrev pub IsHeapTypeIncluded : HeapType → Type 0
 IsHeapTypeIncluded (Abstract shared ty) = shared ≡ false
 IsHeapTypeIncluded (Concrete index) = Unit {0}
 IsHeapTypeIncluded (Exact index) = ⊥
 
--- a value type that a shape may name
+-- a value type that may occur in a shape
 abbrev pub IsValTypeIncluded : ValType → Type 0
 IsValTypeIncluded (Ref reference) = IsHeapTypeIncluded reference.heap_type
 IsValTypeIncluded _ = Unit {0}
 
--- of types and index spaces nothing is shared but memories, and no reference is exact
+-- nothing in the types and index spaces is shared except memories, and no reference is exact
 pub record IsNothingLeftOut (listed : List SubType) (spaces : IndexSpaces) : Type 0 where
   pub types : All (λ (t : SubType). t.composite_type.shared ≡ false) listed
   pub values : All IsValTypeIncluded (values_in listed spaces)
   pub tables : All (λ (table : TableType). table.shared ≡ false) spaces.tables
   pub globals : All (λ (global : GlobalType). global.shared ≡ false) spaces.globals
 
--- the same of the types and index spaces of a shape
+-- as above, for the types and index spaces of a shape
 abbrev pub HasNothingLeftOut : Shape → Type 0
 HasNothingLeftOut shape = IsNothingLeftOut (shape_types shape) (shape_spaces shape)
 
--- a type that the exports of a module may name: a final function type without a supertype
+-- a type that may occur in a shape for exports: a final function type without a supertype
 pub record IsTypePlain (t : SubType) : Type 0 where
   pub final : IsTrue t.is_final
   pub root : t.supertype ≡ None
   pub function : kind t ≡ heap.Func
 
--- not the type of an index and those below it; an exact type is left out on its own account
+-- not a concrete heap type; exact types are excluded by another condition
 abbrev pub IsNotConcrete : HeapType → Type 0
 IsNotConcrete (Abstract shared ty) = Unit {0}
 IsNotConcrete (Concrete index) = ⊥
 IsNotConcrete (Exact index) = Unit {0}
 
--- no concrete reference
+-- not a concrete reference
 abbrev pub HasNoConcrete : ValType → Type 0
 HasNoConcrete (Ref reference) = IsNotConcrete reference.heap_type
 HasNoConcrete _ = Unit {0}
 
--- plain types alone, and no concrete reference to any of them
+-- only plain types, and no concrete references
 pub record ArePlain (listed : List SubType) (spaces : IndexSpaces) : Type 0 where
   pub types : All IsTypePlain listed
   pub values : All HasNoConcrete (values_in listed spaces)
 
--- a shape that may be handed in for exports: its types are plain
+-- a shape that is accepted for exports: its types are plain
 abbrev pub IsPlain : Shape → Type 0
 IsPlain shape = ArePlain (shape_types shape) (shape_spaces shape)
 
--- how a shape's items agree with one another and with the features
+-- the items of a shape are consistent with one another and with the features
 pub record IsConsistent (features : Features) (shape : Shape) : Type 0 where
   pub types : AreTypesValid features (space_of shape.groups)
   pub shallow : IsShallow (shape_types shape)
   pub entities : AreEntitiesValid features (shape_types shape) (shape_spaces shape)
   pub exports : AreExportsValid (shape_spaces shape) shape.exports
 
--- tags, and the numbers of tables and memories, have their features; available imports may hold some that are left aside
+-- tags, and several tables or memories, have their features; available imports are exempt, since some of them may not be
+-- imported
 abbrev pub AreCountsFor : Which → Features → IndexSpaces → Type 0
 AreCountsFor AvailableImports features spaces = Unit {0}
 AreCountsFor Exports features spaces = AreCountsEnabled features spaces
 AreCountsFor ModuleShape features spaces = AreCountsEnabled features spaces
 
--- the same of the index spaces of a shape
+-- as above, for the index spaces of a shape
 abbrev pub AreCountsFit : Which → Features → Shape → Type 0
 AreCountsFit which features shape = AreCountsFor which features (shape_spaces shape)
 
--- a shape that may be handed in for this use, with this configuration
+-- a shape that is accepted for this use in this configuration
 pub record IsShapeValid (which : Which) (config : Config) (shape : Shape) : Type 0 where
   pub short : IsShort shape
   pub nothing_left_out : HasNothingLeftOut shape

@@ -9,11 +9,11 @@ use smith_bytes::{Error, Unstructured};
 use smith_types::{InstructionKind, InstructionKinds};
 
 impl Config {
-    /// Draws a configuration from `u`, so that many inputs reach modules of different features. The
-    /// maximums, most proposals and some rules are drawn, and each minimum is 0. The configuration is
-    /// sanitised and passes [`Config::check`].
+    /// Draws a configuration from `u`, so that many inputs reach modules with different features.
+    /// Maximums, most proposals and some rules are drawn, and all minimums are 0. The configuration
+    /// is sanitised and passes [`Config::check`].
     ///
-    /// Always returns `Ok`, since it takes no memory. The `Result` is the form of the Rust crate's call.
+    /// Always returns `Ok`. The `Result` matches the signature in the Rust crate.
     pub fn arbitrary(u: &mut Unstructured<'_>) -> Result<Config, Error>
         ensures exact { IsOkAnd result (λ config. config_at u.old ≡ (config, u.new)) }
         ensures passes { IfOk result Passes }

@@ -34,20 +34,26 @@ const FAULTS: [ConfigFault; 24] = [
     ConfigFault::Memory64Bytes,
 ];
 
-/// The greatest maximum of a count.
+/// The largest permitted maximum of a count.
 const MOST: usize = 1 << 31;
 
-/// The bytes that a 32-bit address reaches.
+/// The number of bytes addressable with 32 bits.
 const MEMORY32_BYTES: u64 = 1 << 32;
 
-/// The bytes that a 64-bit address reaches.
+/// The number of bytes addressable with 64 bits.
 const MEMORY64_BYTES: u128 = 1 << 64;
 
 impl Config {
-    /// Checks that no field is out of range and that no two contradict each other, and returns the
-    /// first fault. Pairs of a minimum and a maximum come first, then maximums, each in the order of
-    /// [`Count`], then the bytes of memories. The pair of imports is not checked if a shape fixes the
-    /// imports, and the pair of exports if a shape fixes the exports or everything is exported.
+    /// Checks that every field is in range and that no minimum exceeds its maximum.
+    ///
+    /// Pairs of a minimum and a maximum are checked first, then maximums, each in the order of
+    /// [`Count`], then the bytes of memories. The pair of imports is skipped if a shape fixes the
+    /// imports. The pair of exports is skipped if a shape fixes the exports or everything is
+    /// exported.
+    ///
+    /// # Errors
+    ///
+    /// Returns the first fault in this order.
     pub fn check(&self) -> Result<(), ConfigFault>
         ensures passes { IsOk result ↔ Passes self.now }
         ensures fault { IfErr result (λ fault. IsFirstFault self.now fault) }
@@ -63,14 +69,14 @@ impl Config {
         Ok(())
     }
 
-    /// Whether the configuration has no fault.
+    /// Returns whether the configuration has no fault.
     fn passes(&self) -> bool
         ensures { IsTrue result ↔ Passes self.now }
     {
         self.are_ordered() && self.are_few()
     }
 
-    /// Whether no minimum that has an effect is above its maximum.
+    /// Returns whether no minimum that is in effect exceeds its maximum.
     fn are_ordered(&self) -> bool
         ensures { IsTrue result ↔ Each (IsInOrder self.now) counts }
     {
@@ -87,7 +93,7 @@ impl Config {
             && self.is_ordered(Count::Tables)
     }
 
-    /// Whether the minimum of `count` has no effect or is at most the maximum.
+    /// Returns whether the minimum of `count` is at most the maximum, or not in effect.
     #[tactic(auto, using(crate::proofs::FaultLemmas::in_order, crate::proofs::FaultLemmas::kept_in_order))]
     fn is_ordered(&self, count: Count) -> bool
         ensures { IsTrue result ↔ IsInOrder self.now count }
@@ -95,7 +101,7 @@ impl Config {
         !self.is_bounded(count) || self.minimum(count) <= self.maximum(count)
     }
 
-    /// Whether no maximum is too large.
+    /// Returns whether no maximum is too large.
     fn are_few(&self) -> bool
         ensures { IsTrue result ↔ Each (λ count. maximum_of self.now count ≤ 2 ^ 31) counts × ((self.now.max_memory32_bytes ≤ 2 ^ 32) × (self.now.max_memory64_bytes ≤ 2 ^ 64)) }
     {

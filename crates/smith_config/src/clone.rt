@@ -22,7 +22,7 @@ impl CloneIn for Shape {
 }
 
 impl Shape {
-    /// Copies the shape into new memory from `alloc`.
+    /// Copies the shape into memory from `alloc`.
     pub fn clone(&self, alloc: Global) -> Result<Self, Error>
         ensures ok { IfOk result (λ copy. copy ≡ self.now) }
         ensures memory { IfErr result (λ e. e ≡ Error.Memory) }
@@ -32,8 +32,8 @@ impl Shape {
 }
 
 impl Config {
-    /// Copies the configuration. Only its shapes take memory from `alloc`, so a configuration without
-    /// shapes is always copied.
+    /// Copies the configuration. Only its shapes allocate from `alloc`, so copying a configuration
+    /// without shapes always succeeds.
     pub fn clone(&self, alloc: Global) -> Result<Self, Error>
         ensures ok { IfOk result (λ copy. copy ≡ self.now) }
         ensures memory { IfErr result (λ e. e ≡ Error.Memory) }

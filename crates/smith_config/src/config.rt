@@ -4,286 +4,298 @@ ghost use Rattle.smith_config.specs.Config.{default_config};
 use crate::{MemoryOffsetChoices, Shape};
 use smith_types::InstructionKinds;
 
-/// The configuration of a module: the number of items of each kind, the proposals, and further rules.
+/// The configuration of a module: the number of items of each kind, the proposals, and further
+/// rules.
 ///
-/// `Config::default()` describes a module of moderate size with the finished proposals on. A struct
-/// update changes a field: `Config { max_types: 3, ..Config::default() }`. [`Config::sanitize`]
-/// settles fields that contradict each other, and [`Config::check`] finds fields out of range. The
-/// calls that make a whole module do both first; drawing calls require it of their caller.
+/// `Config::default()` describes modules of moderate size with the finished proposals enabled. A
+/// struct update changes a field: `Config { max_types: 3, ..Config::default() }`.
 ///
-/// Counts cover the whole index space: imported items, and items that the module defines. A
-/// maximum is at most `2^31`, and a minimum at most its maximum.
+/// [`Config::sanitize`] resolves contradictions between fields, and [`Config::check`] finds fields
+/// out of range. Calls that generate a whole module do both. Drawing calls do neither: they require
+/// a sanitised configuration that passes its check.
+///
+/// Counts cover whole index spaces: imported items and items defined in the module. A maximum is at
+/// most `2^31`, and a minimum at most its maximum.
 #[derive(Debug, Drop)]
 pub struct Config {
-    /// The least number of types. Default 0.
+    /// The minimum number of types. Defaults to 0.
     pub min_types: usize,
 
-    /// The greatest number of types. Default 100. Functions and tags need function types, so 0
-    /// leaves out functions and tags too, except those of a shape.
+    /// The maximum number of types. Defaults to 100. With 0 there are no functions and no tags
+    /// either, since these need function types; a shape may still add some.
     pub max_types: usize,
 
-    /// The least number of imports, compact groups counted by their items. Default 0. A number
-    /// that the maximums of the kinds, or `max_type_size`, don't allow is refused while drawing.
+    /// The minimum number of imports, including each item of a compact group. Defaults to 0.
+    /// Drawing fails if the maximums of the kinds or `max_type_size` do not permit this number.
     pub min_imports: usize,
 
-    /// The greatest number of imports, compact groups counted by their items. Default 100.
+    /// The maximum number of imports, including each item of a compact group. Defaults to 100.
     pub max_imports: usize,
 
-    /// The least number of tags. Default 0. Tags need `exceptions_enabled` and a function type
-    /// without results; too few tags are refused while drawing.
+    /// The minimum number of tags. Defaults to 0. Tags need `exceptions_enabled` and a function
+    /// type without results, and drawing fails if there are too few.
     pub min_tags: usize,
 
-    /// The greatest number of tags. Default 100.
+    /// The maximum number of tags. Defaults to 100.
     pub max_tags: usize,
 
-    /// The least number of functions. Default 0. Functions need a function type; too few functions
-    /// are refused while drawing.
+    /// The minimum number of functions. Defaults to 0. Functions need a function type, and drawing
+    /// fails if there are too few.
     pub min_funcs: usize,
 
-    /// The greatest number of functions. Default 100.
+    /// The maximum number of functions. Defaults to 100.
     pub max_funcs: usize,
 
-    /// The least number of globals. Default 0.
+    /// The minimum number of globals. Defaults to 0.
     pub min_globals: usize,
 
-    /// The greatest number of globals. Default 100.
+    /// The maximum number of globals. Defaults to 100.
     pub max_globals: usize,
 
-    /// The least number of exports. Default 0. Without effect under `export_everything`.
+    /// The minimum number of exports. Defaults to 0. Ignored with `export_everything`.
     pub min_exports: usize,
 
-    /// The greatest number of exports. Default 100. Without effect under `export_everything`.
+    /// The maximum number of exports. Defaults to 100. Ignored with `export_everything`.
     pub max_exports: usize,
 
-    /// The least number of element segments. Default 0. Without `bulk_memory_enabled` element
-    /// segments need a table.
+    /// The minimum number of element segments. Defaults to 0. Without `bulk_memory_enabled`,
+    /// element segments need a table.
     pub min_element_segments: usize,
 
-    /// The greatest number of element segments. Default 100.
+    /// The maximum number of element segments. Defaults to 100.
     pub max_element_segments: usize,
 
-    /// The least number of items in each element segment. Default 0. A segment that lists
-    /// functions stays empty where the module has no function to list.
+    /// The minimum number of items in each element segment. Defaults to 0. A segment of functions
+    /// stays empty if the module has no function for it.
     pub min_elements: usize,
 
-    /// The greatest number of items in all element segments together. Default 100.
+    /// The maximum number of items in all element segments together. Defaults to 100.
     pub max_elements: usize,
 
-    /// The least number of data segments. Default 0. Without `bulk_memory_enabled` data segments
-    /// need a memory.
+    /// The minimum number of data segments. Defaults to 0. Without `bulk_memory_enabled`, data
+    /// segments need a memory.
     pub min_data_segments: usize,
 
-    /// The greatest number of data segments. Default 100.
+    /// The maximum number of data segments. Defaults to 100.
     pub max_data_segments: usize,
 
-    /// The least number of memories. Default 0.
+    /// The minimum number of memories. Defaults to 0.
     pub min_memories: u32,
 
-    /// The greatest number of memories. Default 1. A number above 1 turns the multi-memory proposal
-    /// on.
+    /// The maximum number of memories. Defaults to 1. A number above 1 enables the multi-memory
+    /// proposal.
     pub max_memories: usize,
 
-    /// The least number of tables. Default 0.
+    /// The minimum number of tables. Defaults to 0.
     pub min_tables: u32,
 
-    /// The greatest number of tables. Default 1. Lowered to 1 without `reference_types_enabled`.
+    /// The maximum number of tables. Defaults to 1. Lowered to 1 without `reference_types_enabled`.
     pub max_tables: usize,
 
-    /// The greatest minimum and maximum of a 32-bit memory, in bytes. At most `2^32`, which is the
-    /// default.
+    /// The upper bound for the minimum and the maximum of a 32-bit memory, in bytes. At most
+    /// `2^32`, the default.
     pub max_memory32_bytes: u64,
 
-    /// The greatest minimum and maximum of a 64-bit memory, in bytes. At most `2^64`, which is the
-    /// default.
+    /// The upper bound for the minimum and the maximum of a 64-bit memory, in bytes. At most
+    /// `2^64`, the default.
     pub max_memory64_bytes: u128,
 
-    /// Whether each memory states a maximum. Default false; a shared memory always has a
-    /// maximum.
+    /// Whether each memory has a maximum. Defaults to `false`. A shared memory always has one.
     pub memory_max_size_required: bool,
 
-    /// The greatest minimum and maximum of a table, in elements. Default 1,000,000; 32-bit tables
-    /// stay below `2^32` in any case.
+    /// The upper bound for the minimum and the maximum of a table, in elements. Defaults to
+    /// 1,000,000. A 32-bit table always has fewer than `2^32` elements.
     pub max_table_elements: u64,
 
-    /// Whether each table states a maximum. Default false.
+    /// Whether each table has a maximum. Defaults to `false`.
     pub table_max_size_required: bool,
 
-    /// The greatest sum of the sizes of imports and exports. Default 1000. The size of a function
-    /// is 1 and the number of its parameters and results, the size of any other item is 1, and each
-    /// name costs 1 more. Names of `available_imports` cost nothing, nor do the exports of `exports`
-    /// and all of `module_shape`.
+    /// The maximum type size of a module: the sum of the sizes of its imports and exports. Defaults
+    /// to 1000.
+    ///
+    /// The size of a function is 1 plus the number of its parameters and results, the size of any
+    /// other item is 1, and each name adds 1. The names of `available_imports`, the exports of
+    /// `exports` and all of `module_shape` are free.
     pub max_type_size: u32,
 
-    /// The greatest number of instructions with operands that a constant expression nests before it
-    /// takes a shortest end. Default 50.
+    /// The number of instructions with operands that a constant expression may draw before it is
+    /// completed by the shortest means. Defaults to 50.
     pub const_expr_fuel: u32,
 
-    /// Whether the lengths of arrays in constant expressions are small numbers, paid from
-    /// `const_expr_fuel`, in place of any i32 expression. Default false.
+    /// Whether the length of an array in a constant expression is a small number, paid for with
+    /// `const_expr_fuel`, instead of any i32 expression. Defaults to `false`.
     pub limit_arrays_in_const_exprs: bool,
 
-    /// Whether a module may have a start function. Default true.
+    /// Whether a module may have a start function. Defaults to `true`.
     pub allow_start_export: bool,
 
-    /// Whether each function, table, memory, global and tag is exported, once. Default false. Where
-    /// true, `min_exports` and `max_exports` have no effect.
+    /// Whether each function, table, memory, global and tag is exported exactly once. Defaults to
+    /// `false`. If `true`, `min_exports` and `max_exports` are ignored.
     pub export_everything: bool,
 
-    /// Whether f32 and f64 may occur in types and constants. Default true. A shape may bring floats
-    /// all the same.
+    /// Whether f32 and f64 may occur in types and constants. Defaults to `true`. A shape may
+    /// contain floats in any case.
     pub allow_floats: bool,
 
-    /// Whether active segments stay inside their tables and memories, so that none of them traps. A
-    /// start function still may. Default false. Where true, a table may have one element and a
-    /// memory one page whatever `max_table_elements`, `max_memory32_bytes` and `max_memory64_bytes`
-    /// say.
+    /// Whether active segments lie within their tables and memories, so that they never trap. A
+    /// start function may still trap. Defaults to `false`. If `true`, a table may have one element
+    /// and a memory one page even if `max_table_elements`, `max_memory32_bytes` or
+    /// `max_memory64_bytes` is lower.
     pub disallow_traps: bool,
 
-    /// Whether a body may be raw bytes of the input, which need not be valid. Default false.
+    /// Whether a body may be raw bytes of the input, which need not be valid. Defaults to `false`.
     pub allow_invalid_funcs: bool,
 
-    /// References as value types, tables of more than functions, element expressions, a second
-    /// table. Default true. Needed by `gc_enabled`.
+    /// References as value types, tables of other types than `funcref`, element expressions, and a
+    /// second table. Defaults to `true`. Required by `gc_enabled`.
     pub reference_types_enabled: bool,
 
-    /// Struct and array types, recursive groups, subtypes, typed references. Default true; off
-    /// without `reference_types_enabled`.
+    /// Struct and array types, recursive groups, subtypes, and typed references. Defaults to
+    /// `true`; off without `reference_types_enabled`.
     pub gc_enabled: bool,
 
-    /// Exact references. Default false; off without `gc_enabled`.
+    /// Exact references. Defaults to `false`; off without `gc_enabled`.
     pub custom_descriptors_enabled: bool,
 
-    /// Functions with several results. Default true.
+    /// Functions with several results. Defaults to `true`.
     pub multi_value_enabled: bool,
 
-    /// Passive and declared segments, and segments that name a table. Default true.
+    /// Passive and declared segments, and segments with an explicit table. Defaults to `true`.
     pub bulk_memory_enabled: bool,
 
-    /// The value type v128. Default true. Needed by `relaxed_simd_enabled`.
+    /// The value type v128. Defaults to `true`. Required by `relaxed_simd_enabled`.
     pub simd_enabled: bool,
 
-    /// Tags and exception references. Default true.
+    /// Tags and exception references. Defaults to `true`.
     pub exceptions_enabled: bool,
 
-    /// Shared memories. Default true. Needed by `shared_everything_threads_enabled` and
+    /// Shared memories. Defaults to `true`. Required by `shared_everything_threads_enabled` and
     /// `acquire_release_atomics_enabled`.
     pub threads_enabled: bool,
 
-    /// Shared types, tables, globals and functions. Default false; off without `gc_enabled` or
-    /// `threads_enabled`.
+    /// Shared types, tables, globals and functions. Defaults to `false`; off without `gc_enabled`
+    /// or `threads_enabled`.
     pub shared_everything_threads_enabled: bool,
 
-    /// 64-bit memories and tables. Default true.
+    /// 64-bit memories and tables. Defaults to `true`.
     pub memory64_enabled: bool,
 
-    /// Memories that state a page size, of 1 or 65,536 bytes. Default false.
+    /// Memories with an explicit page size of 1 or 65,536 bytes. Defaults to `false`.
     pub custom_page_sizes_enabled: bool,
 
-    /// Addition, subtraction and multiplication in constant expressions. Default true.
+    /// Addition, subtraction and multiplication in constant expressions. Defaults to `true`.
     pub extended_const_enabled: bool,
 
-    /// Import groups that share a module name, or a module name and a type. Default true.
+    /// Groups of imports with a common module name, or a common module name and type. Defaults to
+    /// `true`.
     pub compact_imports_enabled: bool,
 
-    /// Relaxed vector instructions. Default true; off without `simd_enabled`. No effect on the
-    /// module but its features, since bodies hold no such instruction.
+    /// Relaxed vector instructions. Defaults to `true`; off without `simd_enabled`. Affects only
+    /// the features of the module, since bodies have no such instructions.
     pub relaxed_simd_enabled: bool,
 
-    /// Conversions from floats to integers that saturate. Default true. No effect on the module
-    /// but its features.
+    /// Saturating conversions from floats to integers. Defaults to `true`. Affects only the
+    /// features of the module.
     pub saturating_float_to_int_enabled: bool,
 
-    /// Instructions that extend a sign. Default true. No effect on the module but its features.
+    /// Sign-extension instructions. Defaults to `true`. Affects only the features of the module.
     pub sign_extension_ops_enabled: bool,
 
-    /// Tail calls. Default true. No effect on the module but its features.
+    /// Tail calls. Defaults to `true`. Affects only the features of the module.
     pub tail_call_enabled: bool,
 
-    /// Arithmetic on 128 bits. Default true. No effect on the module but its features.
+    /// 128-bit arithmetic. Defaults to `true`. Affects only the features of the module.
     pub wide_arithmetic_enabled: bool,
 
-    /// Atomic accesses that acquire or release. Default false; off without `threads_enabled`. No
-    /// effect on the module but its features.
+    /// Atomic accesses with acquire and release ordering. Defaults to `false`; off without
+    /// `threads_enabled`. Affects only the features of the module.
     pub acquire_release_atomics_enabled: bool,
 
-    /// Accesses to several bytes of an array. Default false; off without `gc_enabled`. No effect
-    /// on the module but its features.
+    /// Accesses to several bytes of an array at once. Defaults to `false`; off without
+    /// `gc_enabled`. Affects only the features of the module.
     pub multibyte_array_access_enabled: bool,
 
-    /// References that aren't nullable, in types where a struct or a function that exists gives one
-    /// without operands. Default false; off without `gc_enabled`. [`Config::arbitrary`] leaves it
-    /// false.
+    /// Non-nullable references, to heap types for which an existing struct type or function
+    /// provides one without operands. Defaults to `false`; off without `gc_enabled`.
+    /// [`Config::arbitrary`] leaves it `false`.
     pub non_nullable_enabled: bool,
 
-    /// The kinds of instructions that bodies may hold. Default all. No effect on a module, whose
-    /// bodies hold no drawn instruction; those of a program hold such kinds alone.
+    /// The kinds of instructions that bodies of a program may have. Defaults to all. Ignored for a
+    /// module, whose bodies have no drawn instructions.
     pub allowed_instructions: InstructionKinds,
 
-    /// The weights by which the offset of a memory access lies inside the memory. Kept without
-    /// effect: offsets are chosen without weights.
+    /// The weights for the position of the offset of a memory access. Ignored: offsets are chosen
+    /// without weights.
     pub memory_offset_choices: MemoryOffsetChoices,
 
-    /// The number of instructions with operands, or with others inside, that are chosen for a body
-    /// of a program. Default 100; where 0, each of these bodies is `unreachable`. No effect on a
-    /// module, whose bodies hold no drawn instruction.
+    /// The number of instructions with operands or nested instructions to choose for a body of a
+    /// program. Defaults to 100. With 0, each body of a program is `unreachable`. Ignored for a
+    /// module, whose bodies have no drawn instructions.
     pub max_instructions: usize,
 
-    /// Whether NaN results get one bit pattern. Default false. Kept without effect: no result is
-    /// changed.
+    /// Whether NaN results are made canonical. Defaults to `false`. Ignored: no result is changed.
     pub canonicalize_nans: bool,
 
-    /// Whether custom sections are made. Default false. Kept without effect: a module here has no
-    /// custom section.
+    /// Whether custom sections are generated. Defaults to `false`. Ignored: modules here have no
+    /// custom sections.
     pub generate_custom_sections: bool,
 
-    /// The least length, in bytes, of an encoded whole number. Default 1. Kept without effect:
-    /// nothing is encoded here.
+    /// The minimum length of an encoded unsigned integer, in bytes. Defaults to 1. Ignored: nothing
+    /// is encoded here.
     pub min_uleb_size: u8,
 
-    /// The greatest number of aliases of a component. Default 1000. Kept without effect: no
-    /// components are made.
+    /// The maximum number of aliases of a component. Defaults to 1000. Ignored: no components are
+    /// generated.
     pub max_aliases: usize,
 
-    /// The greatest number of components of a component. Default 10. Kept without effect: no
-    /// components are made.
+    /// The maximum number of components of a component. Defaults to 10. Ignored: no components are
+    /// generated.
     pub max_components: usize,
 
-    /// The greatest number of instances of a component. Default 10. Kept without effect: no
-    /// components are made.
+    /// The maximum number of instances of a component. Defaults to 10. Ignored: no components are
+    /// generated.
     pub max_instances: usize,
 
-    /// The greatest number of modules of a component. Default 10. Kept without effect: no
-    /// components are made.
+    /// The maximum number of modules of a component. Defaults to 10. Ignored: no components are
+    /// generated.
     pub max_modules: usize,
 
-    /// The greatest depth of components inside one another. Default 10. Kept without effect: no
-    /// components are made.
+    /// The maximum nesting depth of components. Defaults to 10. Ignored: no components are
+    /// generated.
     pub max_nesting_depth: usize,
 
-    /// The greatest number of values of a component. Default 10. Kept without effect: no
-    /// components are made.
+    /// The maximum number of values of a component. Defaults to 10. Ignored: no components are
+    /// generated.
     pub max_values: usize,
 
-    /// Imports of which a module has some, in order, in place of drawn imports: the module has those
-    /// that the input picks and that stay within the maximums and the type size. Default none. All
-    /// types of the shape come first; the definitions and exports of the shape are not used.
-    /// `min_imports` is without effect beside the shape. Beside `module_shape` the field is set to
-    /// none.
+    /// The imports to choose from, instead of drawn imports. Defaults to `None`.
+    ///
+    /// A module has, in order, the imports of the shape that the input selects and that fit the
+    /// maximums and the type size. All types of the shape come first in the module, and its
+    /// definitions and exports are ignored. `min_imports` is ignored. [`Config::sanitize`] clears
+    /// this field if there is a `module_shape`.
     pub available_imports: Option<Shape>,
 
-    /// The exports of a module, in place of drawn exports. Default none. For each export an item is
-    /// defined that has the same type: for a function or a tag a type is added that takes and gives
-    /// the same. The types of the shape are final function types without a supertype. `min_exports`
-    /// and `export_everything` are without effect beside the shape, and so is `max_exports`, but
-    /// that no maximum is above `2^31`. Beside `module_shape` the field is set to none.
+    /// The exports of a module, instead of drawn exports. Defaults to `None`.
+    ///
+    /// For each export the module defines an item of the same type. For a function or a tag it adds
+    /// a type with the same parameters and results. All types of the shape must be final function
+    /// types without a supertype.
+    ///
+    /// `min_exports` and `export_everything` are ignored. `max_exports` is ignored too, but must
+    /// not exceed `2^31`. [`Config::sanitize`] clears this field if there is a `module_shape`.
     pub exports: Option<Shape>,
 
-    /// The first types of a module, and all its imports and exports, in order. Default none. Empty
-    /// groups of imports are left out, and each import is alone in its group without compact imports. For
-    /// each export an item is defined that has the same type, for an export of an import too; a
-    /// definition that nothing exports has no effect. The rest is drawn. The minimums of imports and
-    /// exports, `export_everything`, `available_imports` and `exports` are without effect beside the
-    /// shape, and so are the maximums of imports and exports, but that no maximum is above `2^31`.
+    /// The first types of a module and all of its imports and exports, in order. The rest is drawn.
+    /// Defaults to `None`.
+    ///
+    /// Empty groups of imports are omitted, and without compact imports each import is its own
+    /// group. For each export the module defines an item of the same type, even if the export
+    /// refers to an import. A definition that is not exported has no effect.
+    ///
+    /// The minimums of imports and exports, `export_everything`, `available_imports` and `exports`
+    /// are ignored. The maximums of imports and exports are ignored too, but must not exceed
+    /// `2^31`.
     pub module_shape: Option<Shape>,
 }
 

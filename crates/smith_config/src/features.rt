@@ -6,7 +6,7 @@ use crate::Config;
 use smith_types::WasmFeatures;
 
 impl Config {
-    /// The features that a module drawn for the configuration may use.
+    /// Returns the features that a module drawn for the configuration may use.
     pub fn features(&self) -> WasmFeatures
         ensures flags { features_in result ≡ features_of self.now }
         ensures number { bits_of result ≡ number_of (features_of self.now) }

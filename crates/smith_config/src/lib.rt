@@ -6,7 +6,7 @@ mod check;
 mod clone;
 mod config;
 mod features;
-/// Laws: functions that do nothing, whose clauses say what holds.
+/// Laws: functions with empty bodies whose clauses state theorems.
 pub mod laws;
 mod offset_choices;
 mod sanitize;

@@ -4,24 +4,24 @@ ghost use Rattle.smith_config.specs.OffsetChoices.{default_choices, zero_choices
 use std::str::FromStr;
 use thiserror::Error;
 
-/// Weights of where the offset of a memory access lies: below the minimum of the memory, between its
-/// minimum and its maximum, and past its maximum. Each weight is relative to the sum of the three.
-/// Default (90, 9, 1).
+/// Weights for the position of the offset of a memory access: below the minimum size of the memory,
+/// between its minimum and its maximum, or past its maximum. Each weight is relative to the sum of
+/// the three. Defaults to (90, 9, 1).
 ///
-/// The text form lists the weights in the order of the fields, separated by commas.
+/// As text, the weights are listed in the order of the fields, separated by commas.
 #[derive(Clone, Copy, Debug, PartialEq, Eq)]
 pub struct MemoryOffsetChoices(pub u32, pub u32, pub u32);
 
-/// Reasons why a text is not a [`MemoryOffsetChoices`].
+/// The error of parsing a [`MemoryOffsetChoices`].
 #[derive(Clone, Copy, Debug, PartialEq, Eq, Error)]
 pub enum OffsetChoicesFault {
-    /// The text has fewer than three parts, all of them numbers.
+    /// The text has fewer than three parts, and all of them are numbers.
     #[error("need three numbers between commas")]
     NeedThree,
-    /// The part at a place, counted from 0, isn't a number below `2^32`.
+    /// The part at this position, counted from 0, is not a number below `2^32`.
     #[error("part {0} isn't a number of 32 bits")]
     Number(usize),
-    /// The text has more than three parts, the first three of them numbers.
+    /// The text has more than three parts, and the first three are numbers.
     #[error("more than three parts")]
     TooMany,
     /// All three numbers are zero.

@@ -4,8 +4,9 @@ ghost use Rattle.smith_config.specs.Sanitized.{sanitized, IsSanitized, IsLowered
 use crate::Config;
 
 impl Config {
-    /// Turns off each field that another field rules out, lowers `max_tables` to 1 without reference
-    /// types, and clears `available_imports` and `exports` if there is a module shape.
+    /// Resolves contradictions between fields. Turns off each field that requires a field that is
+    /// off, lowers `max_tables` to 1 without reference types, and clears `available_imports` and
+    /// `exports` if there is a module shape.
     pub fn sanitize(&mut self)
         ensures exact { self.new ≡ sanitized self.old }
         ensures sound { IsSanitized self.new }

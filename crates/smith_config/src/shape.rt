@@ -4,23 +4,24 @@ use smith_types::{
 
 /// Required parts of a module: types, imports, definitions and exports, without bodies.
 ///
-/// The field of `Config` that holds the shape says which of these parts a module has. A definition
-/// matters only through the exports that name it: a module defines an item of its own for each export.
+/// The field of [`Config`](crate::Config) that holds the shape determines which of these parts a
+/// module has. A definition matters only through the exports that refer to it: the module defines a
+/// separate item for each export.
 #[derive(Debug, Drop, PartialEq)]
 pub struct Shape {
-    /// The types in their recursive groups.
+    /// The types, in their recursive groups.
     pub groups: Items<Items<SubType>>,
     /// The imports, in their groups.
     pub imports: Items<Imports>,
-    /// The indices of the types of the functions that are defined.
+    /// The type index of each defined function.
     pub funcs: Items<u32>,
-    /// The indices of the types of the tags that are defined.
+    /// The type index of each defined tag.
     pub tags: Items<u32>,
-    /// The tables that are defined.
+    /// The type of each defined table.
     pub tables: Items<TableType>,
-    /// The memories that are defined.
+    /// The type of each defined memory.
     pub memories: Items<MemoryType>,
-    /// The globals that are defined.
+    /// The type of each defined global.
     pub globals: Items<GlobalType>,
     /// The name, kind and index of each export. Indices count imported items first.
     pub exports: Items<(Name, ExportKind, u32)>,

@@ -16,7 +16,7 @@ length-numbered : (of_kind : ExportKind) (start count : ℕ) → length (numbere
 length-numbered of_kind start zero = refl
 length-numbered of_kind start (suc count) = let rest = length-numbered of_kind (suc start) count in omega arith
 
--- how many items there are
+-- the number of items
 pub length-every_item : (spaces : IndexSpaces) → length (every_item spaces) ≡ length spaces.funcs + length spaces.tables + length spaces.memories + length spaces.globals + length spaces.tags
 length-every_item spaces = simp (length-append, length-numbered) (omega arith)
 
@@ -70,7 +70,7 @@ there : {A : Type 0} (xs : List A) (index : ℕ) → index < 0 + length xs → (
 there [] index below = absurd (omega arith)
 there (x ∷ xs) index below = (get_or (x ∷ xs) index x, slice_get-get_or (x ∷ xs) index x (omega arith))
 
--- every item stands
+-- every item exists
 pub every_item_stands : (spaces : IndexSpaces) → All (λ (item : Item). IsStanding spaces item.0 item.1) (every_item spaces)
 every_item_stands spaces =
     let P = λ (item : Item). IsStanding spaces item.0 item.1 in

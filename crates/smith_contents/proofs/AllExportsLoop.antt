@@ -1,4 +1,4 @@
--- One turn of the loop that exports every item.
+-- One iteration of the loop that exports every item.
 use Rattle.std.proofs.Common.{◌≡◌, ℕ, ◌+◌, ◌-◌, ◌<◌, ◌≤◌, true, false, List, [], ◌∷◌, ◌++◌, length, drop, map, refl, sym, ap, arith, length-append, append-nil, append_assoc, nat_lt, lt-ltb, le-ltb, subst, ◌∙◌}
 use Rattle.std.specs.Prelude.{Ok, Err, Some, All, slice_get}
 use Rattle.std.specs.HashSet.{HashSet, IsEmpty}
@@ -18,7 +18,7 @@ use Rattle.smith_contents.specs.Exporting.{Export, is_exported, export_name_at, 
 use Rattle.smith_contents.specs.Exported.{IsStanding, AreExportsFit}
 use Rattle.smith_contents.proofs.ExportsFitLemmas.{none_fit, fit_push}
 
--- the items up to a place are exported, and what is drawn from here on completes the whole
+-- the items before a place are exported, and the draws from here on complete the whole
 pub record AreExporting {S : Type 0} (config : Config) (types : List SubType) (spaces : IndexSpaces) (imports : ℕ) (items : List Item) (place : ℕ) (exports : List Export) (size : ℕ) (names : HashSet (String Global) S) (start bytes : List ℕ) : Type 0 where
   pub fit : AreExportsFit config types spaces imports exports size
   pub items_are : map item_of exports ++ drop place items ≡ items
@@ -52,7 +52,7 @@ module _ {S : Type 0} {config : Config} {types : List SubType} {spaces : IndexSp
       let none : drop place items ≡ [] = drop_all place items full in
       sym (append-nil (map item_of exports)) ∙ (ap (λ (l : List Item). map item_of exports ++ l) (sym none) ∙ now.items_are)
 
-  -- one more is drawn, or too large
+  -- one more is drawn, or is too large
   module _ {name : List ℕ} {item : Item} {after : List ℕ} (now : AreExporting config types spaces imports items place exports size names start bytes) (at : slice_get items place ≡ Some item) (drawn : export_name_at exports bytes ≡ (name, after)) where
     rest : drop place items ≡ item ∷ drop (place + 1) items
     rest = drop_more items place item (slice_get_within items place item at) ∙ ap (λ (one : Item). one ∷ drop (place + 1) items) (get_or_from_slice_get items place item item at)

@@ -1,4 +1,5 @@
--- Data segments that are drawn may stand in a module: they are valid, and with `disallow_traps` what they copy fits.
+-- Drawn data segments fit into a module: they are valid, and with `disallow_traps` the bytes that
+-- they copy fit.
 use Rattle.std.proofs.Common.{◌≡◌, ◌⊎◌, inl, inr, ℕ, ◌<◌, ◌≤◌, Bool, true, false, cond, List, [], length, refl, subst, arith}
 use Rattle.std.specs.Prelude.{◌↔◌, All, IsTrue, IfSome, Option, Some, None}
 use Rattle.std.specs.List.{Contains}
@@ -24,7 +25,7 @@ use Rattle.smith_draw.proofs.ValueTypeLemmas.{drawn_is}
 use Rattle.smith_contents.specs.DataSegments.{Targets, Indexed, HasPages, no_memory, least_bytes, segment_at, segments_at}
 use Rattle.smith_contents.specs.DataTargets.{StandsIn, TellOffsets, IsDataFit}
 
--- what holds of all memories that count holds of the one that is chosen
+-- a property of all memories that count is one of the chosen memory
 pub chosen_keeps : (P : Indexed → Type 0) (items : List Indexed) (bytes : List ℕ) {after : List ℕ} {one : Indexed} → 0 < length items → All P items → chosen_at no_memory items bytes ≡ (one, after) → P one
 chosen_keeps P items bytes some all chosen = drawn_is P _ (chosen_of P no_memory items bytes some all) chosen
 
@@ -45,12 +46,12 @@ below_number false types (Ref r) h = absurd h
 readable_tells : (context : Context) (wide : Bool) (index : ℕ) → IsReadable context (address_type wide) index → IsVisible context index (address_type wide)
 readable_tells context wide index (value, visible, below) = subst (λ (ty : ValType). IsVisible context index ty) (below_number wide context.types value below) visible
 
--- globals that may be read tell an offset
+-- an offset may be read from readable globals
 pub readable_tell : (context : Context) (wide : Bool) (globals : List ℕ) → ((index : ℕ) → Contains globals index ↔ IsReadable context (address_type wide) index) → TellOffsets context wide globals
 readable_tell context wide globals readable =
     All-weaker (Contains globals) (λ index. IsVisible context index (address_type wide)) (λ index inside. readable_tells context wide index ((readable index).0 inside)) globals (All-contains_itself globals)
 
--- of both widths
+-- and from those of both widths
 pub both_tell : (context : Context) (wide : Bool) (globals32 globals64 : List ℕ) → TellOffsets context false globals32 → TellOffsets context true globals64 → TellOffsets context wide (cond wide globals64 globals32)
 both_tell context true globals32 globals64 narrow broad = broad
 both_tell context false globals32 globals64 narrow broad = narrow
@@ -59,17 +60,17 @@ pub both_none : (wide : Bool) (globals32 globals64 : List ℕ) → globals32 ≡
 both_none true globals32 globals64 narrow broad = broad
 both_none false globals32 globals64 narrow broad = narrow
 
--- what is copied into a memory may stand
+-- a segment that is copied into a memory fits
 pub active_fit : {config : Config} {context : Context} {memories : List MemoryType} {one : Indexed} {offset : Offset} {init : List ℕ}
     → StandsIn memories one → IsOffsetValid context one.1.memory64 offset → (IsTrue config.disallow_traps → IsOffsetInside offset (length init) (least_bytes one.1))
     → IsDataFit config context memories (record { kind = Active one.0 offset; init = init })
 active_fit {one = one} stands valid inside = record { valid = (one.1, stands, valid); inside = λ on. (one.1, stands, inside on) }
 
--- what is passive may, with bulk memory
+-- a passive segment fits, with bulk memory
 pub passive_fit : {config : Config} {context : Context} {memories : List MemoryType} {init : List ℕ} → IsTrue context.features.bulk_memory → IsDataFit config context memories (record { kind = Passive; init = init })
 passive_fit bulk = record { valid = bulk; inside = λ on. tt }
 
--- how many segments there are
+-- the number of segments
 pub segments_most : (config : Config) (targets : Targets) (bytes : List ℕ) → length (segments_at config targets bytes).0 ≤ config.max_data_segments
 unfolding segments_at
 segments_most config targets bytes = grow_most (λ _. segment_at config targets) config.min_data_segments config.max_data_segments config.max_data_segments [] bytes (omega arith)
@@ -78,7 +79,7 @@ pub segments_least : (config : Config) (targets : Targets) (bytes : List ℕ) �
 unfolding segments_at
 segments_least config targets bytes ordered = grow_least (λ _. segment_at config targets) config.min_data_segments config.max_data_segments [] bytes (omega arith)
 
--- a valid memory has pages of 64 KiB, or of the bytes that it states
+-- a valid memory has pages of 64 KiB, or of the stated number of bytes
 page_fits : (features : Features) (stated : Option ℕ) → IfSome stated (λ log2. ((log2 ≡ 0) ⊎ (log2 ≡ 16)) × IsTrue features.custom_page_sizes) → page_log2 stated ≤ 16
 page_fits features None size = omega arith
 page_fits features (Some log2) size = elim size.0 [ inl bytes ↦ omega (arith, bytes) | inr pages ↦ omega (arith, pages) ]

@@ -1,4 +1,4 @@
--- One turn of the loop over the memories that count, and the one that is chosen.
+-- One iteration of the loop over the memories that count, and the memory that is chosen.
 use Rattle.std.proofs.Common.{◌≡◌, ℕ, ◌+◌, ◌-◌, ◌<◌, ◌≤◌, Bool, true, false, List, [], ◌∷◌, ◌++◌, Some, length, get_or, drop, refl, sym, ◌∙◌, ap, arith}
 use Rattle.std.specs.Prelude.{All}
 use Rattle.std.proofs.lemmas.List.{append-nil, at_drop_more, at_drop_all, map-append, length-map, get_or-map}
@@ -14,11 +14,11 @@ use Rattle.smith_draw.specs.ConstOffers.{offered_if}
 use Rattle.smith_contents.specs.DataSegments.{Indexed, no_memory, counts_at, counting_at}
 use Rattle.smith_contents.specs.DataTargets.{StandsIn, indexed}
 
--- the memories that count behind one of which it is known
+-- the memories that count after one whose draw is known
 abbrev counted : List Indexed → ℕ → List MemoryType → MemoryType → Bool × List ℕ → List Indexed × List ℕ
 counted counting index rest memory counts = counting_at (counting ++ offered_if counts.0 (index, memory)) (index + 1) rest counts.1
 
--- the memories before an index were looked at, and what is counted from there on completes the whole
+-- the memories before an index were visited, and counting from there on completes the whole
 pub record IsCounting (memories : List MemoryType) (index : ℕ) (drawn : Indices) (start bytes : List ℕ) : Type 0 where
   pub end : drawn.end ≡ index
   pub within : All (λ one. one < length memories) drawn.offered
@@ -60,7 +60,7 @@ module _ {memories : List MemoryType} {index : ℕ} {drawn : Indices} {start byt
         left = λ whole h. kept whole (now.left whole h);
       })
 
--- all memories were looked at
+-- all memories were visited
 pub counting_done : {memories : List MemoryType} {index : ℕ} {drawn : Indices} {start bytes : List ℕ}
     → IsCounting memories index drawn start bytes → length memories ≤ index → counting_at [] 0 memories start ≡ (indexed memories drawn.offered, bytes)
 unfolding counting_at
@@ -71,13 +71,13 @@ counting_done {memories = memories} {index = index} {drawn = drawn} {bytes = byt
 pub counting_begin : (memories : List MemoryType) (drawn : Indices) (bytes : List ℕ) → drawn ≡ record { end = 0; offered = [] } → IsCounting memories 0 drawn bytes bytes
 counting_begin memories drawn bytes none = rw none (record { end = refl; within = All-nil (λ one. one < length memories); so_far = refl; left = λ whole h. h })
 
--- memories of indices that are not too great stand
+-- memories exist whose indices are small enough
 pub indexed_stand : (memories : List MemoryType) (indices : List ℕ) → All (λ one. one < length memories) indices → All (StandsIn memories) (indexed memories indices)
 indexed_stand memories indices within =
     All-map (StandsIn memories) (λ index. (index, get_or memories index no_memory.1)) indices
     (All-weaker (λ one. one < length memories) (λ index. StandsIn memories (index, get_or memories index no_memory.1)) (λ index inside. slice_get-get_or memories index no_memory.1 inside) indices within)
 
--- the memory of an index that is chosen
+-- the memory of a chosen index
 pub memory_chosen : (memories : List MemoryType) (indices bytes : List ℕ) (index : ℕ) (after : List ℕ) → 0 < length (indexed memories indices) → chosen_at 0 indices bytes ≡ (index, after)
     → chosen_at no_memory (indexed memories indices) bytes ≡ ((index, get_or memories index no_memory.1), after)
 unfolding chosen_at

@@ -1,5 +1,5 @@
--- Drawn bodies are valid, without floats no local is one, no local is a reference that may not be null and is not grounded, and they
--- are raw bytes only where they may be.
+-- Drawn bodies are valid, and raw bytes only if that is allowed. No local is a float without
+-- floats, and none is a non-nullable reference that is not grounded.
 use Rattle.std.proofs.Common.{◌≡◌, ℕ, Bool, true, false, cond, List, [], length, refl, subst, arith}
 use Rattle.std.specs.Prelude.{IsTrue, All}
 use Rattle.std.specs.List.{Any, flat_map}
@@ -82,6 +82,6 @@ not_raw : (raw : Bool) (instructions : Instructions) → raw ≡ false → AreIn
 not_raw raw Unreachable off valid is_raw = is_raw
 not_raw raw (Arbitrary bytes) off valid is_raw = cc
 
--- valid bodies are no raw bytes where none may be
+-- valid bodies are not raw bytes if raw bytes are not allowed
 pub none_raw : (config : Config) (types : ℕ) (bodies : List Code) → config.allow_invalid_funcs ≡ false → All (IsBodyValid (features_of config) types config.allow_invalid_funcs) bodies → ¬ Any (λ (body : Code). IsRaw body.instructions) bodies
 none_raw config types bodies off valid (place, body, inside, at, raw) = not_raw config.allow_invalid_funcs body.instructions off (subst (λ (one : Code). IsBodyValid (features_of config) types config.allow_invalid_funcs one) at (valid place body inside)).instructions raw

@@ -1,4 +1,4 @@
--- How many element segments there are: as many as are asked for, and none where a piece says so.
+-- The number of element segments: at least the minimum, and none if a piece says so.
 use Rattle.std.proofs.Common.{◌≡◌, ℕ, zero, suc, ◌+◌, ◌≤◌, Bool, true, false, cond, List, [], ◌∷◌, ◌++◌, length, ltb, eqb, refl, arith, length-append}
 use Rattle.std.specs.Prelude.{◌==◌, Result, Ok, Err, IfOk, if◌then◌else◌}
 use Rattle.std.proofs.lemmas.Bool.{cond_both, eqb-true, ltb-false, lt-ltb}
@@ -20,7 +20,7 @@ use Rattle.smith_imports.specs.Steps.{Gives, ◌>>=◌}
 use Rattle.smith_contents.specs.declared.element_kinds.KindChoice.TheVariants.{Passive, Declared}
 use Rattle.smith_imports.proofs.GivenLemmas.{given_takes}
 
--- what holds behind whatever a step gives holds behind the step
+-- a property of the next step after every result of a step holds after the step
 behind : {A B : Type 0} (P : B → Type 0) (first : Result A Why) (next : A → Result B Why) → ((x : A) → IfOk (next x) P) → IfOk (first >>= next) P
 behind P (Ok x) next each = each x
 behind P (Err why) next each = tt
@@ -40,7 +40,7 @@ segments_least config context kinds (suc most) made bytes enough =
     (λ on. behind Least _ _ (λ segment. segments_least config context kinds most (made ++ segment.0 ∷ []) segment.1 (omega (arith, length-append made (segment.0 ∷ [])))))
     (λ off. ltb-false (length made) config.min_element_segments (stops_by (ltb (length made) config.min_element_segments) bytes off))
 
--- as many as are asked for
+-- at least the minimum
 pub elements_least : (config : Config) (context : Context) (tables : List TableType) (bytes : List ℕ) → config.min_element_segments ≤ config.max_element_segments → IfOk (elements_at config context tables bytes) (λ drawn. config.min_element_segments ≤ length drawn.0)
 unfolding elements_at
 elements_least config context tables bytes ordered =
@@ -70,7 +70,7 @@ pub elements_none : (config : Config) (context : Context) (tables : List TableTy
 unfolding elements_at kinds_at table_kinds_at
 elements_none config context tables segments piece after none empty h = rw (empty, h.none) (none_by config context config.bulk_memory_enabled piece after none h.spelled)
 
--- and taken, where there is no table
+-- and taken, if there is no table
 pub elements_taken : (config : Config) (context : Context) (tables : List TableType) (old new : List ℕ) (result : Result (List ElementSegment) Error) → config.min_element_segments ≡ 0 → tables ≡ [] → Gives (λ segments. (segments, new)) result (elements_at config context tables old)
     → IfOk result (λ segments. Takes (SpellsEmpty (SpellsNone (if config.bulk_memory_enabled then config.max_element_segments else 0))) old segments new)
 elements_taken config context tables old new result none empty given =

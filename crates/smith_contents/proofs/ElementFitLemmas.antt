@@ -1,4 +1,5 @@
--- Element segments that are drawn may stand in a module: they are valid, and with `disallow_traps` what they copy fits.
+-- Drawn element segments fit into a module: they are valid, and with `disallow_traps` the items
+-- that they copy fit.
 use Rattle.std.proofs.Common.{◌≡◌, ℕ, ◌≤◌, true, Option, Some, None, List, [], length, inl, refl, arith}
 use Rattle.std.specs.Prelude.{All, IsTrue, IsSomeAnd, IfOk, Result, Ok, Err}
 use Rattle.std.specs.List.{flat_map}
@@ -33,7 +34,7 @@ use Rattle.smith_contents.specs.ElementSegments.{KindChoice, most_items, express
 use Rattle.smith_contents.specs.Held.{expressions_of}
 use Rattle.smith_contents.specs.declared.element_kinds.KindChoice.TheVariants as choice
 
--- expressions that are drawn fit
+-- drawn expressions fit
 pub expressions_fit : (config : Config) (context : Context) (ty : RefType) (most : ℕ) (bytes after : List ℕ) (result : Result (List (List ConstInstr)) Error) → IsTrue context.features.reference_types → config.min_elements ≤ most
     → IfOk result (λ items. drawn_expressions_at config context ty most bytes ≡ (items, after)) → IfOk result (All (IsConstExpr context (Ref ty))) → (All HasNoFloat context.types → IfOk result (All (All GivesNoFloat)))
     → IfOk result (λ items. AreItemsFit config context ty (Expressions items))
@@ -43,7 +44,7 @@ expressions_fit config context ty most bytes after (Ok items) references within 
     record { valid = (references, typed); enough = inl (drawn_is (λ (made : List (List ConstInstr)). config.min_elements ≤ length made) _ enough drawn); floats = floats }
 expressions_fit config context ty most bytes after (Err e) references within drawn typed floats = tt
 
--- where more items end within, fewer do
+-- fewer items end within a limit if more do
 fewer_inside : (offset : Offset) (count most least : ℕ) → count ≤ most → IsOffsetInside offset most least → IsOffsetInside offset count least
 fewer_inside (Const32 value) count most least few inside = omega (arith, few, inside)
 fewer_inside (Const64 value) count most least few inside = omega (arith, few, inside)
@@ -54,7 +55,7 @@ hinted_inside config offset (Some most) total count least few inside = fewer_ins
 hinted_inside config offset None total count least few inside = absurd inside
 
 module _ (config : Config) (spaces : Spaces) where
-  -- what items refer to, and the tables
+  -- the context of items, and the tables
   abbrev context : Context
   context = seen_by config spaces true
 
@@ -77,7 +78,7 @@ module _ (config : Config) (spaces : Spaces) where
   kind_inside choice.Declared kind hint total count offered is few on = rw is tt
   kind_inside (choice.Active index table) kind hint total count offered (offset, is, placed) few on = rw is (table, offered.stands, hinted_inside config offset hint total count table.minimum few (placed.inside on))
 
-  -- a segment of an offered kind may stand
+  -- a segment of an offered kind fits
   pub element_fit : (one : KindChoice) (kind : ElementKind) (hint : Option ℕ) (ty : RefType) (items : Elements) (total : ℕ) → IsOffered config spaces.types.now.types tables one → IsKindDrawn config context one (kind, hint) → MayHoldItems config spaces ty
       → FitsTable spaces.types.now.types one ty → AreItemsFit config context ty items → item_count items ≤ most_items config hint total → (IsUngrounded config (standing_in config spaces) (Ref ty) → HasUngroundedElements config (standing_in config spaces) tables)
       → IsElementFit config context tables (record { kind = kind; ty = ty; items = items })
@@ -89,7 +90,7 @@ module _ (config : Config) (spaces : Spaces) where
     grounded = λ none lacks. none (needed lacks);
   }
 
--- without floats among the types no constant of an item is a float's
+-- if no type has a float, no constant of an item is a float
 pub elements_no_float : {config : Config} {context : Context} {tables : List TableType} → All HasNoFloat context.types → (segments : List ElementSegment) → All (IsElementFit config context tables) segments → All (All GivesNoFloat) (flat_map (λ (segment : ElementSegment). expressions_of segment.items) segments)
 elements_no_float {config = config} {context = context} {tables = tables} calm segments fit =
     let Calm = λ (segment : ElementSegment). All (All GivesNoFloat) (expressions_of segment.items) in

@@ -1,4 +1,4 @@
--- Functions that are not shared may be items of element segments.
+-- Unshared functions may be items of element segments.
 use Rattle.std.proofs.Common.{◌≡◌, ◌∙◌, ℕ, suc, Bool, true, false, ◌&&◌, cond, Some, List, [], ◌∷◌, length, eqb, ltb, inl, inr, refl, sym, ap, subst, arith}
 use Rattle.std.specs.Prelude.{All, IsTrue, IfOk, Result, not, nat_le, slice_get}
 use Rattle.std.specs.List.{AllByRecursion as Each}
@@ -46,7 +46,7 @@ funcref_by false heap_type on = cc
 funcref_is : (ty : RefType) → is_funcref ty ≡ true → ty ≡ funcref
 funcref_is ty on = funcref_by ty.nullable ty.heap_type on
 
--- without reference types items are of funcref
+-- without reference types items have the type funcref
 funcref_alone : (ty : RefType) (references : Bool) → references ≡ false → ((ty ≡ funcref → ⊥) → references ≡ true) → (b : Bool) → is_funcref ty ≡ b → b ≡ true
 funcref_alone ty references off enabled true is = refl
 funcref_alone ty references off enabled false is = absurd (both (enabled (λ same. differ (subst (λ (one : RefType). is_funcref one ≡ false) same is))))
@@ -65,7 +65,7 @@ listed_by ty true bytes after drawn enabled listed = of_funcref (is_funcref ty) 
     of_funcref true e = refl
     of_funcref false e = ap (λ (r : Bool × List ℕ). r.0) e
 
--- items are listed as functions where their type is funcref
+-- items are listed as functions only if their type is funcref
 pub functions_listed : (config : Config) (ty : RefType) (bytes after : List ℕ) (listed : Bool) → IsElementEnabled (features_of config) ty → are_functions_at config ty bytes ≡ (listed, after) → listed ≡ true → is_funcref ty ≡ true
 unfolding are_functions_at
 functions_listed config ty bytes after listed enabled drawn on = listed_by ty config.reference_types_enabled bytes after _ enabled (rw on at drawn)
@@ -74,7 +74,7 @@ off_by : (b : Bool) → (not b) ≡ true → b ≡ false
 off_by true on = cc
 off_by false on = refl
 
--- whether a type that stands is shared
+-- whether an existing type is shared
 unshared_is : (types : List SubType) (index : ℕ) (t : SubType) (b : Bool) → slice_get types index ≡ Some t → is_unshared_type types index ≡ b → not t.composite_type.shared ≡ b
 unshared_is types index t b stands is = sym (or-false (not t.composite_type.shared)) ∙ (rw stands at is)
 
@@ -85,7 +85,7 @@ module _ (context : Context) (index : ℕ) (t : SubType) (stands : slice_get con
   exact_below : IsBelow context.types (Exact index) (Abstract false heap.Func)
   exact_below = by_step {b = Concrete index} refl concrete_below
 
-  -- a reference to a function that is not shared is below funcref
+  -- a reference to an unshared function is below funcref
   function_below : (function : ℕ) → IsValBelow context.types (function_reference context function index) (Ref funcref)
   function_below function =
       let Below = λ (value : ValType). IsValBelow context.types value (Ref funcref) in
@@ -120,11 +120,11 @@ each_shared types n (index ∷ funcs) valid none =
     let (signature, (t, stands, inner)) = valid.0 in
     ((t, stands, not-false t.composite_type.shared (unshared_is types index t false stands off)), each_shared types (suc n) funcs valid.1 others)
 
--- where no function is listed as one that is not shared, each is shared
+-- if no function is listed as unshared, each is shared
 all_shared : (types : List SubType) (funcs : List ℕ) → All (IsFuncValid types) funcs → length (unshared_funcs types funcs) ≡ 0 → All (IsShared types) funcs
 all_shared types funcs valid none = All-from_recursion (IsShared types) funcs (each_shared types 0 funcs (recursion_from_All (IsFuncValid types) funcs valid) none)
 
--- functions that are drawn fit
+-- drawn functions fit
 pub functions_fit : (config : Config) (context : Context) (ty : RefType) (most : ℕ) (bytes : List ℕ) → All (IsFuncValid context.types) context.funcs → is_funcref ty ≡ true → IfOk (functions_at config context most bytes) (λ drawn. AreItemsFit config context ty (Functions drawn.0))
 unfolding functions_at chosen_functions_at
 functions_fit config context ty most bytes valid plain =

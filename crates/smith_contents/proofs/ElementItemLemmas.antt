@@ -1,4 +1,4 @@
--- What the items of element segments are like.
+-- Properties of the items of element segments.
 use Rattle.std.proofs.Common.{◌≡◌, ◌∙◌, ℕ, ◌≤◌, Bool, true, false, List, [], length, refl, ap, inl, inr, arith}
 use Rattle.std.specs.Prelude.{All, slice_index_or}
 use Rattle.std.proofs.lemmas.Option.{slice_get-get_or, slice_get_within, get_or_from_slice_get}
@@ -30,7 +30,7 @@ use Rattle.smith_contents.specs.DrawnElements.{IsOffered, FitsAddresses, FitsTab
 use Rattle.smith_contents.specs.ElementSegments.{KindChoice, item_type_at, chosen_functions_at, expression_item_at, drawn_expressions_at}
 use Rattle.smith_contents.specs.declared.element_kinds.KindChoice.TheVariants as choice
 
--- types that stand are shared only where that is enabled
+-- existing types are shared only if that is enabled
 sharing : (config : Config) (spaces : Spaces) → MayDrawElements config spaces → All (IsSharingEnabled (features_of config)) spaces.types.now.types
 sharing config spaces may k d inside =
     let space = spaces.types.now in
@@ -40,12 +40,12 @@ sharing config spaces may k d inside =
 matching_same : (config : Config) (context : Context) (element : RefType) (bytes : List ℕ) → config.gc_enabled ≡ false → (matching_ref_type_at config context element bytes).0 ≡ element
 matching_same config context element bytes off = ap (λ (drawn : RefType × List ℕ). drawn.0) (references_without_gc config context element bytes off)
 
--- a type that matches an element type is enabled where that is
+-- a type that matches an element type is enabled if the element type is
 matching_enabled : (config : Config) (context : Context) (element : RefType) (bytes : List ℕ) (gc : Bool) → config.gc_enabled ≡ gc → IsSanitized config → IsElementEnabled (features_of config) element → IsElementEnabled (features_of config) (matching_ref_type_at config context element bytes).0
 matching_enabled config context element bytes true is sanitized enabled other = sanitized.gc is
 matching_enabled config context element bytes false is sanitized enabled other = enabled (λ same. other (matching_same config context element bytes is ∙ same))
 
--- a segment may hold items of the type that is drawn
+-- a segment may hold items of the drawn type
 pub item_type_may : (config : Config) (spaces : Spaces) (kind : KindChoice) (bytes : List ℕ) → MayDrawElements config spaces → IsOffered config spaces.types.now.types spaces.entities.tables.now kind
     → MayHoldItems config spaces (item_type_at config (standing_in config spaces) kind bytes).0
 unfolding item_type_at
@@ -67,7 +67,7 @@ item_type_may config spaces (choice.Active index table) bytes may offered =
       enabled = matching_enabled config (standing_in config spaces) table.element_type bytes config.gc_enabled refl may.sanitized offered.valid.element_enabled;
     }
 
--- a reference that is needed, may not be null and is not grounded, is an element of a table
+-- a wanted non-nullable reference that is not grounded is an element of a table
 pub item_type_needed : (config : Config) (context : Context) (tables : List TableType) (kind : KindChoice) (bytes : List ℕ) → IsOrderly context.types → IsOffered config context.types tables kind → IsUngrounded config context (Ref (item_type_at config context kind bytes).0)
     → HasUngroundedElements config context tables
 unfolding item_type_at
@@ -77,26 +77,26 @@ item_type_needed config context tables (choice.Active index table) bytes orderly
     let place = table_index index in
     (place, table, slice_get_within tables place table offered.stands, get_or_from_slice_get tables place table table offered.stands, matching_ref_ungrounded config context orderly table.element_type bytes needed)
 
--- a segment is refused where its items are
+-- a segment is refused if its items are
 pub segment_refused : (config : Config) (context : Context) (tables : List TableType) (ty : RefType) (e : Error) → (IsUngrounded config context (Ref ty) → HasUngroundedElements config context tables) → MayRefuseItems config context ty e → MayRefuseSegment config context tables e
 segment_refused config context tables ty e from_table (inl unmet) = inl unmet
 segment_refused config context tables ty e from_table (inr (empty, inl needed)) = inr (empty, inr (from_table needed))
 segment_refused config context tables ty e from_table (inr (empty, inr field)) = inr (empty, inl field)
 
--- the type that is drawn fits the table
+-- the drawn type fits the table
 pub item_type_fits : (config : Config) (context : Context) (kind : KindChoice) (bytes : List ℕ) → FitsTable context.types kind (item_type_at config context kind bytes).0
 unfolding item_type_at
 item_type_fits config context choice.Passive bytes = tt
 item_type_fits config context choice.Declared bytes = tt
 item_type_fits config context (choice.Active index table) bytes = matching_ref_below config context table.element_type bytes
 
--- the table of a kind that is offered
+-- the table of an offered kind
 pub fits_addresses : (config : Config) (spaces : Spaces) (kind : KindChoice) → IsOffered config spaces.types.now.types spaces.entities.tables.now kind → FitsAddresses kind
 fits_addresses config spaces choice.Passive offered = tt
 fits_addresses config spaces choice.Declared offered = tt
 fits_addresses config spaces (choice.Active index table) offered = offered.valid.limits.minimum_fits
 
--- as many items as may be, or fewer
+-- at most the maximum number of items
 pub functions_few : (config : Config) (funcs : List ℕ) (most : ℕ) (bytes : List ℕ) → length (chosen_functions_at config funcs most bytes).0 ≤ most
 unfolding chosen_functions_at
 functions_few config funcs most bytes = grow_most (λ _. chosen_at 0 funcs) config.min_elements most most [] bytes (omega arith)

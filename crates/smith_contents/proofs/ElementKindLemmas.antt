@@ -1,4 +1,4 @@
--- Which kinds of element segments are offered.
+-- The kinds of element segments that are offered.
 use Rattle.std.proofs.Common.{◌≡◌, ℕ, suc, ◌+◌, ◌≤◌, Bool, true, false, ◌&&◌, cond, List, [], ◌∷◌, ◌++◌, length, refl, sym, subst, arith, length-append}
 use Rattle.std.specs.Prelude.{◌==◌, Some, None, All, slice_get}
 use Rattle.std.proofs.lemmas.Bool.{cond_both, eqb-true}
@@ -12,7 +12,7 @@ use Rattle.smith_contents.specs.DrawnElements.{IsOffered}
 use Rattle.smith_contents.specs.ElementSegments.{KindChoice, is_funcref, is_offered_at, with_unnamed, with_named, table_kinds_at, kept_kinds, kinds_at}
 use Rattle.smith_contents.specs.declared.element_kinds.KindChoice.TheVariants as choice
 
--- tables stand in a list from an index on
+-- tables are in a list from an index on
 record StandFrom (whole : List TableType) (index : ℕ) (tables : List TableType) : Type 0 where
   pub each : (place : ℕ) (table : TableType) → slice_get tables place ≡ Some table → slice_get whole (index + place) ≡ Some table
 
@@ -62,7 +62,7 @@ kept_offered config types whole =
     (λ on. All-cons (IsOffered config types whole) choice.Passive (choice.Declared ∷ []) on (All-cons (IsOffered config types whole) choice.Declared [] on (All-nil (IsOffered config types whole))))
     (λ off. All-nil (IsOffered config types whole))
 
--- each kind that is offered may be drawn
+-- each offered kind may be drawn
 pub kinds_offered : (config : Config) (types : List SubType) (tables : List TableType) (bytes : List ℕ) → All (IsTableValid (features_of config) types) tables → All (IsOffered config types tables) (kinds_at config tables bytes).0
 unfolding kinds_at
 kinds_offered config types tables bytes fit =
@@ -88,7 +88,7 @@ table_kinds_longer config kinds index (table ∷ tables) bytes =
     pushed true made one = omega (arith, length-append made (one ∷ []))
     pushed false made one = omega arith
 
--- where no kind is offered there is no bulk memory
+-- if no kind is offered, there is no bulk memory
 pub no_kind : (config : Config) (tables : List TableType) (bytes : List ℕ) → length (kinds_at config tables bytes).0 ≡ 0 → config.bulk_memory_enabled ≡ false
 unfolding kinds_at
 no_kind config tables bytes none = of_bulk config.bulk_memory_enabled (omega (arith, none, table_kinds_longer config (kept_kinds config) 0 tables bytes))

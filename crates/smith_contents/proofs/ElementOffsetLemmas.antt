@@ -1,4 +1,5 @@
--- Offsets of element segments are placed: of the addresses of their table, and with `disallow_traps` with a limit.
+-- Offsets of element segments have the address type of their table, and with `disallow_traps` a
+-- limit.
 use Rattle.std.proofs.Common.{◌≡◌, ℕ, ◌+◌, ◌-◌, ◌<◌, ◌≤◌, Option, Some, None, List, [], length, refl, ap, arith}
 use Rattle.std.specs.Prelude.{IsTrue}
 use Rattle.smith_types.specs.Expressions.{Context, IsVisible}

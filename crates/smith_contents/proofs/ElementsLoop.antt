@@ -1,4 +1,4 @@
--- One turn of the loop that draws element segments.
+-- One iteration of the loop that draws element segments.
 use Rattle.std.proofs.Common.{◌≡◌, ◌∙◌, ℕ, suc, ◌+◌, ◌-◌, ◌≤◌, ◌<◌, Bool, true, false, Result, Ok, Err, List, [], ◌∷◌, ◌++◌, length, nat_lt, refl, sym, subst, ap, arith, length-append}
 use Rattle.std.specs.Prelude.{IsErrAnd}
 use Rattle.std.proofs.lemmas.List.Sums.{sum_by_push}
@@ -14,7 +14,7 @@ use Rattle.smith_config.specs.declared.config.Config.{Config}
 use Rattle.smith_imports.specs.Steps.{◌>>=◌, Gives}
 use Rattle.smith_contents.specs.ElementSegments.{KindChoice, items_in, element_segment_at, element_segments_at}
 
--- n segments are made, with as many items in all, and what is drawn from here on completes the whole
+-- n segments are made, with `total` items together, and the draws from here on complete the whole
 pub record AreSegmentsMade (config : Config) (context : Context) (kinds : List KindChoice) (n : ℕ) (made : List ElementSegment) (total : ℕ) (start bytes : List ℕ) (whole : Result (List ElementSegment × List ℕ) Why) : Type 0 where
   pub len : length made ≡ n
   pub total_is : total ≡ items_in made
@@ -24,7 +24,7 @@ pub record AreSegmentsMade (config : Config) (context : Context) (kinds : List K
   pub left : KeepsPieces start bytes
 
 module _ {config : Config} {context : Context} {kinds : List KindChoice} {n total : ℕ} {made : List ElementSegment} {start bytes mid : List ℕ} {b : Bool} {whole : Result (List ElementSegment × List ℕ) Why} where
-  -- no segment was asked for
+  -- the drawn bool ends the segments
   pub segments_stop : AreSegmentsMade config context kinds n made total start bytes whole → n < config.max_element_segments → goes_at (nat_lt n config.min_element_segments) bytes ≡ (b, mid) → b ≡ false → whole ≡ Ok (made, mid)
   unfolding element_segments_at
   segments_stop now lt go off =
@@ -32,7 +32,7 @@ module _ {config : Config} {context : Context} {kinds : List KindChoice} {n tota
       let one : element_segments_at config context kinds (config.max_element_segments - n) made bytes ≡ Ok (made, mid) = rw (k, now.len, go, off) refl in
       sym now.so_far ∙ one
 
-  -- a segment was asked for, and drawn or refused
+  -- another segment was drawn or refused
   segments_turn : AreSegmentsMade config context kinds n made total start bytes whole → n < config.max_element_segments → goes_at (nat_lt n config.min_element_segments) bytes ≡ (b, mid) → b ≡ true
       → whole ≡ (element_segment_at config context kinds total mid >>= (λ segment. element_segments_at config context kinds (config.max_element_segments - (n + 1)) (made ++ segment.0 ∷ []) segment.1))
   unfolding element_segments_at
@@ -70,7 +70,7 @@ segments_full {config = config} {context = context} {kinds = kinds} {n = n} {mad
     let one : element_segments_at config context kinds (config.max_element_segments - n) made bytes ≡ Ok (made, bytes) = rw k refl in
     sym now.so_far ∙ one
 
--- what refuses a part refuses the whole
+-- the refusal of a part is that of the whole
 refused_part : {X Y A B : Type 0} (of_part : X → A) (of_whole : Y → B) (e : Error) (part : Result A Why) (whole : Result B Why) → Gives of_part (Err e) part → ((why : Why) → part ≡ Err why → whole ≡ Err why) → Gives of_whole (Err e) whole
 refused_part of_part of_whole errors.Memory part whole given passes = tt
 refused_part of_part of_whole errors.EmptyChoose part whole given passes = given

@@ -1,4 +1,4 @@
--- The names of exports: a name that is made new beside them, and a set that has them.
+-- The names of exports: a new name after them, and a set that has them.
 use Rattle.std.proofs.Common.{◌≡◌, ℕ, ◌≤◌, ◌<◌, ◌^◌, Bool, true, false, List, [], ◌∷◌, ◌++◌, length, refl, sym, ap, ◌||◌, ◌∙◌, arith, length-append}
 use Rattle.std.specs.Prelude.{if◌then◌else◌}
 use Rattle.std.specs.Str.{bytes_eq}
@@ -24,7 +24,7 @@ exported_short : (name : List ℕ) (exports : List Export) → is_exported expor
 exported_short name [] there = absurd cc
 exported_short name (one ∷ exports) there = short_by name one exports (bytes_eq one.0 name) refl there (exported_short name exports)
 
--- a text made new beside names
+-- a text made new among names
 made_new : {S : Type 0} {names : HashSet (String Global) S} {exports : List Export} {text name : List ℕ} → HasNames names exports → length exports < 2 ^ 64 → IsMadeNew names text name → IsNewName (is_exported exports) (decimal (length exports)) text name
 made_new {names = names} {exports = exports} {text = text} {name = name} known few made =
     new_by {taken = contains_text names} (is_exported exports) known.has (record {
@@ -35,7 +35,7 @@ made_new {names = names} {exports = exports} {text = text} {name = name} known f
       needed = rw known.size at made.needed;
     })
 
--- the name that is drawn beside exports
+-- the name that is drawn after exports
 pub export_named : {S : Type 0} {names : HashSet (String Global) S} {exports : List Export} {rest name : List ℕ} (bytes : List ℕ) → HasNames names exports → length exports < 2 ^ 64 → IsMadeNew names (text_at 1000 bytes).0 name → rest ≡ (text_at 1000 bytes).1
     → export_name_at exports bytes ≡ (name, rest)
 unfolding export_name_at
@@ -49,7 +49,7 @@ or_either true false = refl
 or_either false true = refl
 or_either false false = refl
 
--- a set with one name more has the names of one export more
+-- a set with one more name has the names of one more export
 pub names_more : {S : Type 0} {old new : HashSet (String Global) S} {exports : List Export} (added : Export) → HasNames old exports → AddsName old new added.0 → HasNames new (exports ++ added ∷ [])
 names_more {exports = exports} added known more = record {
   has = λ name. more.has name ∙ rw (known.has name) (or_either (bytes_eq added.0 name) (is_exported exports name)) ∙ sym (list_any-append (λ (one : Export). bytes_eq one.0 name) exports (added ∷ []));

@@ -1,4 +1,4 @@
--- Where exports run out, when they are refused, and which bytes none takes.
+-- When exports end, when they are refused, and which bytes no export takes.
 use Rattle.std.proofs.Common.{◌≡◌, ℕ, zero, suc, ◌+◌, ◌*◌, ◌-◌, ◌<◌, ◌≤◌, Bool, true, false, List, [], ◌∷◌, ◌++◌, length, refl, ap, arith, nat_lt, lt-ltb, inl, inr, ◌∙◌}
 use Rattle.std.specs.Prelude.{Result, Ok, IfOk, All, Option, Some, None, slice_get, if◌then◌else◌}
 use Rattle.std.specs.Option.{option_map, unwrap_or}
@@ -29,12 +29,12 @@ use Rattle.smith_contents.proofs.CandidateLemmas.{length_alike}
 use Rattle.smith_imports.proofs.GivenLemmas.{given_takes}
 use Rattle.smith_imports.proofs.ImportedEntityLemmas.{small_at}
 
--- where nothing is enabled the first is not, nor another
+-- if nothing is enabled, the first is not, nor another
 off_by : {A : Type 0} (x : A) (b : Bool) (rest : List (A × Bool)) → length (enabled ((x, b) ∷ rest)) ≡ 0 → (b ≡ false) × (length (enabled rest) ≡ 0)
 off_by x true rest none = absurd (omega arith)
 off_by x false rest none = (refl, none)
 
--- where more than 42 is left a kind without candidates has no item
+-- if more than 42 is left, a kind without candidates has no item
 none_of_kind : {A : Type 0} (left : ℕ) (xs : List A) → 42 < left → nat_lt 0 (length (places_from (λ x. nat_lt 2 left) 0 xs)) ≡ false → length xs ≡ 0
 none_of_kind left xs much none =
     let on : nat_lt 2 left ≡ true = lt-ltb 2 left (omega arith) in
@@ -42,7 +42,8 @@ none_of_kind left xs much none =
     let few = ltb-false 0 (length (places_from (λ x. nat_lt 2 left) 0 xs)) none in
     omega (arith, few, all)
 
--- a function of a small type has a size of at most 41, and what does not stand has 1
+-- a function of a small type has a size of at most 41, and one whose type does not exist a size of
+-- 1
 small_size : (types : List SubType) (func : ℕ) (found : Option SubType) → All IsSmall types → slice_get types func ≡ found → size_in types (entity.Func func) ≤ 41
 small_size types func (Some t) small at = small_at types small func t at
 small_size types func None small at = rw at (omega arith)
@@ -90,7 +91,8 @@ run_out_by config types spaces imports exports size true much may kept no_shapes
       globals = omega (arith, none_of_kind left spaces.globals more global.0, may.globals);
     })
 
--- where exports end for want of a candidate, without shapes, they are too large together, or there may be no item
+-- if exports end without a candidate and without shapes, they are too large together, or there may
+-- be no item
 pub run_out : (config : Config) (types : List SubType) (spaces : IndexSpaces) (imports : ℕ) (exports : List Export) (size : ℕ) → MayExportFreely config types spaces imports → AreExported config types spaces imports exports size → HasNoShapes config → length exports < config.min_exports
     → nat_lt 0 (length (offered_kinds types spaces (config.max_type_size - size))) ≡ false → MayRunOut config
 run_out config types spaces imports exports size may kept no_shapes few none = run_out_by config types spaces imports exports size (nat_lt 42 (config.max_type_size - size)) refl may kept no_shapes few none
@@ -113,12 +115,12 @@ no_export_taken config types spaces imports old new result none given =
     given_takes (SpellsEmpty (SpellsNone config.max_exports)) (λ (made : Exports). made.exports) (free_exports_at config types spaces imports) old new result
     (λ exports piece after h. no_export_read config types spaces imports exports piece after none h) given
 
--- every item is exported where that is asked for
+-- every item is exported if the configuration exports everything
 pub exports_all : (config : Config) (types : List SubType) (spaces : IndexSpaces) (imports : ℕ) (bytes : List ℕ) → config.export_everything ≡ true → exports_at config types spaces imports bytes ≡ everything_at config types spaces imports bytes
 unfolding exports_at
 exports_all config types spaces imports bytes on = ap (λ (all : Bool). if all then everything_at config types spaces imports bytes else free_exports_at config types spaces imports bytes) on
 
--- and else exports are drawn freely
+-- and otherwise exports are drawn freely
 pub exports_free : (config : Config) (types : List SubType) (spaces : IndexSpaces) (imports : ℕ) (bytes : List ℕ) → config.export_everything ≡ false → exports_at config types spaces imports bytes ≡ free_exports_at config types spaces imports bytes
 unfolding exports_at
 exports_free config types spaces imports bytes off = ap (λ (all : Bool). if all then everything_at config types spaces imports bytes else free_exports_at config types spaces imports bytes) off

@@ -14,7 +14,7 @@ use Rattle.smith_contents.specs.Exporting.{Export, is_exported, item_size}
 use Rattle.smith_contents.specs.Exported.{IsStanding, AreExportsFit}
 use Rattle.smith_imports.proofs.ImportsGrownLemmas.{mapped_at, distinct_push}
 
--- no export fits beside imports that do
+-- no export fits after imports that fit
 pub none_fit : (config : Config) (types : List SubType) (spaces : IndexSpaces) (imports : ℕ) → imports ≤ config.max_type_size → AreExportsFit config types spaces imports [] imports
 none_fit config types spaces imports within = record {
   valid = record { stand = All-nil (λ (one : Export). IsStanding spaces one.1 one.2); distinct = record { once = λ i j item at there. absurd cc } };
@@ -29,7 +29,7 @@ not_there exports name fresh i there =
     let taken : is_exported exports name ≡ true = any_passes_from_place (λ (one : Export). bytes_eq one.0 name) exports i other at same in
     absurd (cc (sym fresh ∙ taken))
 
--- so does one more under a new name, of an item that stands and for which there is room
+-- one more export under a new name fits too, of an existing item for which there is room
 pub fit_push : {config : Config} {types : List SubType} {spaces : IndexSpaces} {imports : ℕ} {exports : List Export} {size : ℕ} (one : Export) → AreExportsFit config types spaces imports exports size → is_exported exports one.0 ≡ false
     → IsStanding spaces one.1 one.2 → size + (item_size types spaces one.1 one.2 + 1) ≤ config.max_type_size → AreExportsFit config types spaces imports (exports ++ one ∷ []) (size + (item_size types spaces one.1 one.2 + 1))
 fit_push {types = types} {spaces = spaces} {exports = exports} one fit fresh stands room =

@@ -1,4 +1,4 @@
--- One turn of the loop that draws exports.
+-- One iteration of the loop that draws exports.
 use Rattle.std.proofs.Common.{◌≡◌, ℕ, suc, ◌+◌, ◌-◌, ◌<◌, ◌≤◌, Bool, true, false, List, [], ◌∷◌, ◌++◌, length, refl, sym, ap, arith, length-append, nat_lt, ◌∙◌}
 use Rattle.std.specs.HashSet.{HashSet, IsEmpty}
 use Rattle.std.specs.declared.string.String.{String}
@@ -12,7 +12,7 @@ use Rattle.smith_contents.specs.Exporting.{Export, is_exported, HasNames, item_s
 use Rattle.smith_contents.specs.Exported.{IsCandidate, AreExported}
 use Rattle.smith_contents.proofs.ExportsFitLemmas.{none_fit, fit_push}
 
--- `count` exports are drawn, and what is drawn from here on completes the whole
+-- `count` exports are drawn, and the draws from here on complete the whole
 pub record IsExporting {S : Type 0} (config : Config) (types : List SubType) (spaces : IndexSpaces) (imports count : ℕ) (exports : List Export) (size : ℕ) (names : HashSet (String Global) S) (start bytes : List ℕ) : Type 0 where
   pub count_is : length exports ≡ count
   pub kept : AreExported config types spaces imports exports size
@@ -43,7 +43,7 @@ kept_more {types = types} {spaces = spaces} {exports = exports} one kept room le
     }
 
 module _ {S : Type 0} {config : Config} {types : List SubType} {spaces : IndexSpaces} {imports count : ℕ} {exports : List Export} {size : ℕ} {names : HashSet (String Global) S} {start bytes : List ℕ} where
-  -- no more was asked for
+  -- the drawn bool ends the exports
   pub export_stop : {b : Bool} {after : List ℕ} → IsExporting config types spaces imports count exports size names start bytes → count < config.max_exports → goes_at (nat_lt count config.min_exports) bytes ≡ (b, after) → b ≡ false
       → exports_from config types spaces imports config.max_exports [] start ≡ (exports, after)
   unfolding exports_from

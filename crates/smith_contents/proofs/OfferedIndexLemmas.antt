@@ -17,7 +17,7 @@ length_offered skipped (suc count) = simp length-append (omega (arith, length_of
 last_or_before : (n m : ℕ) → n < suc m → (n < m) ⊎ (n ≡ m)
 last_or_before n m h = elim (leb_tells m n) [ inl at_least ↦ inr (omega (arith, at_least)) | inr below ↦ inl (omega (arith, below)) ]
 
--- the offered index at a place stands behind those that are left out before it
+-- the offered index at a place comes after those that are left out before it
 offered_at : (skipped : List ℕ) (count place : ℕ) → place < count → slice_get (first_offered skipped count) place ≡ Some (place + count_up_to place skipped)
 offered_at skipped zero place inside = absurd (omega arith)
 offered_at skipped (suc count) place inside =
@@ -29,7 +29,7 @@ offered_at skipped (suc count) place inside =
           subst (λ (n : ℕ). slice_get (first_offered skipped count ++ index count ∷ []) n ≡ Some (index n)) (sym last) here
     ]
 
--- all of numbers that are no greater are counted
+-- all numbers that are no greater are counted
 count_all : (most : ℕ) (numbers : List ℕ) → All (λ x. x ≤ most) numbers → count_up_to most numbers ≡ length numbers
 count_all most [] all = refl
 count_all most (x ∷ numbers) all =
@@ -40,17 +40,17 @@ count_all most (x ∷ numbers) all =
 not_le : (n k : ℕ) → k < n → nat_le n k ≡ false
 not_le n k less = elim (leb_tells n k) [ inl never ↦ absurd (omega (arith, never)) | inr (above, under) ↦ above ]
 
--- a greater one behind them isn't
+-- a greater number after them is not
 count_other : (n most : ℕ) (numbers : List ℕ) → most < n → count_up_to most (numbers ++ n ∷ []) ≡ count_up_to most numbers
 count_other n most [] above = rw (not_le n most above) refl
 count_other n most (x ∷ numbers) above = rw (count_other n most numbers above) refl
 
--- what is left out behind all offered indices moves none of them
+-- leaving out an index after all offered ones moves none of them
 offered_same : (skipped : List ℕ) (end count : ℕ) → count ≤ end → first_offered (skipped ++ end ∷ []) count ≡ first_offered skipped count
 offered_same skipped end zero few = refl
 offered_same skipped end (suc count) few = rw (offered_same skipped end count (omega arith), count_other end count skipped (omega arith)) refl
 
--- where a list is divided at a place, as many numbers are counted as stand before
+-- if a list is divided at a place, the number of counted items is that place
 count_divided : (most : ℕ) (numbers : List ℕ) (n : ℕ) → n ≤ length numbers → AllWithin (λ x. nat_le x most ≡ true) numbers 0 n → AllWithin (λ x. nat_le x most ≡ false) numbers n (length numbers) → count_up_to most numbers ≡ n
 count_divided most [] n few before behind = omega arith
 count_divided most (x ∷ numbers) zero few before behind =

@@ -1,4 +1,5 @@
--- The kinds of element segments over the tables that are offered: as more tables are, and the kind at a place.
+-- The kinds of element segments over the offered tables: as more tables are offered, and the kind
+-- at a place.
 use Rattle.std.proofs.Common.{◌≡◌, ◌∙◌, ℕ, zero, suc, ◌+◌, ◌-◌, ◌<◌, ◌≤◌, Bool, true, false, ◌&&◌, cond, List, [], ◌∷◌, ◌++◌, Some, None, length, map, get_or, drop, refl, sym, ap, arith, add-one, append_assoc, append-nil, length-append}
 use Rattle.std.specs.Prelude.{All}
 use Rattle.std.proofs.Math.ListN.{get_or-append}
@@ -28,7 +29,7 @@ unnamed_first true kept one = rw (append-nil kept) refl
 unnamed_first false kept one = refl
 
 module _ (config : Config) (tables : List TableType) where
-  -- the first table is offered without its index before all others
+  -- the first table is offered without its index only before all others
   unnamed_more : (indices : List ℕ) (index : ℕ) (table : TableType) → length indices ≤ index → table_at tables index ≡ table
       → with_unnamed index table (kinds_over config tables indices) ≡ kept_kinds config ++ unnamed_kinds tables (indices ++ index ∷ []) ++ named_kinds config tables indices
   unnamed_more [] zero table few at =
@@ -45,7 +46,7 @@ module _ (config : Config) (tables : List TableType) where
   kind_offered indices index table few at =
       rw (unnamed_more indices index table few at) (named_more config.bulk_memory_enabled (kept_kinds config ++ unnamed_kinds tables (indices ++ index ∷ [])) (λ index. choice.Active (Some index) (table_at tables index)) indices index (choice.Active (Some index) table) (ap (λ (one : TableType). choice.Active (Some index) one) at))
 
--- the tables before an index were looked at, and what is looked at from there on completes the kinds
+-- the tables before an index were visited, and the draws from there on complete the kinds
 pub record AreTablesDrawn (tables : List TableType) (index : ℕ) (drawn : Indices) (start bytes : List ℕ) : Type 0 where
   pub end : drawn.end ≡ index
   pub few : length drawn.offered ≤ index
@@ -53,7 +54,7 @@ pub record AreTablesDrawn (tables : List TableType) (index : ℕ) (drawn : Indic
   pub so_far : (config : Config) → table_kinds_at config (kinds_over config tables drawn.offered) index (drop index tables) bytes ≡ kinds_at config tables start
   pub left : KeepsPieces start bytes
 
--- the kinds behind a table of which it is known whether it is offered
+-- the kinds after a table for which it is known whether it is offered
 abbrev behind : Config → List KindChoice → ℕ → List TableType → TableType → Bool × List ℕ → List KindChoice × List ℕ
 behind config kinds index rest table offered =
     table_kinds_at config (cond offered.0 (with_named config index table (with_unnamed index table kinds)) kinds) (suc index) rest offered.1
@@ -97,7 +98,7 @@ module _ {tables : List TableType} {index : ℕ} {drawn : Indices} {start bytes 
         left = λ whole h. kept whole (now.left whole h);
       })
 
--- all tables were looked at
+-- all tables were visited
 pub tables_done : {tables : List TableType} {index : ℕ} {drawn : Indices} {start bytes : List ℕ} → AreTablesDrawn tables index drawn start bytes → length tables ≤ index
     → (config : Config) → kinds_at config tables start ≡ (kinds_over config tables drawn.offered, bytes)
 unfolding table_kinds_at
@@ -115,7 +116,7 @@ tables_begin tables drawn bytes none = rw none (record {
   left = λ whole h. h;
 })
 
--- what stands at a place in the second or the third of three lists
+-- the item at a place in the second or the third of three lists
 in_second : {A : Type 0} (xs ys zs : List A) (place : ℕ) (d : A) → length xs ≤ place → place < length xs + length ys → get_or (xs ++ ys ++ zs) place d ≡ get_or ys (place - length xs) d
 in_second xs ys zs place d from before =
     let same : place ≡ length xs + (place - length xs) = omega arith in
@@ -140,7 +141,7 @@ first_stands tables [] within some = absurd (omega arith)
 first_stands tables (i ∷ indices) within some = omega (arith, All-head (λ one. one < length tables) i indices within)
 
 module _ (config : Config) (tables : List TableType) (indices : List ℕ) (kept unnamed place : ℕ) (is_kept : kept ≡ length (kept_kinds config)) (is_unnamed : unnamed ≡ length (unnamed_kinds tables indices)) where
-  -- behind the kinds that need no table, the first table without its index
+  -- after the kinds without a table, the first table without its index
   pub unnamed_found : (other : TableType) → All (λ one. one < length tables) indices → kept ≤ place → place < kept + unnamed → choice.Active None (get_or tables 0 other) ≡ get_or (kinds_over config tables indices) place choice.Passive
   unnamed_found other within from before =
       let at : length (kept_kinds config) ≤ place = omega (arith, is_kept, from) in
@@ -151,7 +152,7 @@ module _ (config : Config) (tables : List TableType) (indices : List ℕ) (kept 
       let alone = one_alone (begin_first indices && is_funcref (table_at tables 0).element_type) (choice.Active None (table_at tables 0)) choice.Passive (place - length (kept_kinds config)) (omega (arith, at, inside)) in
       ap (λ (one : TableType). choice.Active None one) same ∙ sym (found ∙ alone)
 
-  -- behind these, tables by their indices
+  -- after these, tables by their indices
   pub named_found : kept + unnamed ≤ place → place < length (kinds_over config tables indices)
       → choice.Active (Some (get_or indices (place - kept - unnamed) 0)) (table_at tables (get_or indices (place - kept - unnamed) 0)) ≡ get_or (kinds_over config tables indices) place choice.Passive
   named_found from inside =

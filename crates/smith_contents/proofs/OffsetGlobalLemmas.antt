@@ -1,4 +1,5 @@
--- The globals that an offset may be read from: those that are counted and found are those that an expression may read.
+-- The globals that an offset may be read from: those that are counted and found are those that an
+-- expression may read.
 use Rattle.std.proofs.Common.{◌≡◌, ℕ, zero, suc, ◌+◌, ◌-◌, ◌<◌, ◌≤◌, Bool, true, false, List, [], ◌∷◌, ◌++◌, cond, length, get_or, take, drop, refl, sym, ap, ◌∙◌, arith}
 use Rattle.std.specs.Prelude.{◌&&◌, not}
 use Rattle.std.proofs.lemmas.List.{at_drop_more, at_drop_all}
@@ -19,7 +20,7 @@ use Rattle.smith_contents.specs.DataTargets.{TellOffsets}
 use Rattle.smith_contents.specs.OffsetGlobals.{is_address, tells_offset, telling_from}
 use Rattle.smith_contents.proofs.DataSegmentLemmas.{readable_tell}
 
--- only the type of the addresses itself is below it
+-- only the address type itself is below it
 address_below : (types : List SubType) (wide : Bool) (value : ValType) → is_address wide value ≡ is_val_below types value (address_type wide)
 address_below types true I32 = refl
 address_below types true I64 = refl
@@ -38,7 +39,7 @@ each_same : {A B : Type 0} (f g : ℕ → A → List B) → ((n : ℕ) (x : A) �
 each_same f g same n [] = refl
 each_same f g same n (x ∷ xs) = rw (same n x, each_same f g same (n + 1) xs) refl
 
--- visible globals that tell an offset are those that may be read
+-- visible globals from which an offset may be read are readable
 pub telling_readable : (context : Context) (wide : Bool) → telling_from wide 0 (take context.visible context.globals) ≡ readable_globals context (address_type wide)
 telling_readable context wide =
     let below = address_below context.types wide in
@@ -49,7 +50,7 @@ tell_unless : (context : Context) (wide b : Bool) (globals : List ℕ) → TellO
 tell_unless context wide true globals tell = All-nil (λ index. IsVisible context index (address_type wide))
 tell_unless context wide false globals tell = tell
 
--- they tell an offset, where there are any
+-- an offset may be read from each of them
 pub offset_tell : (config : Config) (context : Context) (wide : Bool) → IsOrderly context.types → TellOffsets context wide (offset_globals config context wide)
 offset_tell config context wide orderly =
     let globals = readable_globals context (address_type wide) in
@@ -61,7 +62,7 @@ pub record IsCounting (wide : Bool) (globals : List GlobalType) (index count : �
   pub within : count ≤ index
 
 module _ (wide : Bool) (globals : List GlobalType) (index : ℕ) (d : GlobalType) where
-  -- one more tells an offset, or does not
+  -- an offset may be read from one more, or may not
   telling_turn : (b : Bool) → index < length globals → tells_offset wide (get_or globals index d) ≡ b
       → offered_if b index ++ telling_from wide (index + 1) (drop (index + 1) globals) ≡ telling_from wide index (drop index globals)
   telling_turn b inside is =
@@ -82,7 +83,7 @@ module _ (wide : Bool) (globals : List GlobalType) (index : ℕ) (d : GlobalType
     within = omega (arith, now.within);
   }
 
-  -- the place that is left is past a global, or at it
+  -- the remaining place is past a global, or at it
   pub finding_skip : (left found : ℕ) → get_or (telling_from wide index (drop index globals)) left 0 ≡ found → index < length globals → tells_offset wide (get_or globals index d) ≡ false
       → get_or (telling_from wide (index + 1) (drop (index + 1) globals)) left 0 ≡ found
   finding_skip left found now inside is = ap (λ (telling : List ℕ). get_or telling left 0) (telling_turn false inside is) ∙ now
@@ -97,7 +98,7 @@ module _ (wide : Bool) (globals : List GlobalType) (index : ℕ) (d : GlobalType
       let less : suc left - 1 ≡ left = omega arith in
       rw less (ap (λ (telling : List ℕ). get_or telling (suc left) 0) (telling_turn true inside is) ∙ now)
 
--- all were looked at
+-- all were visited
 pub counting_done : {wide : Bool} {globals : List GlobalType} {index count : ℕ} → IsCounting wide globals index count → length globals ≤ index → count ≡ length (telling_from wide 0 globals)
 counting_done {wide = wide} {globals = globals} {index = index} {count = count} now done =
     let none : length (telling_from wide index (drop index globals)) ≡ 0 = at_drop_all (λ (rest : List GlobalType). length (telling_from wide index rest)) globals index done in

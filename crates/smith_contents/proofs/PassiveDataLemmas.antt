@@ -1,4 +1,5 @@
--- A source that begins with the spelling of passive data segments gives them, where there is no memory.
+-- From a source that begins with the spelling of passive data segments, these are drawn if there is
+-- no memory.
 use Rattle.std.proofs.Common.{◌≡◌, ℕ, zero, suc, ◌+◌, ◌*◌, ◌≤◌, Bool, true, false, cond, List, [], ◌∷◌, ◌++◌, length, map, refl, ap, ◌∙◌, arith, append_assoc, append-nil, length-append}
 use Rattle.std.specs.Prelude.{Result, Ok, IfOk, not, ◌&&◌, if◌then◌else◌}
 use Rattle.std.proofs.lemmas.Bool.{le-ltb}
@@ -92,7 +93,7 @@ pub data_read : (config : Config) (context : Context) (memories : List MemoryTyp
     → data_at config context memories (piece ++ after) ≡ Ok (segments, after)
 data_read config context memories segments piece after least none h = rw (none, h.are) (by_bulk config context config.bulk_memory_enabled h.lists piece after refl least h.spelled)
 
--- data segments take the bytes that spell passive ones, where there is no memory and none is asked for
+-- data segments take the bytes that spell passive ones, if there is no memory and the minimum is 0
 pub data_taken : (config : Config) (context : Context) (memories : List MemoryType) (old new : List ℕ) (result : Result (List DataSegment) Error) → config.min_data_segments ≡ 0 → memories ≡ []
     → Gives (λ segments. (segments, new)) result (data_at config context memories old) → IfOk result (λ segments. Takes (SpellsPassive config) old segments new)
 data_taken config context memories old new result least none given =

@@ -26,14 +26,14 @@ short_inner (inners.Func function) (params, results) = record { params = params;
 short_inner (inners.Array array) short = tt
 short_inner (inners.Struct structure) short = tt
 
--- small types are such
+-- small types are such types
 pub small_sized : (types : List SubType) → All IsSmall types → All IsSized types
 small_sized types small = All-weaker IsSmall IsSized (λ t h. small_inner t.composite_type.inner h) types small
 
--- and those that have no more values than a shape may list
+-- so are types with no more parameters and results than a shape may list
 pub few_sized : (types : List SubType) → All (HasFewValues most_listed) types → All IsSized types
 few_sized types few = All-weaker (HasFewValues most_listed) IsSized (λ t h. few_inner t.composite_type.inner h) types few
 
--- as the types of a shape whose lists are short
+-- and the types of a shape whose lists are short
 pub shape_few : (shape : Shape) → IsShort shape → All (HasFewValues most_listed) (shape_types shape)
 shape_few shape short = All-weaker (λ (t : SubType). IsInnerShort t.composite_type.inner) (HasFewValues most_listed) (λ t h. short_inner t.composite_type.inner h) (shape_types shape) short.inner

@@ -1,4 +1,5 @@
--- A drawn start function takes and gives nothing, and there is none where none is allowed or a piece says so.
+-- A drawn start function has no parameters and no results, and there is none if none is allowed or
+-- a piece says so.
 use Rattle.std.proofs.Common.{◌≡◌, ◌∙◌, ℕ, Bool, true, false, ◌&&◌, cond, nat_lt, List, [], ◌++◌, length, Option, Some, None, refl, ap}
 use Rattle.std.specs.Prelude.{◌==◌, All, slice_get, option_to_list}
 use Rattle.std.specs.List.{list_any}
@@ -25,7 +26,7 @@ use Rattle.smith_spell.specs.Spelling.{takes_and_gives_nothing, is_start_type, S
 use Rattle.smith_contents.specs.Start.{start_funcs, start_wanted_at, start_at}
 use Rattle.smith_contents.proofs.PlaceOfListLemmas.{places_any}
 
--- the function type that takes and gives nothing
+-- the function type without parameters and results
 abbrev plain : FuncType
 plain = record { params = []; results = [] }
 

@@ -21,7 +21,7 @@ use Rattle.smith_draw.specs.ConstOffers.{offered_if, readable_globals}
 use Rattle.smith_draw.specs.Offsets.{offset_at}
 
 -- whether segments may be copied into a memory: always if its minimum is above 0, else for one of
--- eleven numbers
+-- eleven drawn numbers
 unfoldable pub counts_at : MemoryType → List ℕ → Bool × List ℕ
 counts_at memory bytes =
     if nat_lt 0 memory.minimum then (true, bytes)
@@ -63,7 +63,7 @@ targets_of config context memories =
 abbrev pub globals_for : Targets → Bool → List ℕ
 globals_for targets wide = if wide then targets.globals64 else targets.globals32
 
--- the least number of bytes of a memory, and its greatest address by its width
+-- the minimum number of bytes of a memory, and its greatest address by its width
 abbrev pub least_bytes : MemoryType → ℕ
 least_bytes memory = memory.minimum * 2 ^ page_log2 memory.page_size_log2
 
@@ -74,16 +74,16 @@ last_address wide = addresses wide - 1
 abbrev pub constant_offset : Bool → ℕ → Offset
 constant_offset wide address = if wide then Const64 (cast_signed w64 address) else Const32 (cast_signed w32 address)
 
--- the address of the first of a number of bytes: with `disallow_traps` within the least bytes, else
--- up to the greatest address
+-- the address of the first of a number of bytes: with `disallow_traps` within the minimum number of
+-- bytes, else up to the greatest address
 unfoldable pub address_at : Bool → MemoryType → ℕ → List ℕ → ℕ × List ℕ
 address_at no_traps memory size bytes =
     let last = last_address memory.memory64 in
     let inside = min (least_bytes memory) last in
     offset_at inside (if no_traps then inside else last) size bytes
 
--- a constant offset, and the bytes copied there: with `disallow_traps` no more than the least
--- bytes, and low enough to fit
+-- a constant offset, and the bytes copied there: with `disallow_traps` no more than the minimum
+-- number of bytes, and low enough to fit
 unfoldable pub constant_at : Bool → MemoryType → List ℕ → List ℕ → (Offset × List ℕ) × List ℕ
 constant_at no_traps memory init bytes =
     let address = address_at no_traps memory (length init) bytes in

@@ -60,8 +60,8 @@ abbrev pub FitsAddresses : KindChoice → Type 0
 FitsAddresses (choice.Active index table) = table.minimum ≤ most_elements table.table64
 FitsAddresses _ = Unit {0}
 
--- an offset into a table, and with `disallow_traps` a number of items that end within the least
--- elements from it on
+-- an offset into a table, and with `disallow_traps` a number of items that end within the minimum
+-- number of elements from it on
 pub record IsPlaced (config : Config) (context : Context) (table : TableType) (offset : Offset) (hint : Option ℕ) : Type 0 where
   pub valid : IsOffsetValid context table.table64 offset
   pub inside : IsTrue config.disallow_traps → IsSomeAnd hint (λ most. IsOffsetInside offset most table.minimum)
@@ -113,7 +113,7 @@ pub record IsElementFit (config : Config) (context : Context) (tables : List Tab
 abbrev pub MayLackItem : Config → Context → List TableType → Type 0
 MayLackItem config context tables = HoldsUngroundedField config context ⊎ HasUngroundedElements config context tables
 
--- errors of items that are functions: lack of memory, or more are required than may be
+-- errors of items that are functions: lack of memory, or more are required than allowed
 abbrev pub MayRefuseFunctions : Config → Error → Type 0
 MayRefuseFunctions config e = (e ≡ Memory) ⊎ ((e ≡ IncorrectFormat (Unmet counts.Elements)) × (0 < config.min_elements))
 

@@ -47,8 +47,8 @@ is_plain_func _ = false
 abbrev pub is_funcref : RefType → Bool
 is_funcref reference = reference.nullable && is_plain_func reference.heap_type
 
--- whether segments may be copied into a table: always if its minimum is above 0, else in one of
--- eleven cases
+-- whether segments may be copied into a table: always if its minimum is above 0, else for one of
+-- eleven drawn numbers
 unfoldable pub is_offered_at : TableType → List ℕ → Bool × List ℕ
 is_offered_at table bytes =
     if nat_lt 0 table.minimum then (true, bytes)
@@ -90,7 +90,7 @@ most_offset config table = if config.disallow_traps then table.minimum else most
 abbrev pub constant_offset : TableType → ℕ → Offset
 constant_offset table offset = if table.table64 then Const64 (cast_signed w64 offset) else Const32 (cast_signed w32 offset)
 
--- the number of elements between an offset and the minimum, if they are to fit: with
+-- the number of elements between an offset and the minimum, if they must fit: always with
 -- `disallow_traps`, and without it in ten of eleven cases in which they can
 unfoldable pub hint_at : Config → TableType → ℕ → List ℕ → Option ℕ × List ℕ
 hint_at config table offset bytes =
@@ -176,7 +176,7 @@ unfoldable pub expressions_at : Config → Context → RefType → ℕ → List 
 expressions_at config context ty most bytes =
     if nat_lt most config.min_elements then Err (Unmet counts.Elements) else Ok (drawn_expressions_at config context ty most bytes)
 
--- at most `most` items of a segment of a type
+-- at most `most` items of a segment with items of a type
 unfoldable pub items_at : Config → Context → RefType → ℕ → List ℕ → Result (Elements × List ℕ) Why
 items_at config context ty most bytes =
     let listed = are_functions_at config ty bytes in

@@ -61,7 +61,7 @@ fn constant_offset(wide: bool, address: u64) -> Offset
 }
 
 /// Draws the address of the first of `size` bytes in `memory`. With `no_traps` the address is at
-/// most the least number of bytes of `memory`.
+/// most the minimum number of bytes of `memory`.
 #[tactic(auto, unfolding(crate::specs::DataSegments::address_at))]
 fn draw_address(no_traps: bool, memory: MemoryType, size: usize, u: &mut Unstructured<'_>) -> u64
     requires { page_log2 memory.page_size_log2 ≤ 16 }
@@ -85,7 +85,7 @@ fn cut(init: Items<u8>, most: u128) -> Items<u8>
 }
 
 /// Draws a constant offset for `init` into `memory`, and returns it with `init`. With `no_traps`,
-/// `init` is cut to the least number of bytes of `memory`, and the offset is lowered until all of
+/// `init` is cut to the minimum number of bytes of `memory`, and the offset is lowered until all of
 /// it fits.
 #[tactic(auto, unfolding(crate::specs::DataSegments::constant_at))]
 fn draw_constant(

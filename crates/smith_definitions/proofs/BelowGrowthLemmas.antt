@@ -1,4 +1,4 @@
--- The test of subtyping says the same of types that stand, over more types.
+-- The test of subtyping has the same result for existing types over more types.
 use Rattle.std.proofs.Common.{rules, ◌≡◌, ℕ, zero, suc, ◌+◌, ◌<◌, Bool, List, [], ◌∷◌, ◌++◌, Option, Some, None, length, refl, ap, ◌∙◌, arith}
 use Rattle.std.specs.Prelude.{not, ◌&&◌, ◌||◌, ◌==◌}
 use Rattle.std.proofs.lemmas.List.{length-append}
@@ -14,7 +14,7 @@ use Rattle.smith_draw.specs.Below.{names, is_under, is_bottom_of, is_heap_below,
 use Rattle.smith_draw.proofs.AncestorLemmas.{supertype_before, within_enough}
 use Rattle.smith_definitions.proofs.GroupedTypeLemmas.{in_front}
 
--- a longer list of types has in range what these have
+-- types in range of a list are in range of a longer one
 heap_longer : (types more : List SubType) (heap : HeapType) → IsInRange types heap → IsInRange (types ++ more) heap
 heap_longer types more (Abstract shared ty) h = tt
 heap_longer types more (Concrete index) h = let longer = length-append types more in omega (arith, longer, h)
@@ -28,7 +28,7 @@ module _ (types more : List SubType) (orderly : IsOrderly types) where
   at_same : (i : ℕ) → i < length types → supertype_at (types ++ more) i ≡ supertype_at types i
   at_same i inside = ap supertype_of (in_front types more i inside)
 
-  -- what is on the way up from a type stays the same
+  -- the ancestors of a type stay the same
   within_turn_same : (n i : ℕ) (o : Option ℕ) → supertype_at types i ≡ o → supertype_at (types ++ more) i ≡ o → ((s : ℕ) → o ≡ Some s → ancestors_within n (types ++ more) s ≡ ancestors_within n types s) → ancestors_within (suc n) (types ++ more) i ≡ ancestors_within (suc n) types i
   within_turn_same n i None e e' same = rw (e, e', ancestors_within) refl
   within_turn_same n i (Some s) e e' same = rw (e, e', ancestors_within) (ap (λ xs. Concrete s ∷ xs) (same s refl))

@@ -44,7 +44,7 @@ low_halves {Holds = Holds} numbers exactly = record {
         let found = All-contains (λ x. Contains (map low_half numbers) (low_half x)) numbers number (contains_mapped low_half numbers) (exactly.whole number wide) in
         subst (Contains (map low_half numbers)) (mod-mul-add high (2 ^ 32) n small) found
 
--- one list and then another, of what is one or the other
+-- one list and then another, of numbers with one property or the other
 pub exactly_both : (P Q R : ℕ → Type 0) (xs ys : List ℕ) → ((n : ℕ) → P n → R n) → ((n : ℕ) → Q n → R n) → ((n : ℕ) → R n → P n ⊎ Q n)
     → AreExactly P xs → AreExactly Q ys → AreExactly R (xs ++ ys)
 exactly_both P Q R xs ys first second either left right = record {
@@ -58,7 +58,7 @@ exactly_both P Q R xs ys first second either left right = record {
 pub exactly_same : (P Q : ℕ → Type 0) (xs : List ℕ) → ((n : ℕ) → P n → Q n) → ((n : ℕ) → Q n → P n) → AreExactly P xs → AreExactly Q xs
 exactly_same P Q xs there back exactly = record { each = All-weaker P Q there xs exactly.each; whole = λ n holds. exactly.whole n (back n holds) }
 
--- what sorting leaves, and then each once
+-- the numbers after sorting, and then each once
 pub in_order : (numbers sorted made : List ℕ) → IsPermutation numbers sorted → IsSorted nat_cmp sorted → made ≡ dedup eqb sorted → IsInOrder numbers made
 in_order numbers sorted made moved rising once = record {
   ascending = rw once (IsStrictlyIncreasing-dedup sorted rising);
@@ -85,7 +85,7 @@ constant_reason tables memories n (inl power) = inl power
 constant_reason tables memories n (inr (inl pattern)) = inr (inl pattern)
 constant_reason tables memories n (inr (inr edge)) = inr (inr (inl edge))
 
--- interesting values of 64 bits, from the constants and what is near limits
+-- interesting values of 64 bits, from the constants and the values near limits
 pub all_wide : (tables : List TableType) (memories : List MemoryType) (constants near made : List ℕ) → AreExactly (Wide IsConstant) constants
     → AreExactly (Wide (IsNearLimit tables memories)) near → IsInOrder (constants ++ near) made → AreAll (IsInteresting64 tables memories) made
 all_wide tables memories constants near made always limits order =
@@ -150,7 +150,7 @@ adds_both P Q R {old = old} first second either one other = record {
 pub adds_either : (P Q : ℕ → Type 0) {old middle new : List ℕ} → Adds P old middle → Adds Q middle new → Adds (λ n. P n ⊎ Q n) old new
 adds_either P Q one other = adds_both P Q (λ n. P n ⊎ Q n) (λ n h. inl h) (λ n h. inr h) (λ n h. h) one other
 
--- no item is near any number, and one more item is
+-- near no item there is no number, and one more item
 pub adds_nothing : {X : Type 0} (R : X → ℕ → Type 0) (old : List ℕ) → Adds (λ n. Any (λ x. R x n) []) old old
 adds_nothing R old = adds_none refl (λ n h. omega (arith, h.1.2))
 
@@ -160,7 +160,7 @@ adds_more R xs x one other =
     adds_both (λ n. Any (λ y. R y n) xs) (R x) (λ n. Any (λ y. R y n) (xs ++ x ∷ []))
     (λ n h. any_kept (λ y. R y n) xs x h) (λ n h. Any-push (λ y. R y n) xs x h) (λ n h. any_cases (λ y. R y n) xs x h) one other
 
--- the turns of a loop over items
+-- the iterations of a loop over items
 pub adds_next : {X : Type 0} (R : X → ℕ → Type 0) (xs : List X) (i : ℕ) (d : X) {old middle new : List ℕ} → i < length xs → Adds (λ n. Any (λ x. R x n) (take i xs)) old middle
     → Adds (R (get_or xs i d)) middle new → Adds (λ n. Any (λ x. R x n) (take (i + 1) xs)) old new
 adds_next R xs i d {old = old} {new = new} inside one other =
@@ -170,11 +170,11 @@ pub adds_last : {X : Type 0} (R : X → ℕ → Type 0) (xs : List X) (i : ℕ) 
     → Adds (λ n. Any (λ x. R x n) xs) old new
 adds_last R xs i {old = old} {new = new} ended adds = subst (λ some. Adds (λ n. Any (λ x. R x n) some) old new) (take_all i xs ended) adds
 
--- to an empty list, what was added is all
+-- if the list was empty, the added numbers are all
 pub all_added : {Holds : ℕ → Type 0} {old new : List ℕ} → old ≡ [] → Adds Holds old new → AreExactly (Wide Holds) new
 all_added {Holds = Holds} empty adds = subst (AreExactly (Wide Holds)) (sym (adds.parts ∙ ap (λ xs. xs ++ adds.more) empty)) adds.exactly
 
--- what is near a minimum, and near a maximum where there is one
+-- the numbers near a minimum, and near a maximum if there is one
 pub adds_minimum : (R : ℕ → ℕ → Type 0) (minimum : ℕ) (maximum : Option ℕ) {old new : List ℕ} → maximum ≡ None → Adds (R minimum) old new
     → Adds (λ n. Any (λ limit. R limit n) (limits_of minimum maximum)) old new
 adds_minimum R minimum maximum {old = old} {new = new} none one =

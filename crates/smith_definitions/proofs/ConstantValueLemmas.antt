@@ -1,4 +1,4 @@
--- The numbers that are interesting in each module, as a list, and what holds the same numbers as a list.
+-- The numbers that are interesting in each module, as a list, and another list of the same numbers.
 use Rattle.std.proofs.Common.{arith, ◌≡◌, ◌⊎◌, inl, inr, ℕ, zero, suc, ◌+◌, ◌≤◌, ◌-◌, ◌*◌, ◌^◌, ◌<◌, Bool, true, List, [], ◌∷◌, ◌++◌, refl, sym, subst, ap, ◌∙◌}
 use Rattle.std.specs.Prelude.{nat_eq, nat_lt, slice_index_or, map, length, get_or}
 use Rattle.std.specs.List.Sorted.{IsStrictlyIncreasing}
@@ -20,11 +20,11 @@ has_contains numbers n found =
     let (k, m, inside, at, same) = Any-from_list_any (λ m. nat_eq m n) numbers found in
     (k, inside, subst (λ x. slice_index_or numbers k x ≡ x) (eqb-true m n same) at)
 
--- what is found of each in another list is there
+-- each item that is found in another list is in it
 pub members : (xs ys : List ℕ) → list_all (has ys) xs ≡ true → (n : ℕ) → Contains xs n → Contains ys n
 members xs ys all n inside = has_contains ys n (All-contains (λ x. has ys x ≡ true) xs n (AllPass-from_list_all (has ys) xs all) inside)
 
--- what holds the same numbers
+-- a list of the same numbers
 pub same_members : {P : ℕ → Type 0} (xs ys : List ℕ) → AreExactly P xs → list_all (has ys) xs ≡ true → list_all (has xs) ys ≡ true → AreExactly P ys
 same_members {P = P} xs ys exactly there back = record {
   each = All-weaker (Contains ys) P (λ n inside. All-contains P xs n exactly.each (members ys xs back n inside)) ys (All-contains_itself ys);
@@ -44,7 +44,7 @@ patterns = 1 ∷ 254 ∷ 17 ∷ 238 ∷ 85 ∷ 170 ∷ []
 abbrev repeated : ℕ → ℕ
 repeated byte = byte * 72340172838076673
 
--- the numbers as their definition has them
+-- the numbers in the order of their definition
 abbrev pub constants : List ℕ
 constants = powers 0 64 ++ (map repeated patterns ++ (float_edges 11 52 ++ float_edges 8 23))
 
@@ -55,7 +55,7 @@ below p most all i small =
     let place : slice_index_or (range_with_len 0 most) i 0 ≡ i = get_or-range_with_len 0 most i 0 small ∙ omega arith in
     sym (ap p place) ∙ at
 
--- numbers of which each is below the next, which is seen by a look at each
+-- numbers each of which is below the next, by a test of each
 pub rises : (xs : List ℕ) → list_all (λ k. nat_lt (get_or xs k 0) (get_or xs (k + 1) 0)) (range_with_len 0 (length xs - 1)) ≡ true → IsStrictlyIncreasing xs
 rises xs all k within = ltb-true (get_or xs k 0) (get_or xs (k + 1) 0) (below (λ i. nat_lt (get_or xs i 0) (get_or xs (i + 1) 0)) (length xs - 1) all k (omega arith))
 
@@ -79,7 +79,7 @@ powers_near : (from count : ℕ) → from + count ≤ 64 → All IsNearPower (po
 powers_near from zero small = All-nil IsNearPower
 powers_near from (suc count) small = All-append IsNearPower (edges from) (powers (from + 1) count) (edges_near from (omega (arith, small))) (powers_near (from + 1) count (omega (arith, small)))
 
--- why a number is in the list
+-- the reason why a number is in the list
 reason : (n : ℕ) → Contains constants n → IsConstant n
 reason n inside = elim (Contains-append_cases (powers 0 64) (map repeated patterns ++ (float_edges 11 52 ++ float_edges 8 23)) n inside) [
   | inl power ↦ inl (All-contains IsNearPower (powers 0 64) n (powers_near 0 64 (omega arith)) power)

@@ -1,4 +1,5 @@
--- What items that are defined behind imported ones are like, and which bytes they take, for every draw.
+-- Properties of items that are defined after imported ones, and the bytes they take, for every
+-- draw.
 use Rattle.std.proofs.Common.{◌≡◌, ℕ, zero, suc, ◌+◌, ◌-◌, ◌<◌, ◌≤◌, Bool, true, false, ◌&&◌, nat_lt, nat_le, max, ◌∷◌, List, [], ◌++◌, map, length, refl, arith, length-append, append_assoc, ap, lt-ltb, ◌∙◌}
 use Rattle.std.specs.Prelude.{All}
 use Rattle.std.proofs.lemmas.List.{append-nil, length-map}
@@ -28,7 +29,7 @@ defined_least draw least most imported bytes le =
     let added = grow_least draw (least - imported) (most - imported) [] bytes (omega arith) in
     rw (defined_items draw least most imported bytes) (omega (arith, added))
 
--- what holds of each item that is drawn holds of all that are defined
+-- a property of each drawn item is one of all defined items
 pub defined_all : {A : Type 0} (P : A → Type 0) (draw : List A → List ℕ → A × List ℕ) → ((made : List A) (bytes : List ℕ) → P (draw made bytes).0) → (least most imported : ℕ) (bytes : List ℕ) → All P (defined_at draw least most imported bytes).0
 defined_all P draw each least most imported bytes =
     rw (defined_items draw least most imported bytes) (grow_all P draw each (least - imported) (most - imported) [] bytes (All-nil P))
@@ -40,7 +41,7 @@ pub defined_filled : {A : Type 0} (draw : List A → List ℕ → A × List ℕ)
 defined_filled draw least most imported bytes le =
     filled least most imported (defined_at draw least most (length imported) bytes).0 (defined_least draw least most (length imported) bytes le) (defined_most draw least most (length imported) bytes)
 
--- the same of a part of each item
+-- the same for a part of each item
 pub parts_filled : {A B : Type 0} (part : B → A) (draw : List B → List ℕ → B × List ℕ) (least most : ℕ) (imported : List A) (bytes : List ℕ) → least ≤ most
     → IsFilled least most imported (imported ++ map part (defined_at draw least most (length imported) bytes).0)
 parts_filled part draw least most imported bytes le =
@@ -50,12 +51,12 @@ parts_filled part draw least most imported bytes le =
     let within = defined_most draw least most (length imported) bytes in
     filled least most imported (map part drawn) (omega (arith, as_many, enough)) (omega (arith, as_many, within))
 
--- several stand only where several may
+-- there are several only if several are allowed
 pub several_so : (on : Bool) (most before n : ℕ) → (on ≡ false → most ≤ 1) → n ≤ max most before → (1 < before → on ≡ true) → 1 < n → on ≡ true
 several_so true most before n one within stood several = refl
 several_so false most before n one within stood several = stood (omega (arith, one refl))
 
--- what holds of the items before and of those that were added holds of all
+-- a property of the items before and of the added ones is one of all
 pub all_behind : {A : Type 0} (Holds : A → Type 0) {before space : List A} → All Holds before → AreAdded Holds before space → All Holds space
 all_behind Holds {before = before} stood added = rw added.parts (All-append Holds before added.more stood added.each)
 
@@ -72,7 +73,7 @@ one_added Holds {before = before} x added longer holds = record {
   each = All-push Holds added.more x added.each holds;
 }
 
--- a piece that ends a loop before its first turn spells the empty list
+-- a piece that ends a loop before its first iteration spells the empty list
 pub none_listed : {A : Type 0} (Item : A → List ℕ → Type 0) (most : ℕ) (piece : List ℕ) → SpellsNone most piece → Listed Item most [] piece
 unfolding Listed
 none_listed Item zero piece h = h
@@ -83,7 +84,7 @@ pub defined_alone : {A : Type 0} (draw : List A → List ℕ → A × List ℕ) 
 unfolding defined_at
 defined_alone draw least most imported bytes no_least no_import = let all : most - 0 ≡ most = omega arith in rw (no_least, no_import, all) refl
 
--- items that are spelled are defined, where none is imported
+-- spelled items are defined if none is imported
 pub defined_read : {A : Type 0} (Item : A → List ℕ → Type 0) (draw : List A → List ℕ → A × List ℕ) (least most imported : ℕ) (items : List A) (piece after : List ℕ) → least ≡ 0 → imported ≡ 0 → ReadsEach Item draw → Listed Item most items piece
     → defined_at draw least most imported (piece ++ after) ≡ (items, after)
 defined_read Item draw least most imported items piece after no_least no_import each h =

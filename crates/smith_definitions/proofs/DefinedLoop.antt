@@ -1,4 +1,4 @@
--- The turns of a loop that defines items behind imported ones, for every draw.
+-- The iterations of a loop that defines items after imported ones, for every draw.
 use Rattle.std.proofs.Common.{◌≡◌, ℕ, ◌+◌, ◌-◌, ◌<◌, ◌≤◌, Bool, true, false, ◌&&◌, cond, nat_lt, nat_le, List, [], ◌∷◌, ◌++◌, length, refl, ap, ◌∙◌, subst, arith, append_assoc}
 use Rattle.std.specs.Prelude.{if◌then◌else◌}
 use Rattle.std.proofs.lemmas.Bool.{and_right, le-leb, lt-leb}
@@ -10,7 +10,7 @@ use Rattle.smith_bytes.proofs.GrowingLoop.{IsGrowing, grow_go, grow_stop, grow_f
 use Rattle.smith_bytes.proofs.GrownLemmas.{grow_most}
 use Rattle.smith_definitions.specs.Definitions.{defined_at, behind}
 
--- the items that are defined so far, behind as many imported ones
+-- the items that are defined so far, after a number of imported ones
 pub record IsDefining {A : Type 0} (draw : List A → List ℕ → A × List ℕ) (least most imported n : ℕ) (made : List A) (start bytes : List ℕ) : Type 0 where
   pub growing : IsGrowing draw (least - imported) (most - imported) n made start bytes (grow_at draw (least - imported) (most - imported) [] start)
 
@@ -26,7 +26,7 @@ pub defined_go : {A : Type 0} {draw : List A → List ℕ → A × List ℕ} {le
     → IsDefining draw least most imported (n + 1) more start after
 defined_go now lt go odd drawn longer p q = record { growing = grow_go now.growing lt go odd drawn longer p q }
 
--- no more is asked for, where more may be
+-- the drawn bool ends the items, though more are allowed
 pub defined_stop : {A : Type 0} {draw : List A → List ℕ → A × List ℕ} {least most imported n : ℕ} {made : List A} {start bytes : List ℕ} {b : Bool} {after : List ℕ}
     → IsDefining draw least most imported n made start bytes → n < most - imported → goes_at (nat_lt n (least - imported)) bytes ≡ (b, after) → b ≡ false
     → defined_at draw least most imported start ≡ (made, after)
@@ -41,7 +41,7 @@ full_turn : {A : Type 0} (b : Bool) (made : List A) (bytes after : List ℕ) →
 full_turn true made bytes after is = rw is refl
 full_turn false made bytes after is = rw is refl
 
--- no more may be: behind items that stood before the bool is drawn once more
+-- no more are allowed: after items that existed before, the bool is drawn once more
 pub defined_full : {A : Type 0} {draw : List A → List ℕ → A × List ℕ} {least most imported n : ℕ} {made : List A} {start bytes after : List ℕ}
     → IsDefining draw least most imported n made start bytes → most - imported ≤ n → after ≡ (if nat_lt 0 imported && nat_lt 0 most then (bool_at bytes).1 else bytes)
     → defined_at draw least most imported start ≡ (made, after)
@@ -54,7 +54,7 @@ defined_full {draw = draw} {least = least} {most = most} {imported = imported} {
     let full : nat_le most (imported + length made) ≡ true = le-leb most (imported + length made) (omega arith) in
     rw (grown, full) (full_turn (nat_lt 0 imported && nat_lt 0 most) made bytes after is)
 
--- the items that are defined so far stand behind the imported ones
+-- the items that are defined so far follow the imported ones
 pub record IsBehind {A : Type 0} (draw : List A → List ℕ → A × List ℕ) (least most : ℕ) (imported space : List A) (n : ℕ) (start bytes : List ℕ) : Type 0 where
   pub made : List A
   pub parts : space ≡ imported ++ made

@@ -1,4 +1,4 @@
--- How many memories stand once they are defined, and which bytes none takes.
+-- The number of memories after the step that defines them, and the bytes that no memory takes.
 use Rattle.std.proofs.Common.{◌≡◌, ℕ, ◌≤◌, ◌<◌, true, nat_lt, List, [], ◌++◌, length, refl}
 use Rattle.std.proofs.lemmas.Bool.{ltb-false}
 use Rattle.smith_types.specs.declared.entity_type.MemoryType.{MemoryType}
@@ -14,7 +14,7 @@ pub memories_filled : (config : Config) (imported : List MemoryType) (bytes : Li
 unfolding memories_at
 memories_filled config imported bytes le = defined_filled (λ _. memtype_at config) config.min_memories config.max_memories imported bytes le
 
--- several stand only where several may
+-- there are several only if several are allowed
 pub memories_several : (config : Config) (imported memories : List MemoryType) → (1 < length imported → nat_lt 1 config.max_memories ≡ true) → IsFilled config.min_memories config.max_memories imported memories → 1 < length memories → nat_lt 1 config.max_memories ≡ true
 memories_several config imported memories stood filled several =
     several_so (nat_lt 1 config.max_memories) config.max_memories (length imported) (length memories) (ltb-false 1 config.max_memories) filled.within stood several

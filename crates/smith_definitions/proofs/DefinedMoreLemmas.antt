@@ -1,4 +1,4 @@
--- What is defined behind what stood before stands with it behind the same imports.
+-- Definitions after existing items are, together with those, definitions after the same imports.
 use Rattle.std.proofs.Common.{◌≡◌, ◌∙◌, ℕ, zero, suc, ◌+◌, ◌-◌, ◌<◌, ◌≤◌, ◌^◌, List, [], ◌∷◌, ◌++◌, map, length, inl, inr, refl, sym, ap, subst, arith, append_assoc, length-append}
 use Rattle.std.specs.Prelude.{◌⊎◌, Option, Some, slice_get, take, All}
 use Rattle.std.proofs.Math.Seq.{take-append_seam}
@@ -29,11 +29,11 @@ use Rattle.smith_definitions.proofs.DefinedTableLemmas.{initialised_at, tables_a
 use Rattle.smith_definitions.proofs.InitialLemmas.{IsTableInitialised-grown}
 use Rattle.smith_definitions.proofs.StandsBehindLemmas.{IsTablePlaced, defined_end, left_over, table_kept, global_kept}
 
--- what initialisers refer to once functions are defined behind what stood before
+-- the parts that initialisers refer to after functions are defined
 abbrev pub standing_more : List SubType → IndexSpaces → Definitions → IndexSpaces → Standing
 standing_more types before so_far later = standing_among types later.funcs (length before.funcs - so_far.num_funcs) (length before.globals - length so_far.globals) before.globals
 
--- what the steps of defining add to what stood before
+-- the additions of the steps of definitions to the existing items
 pub record AddsTo (config : Config) (space : Space) (before : IndexSpaces) (so_far : Definitions) (later : IndexSpaces) (defined : Definitions) : Type 0 where
   pub filled : AreFilled config before later
   pub entities : AreEntitiesValid (features_of config) space.types later
@@ -49,7 +49,7 @@ pub record AddsTo (config : Config) (space : Space) (before : IndexSpaces) (so_f
 pub filled_grown : {config : Config} {before later : IndexSpaces} → AreFilled config before later → AreSpacesGrown before later
 filled_grown filled = record { tags = filled.tags.extends; funcs = filled.funcs.extends; tables = filled.tables.extends; memories = filled.memories.extends; globals = filled.globals.extends }
 
--- what is defined is no more than what stands
+-- there are no more definitions than items
 pub stands_within : {config : Config} {imported : IndexSpaces} {space : Space} {spaces : IndexSpaces} {defined : Definitions} → StandsBehind config imported space spaces defined → AreWithin spaces defined
 stands_within stands = record {
   tags = omega (arith, defined_end stands.tags);
@@ -64,7 +64,7 @@ item_of {A = A} [] ys place x at = let is : place ≡ length {A = A} [] + place 
 item_of (y ∷ xs) ys zero x at = inl at
 item_of (y ∷ xs) ys (suc place) x at = elim (item_of xs ys place x at) [ inl old ↦ inl old | inr (i, is, new) ↦ inr (i, omega (arith, is), new) ]
 
--- items that are defined behind imported ones, with more behind them
+-- items that are defined after imported ones, with more after them
 grown_by : {A : Type 0} {imports before later : List A} {count more : ℕ} → Defines imports count before → Extends before later → more ≡ count + (length later - length before) → Defines imports more later
 grown_by {imports = imports} {before = before} h extends counted =
     let whole = ap length extends.parts ∙ length-append before extends.more in
@@ -74,7 +74,7 @@ grown_by {imports = imports} {before = before} h extends counted =
       parts = extends.parts ∙ (ap (λ (xs : List _). xs ++ extends.more) h.parts ∙ append_assoc imports h.defined extends.more);
     }
 
--- each table that was drawn has an initialiser, if only none
+-- each drawn table has an initialiser, or none
 tables_counted : {config : Config} {standing : Standing} {before later : List TableType} {old initials : List (Option (List ConstInstr))} → AreTablesDrawn config standing before later old initials
     → length initials ≡ length old + (length later - length before)
 tables_counted {before = before} {old = old} so_far =
@@ -92,7 +92,7 @@ module _ (config : Config) (imported : IndexSpaces) (space : Space) (before late
   abbrev standing : Standing
   standing = standing_in space.types imported later
 
-  -- what isn't defined is imported
+  -- the entities that are not defined are imported
   standing_is : standing_more space.types before so_far later ≡ standing
   standing_is =
       let seam = take-append_seam imported.globals now.globals.defined in
@@ -106,7 +106,7 @@ module _ (config : Config) (imported : IndexSpaces) (space : Space) (before late
   drawn : AreTablesDrawn config standing before.tables later.tables so_far.tables defined.tables
   drawn = subst (λ (s : Standing). AreTablesDrawn config s before.tables later.tables so_far.tables defined.tables) standing_is adds.tables
 
-  -- the globals so far stand beside the functions that were added
+  -- the globals so far are valid with the functions that were added
   globals_stood : AreGlobalsDefined config standing before.globals so_far.globals
   globals_stood =
       let mid : IndexSpaces = record before { funcs = later.funcs } in
@@ -132,7 +132,7 @@ module _ (config : Config) (imported : IndexSpaces) (space : Space) (before late
       let whole = ap length grown.globals.parts ∙ length-append before.globals grown.globals.more in
       grown_by now.globals grown.globals (omega (arith, whole, globals_stand.count, defined_end now.globals))
 
-  -- what a table's initialiser sees grows by the globals that are defined
+  -- the scope of a table's initialiser grows by the defined globals
   table_scope_grown : IsContextGrown (table_scope config standing) (context_at config standing later.globals (length imported.globals))
   table_scope_grown = record {
     features = refl;
@@ -185,7 +185,7 @@ defined_more config space before later so_far defined adds =
       stands = λ imported now. stands_later config imported space before later so_far defined adds now;
     }
 
--- items may be defined behind what stands behind imports
+-- items may be defined after the entities that follow imports
 pub may_define_behind : {config : Config} {imported : IndexSpaces} {space : Space} {spaces : IndexSpaces} {defined : Definitions} → Passes config → IsSanitized config → config.min_types ≤ length space.types → length space.types < 2 ^ 32 → HasRoom spaces 0
     → StandsBehind config imported space spaces defined → MayDefine config space spaces defined
 may_define_behind passes sanitized least few room stands = record {
@@ -200,6 +200,6 @@ may_define_behind passes sanitized least few room stands = record {
   within = stands_within stands;
 }
 
--- no constant is a float's where nothing is defined
+-- no constant is a float if nothing is defined
 pub none_float : (spaces : IndexSpaces) → All HasNoFloatValue spaces.globals → HaveNoFloats spaces nothing_defined
 none_float spaces calm = record { globals = calm; tables = All-nil _; initials = All-nil _ }

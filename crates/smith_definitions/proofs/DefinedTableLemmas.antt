@@ -1,4 +1,4 @@
--- What tables are like that stand behind imported ones, with their initialisers.
+-- Properties of tables after imported ones, with their initialisers.
 use Rattle.std.proofs.Common.{◌≡◌, ℕ, zero, suc, ◌<◌, ◌≤◌, Bool, true, false, ◌&&◌, cond, List, [], ◌∷◌, ◌++◌, map, length, refl, ap, subst, arith}
 use Rattle.std.specs.Prelude.{Option, Some, None, All, IfSome, IsSome, IsTrue, slice_get}
 use Rattle.std.specs.List.{flat_map, AllByRecursion as Each}
@@ -34,11 +34,12 @@ use Rattle.smith_definitions.specs.Promises.{initial_of}
 use Rattle.smith_bytes.specs.Spelling.{SpellsNone}
 use Rattle.smith_definitions.proofs.DefinedLemmas.{parts_filled, several_so, all_behind, defined_none}
 
--- with defined globals out of sight, the imported ones are seen
+-- with defined globals invisible, the imported ones are visible
 imported_seen : (on : Bool) (globals imported : ℕ) → cond (on && false) globals imported ≡ imported
 imported_seen on globals imported = rw (and_right on false refl) refl
 
--- over spaces whose globals are all imported, an expression sees what the initialiser of a table may refer to
+-- over spaces whose globals are all imported, an expression sees the scope of the initialiser of a
+-- table
 seen_by_table : (config : Config) (spaces : Spaces) → spaces.entities.imported_globals ≡ length spaces.entities.globals.now → seen_by config spaces false ≡ table_scope config (standing_of spaces)
 seen_by_table config spaces all = rw (imported_seen config.gc_enabled (length spaces.entities.globals.now) spaces.entities.imported_globals, all) refl
 
@@ -66,7 +67,7 @@ on_where : (on : Bool) (P : Type 0) → (on ≡ true → P) → (on ≡ false �
 on_where true P holds never = holds refl
 on_where false P holds never = absurd (never refl)
 
--- elements that may not be null are there only with garbage collection
+-- non-nullable elements require garbage collection
 pub needs_gc : (config : Config) (element : RefType) → IsSanitized config → (config.non_nullable_enabled ≡ false → element.nullable ≡ true) → element.nullable ≡ false → config.gc_enabled ≡ true
 needs_gc config element sanitized nullable not_null = on_where config.non_nullable_enabled (config.gc_enabled ≡ true) sanitized.non_nullable (λ off. let null = nullable off in cc)
 
@@ -89,7 +90,7 @@ table_fit config spaces table (Some expression) all valid within grounded needed
   floats = λ calm. All-cons (All GivesNoFloat) expression [] (floats calm) (All-nil (All GivesNoFloat));
 }
 
--- what holds of the tables that were drawn holds of those that were added, and beside imported ones of all
+-- a property of the drawn tables is one of the added ones and, with the imported ones, of all
 pub tables_added : (P : TableType → Type 0) {config : Config} {standing : Standing} {imported space : List TableType} {old initials : List (Option (List ConstInstr))}
     → ((one : Table) → IsTableFit config standing one → P one.0) → AreTablesDrawn config standing imported space old initials → AreAdded P imported space
 tables_added P {config = config} {standing = standing} {imported = imported} fits so_far =
@@ -112,7 +113,7 @@ initialised_at P [] each place initial at = cc
 initialised_at P (one ∷ drawn) each zero initial at = let same : one.1 ≡ initial = cc in (one.0, refl, subst (λ (given : Option (List ConstInstr)). P one.0 given) same each.0)
 initialised_at P (one ∷ drawn) each (suc place) initial at = initialised_at P drawn each.1 place initial at
 
--- without floats among the types no constant is a float's
+-- if no type has a float, no constant is a float
 pub tables_no_float : {config : Config} {standing : Standing} {imported space : List TableType} {old initials : List (Option (List ConstInstr))} → All HasNoFloat standing.types → All (All GivesNoFloat) (flat_map initial_of old)
     → AreTablesDrawn config standing imported space old initials → All (All GivesNoFloat) (flat_map initial_of initials)
 tables_no_float {config = config} {standing = standing} {old = old} calm before so_far =
@@ -123,11 +124,11 @@ tables_no_float {config = config} {standing = standing} {old = old} calm before 
     (All-map calm_initial of_initial so_far.drawn (All-weaker (IsTableFit config standing) (λ (one : Table). calm_initial one.1) (λ one fit. fit.floats calm) so_far.drawn so_far.fit))) in
     rw (so_far.initialisers, flat_map-append initial_of old drawn) (All-append (All GivesNoFloat) (flat_map initial_of old) (flat_map initial_of drawn) before calm_drawn)
 
--- the tables, and the bytes that are left
+-- the tables, and the bytes left
 abbrev tables_alone : (List TableType × List (Option (List ConstInstr))) × List ℕ → List TableType × List ℕ
 tables_alone drawn = (drawn.0.0, drawn.1)
 
--- as many stand behind imported ones as are asked for, and no more than may be
+-- after imported tables there are at least the minimum, and at most the maximum
 pub tables_fill : (config : Config) (standing : Standing) (imported space : List TableType) (old initials : List (Option (List ConstInstr))) (start new : List ℕ) → config.min_tables ≤ config.max_tables
     → tables_at config standing imported old start ≡ ((space, initials), new) → IsFilled config.min_tables config.max_tables imported space
 unfolding tables_at
@@ -135,7 +136,7 @@ tables_fill config standing imported space old initials start new ordered exact 
     subst (λ (tables : List TableType). IsFilled config.min_tables config.max_tables imported tables) (ap (λ drawn. (tables_alone drawn).0) exact)
     (parts_filled (λ (one : Table). one.0) (λ (made : List Table). table_at config standing) config.min_tables config.max_tables imported start ordered)
 
--- several tables are there only where several may be
+-- there are several tables only if several are allowed
 pub several_tables : (config : Config) (imported space : List TableType) → IsSanitized config → (1 < length imported → config.reference_types_enabled ≡ true) → IsFilled config.min_tables config.max_tables imported space → 1 < length space
     → config.reference_types_enabled ≡ true
 several_tables config imported space sanitized stood filled several = several_so config.reference_types_enabled config.max_tables (length imported) (length space) sanitized.one_table filled.within stood several

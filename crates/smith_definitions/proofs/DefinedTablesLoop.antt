@@ -1,4 +1,4 @@
--- The turns of the loop that defines tables.
+-- The iterations of the loop that defines tables.
 use Rattle.std.proofs.Common.{◌≡◌, ℕ, ◌+◌, ◌-◌, ◌<◌, ◌≤◌, Bool, true, false, ◌&&◌, List, [], ◌∷◌, ◌++◌, map, length, refl, append_assoc, nat_lt}
 use Rattle.std.specs.Prelude.{Option, if◌then◌else◌}
 use Rattle.std.proofs.lemmas.List.{append-nil, map-append}
@@ -46,7 +46,7 @@ module _ {config : Config} {standing : Standing} {imported space : List TableTyp
         defining = defined_go now.defining lt go on drawn refl p q;
       }
 
-  -- no more is asked for, where more may be
+  -- the drawn bool ends the tables, though more are allowed
   pub tables_stop : {b : Bool} {after : List ℕ}
       → IsDefiningTables config standing imported space old initials n start bytes
       → n < config.max_tables - length imported → goes_at (nat_lt n (config.min_tables - length imported)) bytes ≡ (b, after) → b ≡ false
@@ -54,7 +54,7 @@ module _ {config : Config} {standing : Standing} {imported space : List TableTyp
   unfolding tables_at
   tables_stop now lt go off = rw (defined_stop now.defining lt go off, now.so_far.tables, now.so_far.initialisers) refl
 
-  -- no more may be
+  -- no more are allowed
   pub tables_full : {after : List ℕ}
       → IsDefiningTables config standing imported space old initials n start bytes
       → config.max_tables - length imported ≤ n → after ≡ (if nat_lt 0 (length imported) && nat_lt 0 config.max_tables then (bool_at bytes).1 else bytes)

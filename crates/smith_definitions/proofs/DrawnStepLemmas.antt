@@ -1,4 +1,4 @@
--- What one step of drawing a module hands on to the next.
+-- Facts that one step of drawing a module hands on to the next.
 use Rattle.std.proofs.Common.{inl, inr, ℕ, ◌-◌, ◌≤◌, max, List, [], length, refl, arith}
 use Rattle.std.specs.Prelude.{All}
 use Rattle.smith_bytes.specs.declared.error.Error.{Error}
@@ -21,7 +21,7 @@ use Rattle.smith_definitions.specs.Definitions.{standing_among, standing_over}
 use Rattle.smith_definitions.specs.declared.definitions.Definitions.{Definitions}
 use Rattle.smith_definitions.proofs.ExtensionLemmas.{all_kept}
 
--- what initialisers refer to is valid once functions are defined
+-- the parts that initialisers refer to are valid after functions are defined
 pub may_initialise : (config : Config) (space : Space) (before : IndexSpaces) (so_far : Definitions) (funcs : List ℕ) → MayDefine config space before so_far → All (IsFuncValid space.types) funcs → length funcs ≤ max config.max_funcs (length before.funcs)
     → MayInitialise config space (standing_among space.types funcs (length before.funcs - so_far.num_funcs) (length before.globals - length so_far.globals) before.globals)
 may_initialise config space before so_far funcs may valid few =
@@ -37,13 +37,13 @@ may_initialise config space before so_far funcs may valid few =
       few_globals = omega (arith, length-take imported before.globals, may.room.globals);
     }
 
--- an initialiser of no reference that may not be null and is not grounded is refused as any that is drawn
+-- an initialiser whose type is nullable or grounded is refused as any drawn one is
 pub drawn_refused : (config : Config) (context : Context) (value : ValType) (e : Error) → ¬ IsUngrounded config context value → MayRefuseConstExpr config context value e → MayRefuseDrawn config context e
 drawn_refused config context value e grounded (inl memory) = inl memory
 drawn_refused config context value e grounded (inr (empty, inl lacks)) = absurd (grounded lacks)
 drawn_refused config context value e grounded (inr (empty, inr holds)) = inr (empty, holds)
 
--- what is refused once functions are defined is refused over those that stood before
+-- a refusal after functions are defined is one over the entities before
 pub refused_before : (config : Config) (types : List SubType) (before : IndexSpaces) (so_far : Definitions) (funcs : List ℕ) (e : Error) → Extends before.funcs funcs
     → MayRefuseDrawn config (drawn_over config (standing_over types funcs (length before.funcs - so_far.num_funcs) [])) e → MayRefuseDefined config (drawn_beside config types before so_far) e
 refused_before config types before so_far funcs e extends (inl memory) = inr (inl memory)

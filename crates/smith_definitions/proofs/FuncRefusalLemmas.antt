@@ -1,4 +1,4 @@
--- When functions are refused: without garbage collection only where no type is asked for.
+-- When functions are refused: without garbage collection only if `min_types` is 0.
 use Rattle.std.proofs.Common.{◌≡◌, ◌⊎◌, ℕ, zero, suc, ◌<◌, ◌≤◌, Bool, true, false, not, ◌&&◌, cond, List, [], ◌∷◌, length, refl, sym, ap, subst, arith, inl, inr}
 use Rattle.std.specs.Prelude.{slice_get, Result, Ok, Err, IfErr}
 use Rattle.smith_types.specs.Space.{Space}
@@ -19,7 +19,7 @@ use Rattle.smith_definitions.specs.Refusals.{MayRefuse}
 use Rattle.smith_draw.specs.TypeUses.{is_function, places_from, is_unshared_function}
 use Rattle.smith_spell.specs.FuncTypes.{func_types}
 
--- an unshared function is all that is enabled without garbage collection
+-- without garbage collection only unshared functions are enabled
 plain : (features_gc shared : Bool) (inner : CompositeInnerType) → (is_function inner ≡ false → features_gc ≡ true) → features_gc ≡ false → (shared ≡ true → ⊥) → (is_function inner && not shared) ≡ true
 plain gc true inner aggregate off unshared = absurd (unshared refl)
 plain gc false (inners.Func function) aggregate off unshared = refl
@@ -31,7 +31,7 @@ aggregate_gc config (inners.Func function) h e = cc
 aggregate_gc config (inners.Array array) h e = h
 aggregate_gc config (inners.Struct structure) h e = h
 
--- where shared types need garbage collection
+-- shared types require garbage collection
 unshared : (config : Config) → IsSanitized config → config.gc_enabled ≡ false → config.shared_everything_threads_enabled ≡ true → ⊥
 unshared config sanitized off on = let gc : config.gc_enabled ≡ true = sanitized.shared_gc on in cc
 
@@ -50,7 +50,7 @@ some_types config space (t ∷ types) sanitized off valid e some =
     let (end, h) = AreTypesValid-at (features_of config) space valid 0 t (ap (λ (l : List SubType). slice_get l 0) e) in
     some_turn (is_unshared_function t) (places_from is_unshared_function 1 types) (first_plain config t space.types end sanitized off h)
 
--- without garbage collection the first type already is that of an unshared function
+-- without garbage collection already the first type is that of an unshared function
 pub func_types_some : (config : Config) (space : Space) → IsSanitized config → config.gc_enabled ≡ false → AreTypesValid (features_of config) space → 0 < length space.types → 0 < length (func_types space.types)
 func_types_some config space sanitized off valid some = some_types config space space.types sanitized off valid refl some
 
@@ -65,7 +65,7 @@ no_type_asked config space sanitized off valid le none =
       | inr some ↦ let more = func_types_some config space sanitized off valid some in absurd (omega arith)
     ]
 
--- functions are refused for want of memory, or of a type that they may have
+-- functions are refused for lack of memory, or of a type that they may have
 pub funcs_refuse : {X : Type 0} (config : Config) (space : Space) (r : Result X Error) → IsSanitized config → AreTypesValid (features_of config) space → config.min_types ≤ length space.types
     → IfErr r (λ e. (e ≡ errors.Memory) ⊎ ((e ≡ errors.IncorrectFormat (Unmet counts.Funcs)) × (0 < config.min_funcs) × (length (func_types space.types) ≡ 0))) → IfErr r (MayRefuse config)
 funcs_refuse config space (Ok funcs) sanitized valid le h = tt

@@ -1,4 +1,4 @@
--- How many globals stand when the defined ones are drawn.
+-- The number of globals after the defined ones are drawn.
 use Rattle.std.proofs.Common.{◌≡◌, ℕ, ◌≤◌, List, subst, ap}
 use Rattle.smith_types.specs.declared.entity_type.GlobalType.{GlobalType}
 use Rattle.smith_types.specs.declared.const_instr.ConstInstr.{ConstInstr}

@@ -1,4 +1,4 @@
--- One turn of the loop over the globals that are defined.
+-- One iteration of the loop over the defined globals.
 use Rattle.std.proofs.Common.{◌≡◌, ℕ, ◌+◌, ◌-◌, ◌≤◌, ◌<◌, Bool, true, false, ◌&&◌, nat_lt, List, [], ◌∷◌, ◌++◌, length, map, inl, inr, refl, sym, ap, subst, ◌∙◌, arith, append_assoc, length-append, append-nil}
 use Rattle.std.specs.Prelude.{if◌then◌else◌}
 use Rattle.std.specs.List.{All}
@@ -28,11 +28,11 @@ use Rattle.smith_definitions.proofs.DefinedLoop.{IsDefining, defined_start, defi
 abbrev expressions : List (ℕ × List ConstInstr) → List (List ConstInstr)
 expressions initials = map (λ (one : ℕ × List ConstInstr). one.1) initials
 
--- no global is of a float
+-- no global is a float
 abbrev AreNoFloats : List GlobalType → Type 0
 AreNoFloats globals = All (λ (global : GlobalType). IsNoFloat global.val_type) globals
 
--- what holds of the globals so far, n of them defined
+-- properties of the globals so far, n of them defined
 pub record AreDefining (config : Config) (standing : Standing) (before : List GlobalType) (old : List (ℕ × List ConstInstr)) (n : ℕ) (globals : List GlobalType) (initials : List (ℕ × List ConstInstr)) (start bytes : List ℕ) : Type 0 where
   pub made : List Global
   pub globals_are : globals ≡ globals_of before made
@@ -44,7 +44,7 @@ pub record AreDefining (config : Config) (standing : Standing) (before : List Gl
   pub grounded : All (λ (one : Global). HasGroundedValue config (drawn_over config standing) one.0) made
   pub constants : config.allow_floats ≡ false → All HasNoFloat standing.types → All (All GivesNoFloat) (expressions old) → All (All GivesNoFloat) (expressions initials)
 
--- how many globals stand
+-- the number of globals
 pub count_is : {config : Config} {standing : Standing} {before : List GlobalType} {old : List (ℕ × List ConstInstr)} {n : ℕ} {globals : List GlobalType} {initials : List (ℕ × List ConstInstr)} {start bytes : List ℕ}
     → AreDefining config standing before old n globals initials start bytes → length globals ≡ length before + n
 count_is {before = before} now =
@@ -52,7 +52,7 @@ count_is {before = before} now =
     let len = now.defining.growing.len in
     ap length now.globals_are ∙ lens ∙ ap (λ (k : ℕ). length before + k) (length-map now.made (λ (one : Global). one.0) ∙ len)
 
--- before the first turn
+-- before the first iteration
 pub none_made : (config : Config) (standing : Standing) (before : List GlobalType) (old : List (ℕ × List ConstInstr)) (start : List ℕ) → All (IsGlobalValid (features_of config) standing.types) before → AreDefining config standing before old 0 before old start start
 none_made config standing before old start valid = record {
   made = [];
@@ -67,7 +67,7 @@ none_made config standing before old start valid = record {
 }
 
 module _ (config : Config) (standing : Standing) (globals : List GlobalType) (global : GlobalType) where
-  -- a context sees as much when a global is added
+  -- a context stays as large when a global is added
   context_grown : (visible : ℕ) → IsContextGrown (context_at config standing globals visible) (context_at config standing (globals ++ global ∷ []) visible)
   context_grown visible = record {
     features = refl;
@@ -79,7 +79,7 @@ module _ (config : Config) (standing : Standing) (globals : List GlobalType) (gl
     visible = omega arith;
   }
 
-  -- an initialiser stays one when a global is added
+  -- an initialiser stays valid when a global is added
   kept : (place index : ℕ) (initial : List ConstInstr) → IsGlobalInitialised config standing globals place index initial → IsGlobalInitialised config standing (globals ++ global ∷ []) place index initial
   kept place index initial h =
       let visible = if config.gc_enabled then index else length standing.imported_globals in
@@ -116,7 +116,7 @@ drawn_in : (config : Config) (standing : Standing) (before : List GlobalType) (m
 unfolding global_at
 drawn_in config standing before made globals bytes are = ap (λ (standing_globals : List GlobalType). initialised_at config (global_scope config standing standing_globals) bytes) (sym are)
 
--- its index is how many stand before it
+-- its index is the number of globals before it
 index_is : (config : Config) (context : Context) (bytes : List ℕ) (one : Global) (after : List ℕ) → initialised_at config context bytes ≡ (one, after) → one.1.0 ≡ length context.globals
 unfolding initialised_at
 index_is config context bytes one after drawn = sym (ap (λ (r : Global × List ℕ). r.0.1.0) drawn)

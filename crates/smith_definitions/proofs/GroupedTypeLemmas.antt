@@ -1,4 +1,4 @@
--- A type is found among types in their groups by going over the groups.
+-- A type among types in groups is found by a walk over the groups.
 use Rattle.std.proofs.Common.{◌≡◌, ◌∙◌, ℕ, zero, suc, ◌+◌, ◌-◌, ◌<◌, ◌≤◌, List, [], ◌∷◌, ◌++◌, length, drop, get_or, refl, sym, ap, arith}
 use Rattle.std.specs.Prelude.{Some, slice_get}
 use Rattle.std.specs.List.{flat_map}
@@ -24,12 +24,12 @@ cut : (groups : List (List SubType)) (i : ℕ) (group : List SubType) → i < le
 cut groups i group inside is = ap joined (drop_more groups i group inside) ∙ ap (λ (one : List SubType). one ++ joined (drop (i + 1) groups)) (sym is)
 
 module _ (groups : List (List SubType)) (i left index : ℕ) (now : slice_get (joined (drop i groups)) left ≡ slice_get (joined groups) index) where
-  -- it is in the group that is next
+  -- it is in the next group
   pub found_in : (group : List SubType) (t : SubType) → i < length groups → group ≡ get_or groups i group → left < length group → t ≡ get_or group left t → slice_get (joined groups) index ≡ Some t
   found_in group t inside is short at =
       sym now ∙ (ap (λ (types : List SubType). slice_get types left) (cut groups i group inside is) ∙ (in_front group (joined (drop (i + 1) groups)) left short ∙ (slice_get-get_or group left t short ∙ ap (λ (one : SubType). Some one) (sym at))))
 
-  -- it is behind that group
+  -- it is after that group
   pub found_behind : (group : List SubType) (less : ℕ) → i < length groups → group ≡ get_or groups i group → length group ≤ left → less ≡ left - length group → slice_get (joined (drop (i + 1) groups)) less ≡ slice_get (joined groups) index
   found_behind group less inside is past fewer =
       rw fewer (sym (behind group (joined (drop (i + 1) groups)) left past) ∙ (ap (λ (types : List SubType). slice_get types left) (sym (cut groups i group inside is)) ∙ now))

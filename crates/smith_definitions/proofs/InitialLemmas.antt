@@ -1,4 +1,4 @@
--- An initialiser of a table stays one as its context grows.
+-- An initialiser of a table stays valid as its context grows.
 use Rattle.std.proofs.Common.{List, None, Some}
 use Rattle.std.specs.Prelude.{Option}
 use Rattle.smith_types.specs.Expressions.{Context}

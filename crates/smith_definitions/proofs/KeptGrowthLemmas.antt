@@ -1,4 +1,4 @@
--- What is kept of globals and functions fits, as types, globals and functions are added.
+-- The kept globals and functions stay right, as types, globals and functions are added.
 use Rattle.std.proofs.Common.{◌≡◌, ℕ, ◌+◌, ◌<◌, ◌≤◌, Bool, List, [], ◌∷◌, ◌++◌, take, length, refl, sym, ap, ◌∙◌, subst, arith}
 use Rattle.std.specs.Prelude.{All, not, ◌&&◌, nat_le, if◌then◌else◌}
 use Rattle.std.proofs.lemmas.List.{length-append, take-append-le}
@@ -27,7 +27,8 @@ pub record AreValidOver (context : Context) : Type 0 where
   pub funcs : All (IsFuncValid context.types) context.funcs
   pub globals : All (IsGlobalValid context.features context.types) context.globals
 
--- a context with more types, functions and globals at their ends, of the same features, and with as many imported functions
+-- a context with more types, functions and globals at their ends, of the same features, and with
+-- the same number of imported functions
 pub record HasMore (old new : Context) : Type 0 where
   pub features : new.features ≡ old.features
   pub types : Extends old.types new.types
@@ -35,17 +36,17 @@ pub record HasMore (old new : Context) : Type 0 where
   pub globals : Extends old.globals new.globals
   pub imported_funcs : new.imported_funcs ≡ old.imported_funcs
 
--- where each item offers the same, so do all
+-- if each item offers the same, so do all
 each_same : {A B : Type 0} (P : A → Type 0) (f g : ℕ → A → List B) → ((i : ℕ) (x : A) → P x → f i x ≡ g i x) → (start : ℕ) (xs : List A) → All P xs → each_from f start xs ≡ each_from g start xs
 each_same P f g same start [] each = refl
 each_same P f g same start (x ∷ xs) each =
     ap (λ ys. ys ++ each_from f (start + 1) xs) (same start x (All-head P x xs each)) ∙ ap (λ ys. g start x ++ ys) (each_same P f g same (start + 1) xs (All-tail P x xs each))
 
--- what two tests that say the same offer
+-- the offers of two tests with the same result
 offered_same : {B : Type 0} (a b : Bool) (x : B) → a ≡ b → offered_if a x ≡ offered_if b x
 offered_same a b x same = ap (λ (offered : Bool). offered_if offered x) same
 
--- of a longer list as many items are the same
+-- the first items of a longer list are the same
 seen_same : {A : Type 0} (n : ℕ) (xs ys : List A) → Extends xs ys → n ≤ length xs → take n xs ≡ take n ys
 seen_same n xs ys longer inside = sym (ap (take n) longer.parts ∙ take-append-le n xs longer.more inside)
 
@@ -90,6 +91,6 @@ module _ (old new : Context) (valid : AreValidOver old) (more : HasMore old new)
         ∙ ap (λ (xs : List ℕ). each_from (function_offers new offer.wanted) 0 xs) (seen_same offer.funcs_seen old.funcs new.funcs more.funcs kept.funcs_seen);
   }
 
-  -- what was kept fits
+  -- what was kept is right
   pub kept_grown : (offers : List KeptOffer) → All (IsKeptOffer old) offers → All (IsKeptOffer new) offers
   kept_grown offers all = All-weaker (IsKeptOffer old) (IsKeptOffer new) offer_grown offers all

@@ -1,4 +1,4 @@
--- What is kept of globals and functions fits for the initialisers to come.
+-- The kept globals and functions are right for later initialisers.
 use Rattle.std.proofs.Common.{◌≡◌, Bool, List, [], ◌∷◌, ◌++◌, refl}
 use Rattle.std.specs.Prelude.{All}
 use Rattle.smith_types.specs.Entities.{IsFuncValid, IsGlobalValid}
@@ -23,7 +23,7 @@ use Rattle.smith_definitions.proofs.KeptGrowthLemmas.{AreValidOver, HasMore, kep
 use Rattle.smith_definitions.proofs.RequiredMoreLemmas.{still_imported}
 use Rattle.smith_definitions.proofs.StandsBehindLemmas.{spaces_grown}
 
--- with one more global that a module defines
+-- with one more defined global
 pub kept_pushed : (config : Config) (standing : Standing) (globals more : List GlobalType) (one : GlobalType) (offers : List KeptOffer) → IsOrderly standing.types → All (IsFuncValid standing.types) standing.funcs → All (IsGlobalValid (features_of config) standing.types) globals → more ≡ globals ++ one ∷ []
     → All (IsKeptOffer (global_scope config standing globals)) offers → All (IsKeptOffer (global_scope config standing more)) offers
 kept_pushed config standing globals more one offers orderly funcs valid longer =
@@ -41,7 +41,7 @@ module _ (config : Config) (space : Space) (spaces : IndexSpaces) (defined : Def
   sound : AreValidOver (scope_beside config space.types spaces defined allow)
   sound = record { orderly = may.valid.orderly; funcs = may.entities.funcs; globals = may.entities.globals }
 
-  -- beside one more entity that an export of a shape brings
+  -- with one more entity, which an export of a shape adds
   pub kept_beside : (later : IndexSpaces) (fuller : Definitions) (added : EntityType) (offers : List KeptOffer) → IsInitialised config space.types spaces defined fuller added → later ≡ with_entity spaces added
       → All (IsKeptOffer (scope_beside config space.types spaces defined allow)) offers → All (IsKeptOffer (scope_beside config space.types later fuller allow)) offers
   kept_beside later fuller added offers initialised longer =
@@ -54,7 +54,7 @@ module _ (config : Config) (space : Space) (spaces : IndexSpaces) (defined : Def
       } in
       kept_grown (scope_beside config space.types spaces defined allow) (scope_beside config space.types later fuller allow) sound grown offers
 
-  -- over the types that it brings
+  -- over the types that it adds
   pub kept_over : (types : List SubType) (offers : List KeptOffer) → Extends space.types types
       → All (IsKeptOffer (scope_beside config space.types spaces defined allow)) offers → All (IsKeptOffer (scope_beside config types spaces defined allow)) offers
   kept_over types offers longer =

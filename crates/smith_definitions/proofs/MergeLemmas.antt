@@ -83,7 +83,7 @@ not_falling numbers ascending i j before within = elim (cases_eq i j) [
   | inr apart ↦ let less = rises_from numbers ascending i j 0 (omega arith) within in omega arith
 ]
 
--- what a binary search answers
+-- the result of a binary search
 pub place_found : (numbers : List ℕ) (number at : ℕ) → IsStrictlyIncreasing numbers → IsBinarySearchResult (λ y. nat_cmp y number) numbers (Ok at)
     → IsPlaceOf numbers number at (at + 1)
 place_found numbers number at ascending found =
@@ -106,7 +106,7 @@ place_missing numbers number at ascending found =
       above = above;
     }
 
--- a place in a list parts it
+-- a place in a list divides it
 pub put : (made rest : List ℕ) (number before after : ℕ) (new left : List ℕ) → IsPlaceOf rest number before after → left ≡ drop after rest
     → new ≡ (made ++ take before rest) ++ number ∷ [] → IsPut made rest number new left
 put made rest number before after new left place is_left is_new = record {
@@ -136,7 +136,8 @@ put made rest number before after new left place is_left is_new = record {
     onward : drop (after - before) (drop before rest) ≡ left
     onward = let ordered = place.ordered in drop-drop (after - before) before rest ∙ ap (λ n. drop n rest) (omega arith) ∙ sym is_left
 
--- what is made and the rest are in ascending order the constants and the numbers so far, and what is made is below all others
+-- the made list and the rest are, in ascending order, the constants and the numbers so far, and the
+-- made list is below all others
 pub record IsMerging (constants near : List ℕ) (k : ℕ) (made rest : List ℕ) : Type 0 where
   pub rises : Rises (made ++ rest)
   pub keeps : (n : ℕ) → Contains (constants ++ take k near) n → Contains (made ++ rest) n
@@ -249,7 +250,7 @@ merging_goes_on constants near k made rest new left near_rises inside merging pu
       ]
     ]
 
--- nothing is left to be put
+-- nothing is left to put
 pub merging_ends : (constants near : List ℕ) (k : ℕ) (made rest : List ℕ) → length near ≤ k → IsMerging constants near k made rest
     → IsInOrder (constants ++ near) (made ++ rest)
 merging_ends constants near k made rest ended merging = record {

@@ -1,4 +1,4 @@
--- A source that begins with the spelling of mutable globals with numbers gives them.
+-- From a source that begins with the spelling of mutable globals with numbers, these are drawn.
 use Rattle.std.proofs.Common.{◌≡◌, ℕ, ℤ, zero, suc, true, false, List, [], ◌∷◌, ◌++◌, length, map, refl, sym, ap, ◌∙◌, arith, append_assoc, append-nil}
 use Rattle.std.specs.List.{All}
 use Rattle.std.proofs.lemmas.Bool.{le-ltb}
@@ -29,7 +29,7 @@ use Rattle.smith_definitions.proofs.DefinedLemmas.{defined_alone}
 abbrev AreMutable : List GlobalType → Type 0
 AreMutable globals = All (λ (global : GlobalType). global.mutable ≡ true) globals
 
--- a mutable global with this number, behind `index` globals
+-- a mutable global with this number, after `index` globals
 abbrev numbered : ℕ → ℤ → Global
 numbered index number = (mutable_i32, (index, I32Const number ∷ []))
 
@@ -45,7 +45,7 @@ type_read config context piece after h =
     (takes.made mutable_i32 piece after (record { holds = refl; spelled = h }) refl)
     (takes.left mutable_i32 piece after (record { holds = refl; spelled = h }) refl)
 
--- behind mutable globals a spelled one is read
+-- after mutable globals a spelled one is read
 global_read : (config : Config) (standing : Standing) (before : List GlobalType) (made : List Global) (number : ℤ) (piece after : List ℕ) → AreMutable (globals_of before made) → SpellsGlobal config number piece
     → global_at config standing before made (piece ++ after) ≡ (numbered (length (globals_of before made)) number, after)
 unfolding global_at initialised_at SpellsGlobal
@@ -58,7 +58,7 @@ global_read config standing before made number piece after mutable h =
       constant_read scope config.const_expr_fuel config (I32Const number ∷ []) h.second after (mutable_not_read scope I32 mutable) refl constant,
     ) refl
 
--- globals and constants for these numbers are behind those that were made
+-- globals and constants for these numbers follow those that were made
 record AreRead (numbers : List ℤ) (made : List Global) (after : List ℕ) (grown : List Global × List ℕ) : Type 0 where
   more : List Global
   all : grown ≡ (made ++ more, after)
@@ -90,7 +90,7 @@ globals_read config standing before (suc most) made (number ∷ numbers) piece a
       constants = ap (λ (l : List (List ConstInstr)). (I32Const number ∷ []) ∷ l) rest.constants;
     }
 
--- the globals and the initialisers, without their indices, where none stood before
+-- the globals and the initialisers, without their indices, if there are none before
 abbrev pub listed_at : Config → Standing → List ℕ → (List GlobalType × List (List ConstInstr)) × List ℕ
 listed_at config standing bytes = let drawn = globals_at config standing [] [] bytes in ((drawn.0.0, map (λ (one : ℕ × List ConstInstr). one.1) drawn.0.1), drawn.1)
 

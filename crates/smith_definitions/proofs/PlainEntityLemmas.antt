@@ -21,7 +21,7 @@ use Rattle.smith_types.proofs.SpaceLemmas.{IsOrderly-push}
 use Rattle.smith_types.proofs.ValidityLemmas.{AreTypesValid-at, AreTypesValid-single}
 use Rattle.smith_config.specs.Shapes.{IsHeapTypeIncluded, IsValTypeIncluded, IsNotConcrete, HasNoConcrete, IsTypePlain, IsNothingLeftOut, ArePlain}
 
--- what holds of each item of a list holds of the item at a place
+-- a property of each item of a list is one of the item at a place
 pub all_at : {A : Type 0} (P : A → Type 0) (xs : List A) (i : ℕ) (x : A) → All P xs → slice_get xs i ≡ Some x → P x
 all_at P xs i x all at = subst P (get_or_from_slice_get xs i x x at) (all i x (slice_get_within xs i x at))
 
@@ -68,7 +68,7 @@ module _ (features : Features) (space : Space) (spaces : IndexSpaces) (plain : A
         shared = λ shared. absurd (cc (sym shared ∙ alone));
       }
 
-  -- a type of it is valid behind others
+  -- a type of it is valid after others
   type_over : (others : List SubType) (end index : ℕ) (t : SubType) → slice_get space.types index ≡ Some t → AreTypesValid features space → IsTypeValid features others end t
   type_over others end index t at valid =
       let (last, h) = AreTypesValid-at features space valid index t at in
@@ -83,7 +83,7 @@ module _ (features : Features) (space : Space) (spaces : IndexSpaces) (plain : A
         shareable = λ shared. absurd (cc (sym shared ∙ alone));
       }
 
-  -- so types stay valid with it behind them, in a group of its own
+  -- so types stay valid with it after them, in a group of its own
   pub types_over_valid : (ours : Space) (index : ℕ) (t : SubType) → slice_get space.types index ≡ Some t → AreTypesValid features space → AreTypesValid features ours
       → AreTypesValid features (record { types = ours.types ++ t ∷ []; groups = ours.groups ++ next_group (ours.types ++ t ∷ []) ours.groups ∷ [] })
   types_over_valid ours index t at valid now =

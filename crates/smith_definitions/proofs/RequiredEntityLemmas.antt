@@ -1,4 +1,4 @@
--- What is defined with one more entity, and when it is refused.
+-- Definitions with one more entity, and when they are refused.
 use Rattle.std.proofs.Common.{◌≡◌, ◌∙◌, ℕ, ◌+◌, Bool, false, true, List, [], ◌∷◌, ◌++◌, length, inl, inr, refl, sym, ap, subst}
 use Rattle.std.specs.Prelude.{Option, Some, None, Result, Ok, Err, IsErrAnd, IfOk, IfErr}
 use Rattle.smith_bytes.specs.declared.error.Error.{Error}
@@ -25,7 +25,7 @@ use Rattle.smith_definitions.specs.Required.{MayRefuseInitial}
 use Rattle.smith_definitions.specs.RequiredExports.{Answers, scope_beside, made_of, with_table, with_global, defined_with_at}
 use Rattle.smith_definitions.specs.declared.definitions.Definitions.{Definitions}
 
--- an answer is what reading answers, where it only else runs out of memory
+-- an answer is the one that is read, if its only other result is lack of memory
 pub answered : {X Y : Type 0} (view : X → Y) (result : Result X Error) (read : Result Y Error) → IfErr result (λ e. e ≡ Memory) → IfOk result (λ x. read ≡ Ok (view x)) → Answers view result read
 answered view (Ok x) read memory exact = exact
 answered view (Err e) read memory exact = subst (λ (one : Error). Answers view (Err one) read) (sym memory) tt
@@ -34,14 +34,14 @@ refused_so : {X Y : Type 0} (view : X → Y) (config : Config) (context : Contex
 refused_so view config context wanted e read (inl memory) none = subst (λ (one : Error). Answers view (Err one) read) (sym memory) tt
 refused_so view config context wanted e read (inr (empty, lacking)) none = subst (λ (one : Error). Answers view (Err one) read) (sym empty) (none empty)
 
--- so is the refusal of an initialiser, where there is nothing to choose from
+-- so is the refusal of an initialiser, if there is nothing to choose from
 pub refused_initial : {X Y : Type 0} (view : X → Y) (result : Result X Error) (config : Config) (context : Context) (wanted : ValType) (e : Error) (read : Result Y Error) → IsErrAnd result (λ y. y ≡ e) → MayRefuseConstExpr config context wanted e
     → (e ≡ EmptyChoose → read ≡ Err EmptyChoose) → Answers view result read
 refused_initial view (Ok x) config context wanted e read passed refusal none = absurd passed
 refused_initial view (Err y) config context wanted e read passed refusal none = subst (λ (one : Error). Answers view (Err one) read) (sym passed) (refused_so view config context wanted e read refusal none)
 
 module _ (config : Config) (types : List SubType) (spaces : IndexSpaces) (defined : Definitions) (context : Context) (bytes : List ℕ) where
-  -- a table is defined with the initialiser that is drawn, unless there is nothing to choose from
+  -- a table is defined with the drawn initialiser, unless there is nothing to choose from
   module _ (table : TableType) (same : context ≡ scope_beside config types spaces defined false) where
     pub table_lacking : table_init_at config context table.element_type bytes ≡ None → defined_with_at config types spaces defined (entity.Table table) bytes ≡ Err EmptyChoose
     unfolding defined_with_at
@@ -89,7 +89,7 @@ global_refused config context global added e is (inl memory) = inl memory
 global_refused config context global added e is (inr (empty, inl lacks)) = inr (empty, inl (rw is (ungrounded_not_null config context global.val_type lacks)))
 global_refused config context global added e is (inr (empty, inr holds)) = inr (empty, inr holds)
 
--- what an initialiser may refer to says over what it is drawn
+-- the scope of an initialiser determines the context that it is drawn over
 pub refused_beside : (config : Config) (types : List SubType) (spaces : IndexSpaces) (defined : Definitions) (within : Spaces) (allow_defined : Bool) (wanted : ValType) (e : Error) → seen_by config within allow_defined ≡ scope_beside config types spaces defined allow_defined
     → MayRefuseConstExpr config (standing_in config within) wanted e → MayRefuseConstExpr config (drawn_beside config types spaces defined) wanted e
 refused_beside config types spaces defined within allow_defined wanted e same h = subst (λ (context : Context). MayRefuseConstExpr config (without_globals context) wanted e) same h

@@ -1,4 +1,4 @@
--- One turn of the loop over the exports that a shape fixes.
+-- One iteration of the loop over the exports that a shape fixes.
 use Rattle.std.proofs.Common.{◌≡◌, ◌∙◌, ◌⊎◌, ℕ, zero, suc, ◌+◌, ◌-◌, ◌<◌, ◌≤◌, Bool, true, false, List, [], ◌∷◌, ◌++◌, length, map, drop, take, get_or, inl, inr, refl, sym, ap, subst, arith, append_assoc}
 use Rattle.std.specs.Prelude.{All, Some, slice_get, sum_by, Result, Ok, Err, IsErrAnd}
 use Rattle.std.specs.List.{Any, AllZip}
@@ -50,7 +50,7 @@ grown_both one two = record {
   globals = extends_both one.globals two.globals;
 }
 
--- the same types stay the same as more types stand
+-- the same types stay the same as types are added
 same_func_grown : (types more_types theirs : List SubType) → Extends types more_types → (index other : ℕ) → IsSameFuncType types theirs index other → IsSameFuncType more_types theirs index other
 same_func_grown types more_types theirs longer index other h =
     record {
@@ -69,7 +69,7 @@ kept_grown true types more_types theirs longer (entity.Func index) (entity.Func 
 kept_grown true types more_types theirs longer (entity.Tag index) (entity.Tag other) h = same_func_grown types more_types theirs longer index other h
 kept_grown true types more_types theirs longer mine yours h = h
 
--- one of a list counts
+-- an item of a list counts
 some_counted : (f : Export → ℕ) (xs : List Export) (i : ℕ) (x : Export) → i < length xs → x ≡ get_or xs i x → f x ≡ 1 → 0 < sum_by f xs
 some_counted f [] i x inside is counted = absurd (omega arith)
 some_counted f (y ∷ xs) zero x inside is counted = let same : f y ≡ 1 = ap f (sym is) ∙ counted in let sum = sum_by-cons f y xs in omega (arith, same, sum)
@@ -85,7 +85,7 @@ pub refused_by : {X Y A B : Type 0} (of_part : X → A) (of_whole : Y → B) (e 
 refused_by of_part of_whole e part whole (Ok y) given passes h = absurd h
 refused_by {X = X} of_part of_whole e part whole (Err own) given passes h = refused_part of_part of_whole own part whole (subst (λ (one : Error). Answers of_part (Err one) part) (sym h) given) passes
 
--- the exports before a place are made, and what is made from here on completes the whole
+-- the exports before a place are made, and making the rest completes the whole
 pub record AreRequiring (own_types : Bool) (config : Config) (shape : Shape) (old_types : Space) (old : IndexSpaces) (old_defined : Definitions) (place : ℕ) (types : Space) (spaces : IndexSpaces) (defined : Definitions) (exports : List Export) (start bytes : List ℕ) : Type 0 where
   pub so_far : required_from own_types config shape (drop place shape.exports) (standing_with types spaces defined exports) bytes ≡ required_at own_types config shape old_types old old_defined start
   pub same : AllZip (IsSameExport (IsKeptType own_types types.types (shape_types shape)) spaces (shape_spaces shape)) exports (take place shape.exports)
@@ -235,7 +235,7 @@ module _ {own_types : Bool} {config : Config} {shape : Shape} {old_types types :
     refused_for (errors.IncorrectFormat SeveralTables) (counted, few) = (some_counted (λ (each : Export). counts_as counts.Tables each.1) shape.exports place one inside is counted, few)
     refused_for e refused = lacking_for e refused
 
--- exports that are the same as valid ones, of entities that stand, are valid
+-- exports that are the same as valid ones, of existing entities, are valid
 stand_so : (IsSame : EntityType → EntityType → Type 0) (ours theirs : IndexSpaces) (exports others : List Export) → AllZip (IsSameExport IsSame ours theirs) exports others → AreExportsStanding ours exports
 stand_so IsSame ours theirs [] others same = All-nil (λ (one : Export). IsStanding ours one.1 one.2)
 stand_so IsSame ours theirs (one ∷ exports) [] same = absurd same
@@ -255,7 +255,7 @@ valid_so IsSame ours theirs exports others same valid = record {
   distinct = subst AreDistinct (named_so IsSame ours theirs exports others same) valid.distinct;
 }
 
--- where nothing is there to refuse them for, only memory refuses exports
+-- if there is no such reference, exports are refused only for lack of memory
 not_empty : (e : Error) (A : Type 0) → (A → ⊥) → (e ≡ errors.Memory) ⊎ ((e ≡ errors.EmptyChoose) × A) → e ≡ errors.Memory
 not_empty e A none (inl memory) = memory
 not_empty e A none (inr (empty, holds)) = absurd (none holds)

@@ -1,5 +1,5 @@
--- The types that are added for the exports of a shape are the shape's, and the tables, memories and globals that are defined for them are
--- of its types.
+-- The types that are added for the exports of a shape are the shape's, and the tables, memories and
+-- globals that are defined for them have its types.
 use Rattle.std.proofs.Common.{◌≡◌, ◌⊎◌, ℕ, Bool, true, false, List, [], ◌∷◌, ◌++◌, inl, inr, subst, sym}
 use Rattle.std.specs.Prelude.{All, Some, slice_get}
 use Rattle.std.specs.List.{Contains}
@@ -54,7 +54,7 @@ no_types shape types = old_ones types (shape_types shape)
 pub type_more : (shape : Shape) (types : List SubType) (index : ℕ) (t : SubType) → slice_get (shape_types shape) index ≡ Some t → AddsTypesOf shape types (types ++ t ∷ [])
 type_more shape types index t at = one_more types (shape_types shape) t (standing (shape_types shape) index t at)
 
--- what is added in two steps
+-- additions of two steps
 pub limits_both : {shape : Shape} {old spaces later : IndexSpaces} → AddsLimitsOf shape old spaces → AddsLimitsOf shape spaces later → AddsLimitsOf shape old later
 limits_both {shape = shape} {old = old} {spaces = spaces} {later = later} first second = record {
   tables = both old.tables spaces.tables later.tables (shape_spaces shape).tables first.tables second.tables;

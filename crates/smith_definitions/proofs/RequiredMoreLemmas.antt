@@ -1,4 +1,4 @@
--- An export of a shape, of an entity that is defined for it, behind what stands.
+-- An export of a shape, of an entity that is defined for it, after the existing entities.
 use Rattle.std.proofs.Common.{◌≡◌, ◌∙◌, ◌⊎◌, ℕ, zero, suc, ◌+◌, ◌-◌, ◌<◌, ◌≤◌, Bool, true, false, List, [], ◌∷◌, ◌++◌, length, map, inl, inr, refl, sym, ap, subst, arith, length-append}
 use Rattle.std.specs.Prelude.{All, Option, Some, None, option_map, slice_get, IsTrue}
 use Rattle.std.specs.List.{Any, flat_map}
@@ -74,7 +74,7 @@ made_some : {A B : Type 0} (f : A → B) (found : Option A) (y : B) → option_m
 made_some f (Some x) y is = (x, refl, cc)
 made_some f None y is = absurd cc
 
--- the entity that is found stands there
+-- the entity that is found exists
 pub entity_stands : (spaces : IndexSpaces) (of_kind : ExportKind) (index : ℕ) (one : EntityType) → entity_of spaces of_kind index ≡ Some one → IsEntityAt spaces of_kind index one
 entity_stands spaces kind.Func index one is = made_some entity.Func (slice_get spaces.funcs index) one is
 entity_stands spaces kind.Table index one is = made_some entity.Table (slice_get spaces.tables index) one is
@@ -151,7 +151,7 @@ no_field config types t function is spaces defined (k, one, below, at, holds) =
           absurd (omega (arith, inside))
     ]
 
--- as many functions are imported beside one that is defined
+-- the number of imported functions stays the same with one more defined entity
 pub still_imported : (config : Config) (types : List SubType) (spaces later : IndexSpaces) (defined fuller : Definitions) (added : EntityType) → later ≡ with_entity spaces added → IsInitialised config types spaces defined fuller added
     → length later.funcs - fuller.num_funcs ≡ length spaces.funcs - defined.num_funcs
 still_imported config types spaces later defined fuller (entity.Func index) more is =
@@ -162,7 +162,7 @@ still_imported config types spaces later defined fuller (entity.Memory memory) m
 still_imported config types spaces later defined fuller (entity.Table table) more (given, is, initialised) = rw (more, is) refl
 still_imported config types spaces later defined fuller (entity.Global global) more (given, is, initialised) = rw (more, is) refl
 
--- what holds no reference that is not grounded holds none beside one more entity
+-- if all references are grounded, so are those with one more entity
 lacking_before : (config : Config) (types : List SubType) (spaces later : IndexSpaces) (defined fuller : Definitions) (added : EntityType) → IsDefinedMore config types spaces defined later fuller added
     → HoldsUngroundedField config (drawn_beside config types later fuller) → HoldsUngroundedField config (drawn_beside config types spaces defined)
 lacking_before config types spaces later defined fuller added more =
@@ -178,7 +178,7 @@ lacking_before config types spaces later defined fuller added more =
     } in
     fields_before config (drawn_beside config types spaces defined) (drawn_beside config types later fuller) growth refl
 
--- types and an entity of a shape over those that stand
+-- types and an entity of a shape over the existing ones
 pub record IsOver (own_types : Bool) (config : Config) (shape : Shape) (space types : Space) (of_kind : ExportKind) (theirs added : EntityType) : Type 0 where
   pub valid : AreTypesValid (features_of config) types
   pub grown : Extends space.types types.types
@@ -208,7 +208,7 @@ some_tag spaces kind.Memory index one (memory, at, is) some = absurd (let none :
 some_tag spaces kind.Global index one (global, at, is) some = absurd (let none : 0 < 0 = rw is at some in omega arith)
 some_tag spaces kind.Tag index one (tag, at, is) some = let inside = slice_get_within spaces.tags index tag at in omega (arith, inside)
 
--- where the shape's types stand already, its entities are as they are
+-- if the shape's types exist already, its entities are unchanged
 standing_over : (config : Config) (shape : Shape) (space : Space) (of_kind : ExportKind) (index : ℕ) (theirs : EntityType) → MayRequire false config shape space → AreTypesValid (features_of config) space
     → IsEntityAt (shape_spaces shape) of_kind index theirs → IsOver false config shape space space of_kind theirs theirs
 standing_over config shape space of_kind index theirs may valid at = record {
@@ -227,7 +227,7 @@ standing_over config shape space of_kind index theirs may valid at = record {
   kind = kind_is (shape_spaces shape) of_kind index theirs at;
 }
 
--- where a function or a tag has its own type, that is the one more type, and the same
+-- if a function or a tag has its own type, that is the one more type, and is the same
 module _ (config : Config) (shape : Shape) (space : Space) (may : MayRequire true config shape space) (valid : AreTypesValid (features_of config) space) where
   abbrev features : Features
   features = features_of config
@@ -287,7 +287,7 @@ module _ (config : Config) (shape : Shape) (space : Space) (may : MayRequire tru
       kind = refl;
     }
 
-  -- other entities are as they are
+  -- other entities are unchanged
   as_it_is : (of_kind : ExportKind) (theirs : EntityType) → AreEntitiesValid features space.types (entity_spaces theirs) → (0 < length (tag_of theirs) → ⊥) → IsSameType space.types (shape_types shape) theirs theirs → kind_of theirs ≡ of_kind
       → IsOver true config shape space space of_kind theirs theirs
   as_it_is of_kind theirs fits no_tag same kind = record {
@@ -342,7 +342,7 @@ pub no_supertypes : (own_types : Bool) (config : Config) (shape : Shape) (space 
 no_supertypes true config shape space may own = λ index t at. (all_at IsTypePlain (shape_types shape) index t (may.valid.plain refl).types at).root
 no_supertypes false config shape space may own = absurd cc
 
--- an entity that is defined stands at the next index of its kind
+-- a defined entity has the next index of its kind
 pub stands_last : (spaces : IndexSpaces) (of_kind : ExportKind) (added : EntityType) → kind_of added ≡ of_kind → IsEntityAt (with_entity spaces added) of_kind (next_index spaces of_kind) added
 stands_last spaces kind.Func (entity.Func index) is = (index, slice_get-last spaces.funcs index, refl)
 stands_last spaces kind.Table (entity.Table table) is = (table, slice_get-last spaces.tables table, refl)
@@ -351,7 +351,7 @@ stands_last spaces kind.Global (entity.Global global) is = (global, slice_get-la
 stands_last spaces kind.Tag (entity.Tag index) is = (index, slice_get-last spaces.tags index, refl)
 stands_last spaces of_kind added is = absurd cc
 
--- more may be defined behind one more entity
+-- more may be defined after one more entity
 module _ (config : Config) (space types : Space) (spaces : IndexSpaces) (defined : Definitions) (grown : Extends space.types types.types) (valid : AreTypesValid (features_of config) types) where
   module _ (added : EntityType) (one : AreEntitiesValid (features_of config) types.types (entity_spaces added)) (more : ℕ) (may : MayDefineMore config space spaces defined (more + 1)) where
     may_with : (fuller : Definitions) → AreWithin (with_entity spaces added) fuller → HasRoom (with_entity spaces added) more → MayDefineMore config types (with_entity spaces added) fuller more
@@ -421,7 +421,7 @@ counted_more spaces (entity.Global global) counts.Types other = absurd (other re
 counted_more spaces (entity.Global global) counts.Globals other = length-append spaces.globals (global ∷ [])
 counted_more spaces (entity.Global global) count other = omega arith
 
--- one more export of a shape is made: what it keeps
+-- the properties kept by one more export of a shape
 pub required_more : {own_types : Bool} {config : Config} {shape : Shape} {space types : Space} {spaces later : IndexSpaces} {defined fuller : Definitions} {theirs added : EntityType} (one made : Export)
     → entity_of (shape_spaces shape) one.1 one.2 ≡ Some theirs → IsOver own_types config shape space types one.1 theirs added → IsDefinedMore config types.types spaces defined later fuller added
     → made.0 ≡ one.0 → made.1 ≡ one.1 → made.2 ≡ next_index spaces one.1 → IsRequiredMore own_types config shape space spaces defined types later fuller one made
@@ -493,7 +493,7 @@ never_null true space (entity.Memory memory) strict = strict
 never_null true space (entity.Func index) strict = strict
 never_null true space (entity.Tag index) strict = strict
 
--- why an export is refused, where its entity is
+-- the reason why an export is refused if its entity is
 module _ (own_types : Bool) (config : Config) (shape : Shape) (space types : Space) (spaces : IndexSpaces) (defined : Definitions) (one : Export) (theirs added : EntityType) (found : entity_of (shape_spaces shape) one.1 one.2 ≡ Some theirs)
     (is : added ≡ entity_over own_types space theirs) (over : IsOver own_types config shape space types one.1 theirs added) where
   initial_refused : (e : Error) → MayRefuseInitial config (drawn_beside config types.types spaces defined) added e

@@ -1,4 +1,4 @@
--- What stands behind imports is valid with one more entity that is defined.
+-- The entities that follow imports are valid with one more that is defined.
 use Rattle.std.proofs.Common.{◌≡◌, ◌∙◌, ℕ, ◌+◌, ◌-◌, ◌<◌, Bool, true, false, not, ◌&&◌, cond, nat_lt, nat_le, lt-ltb, List, [], ◌∷◌, ◌++◌, length, inl, inr, refl, sym, ap, subst, arith, append_assoc, length-append}
 use Rattle.std.specs.Prelude.{Option, Some, None, slice_get, IsTrue, if◌then◌else◌}
 use Rattle.std.proofs.lemmas.Bool.{and_right, leb-false}
@@ -88,7 +88,7 @@ pub entities_longer : {features : Features} (types ours : List SubType) (spaces 
 entities_longer {features = features} types ours spaces longer h =
     subst (λ (all : List SubType). AreEntitiesValid features all spaces) (sym longer.parts) (AreEntitiesValid-grown features types longer.more spaces h)
 
--- a list of items that are defined behind imported ones, with one more
+-- a list of items that are defined after imported ones, with one more
 defines_more : {A : Type 0} {imports space : List A} {count : ℕ} (x : A) → Defines imports count space → Defines imports (count + 1) (space ++ x ∷ [])
 defines_more {imports = imports} x h = record {
   defined = h.defined ++ x ∷ [];
@@ -101,14 +101,14 @@ defines_longer {imports = imports} {space = space} initials x y h =
     let longer : length initials + 1 ≡ length (initials ++ y ∷ []) = simp length-append refl in
     subst (λ (n : ℕ). Defines imports n (space ++ x ∷ [])) longer (defines_more x h)
 
--- all but what is defined is imported
+-- all items that are not defined are imported
 pub left_over : {A : Type 0} {imports space : List A} {count : ℕ} → Defines imports count space → length space - count ≡ length imports
 left_over {imports = imports} h = let whole = ap length h.parts ∙ length-append imports h.defined in omega (arith, whole, h.count_is)
 
 pub defined_end : {A : Type 0} {imports space : List A} {count : ℕ} → Defines imports count space → length space ≡ length imports + count
 defined_end {imports = imports} h = let whole = ap length h.parts ∙ length-append imports h.defined in omega (arith, whole, h.count_is)
 
--- where there is no reason to refuse, several may stand
+-- if there is no reason to refuse, several are allowed
 not_both : {A : Type 0} (b c : Bool) (why : A) → (if b && c then Some why else None) ≡ None → b ≡ true → c ≡ false
 not_both true true why none on = absurd cc
 not_both true false why none on = refl
@@ -128,7 +128,7 @@ memories_enabled config spaces memory alone some =
     let longer = length-append spaces.memories (memory ∷ []) in
     lt-ltb 1 config.max_memories (leb-false config.max_memories 1 (not_both (nat_lt 0 (length spaces.memories)) (nat_le config.max_memories 1) SeveralMemories alone (lt-ltb 0 (length spaces.memories) (omega (arith, longer, some)))))
 
--- with defined globals out of sight, the imported ones are seen; else all are
+-- with defined globals invisible, the imported ones are visible; else all are
 seen_so : (gc : Bool) (all imported : ℕ) → cond (gc && false) all imported ≡ imported
 seen_so gc all imported = rw (and_right gc false refl) refl
 
@@ -137,11 +137,11 @@ all_seen true all imported = refl
 all_seen false all imported = refl
 
 module _ (config : Config) (imported : IndexSpaces) where
-  -- what an initialiser may refer to behind these imports
+  -- the context of an initialiser after these imports
   abbrev context : List SubType → IndexSpaces → ℕ → Context
   context types spaces visible = context_at config (standing_in types imported spaces) spaces.globals visible
 
-  -- the same over types and entities, by how many functions and globals are imported
+  -- the same over types and entities, by the numbers of imported functions and globals
   abbrev around : List SubType → IndexSpaces → ℕ → ℕ → ℕ → Context
   around types spaces funcs globals visible = record {
     features = features_of config;
@@ -256,7 +256,7 @@ module _ (config : Config) (imported : IndexSpaces) where
           subst (λ (each : ℕ × List ConstInstr). IsGlobalPlaced ours.types later place each.0 each.1) same (subst (λ (n : ℕ). IsGlobalPlaced ours.types later n (length spaces.globals) given) (sym is) last)
     ]
 
-    -- what stands does so over more types too
+    -- the entities are valid over more types too
     pub stands_over : StandsBehind config imported ours spaces defined
     stands_over =
         let same : AreSpacesGrown spaces spaces = record { tags = all_kept spaces.tags; funcs = all_kept spaces.funcs; tables = all_kept spaces.tables; memories = all_kept spaces.memories; globals = all_kept spaces.globals } in

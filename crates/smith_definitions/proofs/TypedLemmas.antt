@@ -1,4 +1,4 @@
--- What tags and functions that are defined behind imported ones are like, and which bytes they take.
+-- Properties of tags and functions that are defined after imported ones, and the bytes they take.
 use Rattle.std.proofs.Common.{◌≡◌, ℕ, ◌<◌, ◌≤◌, Bool, true, false, ◌&&◌, cond, eqb, ltb, nat_lt, List, [], ◌∷◌, ◌++◌, length, refl, subst, arith, lt-ltb}
 use Rattle.std.specs.Prelude.{Result, Ok, IfOk, OnOk, IsTrue, All, if◌then◌else◌}
 use Rattle.std.specs.List.{list_any}
@@ -30,7 +30,7 @@ use Rattle.smith_definitions.proofs.ExtensionLemmas.{all_kept}
 use Rattle.smith_definitions.proofs.DefinedLemmas.{defined_all, defined_filled, defined_read, none_listed}
 use Rattle.smith_imports.proofs.GivenLemmas.{given_is}
 
--- what items are like whose types are chosen
+-- properties of items whose types are chosen
 pub record AreTyped (Holds : ℕ → Type 0) (choices : List ℕ) (least most : ℕ) (imported items : List ℕ) : Type 0 where
   pub filled : IsFilled least most imported items
   pub valid : All Holds imported → All Holds items
@@ -55,7 +55,7 @@ module _ (Holds : ℕ → Type 0) (count : Count) (choices : List ℕ) (least mo
       (λ none. cond_both (ltb (length imported) least) _ _ Are (λ lacks. tt) (λ enough. none_typed (ltb-false (length imported) least enough)))
       (λ off. let apart = eqb-false (length choices) 0 off in some_typed bytes le each (omega arith))
 
--- where no tag or function is imported, those are defined that are spelled
+-- if no tag or function is imported, the spelled ones are defined
 typed_read : (count : Count) (choices : List ℕ) (most : ℕ) (items piece after : List ℕ) → Listed (SpellsPlace choices) (if nat_lt 0 (length choices) then most else 0) items piece → typed_at count choices 0 most [] (piece ++ after) ≡ Ok (items, after)
 unfolding typed_at Listed
 typed_read count [] most [] piece after h = rw h refl
@@ -79,7 +79,7 @@ enabled_by : (on : Bool) (places imported items : List ℕ) → (length (cond on
 enabled_by true places imported items none before some = refl
 enabled_by false places imported items none before some = before (subst (λ (xs : List ℕ). 0 < length xs) (none refl) some)
 
--- where there are tags, exceptions are enabled
+-- if there are tags, exceptions are enabled
 pub tags_enabled : (config : Config) (types : List SubType) (imported items : List ℕ) → AreTyped (IsTagValid types) (tag_types config types) config.min_tags config.max_tags imported items → (0 < length imported → IsTrue config.exceptions_enabled) → 0 < length items → IsTrue config.exceptions_enabled
 tags_enabled config types imported items are before some = enabled_by config.exceptions_enabled (types_for Tag types) imported items are.none before some
 

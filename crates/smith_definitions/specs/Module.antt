@@ -56,7 +56,7 @@ pub record Parts : Type 0 where
   pub interesting_values32 : List ℕ
   pub interesting_values64 : List ℕ
 
--- the configuration that a module shows: the one of the caller, sanitised, and without its
+-- the configuration that a module returns: the one of the caller, sanitised, and without its
 -- available imports
 abbrev pub shown_config : Config → Config
 shown_config config = record (sanitized config) { available_imports = None }

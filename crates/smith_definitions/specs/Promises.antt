@@ -68,8 +68,8 @@ ExportsEverything m = AreAllExported (module_spaces m) m.exports
 abbrev pub HasNoStart : Parts → Type 0
 HasNoStart m = m.start ≡ None
 
--- each segment that is copied has a constant offset and lies within the least size of its table or
--- memory
+-- each segment that is copied has a constant offset and lies within the minimum size of its table
+-- or memory
 pub record IsInside (m : Parts) : Type 0 where
   pub elements : All (IsElementInside m.tables) m.elems
   pub data_segments : All (IsDataInside m.memories) m.segments
@@ -84,10 +84,11 @@ pub record WritesSections (m : Parts) : Type 0 where
 abbrev pub HasNoFuel : Parts → Type 0
 HasNoFuel m = m.fuel_globals ≡ []
 
--- the properties of a drawn module that are requested: distinct names by the call that draws it,
--- unless a shape fixes the imports; all exports, unless a shape fixes them; no floats, if there is
--- no shape; references that are nullable or grounded, in locals always and elsewhere unless a shape
--- in use holds one that is not nullable; and always no counter of fuel
+-- the properties of a drawn module that the configuration or the call requires: distinct names of
+-- imports by the call, unless a shape fixes the imports; all exports, unless a shape fixes them; no
+-- floats, if there is no shape; no start function; segments inside their tables and memories;
+-- references that are nullable or grounded, in locals always and elsewhere unless a shape in use
+-- holds one that is not nullable; and always the sections, and no counter of fuel
 pub record KeepsPromises (distinct : Bool) (config : Config) (m : Parts) : Type 0 where
   pub names : IsTrue distinct → (FixesImports config → ⊥) → HasDistinctImports m
   pub no_floats : config.allow_floats ≡ false → HasNoShapes config → HasNoFloats m

@@ -1,4 +1,4 @@
--- The types on the way up from a type.
+-- The proper supertypes of a type.
 use Rattle.std.proofs.Common.{◌≡◌, ℕ, zero, suc, ◌-◌, ◌<◌, ◌≤◌, List, [], ◌∷◌, Option, Some, None, length, refl, sym, ap, subst, arith}
 use Rattle.std.specs.Prelude.{slice_get}
 use Rattle.std.specs.List.{AllByRecursion as ByRecursion}
@@ -16,11 +16,11 @@ declares : (types : List SubType) (i s : ℕ) (o : Option SubType) → slice_get
 declares types i s None at e = cc
 declares types i s (Some t) at e = (t, at, e)
 
--- a type that has a supertype stands
+-- a type with a supertype exists
 pub stands : (types : List SubType) (i s : ℕ) → supertype_at types i ≡ Some s → (t : SubType) × (slice_get types i ≡ Some t) × (t.supertype ≡ Some s)
 stands types i s e = declares types i s (slice_get types i) refl e
 
--- a declared supertype stands before the type
+-- a declared supertype precedes the type
 pub supertype_before : (types : List SubType) → IsOrderly types → (i s : ℕ) → supertype_at types i ≡ Some s → s < i
 supertype_before types orderly i s e = let (t, at, sup) = stands types i s e in (orderly.under i s t at sup).0
 
@@ -36,7 +36,7 @@ at_root : (types : List SubType) → IsOrderly types → (i : ℕ) → i ≤ 0 �
 at_root types orderly i le None e = e
 at_root types orderly i le (Some s) e = let before = supertype_before types orderly i s e in absurd (omega arith)
 
--- as many as the index suffice
+-- a bound of the index of the type suffices
 pub within_enough : (types : List SubType) → IsOrderly types → (n m i : ℕ) → i ≤ n → i ≤ m → ancestors_within n types i ≡ ancestors_within m types i
 within_enough types orderly zero m i le le' = sym (within_none types m i (at_root types orderly i le (supertype_at types i) refl))
 within_enough types orderly (suc n) zero i le le' = within_none types (suc n) i (at_root types orderly i le' (supertype_at types i) refl)
@@ -50,7 +50,7 @@ one_up types orderly n i s e le =
     let same = within_enough types orderly n (suc n) s (omega arith) (omega arith) in
     rw (e, ancestors_within) (ap (λ xs. Concrete s ∷ xs) same)
 
--- a type with a supertype has this above it, and what is above this
+-- the proper supertypes of a type are its declared supertype and the proper supertypes of that
 pub ancestors_up : (types : List SubType) → IsOrderly types → (i s : ℕ) → supertype_at types i ≡ Some s → ancestors types i ≡ Concrete s ∷ ancestors types s
 unfolding ancestors
 ancestors_up types orderly i s e =
@@ -78,7 +78,7 @@ within_above : (types : List SubType) (n i : ℕ) → ByRecursion (λ (h : HeapT
 within_above types zero i = tt
 within_above types (suc n) i = above_turn types n i (supertype_at types i) refl (λ s. within_above types n s)
 
--- a type is below each of them
+-- a type is a subtype of each of them
 pub ancestors_above : (types : List SubType) (i : ℕ) → ByRecursion (λ (h : HeapType). IsBelow types (Concrete i) h) (ancestors types i)
 unfolding ancestors
 ancestors_above types i = within_above types (length types) i
@@ -91,7 +91,7 @@ within_each : (P : HeapType → Type 0) (types : List SubType) → ((j s : ℕ) 
 within_each P types each zero i = tt
 within_each P types each (suc n) i = each_turn P types n i each (λ s. within_each P types each n s) (supertype_at types i) refl
 
--- what holds of each declared supertype
+-- a property of each declared supertype holds for all of them
 pub ancestors_each : (P : HeapType → Type 0) (types : List SubType) → ((j s : ℕ) → supertype_at types j ≡ Some s → P (Concrete s)) → (i : ℕ) → ByRecursion P (ancestors types i)
 unfolding ancestors
 ancestors_each P types each i = within_each P types each (length types) i

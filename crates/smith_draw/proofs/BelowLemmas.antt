@@ -95,6 +95,6 @@ val_decides types o (Ref a) (Ref b) =
     (Decides-and (not a.nullable || b.nullable) (is_heap_below types a.heap_type b.heap_type) (nullable_decides a.nullable b.nullable) (heap_decides types o a.heap_type b.heap_type))
 val_decides types o a b = search rules
 
--- what the code's test answers
+-- the result of the test in the code
 pub val_tested : (types : List SubType) → IsOrderly types → (a b : ValType) (r : Bool) → IsTrue r ↔ IsValBelow types a b → r ≡ is_val_below types a b
 val_tested types o a b r decides = same_from_decides r (is_val_below types a b) decides (val_decides types o a b)

@@ -1,4 +1,4 @@
--- The item that is chosen among those that are offered.
+-- The item chosen among those offered.
 use Rattle.std.proofs.Common.{rules, ◌≡◌, ℕ, ◌+◌, ◌-◌, ◌<◌, Bool, false, true, cond, List, [], ◌∷◌, Some, length, drop, refl, sym, subst, ◌∙◌, ap, arith, lit<}
 use Rattle.std.specs.Prelude.{slice_get, slice_index_or, filter, not, ◌||◌}
 use Rattle.std.proofs.lemmas.Option.{slice_get-get_or, get_or_from_slice_get}
@@ -16,7 +16,7 @@ use Rattle.smith_draw.specs.Grounding.{is_grounded}
 use Rattle.smith_draw.specs.Offered.{gc_subtypes, gc_supertypes, subtypes_offered, supertypes_offered}
 use Rattle.smith_draw.specs.MatchingTypes.{first_and_passing, references_offered, matching_ref_type_at, matching_heap_type_at, super_heap_type_at}
 
--- one item alone is chosen without a draw
+-- a single item is chosen without a draw
 pub chosen_alone : {A : Type 0} (x : A) (bytes : List ℕ) → chosen_at x (x ∷ []) bytes ≡ (x, bytes)
 unfolding chosen_at range_at digit_count
 chosen_alone x bytes = refl
@@ -38,7 +38,7 @@ pub super_without_gc : (config : Config) (types : List SubType) (ty : HeapType) 
 unfolding super_heap_type_at supertypes_offered
 super_without_gc config types ty bytes off = rw off (chosen_alone ty bytes)
 
--- the item that stands at the place that is drawn is chosen
+-- the item at the drawn position is chosen
 pub placed : {A : Type 0} (other : A) (items : List A) (bytes : List ℕ) (n place : ℕ) (x : A) (after : List ℕ) → n ≡ length items → range_at 0 (n - 1) bytes ≡ (place, after) → slice_get items place ≡ Some x → chosen_at other items bytes ≡ (x, after)
 unfolding chosen_at
 placed {A = A} other items bytes n place x after count drawn at =
@@ -54,7 +54,7 @@ pub super_with_gc : (config : Config) (types : List SubType) (ty : HeapType) (by
 unfolding super_heap_type_at supertypes_offered
 super_with_gc config types ty bytes n place x after on count drawn at = rw on (placed ty (gc_supertypes types ty) bytes n place x after count drawn at)
 
--- the first subtype that is offered is the type itself
+-- the first subtype offered is the type itself
 pub gc_first : (config : Config) (types : List SubType) (ty : HeapType) → gc_subtypes config types ty ≡ ty ∷ drop 1 (gc_subtypes config types ty)
 gc_first config types (Abstract s heap.Any) = refl
 gc_first config types (Abstract s heap.Eq) = refl
@@ -71,8 +71,8 @@ gc_first config types (Abstract s heap.NoExn) = refl
 gc_first config types (Concrete i) = refl
 gc_first config types (Exact i) = refl
 
--- of a reference that is not nullable: without garbage collection itself alone, and with it the item at the place that is drawn
--- of a reference all subtypes are offered, or the first and those that are grounded
+-- for a reference: all subtypes are offered if it is nullable or `non_nullable_enabled` is off; otherwise the first and the
+-- grounded ones
 pub all_are_offered : (config : Config) (context : Context) (ty : RefType) (bytes : List ℕ) → (ty.nullable || not config.non_nullable_enabled) ≡ true
     → chosen_at ty.heap_type (references_offered config context ty) bytes ≡ matching_heap_type_at config context.types ty.heap_type bytes
 unfolding references_offered matching_heap_type_at
@@ -98,7 +98,7 @@ grounded_with_gc config types test ty bytes count place x after on many drawn at
     (subst (λ (offered : List HeapType). chosen_at ty (first_and_passing test offered) bytes ≡ (x, after)) (sym (gc_first config types ty))
     (placed ty (ty ∷ filter test others) bytes (count + 1) place x after longer (subst (λ (n : ℕ). range_at 0 n bytes ≡ (place, after)) last drawn) at))
 
--- what is drawn at a place of a list that has items is the item there
+-- an item drawn from a non-empty list is the item at the drawn position
 chosen_item : {A : Type 0} (other : A) (items : List A) (bytes : List ℕ) (x : A) (after : List ℕ) → 0 < length items → chosen_at other items bytes ≡ (x, after) → choose_at items bytes ≡ (Some x, after)
 unfolding chosen_at choose_at
 chosen_item {A = A} other items bytes x after some chosen =

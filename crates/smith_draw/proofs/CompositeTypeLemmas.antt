@@ -44,7 +44,7 @@ several : (b : Bool) (n : ℕ) → n ≤ cond b 20 1 → 1 < n → IsTrue b
 several true n le lt = refl
 several false n le lt = absurd (omega arith)
 
--- a drawn function type is like this
+-- the properties of a drawn function type
 pub record IsFuncTypeDrawn (config : Config) (types : List SubType) (must_share : Bool) (limit : ℕ) (function : FuncType) : Type 0 where
   pub results_few : 1 < length function.results → IsTrue config.multi_value_enabled
   pub params : All (IsValTypeDrawn config types must_share limit) function.params
@@ -68,7 +68,7 @@ func_type_valid config types must_share limit function h = record {
   results_valid = values_valid config types must_share limit function.results h.results;
 }
 
--- a drawn struct type is like this
+-- the properties of a drawn struct type
 pub record IsStructTypeDrawn (config : Config) (types : List SubType) (must_share : Bool) (limit : ℕ) (structure : StructType) : Type 0 where
   pub few : length structure.fields ≤ 20
   pub fields : All (IsFieldDrawn config types must_share limit) structure.fields
@@ -83,7 +83,7 @@ struct_type_drawn config context must_share limit bytes sanitized may =
       fields = fields_until_drawn config context must_share limit count.0 [] count.1 sanitized may (All-nil (IsFieldDrawn config context.types must_share limit));
     }
 
--- the values of fields that were drawn
+-- the value types of drawn fields
 pub field_values_drawn : (config : Config) (types : List SubType) (must_share : Bool) (limit : ℕ) (structure : StructType) → All (IsFieldDrawn config types must_share limit) structure.fields
     → All (IsValTypeDrawn config types must_share limit) (values_of (inners.Struct structure))
 field_values_drawn config types must_share limit structure h =
@@ -91,7 +91,7 @@ field_values_drawn config types must_share limit structure h =
     values_of_fields (IsValTypeDrawn config types must_share limit) structure.fields
     (recursion_from_All P structure.fields (All-weaker (IsFieldDrawn config types must_share limit) P (λ field f. f.values) structure.fields h))
 
--- a drawn composite type is like this, without its sharedness
+-- the properties of a drawn composite type, without its sharedness
 pub record IsInnerDrawn (config : Config) (types : List SubType) (must_share : Bool) (limit : ℕ) (inner : CompositeInnerType) : Type 0 where
   pub enabled : IsInnerEnabled (features_of config) inner
   pub values : All (IsValTypeDrawn config types must_share limit) (values_of inner)
@@ -133,7 +133,7 @@ number_gc : (gc : Bool) (drawn : ℕ × List ℕ) (bytes : List ℕ) → ((cond 
 number_gc true drawn bytes other = refl
 number_gc false drawn bytes other = absurd (other refl)
 
--- a drawn composite type is like this
+-- the properties of a drawn composite type
 pub record IsCompositeDrawn (config : Config) (types : List SubType) (limit : ℕ) (composite : CompositeType) : Type 0 where
   pub shared : MayShare config composite.shared
   pub inner : IsInnerDrawn config types composite.shared limit composite.inner

@@ -17,7 +17,7 @@ use Rattle.smith_draw.specs.ConstSteps.{Reads, ReadsValue}
 use Rattle.smith_draw.specs.declared.const_expr.node_choice.Choice.{Choice}
 use Rattle.smith_draw.specs.declared.const_expr.node.Node.{Node}
 
--- an error that is passed on by a `?`: want of memory, or the definition gives none
+-- an error passed on by `?`: a failed allocation, or the definition returns none
 pub reads_refused : (r : Result (Unit {0}) Error) (e : Error) (new : State) (read : Option State) → IsErrAnd r (λ y. y ≡ e) → (e ≡ errors.Memory) ⊎ ((e ≡ errors.EmptyChoose) × (read ≡ None)) → Reads r new read
 reads_refused (Ok done) e new read h why = absurd h
 reads_refused (Err y) e new read h (inl memory) = subst (λ (z : Error). Reads (Err z) new read) (sym (h ∙ memory)) tt
@@ -33,7 +33,7 @@ module _ (context : Context) (config : Config) where
       let less : suc depth - 1 ≡ depth = omega arith in
       rw (less, chosen) refl
 
-  -- nothing is offered
+  -- no choice is offered
   pub none_chosen : (wanted : ValType) (s : State) (depth : ℕ) → (choose_at (offers config context wanted s.fuel) s.bytes).0 ≡ None → s.fuel < depth → expression_at context config depth wanted s ≡ None
   none_chosen wanted s depth none deep =
       let drawn = choose_at (offers config context wanted s.fuel) s.bytes in
@@ -51,13 +51,13 @@ module _ (context : Context) (config : Config) where
   node_read wanted s choice node after bytes depth chosen other drawn deep =
       turn depth wanted s (omega arith) (Some choice) after chosen ∙ (rw (other, drawn) refl)
 
--- an empty list gives no choice
+-- an empty list offers no choice
 pub none_at : {A : Type 0} (items all : List A) (bytes : List ℕ) → items ≡ all → length items ≡ 0 → (choose_at all bytes).0 ≡ None
 unfolding choose_at
 none_at [] all bytes is none = rw (← is) refl
 none_at (x ∷ items) all bytes is none = absurd (omega arith)
 
--- an expression of its own
+-- an expression from an empty start
 pub whole_read : (context : Context) (config : Config) (fuel : ℕ) (wanted : ValType) (bytes after : List ℕ) (drawn : List ConstInstr) (left : ℕ) → ReadsValue context config wanted (state_of [] fuel bytes) (state_of drawn left after) (Ok tt) → expression_alone_at context config fuel wanted bytes ≡ Some (drawn, after)
 unfolding expression_alone_at
 whole_read context config fuel wanted bytes after drawn left reads = ap (option_map (λ (s : State). (s.made, s.bytes))) (reads.exact (suc fuel) (omega arith))

@@ -1,4 +1,4 @@
--- No drawn constant expression holds a constant of a float, where the wanted type is none and no type that stands holds one.
+-- No drawn constant expression has a float constant if the wanted type is not a float and no existing type contains one.
 use Rattle.std.proofs.Common.{◌≡◌, ℕ, zero, suc, Bool, true, false, List, [], ◌∷◌, ◌++◌, Option, Some, None, map, length, ◌-◌, refl, subst, ap}
 use Rattle.std.specs.Prelude.{slice_get, All, IfSome, option_and_then}
 use Rattle.std.specs.List.{AllByRecursion as Each}
@@ -42,11 +42,11 @@ use Rattle.smith_draw.proofs.SharedLemmas.{each_join}
 use Rattle.smith_draw.proofs.FloatLemmas.{stands_in}
 use Rattle.smith_draw.proofs.MatchingCompositeLemmas.{fields_of_values}
 
--- an operand whose type is no float
+-- an operand whose type is not a float
 abbrev IsNoFloatOperand : Operand → Type 0
 IsNoFloatOperand operand = IsNoFloat (operand_type operand)
 
--- an instruction that is not a float's, behind operands that are no floats
+-- an instruction other than a float constant, whose operands are not floats
 record HasNoFloatOperands (node : Node) : Type 0 where
   instruction : GivesNoFloat node.instruction
   operands : Each IsNoFloatOperand node.operands
@@ -143,7 +143,7 @@ extended_whole : (wanted : ValType) (bytes : List ℕ) → IsNoFloat wanted → 
 unfolding extended_at
 extended_whole wanted bytes h = All-from_recursion GivesNoFloat (extended_within 23 wanted 1 [] bytes).0 (extended 23 wanted 1 [] bytes h tt)
 
--- a state, if there is one, whose instructions are no floats'
+-- a state, if there is one, whose instructions are not float constants
 abbrev Stays : Option State → Type 0
 Stays drawn = IfSome drawn (λ (s : State). All GivesNoFloat s.made)
 

@@ -1,4 +1,4 @@
--- Going on through lists of choices, counting them, and finding one.
+-- Searching and counting in lists of choices.
 use Rattle.std.proofs.Common.{rules, ◌≡◌, ℕ, zero, suc, ◌+◌, ◌*◌, ◌-◌, ◌<◌, ◌≤◌, ◌^◌, Bool, true, false, cond, List, [], ◌∷◌, ◌++◌, Some, length, get_or, drop, take, refl, sym, ap, ◌∙◌, arith, length-append}
 use Rattle.std.specs.Prelude.{Result, Ok, Err, IsErrAnd, slice_get, nat_lt, ◌&&◌, ◌||◌, not}
 use Rattle.std.proofs.lemmas.List.{drop_more}
@@ -21,21 +21,21 @@ use Rattle.smith_types.specs.Grounded.{is_defaultable}
 use Rattle.smith_draw.specs.declared.const_expr.node_choice.Choice.{Choice}
 use Rattle.smith_draw.specs.declared.const_expr.node_choice.Choice.TheVariants as choice
 
--- through one list and then another
+-- a search through one list and then another
 pub past_append : {B : Type 0} (xs ys : List B) (place rest : ℕ) → past xs place ≡ Ok rest → past (xs ++ ys) place ≡ past ys rest
 unfolding past
 past_append [] ys place rest e = cc
 past_append (x ∷ xs) ys zero rest e = cc
 past_append (x ∷ xs) ys (suc place) rest e = past_append xs ys place rest e
 
--- what stands in the first list stands in both
+-- an item found in the first list is found in both together
 pub past_front : {B : Type 0} (xs ys : List B) (place : ℕ) (x : B) → past xs place ≡ Err x → past (xs ++ ys) place ≡ Err x
 unfolding past
 past_front [] ys place x e = cc
 past_front (y ∷ xs) ys zero x e = e
 past_front (y ∷ xs) ys (suc place) x e = past_front xs ys place x e
 
--- the same, of what code found
+-- as above, for an item found by the code
 pub found_here : {B : Type 0} (xs : List B) (place : ℕ) (x : B) (r : Result ℕ B) → Err x ≡ past xs place → IsErrAnd r (λ y. y ≡ x) → r ≡ past xs place
 found_here xs place x (Ok n) e h = absurd h
 found_here xs place x (Err y) e h = ap (λ z. Err z) h ∙ e
@@ -46,7 +46,7 @@ found_first xs ys place x r e h = found_here (xs ++ ys) place x r (sym (past_fro
 pub found_next : {B : Type 0} (xs ys : List B) (place rest : ℕ) (r : Result ℕ B) → Ok rest ≡ past xs place → r ≡ past ys rest → r ≡ past (xs ++ ys) place
 found_next xs ys place rest r e next = next ∙ sym (past_append xs ys place rest (sym e))
 
--- one turn of a loop over what offers
+-- one turn of a loop over the items that offer choices
 pub turn_on : {A B : Type 0} (offer : ℕ → A → List B) (xs : List A) (index : ℕ) (d : A) (place rest : ℕ) (total : Result ℕ B) → index < length xs → past (each_from offer index (drop index xs)) place ≡ total → Ok rest ≡ past (offer index (get_or xs index d)) place
     → past (each_from offer (index + 1) (drop (index + 1) xs)) rest ≡ total
 turn_on offer xs index d place rest total inside now e =
@@ -58,14 +58,14 @@ pub turn_found : {A B : Type 0} (offer : ℕ → A → List B) (xs : List A) (in
 turn_found offer xs index d place x r total inside now e h =
     found_first (offer index (get_or xs index d)) (each_from offer (index + 1) (drop (index + 1) xs)) place x r e h ∙ ap (λ (ys : List _). past (each_from offer index ys) place) (sym (drop_more xs index d inside)) ∙ now
 
--- past the end
+-- a position past the end
 pub past_end : {B : Type 0} (xs : List B) (place : ℕ) → length xs ≤ place → past xs place ≡ Ok (place - length xs)
 unfolding past
 past_end [] place le = ap (λ (n : ℕ). Ok n) (omega arith)
 past_end (x ∷ xs) zero le = absurd (omega arith)
 past_end (x ∷ xs) (suc place) le = past_end xs place (omega arith) ∙ ap (λ (n : ℕ). Ok n) (omega arith)
 
--- within the list
+-- a position within the list
 pub past_within : {B : Type 0} (xs : List B) (place : ℕ) (x : B) → past xs place ≡ Err x → slice_get xs place ≡ Some x
 unfolding past
 past_within [] place x e = cc
@@ -78,7 +78,7 @@ past_inside [] place rest e = omega arith
 past_inside (x ∷ xs) zero rest e = cc
 past_inside (x ∷ xs) (suc place) rest e = let more = past_inside xs place rest e in omega arith
 
--- how many choices there are at most
+-- the maximum number of choices
 few_if : {B : Type 0} (b : Bool) (x : B) → length (offered_if b x) ≤ 1
 few_if true x = omega arith
 few_if false x = omega arith
@@ -152,12 +152,12 @@ offers_few config context wanted fuel scope =
     let few_globals = scope.few_globals in
     simp length-append (omega arith)
 
--- the choice at a drawn place
+-- the choice at a drawn position
 pub found_chosen : (items : List Choice) (place : ℕ) (bytes after : List ℕ) (x : Choice) → range_at 0 (length items - 1) bytes ≡ (place, after) → past items place ≡ Err x → choose_at items bytes ≡ (Some x, after)
 unfolding choose_at
 found_chosen items place bytes after x drawn found = rw (drawn, past_within items place x found) refl
 
--- counting by going on from far behind
+-- counting by a search from a position past the end
 pub counted : {B : Type 0} (xs : List B) (m rest : ℕ) → length xs ≤ m → past xs m ≡ Ok rest → m - rest ≡ length xs
 counted {B = B} xs m rest le e =
     let same : rest ≡ m - length xs = ap (λ (r : Result ℕ B). result_unwrap_or r 0) (sym e ∙ past_end xs m le) in

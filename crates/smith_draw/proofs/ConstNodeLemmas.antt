@@ -1,8 +1,8 @@
--- The nodes that choices make.
+-- The nodes of choices.
 use Rattle.std.proofs.Common.{◌≡◌, ℕ, suc, ◌+◌, ◌-◌, ◌<◌, List, ◌++◌, refl, sym, ap, ◌∙◌, arith, append_assoc}
 use Rattle.smith_draw.specs.ConstNodes.{repeated}
 
--- one time more
+-- one more copy
 pub repeated_more : {A : Type 0} (n k : ℕ) (xs now more total : List A) → k < n → more ≡ now ++ xs → now ++ repeated (n - k) xs ≡ total → more ++ repeated (n - (k + 1)) xs ≡ total
 repeated_more {A = A} n k xs now more total inside longer same =
     let one : n - k ≡ suc (n - (k + 1)) = omega arith in

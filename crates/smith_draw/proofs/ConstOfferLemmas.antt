@@ -46,7 +46,7 @@ use Rattle.smith_draw.proofs.ConstStepLemmas.{length_map}
 use Rattle.std.specs.List.{Any}
 use Rattle.std.proofs.lemmas.Option.{slice_get_within, get_or_from_slice_get}
 
--- what stands in a list and has a property is one that has it
+-- an item of a list with a property is among those with it
 any_at : {A : Type 0} (P : A → Type 0) (xs : List A) (k : ℕ) (x : A) → slice_get xs k ≡ Some x → P x → Any P xs
 any_at P xs k x at p = (k, x, slice_get_within xs k x at, get_or_from_slice_get xs k x x at, p)
 
@@ -58,7 +58,7 @@ off : (a : Bool) → not a ≡ true → a ≡ false
 off true e = cc
 off false e = refl
 
--- lists of choices, each of which is fit
+-- lists of choices, each of which fits
 each_join : {A : Type 0} (P : A → Type 0) (xs ys : List A) → Each P xs → Each P ys → Each P (xs ++ ys)
 each_join P [] ys h k = k
 each_join P (x ∷ xs) ys (p, h) k = (p, each_join P xs ys h k)
@@ -90,7 +90,7 @@ taken (suc n) [] i x at = cc
 taken (suc n) (y ∷ xs) zero x at = (at, omega arith)
 taken (suc n) (y ∷ xs) (suc i) x at = let (there, less) = taken n xs i x at in (there, omega arith)
 
--- how wide the widest node is
+-- the width of the widest node
 pub widest_three : (types : List SubType) → 3 ≤ widest types
 unfolding widest
 widest_three [] = omega arith
@@ -123,7 +123,7 @@ module _ (config : Config) (context : Context) (wanted : ValType) (fuel : ℕ) (
     lacks = λ operand place at lacks. cc;
   }
 
-  -- an operand is valid, and where nothing may be offered for it, so it is for the node
+  -- an operand is valid, and if it may lack choices, so may the node
   Calm : Operand → Type 0
   Calm operand = IsValTypeValid context.features (length context.types) (operand_type operand) × (MayLack config context (operand_type operand) → MayLack config context wanted)
 
@@ -336,9 +336,10 @@ module _ (config : Config) (context : Context) (wanted : ValType) (fuel : ℕ) (
         extended = λ e. cc;
       }
 
--- what is offered of a reference
+-- the choices offered for a reference
 module _ (config : Config) (context : Context) (r : RefType) (fuel : ℕ) (scope : IsScope context) (valid : IsValTypeValid context.features (length context.types) (Ref r)) where
-  -- a conversion is offered of a nullable reference, or with the field off: where its operand may lack, so may the reference
+  -- a conversion is offered for a nullable reference or with `non_nullable_enabled` off: if its operand may lack choices, so
+  -- may the reference
   lacking_by : (nullable on : Bool) (P Q : Type 0) → (nullable || not on) ≡ true → (nullable ≡ false) × (IsTrue on → P) → (nullable ≡ false) × (IsTrue on → Q)
   lacking_by true on P Q may (not_null, h) = cc
   lacking_by false true P Q may (not_null, h) = cc
@@ -408,7 +409,7 @@ references_fit config context F32 fuel scope valid = tt
 references_fit config context F64 fuel scope valid = tt
 references_fit config context V128 fuel scope valid = tt
 
--- whatever is offered fits
+-- each choice that is offered fits
 pub offers_fit : (config : Config) (context : Context) (wanted : ValType) (fuel : ℕ) → IsScope context → IsValTypeValid context.features (length context.types) wanted → Each (IsFit config context wanted fuel) (offers config context wanted fuel)
 unfolding offers
 offers_fit config context wanted fuel scope valid =
@@ -422,7 +423,7 @@ chosen_each P [] n x h at = cc
 chosen_each P (y ∷ items) zero x (p, h) at = subst P (same_Some y x at) p
 chosen_each P (y ∷ items) (suc n) x (p, h) at = chosen_each P items n x h at
 
--- the choice among what is offered fits
+-- the choice among those offered fits
 pub chosen_fits : (config : Config) (context : Context) (wanted : ValType) (fuel : ℕ) → IsScope context → IsValTypeValid context.features (length context.types) wanted → (items : List Choice) → items ≡ offers config context wanted fuel → (bytes after : List ℕ) (x : Choice) → choose_at items bytes ≡ (Some x, after) → IsFit config context wanted fuel x
 unfolding choose_at
 chosen_fits config context wanted fuel scope valid items is bytes after x chosen =
@@ -432,7 +433,7 @@ constants_some : (context : Context) (value : ValType) (before behind : List Cho
 constants_some context value [] behind default = rw default (omega arith)
 constants_some context value (x ∷ before) behind default = omega arith
 
--- what is offered by one item of a list is offered by all
+-- a choice offered by one item of a list is offered by the list
 some_join : {A : Type 0} (xs ys : List A) → 0 < length ys → 0 < length (xs ++ ys)
 some_join xs ys some = simp length-append (omega arith)
 
@@ -467,7 +468,7 @@ defaults_are : (fields : List FieldType) → Each IsDefaultable (field_values fi
 defaults_are [] h = refl
 defaults_are (field ∷ fields) h = both_are (is_defaultable (unpacked field.element_type)) (are_defaultable fields) (default_is (unpacked field.element_type) h.0) (defaults_are fields h.1)
 
--- a struct of defaults and a function that ground a reference are offered for it, whatever fuel is left
+-- a struct type with defaults and a function that ground a reference are offered for it, with any fuel
 struct_offered : (context : Context) (r : RefType) (fuel index : ℕ) (i : CompositeInnerType) (fields : List FieldType) → i ≡ inner.Struct (record { fields = fields }) → are_defaultable fields ≡ true → is_val_below context.types (created context index) (Ref r) ≡ true
     → 0 < length (type_offers context (Ref r) fuel false index i)
 struct_offered context r fuel index i fields is defaults below =
@@ -519,7 +520,7 @@ lacking config context (Ref r) fuel before scope none =
       λ on grounded. let some = references_some context (Ref r) before references (grounded_offered config context r fuel scope grounded) in absurd (omega arith),
     )
 
--- nothing is offered only for a reference that may not be null, and, with the field on, is not grounded
+-- no choice is offered only for a non-nullable reference, which with `non_nullable_enabled` is not grounded either
 pub nothing_offered : (config : Config) (context : Context) (wanted : ValType) (fuel : ℕ) (items : List Choice) (e : Error) → IsScope context → items ≡ offers config context wanted fuel → length items ≡ 0 → e ≡ EmptyChoose → MayRefuseConstExpr config context wanted e
 unfolding offers
 nothing_offered config context wanted fuel items e scope is none empty =

@@ -1,4 +1,4 @@
--- What is drawn over, where the spaces are valid.
+-- The context of a draw, if the spaces are valid.
 use Rattle.std.proofs.Common.{◌≡◌, ℕ, ◌+◌, ◌*◌, ◌<◌, ◌≤◌, ◌^◌, if◌then◌else◌, Bool, true, false, List, [], ◌∷◌, ◌++◌, Some, length, subst, arith}
 use Rattle.std.specs.Prelude.{All, IsTrue, slice_get, ◌&&◌}
 use Rattle.std.specs.List.{AllByRecursion as Each, flat_map}
@@ -39,14 +39,14 @@ each_front : {A : Type 0} (P : A → Type 0) (xs ys : List A) → Each P (xs ++ 
 each_front P [] ys h = (tt, h)
 each_front P (x ∷ xs) ys (p, h) = let (front, back) = each_front P xs ys h in ((p, front), back)
 
--- a type that stands is valid in its group, which ends within the types
+-- an existing type is valid in its group, which ends within the types
 record IsMember (features : Features) (space : Space) (t : SubType) : Type 0 where
   end : ℕ
   within : end ≤ length space.types
   valid : IsTypeValid features space.types end t
 
 module _ (features : Features) (space : Space) (valid : AreTypesValid features space) where
-  -- the value that a stored one unpacks to
+  -- the value type to which a stored type unpacks
   stored : (end : ℕ) → end ≤ length space.types → (ty : StorageType) → Each (IsValTypeValid features end) (values_of_storage ty) → IsValTypeValid features (length space.types) (unpacked ty)
   stored end within I8 h = tt
   stored end within I16 h = tt
@@ -78,7 +78,7 @@ module _ (features : Features) (space : Space) (valid : AreTypesValid features s
       All-from_recursion (IsValTypeValid features (length space.types)) (field_values (fields_of t.composite_type.inner))
       (held member.end member.within t.composite_type.inner (recursion_from_All (IsValTypeValid features member.end) (values_of t.composite_type.inner) member.valid.values))
 
-  -- a struct type stands only with garbage collection
+  -- a struct type exists only with garbage collection
   pub structs_gc : (index : ℕ) (fields : List FieldType) → IsStructAt space.types index fields → IsTrue features.gc
   structs_gc index fields (t, at, is) = subst (IsInnerEnabled features) is (member_at index t at).valid.enabled.inner
 
@@ -103,7 +103,7 @@ scope_of config spaces allow valid orderly few = record {
   fields = fields_valid (features_of config) spaces.types.now valid.types;
 }
 
--- what is drawn behind nothing
+-- an expression drawn from an empty start
 pub whole_typed : (context : Context) (wanted : ValType) (fuel left : ℕ) (drawn : List ConstInstr) → IsDrawn context (wanted ∷ []) [] fuel drawn left → IsConstExpr context wanted drawn
 whole_typed context wanted fuel left drawn h = expression_of context wanted drawn h.puts
 

@@ -1,4 +1,4 @@
--- Values one behind another: their instructions, how long they are, what they take of the fuel, and what is refused.
+-- Values appended one after another: their instructions, length, fuel and errors.
 use Rattle.std.proofs.Common.{◌≡◌, ℕ, ℤ, zero, suc, ◌+◌, ◌-◌, ◌*◌, ◌<◌, ◌≤◌, List, [], ◌∷◌, ◌++◌, length, map, refl, sym, subst, ap, arith, length-append}
 use Rattle.std.specs.Prelude.{Result, Ok, Err, OnOk, IfErr, IsErrAnd}
 use Rattle.smith_bytes.specs.declared.error.Error.{Error}
@@ -44,7 +44,7 @@ spend w l g m o n (suc f) few paid short longer =
     let short' : m + 23 * w * g ≤ o + 23 * l + 23 * w * f = rw less at short in
     omega arith
 
--- a node behind its operands
+-- a node after its operands
 pub drawn_by : {config : Config} {context : Context} {wanted : ValType} {fuel left : ℕ} {node : Node} {old middle new : List ConstInstr} → IsNode config context wanted fuel node → IsDrawn context (map operand_type node.operands) old (fuel - 1) middle left → new ≡ middle ++ node.instruction ∷ []
     → IsDrawn context (wanted ∷ []) old fuel new left
 drawn_by {context = context} {wanted = wanted} {fuel = fuel} {left = left} {node = node} {old = old} {middle = middle} {new = new} fits drawn longer =
@@ -59,7 +59,7 @@ drawn_by {context = context} {wanted = wanted} {fuel = fuel} {left = left} {node
 times_less : (w f g : ℕ) → g ≤ f → w * g ≤ w * f
 times_less w f g less = grind (arith)
 
--- a length that takes as much of the fuel
+-- a length that takes that much of the fuel
 pub drawn_length : {context : Context} {fuel left : ℕ} (n : ℤ) {old new : List ConstInstr} → new ≡ old ++ instr.I32Const n ∷ [] → left ≤ fuel → IsDrawn context (I32 ∷ []) old fuel new left
 drawn_length {context = context} {fuel = fuel} {left = left} n {old = old} {new = new} longer less =
     let len : length new ≡ length old + 1 = rw longer (simp length-append refl) in
@@ -76,17 +76,17 @@ drawn_extended {context = context} {fuel = fuel} {left = left} puts short less =
     let cost : 23 * widest context.types * left ≤ 23 * widest context.types * fuel = times_less (23 * widest context.types) fuel left less in
     record { puts = puts; spent = less; short = omega arith }
 
--- two facts of what is made, together
+-- two properties of a successful result, together
 pub ok_both : {T E P Q R : Type 0} (r : Result T E) → (P → Q → R) → OnOk r P → OnOk r Q → OnOk r R
 ok_both (Ok x) f p q = f p q
 ok_both (Err e) f p q = tt
 
--- what the error of a `?` is like
+-- a property of an error passed on by `?`
 pub passed_on : {T : Type 0} (Q : Error → Type 0) (r : Result T Error) (e : Error) → IsErrAnd r (λ y. y ≡ e) → Q e → IfErr r Q
 passed_on Q (Ok x) e h q = tt
 passed_on Q (Err y) e h q = subst Q (sym h) q
 
--- the node that was made of a choice that fits
+-- the node made of a choice that fits
 pub node_made : (config : Config) (context : Context) (wanted : ValType) (fuel : ℕ) (choice : Choice) (types : List SubType) (bytes : List ℕ) (node : Node) (after : List ℕ) → types ≡ context.types → IsFit config context wanted fuel choice → node_at types wanted choice bytes ≡ (node, after) → IsNode config context wanted fuel node
 node_made config context wanted fuel choice types bytes node after sees fits drawn =
     subst (IsNode config context wanted fuel) (ap (λ (d : Node × List ℕ). d.0) (rw sees at drawn)) (fits.node bytes)

@@ -1,4 +1,4 @@
--- Lists of tasks, the next one first: what carrying them out gives, how much work they are, and what each step makes of them.
+-- Lists of tasks, the next one first: their outcome, their amount of work, and the effect of each step.
 use Rattle.std.proofs.Common.{◌≡◌, ◌⊎◌, inl, inr, ℕ, zero, suc, ◌+◌, ◌*◌, ◌-◌, ◌<◌, ◌≤◌, Bool, true, false, List, [], ◌∷◌, ◌++◌, Option, Some, None, length, map, get_or, drop, refl, subst, ap, ◌∙◌, arith}
 use Rattle.std.specs.Prelude.{IsTrue, ◌↔◌, Result, Ok, Err, OnOk, IfSome, IsErrAnd, slice_get, reverse, option_and_then}
 use Rattle.std.specs.Option.{option_map}
@@ -30,17 +30,17 @@ use Rattle.smith_draw.specs.declared.const_expr.node_choice.Choice.{Choice}
 use Rattle.smith_draw.proofs.ConstStepLemmas.{drawn_none, drawn_more, drawn_by, drawn_extended}
 use Rattle.smith_draw.proofs.ConstExprLemmas.{reads_refused, none_chosen, extended_read, node_read}
 
--- an operand gives a state, or none, by its definition at whatever depth above the fuel
+-- the outcome of an operand, a state or none, by its definition at any depth above the fuel
 pub record Gives (context : Context) (config : Config) (operand : Operand) (old : State) (given : Option State) : Type 0 where
   pub read : (depth : ℕ) → old.fuel < depth → operand_at config (expression_at context config depth) operand old ≡ given
   pub drawn : IfSome given (λ (new : State). IsDrawn context (operand_type operand ∷ []) old.made old.fuel new.made new.fuel)
 
--- operands, which without fuel are none
+-- the outcome of operands; without fuel there are none
 record GivesAll (context : Context) (config : Config) (operands : List Operand) (old : State) (given : Option State) : Type 0 where
   read : (depth : ℕ) → (0 < length operands → old.fuel < depth) → operands_at (operand_at config (expression_at context config depth)) operands old ≡ given
   drawn : IfSome given (λ (new : State). IsDrawn context (map operand_type operands) old.made old.fuel new.made new.fuel)
 
--- what was given leads on to the end, which is none where none was given
+-- an outcome leads on to the end, which is none if the outcome is none
 abbrev pub LeadsTo : Option State → (State → Type 0) → Option State → Type 0
 LeadsTo end next None = end ≡ None
 LeadsTo end next (Some now) = next now
@@ -56,7 +56,7 @@ more_drawn : (context : Context) (value : ValType) (values : List ValType) (old 
 more_drawn context value values old middle None first h = tt
 more_drawn context value values old middle (Some new) first h = drawn_more first h
 
--- operands at the front of the tasks are drawn one behind another
+-- operands at the front of the tasks are drawn in order
 operands_end : (context : Context) (config : Config) (end : Option State) (operands : List Operand) (tasks : List Task) (now : State) → Ends context config end (map Draw operands ++ tasks) now
     → (given : Option State) × GivesAll context config operands now given × LeadsTo end (Ends context config end tasks) given
 operands_end context config end [] tasks now h = (Some now, record { read = λ depth deep. refl; drawn = drawn_none context now.made now.fuel }, h)
@@ -81,7 +81,7 @@ operands_end context config end (operand ∷ operands) tasks now (Some middle, g
       onward,
     )
 
--- a node stands on the tasks
+-- a node was added to the tasks
 begun_ends : (context : Context) (config : Config) (end : Option State) (operand : Operand) (todo todo' : List Task) (old new : State) → IsOperandBegun context config operand todo old todo' new → Ends context config end todo' new → Ends context config end (Draw operand ∷ todo) old
 begun_ends context config end operand todo todo' old new begun h =
     let node = begun.node in
@@ -104,19 +104,19 @@ begun_ends context config end operand todo todo' old new begun h =
     written None h = h
     written (Some middle) h = h
 
--- what a step leaves to do ends as the task and those behind it
+-- the tasks after a step have the same end as the tasks before it
 step_ends : (context : Context) (config : Config) (end : Option State) (task : Task) (todo todo' : List Task) (old new : State) → IsStep context config task todo old todo' new → Ends context config end todo' new → Ends context config end (task ∷ todo) old
 step_ends context config end (Draw operand) todo todo' old new (inl (same, drawn)) h = (Some new, record { read = drawn.read; drawn = drawn.drawn }, rw same at h)
 step_ends context config end (Draw operand) todo todo' old new (inr begun) h = begun_ends context config end operand todo todo' old new begun h
 step_ends context config end (Write instruction) todo todo' old new (same, made) h = rw (same, made) at h
 
--- how much work tasks are at most
+-- an upper bound of the work of tasks
 abbrev pub work : List Task → ℕ
 work [] = 0
 work (Draw operand ∷ tasks) = 2 + work tasks
 work (Write instruction ∷ tasks) = 1 + work tasks
 
--- the work of tasks, and what may come of the fuel, which a node spends
+-- the work of tasks, and of nodes that may still be paid for with fuel
 abbrev pub ahead : Context → List Task → ℕ → ℕ
 ahead context tasks fuel = work tasks + (2 * widest context.types + 2) * fuel
 
@@ -158,7 +158,7 @@ step_growth context config (Draw operand) todo todo' old new (inr begun) =
     rw (begun.tasks, begun.state) (record { few = omega arith; paid = λ more. omega arith })
 step_growth context config (Write instruction) todo todo' old new (same, made) = rw same (record { few = omega arith; paid = λ more. absurd (omega arith) })
 
--- the same of tasks whose last one is the next
+-- as above, for tasks of which the last is the next
 pub step_grown : (context : Context) (config : Config) (task : Task) (todo todo' : List Task) (old new : State) → IsStep context config task (reverse todo) old (reverse todo') new → IsGrowthPaid context todo old.fuel todo' new.fuel
 step_grown context config task todo todo' old new step =
     let growth = step_growth context config task (reverse todo) (reverse todo') old new step in
@@ -167,7 +167,7 @@ step_grown context config task todo todo' old new step =
     let after = length-reverse todo' in
     record { few = rw (before, after) at few; paid = λ more. growth.paid (rw (before, after) more) }
 
--- a task draws a valid value, for which nothing is offered only where that may be so for the wanted one
+-- a task draws a valid value, which lacks choices only if the wanted value may
 abbrev pub IsFor : Config → Context → ValType → Task → Type 0
 IsFor config context wanted (Draw operand) = IsValTypeValid context.features (length context.types) (operand_type operand) × (MayLack config context (operand_type operand) → MayLack config context wanted)
 IsFor config context wanted (Write instruction) = Unit {0}
@@ -198,7 +198,7 @@ step_tasks context config wanted (Draw operand) todo todo' old new (inr begun) (
     rw begun.tasks (tasks_join config context wanted node.operands (Write node.instruction ∷ todo) (node_tasks config context wanted (operand_type operand) node.operands node.operands 0 lacks begun.fits.lacks there each) (tt, rest))
 step_tasks context config wanted (Write instruction) todo todo' old new (same, made) own rest = rw same rest
 
--- the tasks that are left give what is wanted from the start
+-- the remaining tasks produce the wanted value from the start
 pub record IsCarrying (context : Context) (config : Config) (wanted : ValType) (todo : List Task) (start now : State) : Type 0 where
   pub gives : (end : Option State) → Ends context config end todo now → Gives context config (Value wanted) start end
   pub tasks : Each (IsFor config context wanted) todo
@@ -209,7 +209,7 @@ carrying_more context config wanted task todo todo' start old new now step = rec
   tasks = step_tasks context config wanted task todo todo' old new step now.tasks.0 now.tasks.1;
 }
 
--- the first task was to draw the wanted value
+-- the first task is to draw the wanted value
 pub carrying_begun : (context : Context) (config : Config) (wanted : ValType) (none todo : List Task) (start now : State) → none ≡ [] → IsValTypeValid context.features (length context.types) wanted → IsStep context config (Draw (Value wanted)) none start todo now → IsCarrying context config wanted todo start now
 carrying_begun context config wanted none todo start now empty valid step = carrying_more context config wanted (Draw (Value wanted)) none todo start start now first step
   where
@@ -220,11 +220,11 @@ carrying_begun context config wanted none todo start now empty valid step = carr
     first : IsCarrying context config wanted (Draw (Value wanted) ∷ none) start start
     first = rw empty (record { gives = first_gives; tasks = ((valid, λ lack. lack), tt) })
 
--- no task is left
+-- no task remains
 pub carrying_done : (context : Context) (config : Config) (wanted : ValType) (todo : List Task) (start now : State) → IsCarrying context config wanted todo start now → todo ≡ [] → Gives context config (Value wanted) start (Some now)
 carrying_done context config wanted todo start now h none = h.gives (Some now) (rw none refl)
 
--- a task is refused
+-- a task fails
 carrying_refused : (context : Context) (config : Config) (wanted : ValType) (task : Task) (todo : List Task) (start now : State) (e : Error) → IsCarrying context config wanted (task ∷ todo) start now → MayRefuseTask context config task now e
     → (e ≡ errors.Memory) ⊎ ((e ≡ errors.EmptyChoose) × MayLack config context wanted × Gives context config (Value wanted) start None)
 carrying_refused context config wanted (Draw operand) todo start now e h (inl memory) = inl memory
@@ -247,7 +247,7 @@ pub nothing_left : (tasks : List Task) → length tasks ≡ 0 → reverse tasks 
 nothing_left [] none = refl
 nothing_left (task ∷ tasks) none = absurd (omega arith)
 
--- one more operand on the tasks, from the last
+-- one more operand added to the tasks, from the last
 pub pushed_turn : (operands : List Operand) (index : ℕ) (d : Operand) (old now new : List Task) → index < length operands → reverse now ≡ map Draw (drop (length operands - index) operands) ++ reverse old → new ≡ now ++ Draw (get_or operands (length operands - 1 - index) d) ∷ []
     → reverse new ≡ map Draw (drop (length operands - (index + 1)) operands) ++ reverse old
 pushed_turn operands index d old now new inside so_far longer =
@@ -287,7 +287,7 @@ pub not_empty : (n : ℕ) {empty : Bool} → (IsTrue empty ↔ (n ≡ 0)) → em
 not_empty zero (told, tells) none = let empty = tells refl in cc
 not_empty (suc n) h none = omega arith
 
--- a node is put on the tasks
+-- a node is added to the tasks
 pub node_step : (context : Context) (config : Config) (wanted : ValType) (choice : Choice) (node : Node) (after : List ℕ) (todo todo' : List Task) (old new : State) → choose_at (offers config context wanted old.fuel) old.bytes ≡ (Some choice, after) → is_extended choice ≡ false
     → node_at context.types wanted choice after ≡ (node, new.bytes) → new ≡ state_of old.made (old.fuel - 1) new.bytes → IsNode config context wanted old.fuel node → 0 < length node.operands → todo' ≡ map Draw node.operands ++ Write node.instruction ∷ todo → IsStep context config (Draw (Value wanted)) todo old todo' new
 node_step context config wanted choice node after todo todo' old new chosen other drawn state fits some tasks = inr (record {
@@ -300,12 +300,12 @@ node_step context config wanted choice node after todo todo' old new chosen othe
   read = λ depth deep. node_read context config wanted old choice node after new.bytes depth chosen other drawn deep;
 })
 
--- nothing is offered
+-- no choice is offered
 pub choice_refused : (context : Context) (config : Config) (wanted : ValType) (s : State) (e : Error) → MayRefuseConstExpr config context wanted e → (e ≡ errors.EmptyChoose → (choose_at (offers config context wanted s.fuel) s.bytes).0 ≡ None) → MayRefuseTask context config (Draw (Value wanted)) s e
 choice_refused context config wanted s e (inl memory) chosen = inl memory
 choice_refused context config wanted s e (inr (empty, lacks)) chosen = inr (empty, record { lacks = lacks; none = λ depth deep. none_chosen context config wanted s depth (chosen empty) deep })
 
--- a length that is limited is drawn at once
+-- a limited length is drawn at once
 pub length_step : (context : Context) (config : Config) (task : Task) (operand : Operand) (todo : List Task) (old new : State) → task ≡ Draw operand → operand ≡ Length → config.limit_arrays_in_const_exprs ≡ true → new ≡ length_at old → IsDrawn context (I32 ∷ []) old.made old.fuel new.made new.fuel
     → IsStep context config task todo old todo new
 length_step context config task operand todo old new draws length is same drawn = rw (draws, length) (inl (refl, record { read = λ depth deep. rw (is, ← same) refl; drawn = drawn }))

@@ -1,4 +1,4 @@
--- One turn of the loop that adds the types of a group again.
+-- One turn of the loop that clones a group.
 use Rattle.std.proofs.Common.{◌≡◌, ℕ, ◌+◌, ◌-◌, ◌^◌, ◌<◌, ◌≤◌, List, [], ◌∷◌, ◌++◌, Some, get_or, length, take, drop, sym, ap, ◌∙◌, arith, append_assoc, length-drop}
 use Rattle.std.specs.Prelude.{slice_get}
 use Rattle.std.specs.declared.ops.Range.{Range}
@@ -11,7 +11,7 @@ use Rattle.smith_types.specs.Space.{Space, IsSound, MayFollow}
 use Rattle.smith_types.specs.Types.{AreConsecutive, next_start}
 use Rattle.smith_types.proofs.ValidityLemmas.{ends_within}
 
--- the types of the first indices of a group are added behind the types
+-- the first types of a group are appended to the types
 pub copied : (old now more : List SubType) (start end n : ℕ) (t : SubType) → start ≤ n → n < end → end ≤ length old → now ≡ old ++ take (n - start) (drop start old) → t ≡ get_or now n t → more ≡ now ++ t ∷ []
     → more ≡ old ++ take (n + 1 - start) (drop start old)
 copied old now more start end n t low high inside so_far at longer =
@@ -25,7 +25,7 @@ copied old now more start end n t low high inside so_far at longer =
     ap (λ (k : ℕ). take k (drop start old)) one ∙ take_more (drop start old) (n - start) t (omega arith) ∙ ap (λ (x : SubType). front ++ x ∷ []) here in
     longer ∙ ap (λ (ts : List SubType). ts ++ t ∷ []) so_far ∙ append_assoc old front (t ∷ []) ∙ ap (λ (ts : List SubType). old ++ ts) (sym next)
 
--- a type that stands may be added again
+-- an existing type may be appended again
 pub copy_follows : (space : Space) (n : ℕ) (t : SubType) → IsSound space → n < length space.types → t ≡ get_or space.types n t → length space.types + 1 < 2 ^ 32 → MayFollow space.types t
 copy_follows space n t sound inside at room = record {
   below = λ s up.
@@ -40,12 +40,12 @@ ordered : (start : ℕ) (groups : List (Range ℕ)) → AreConsecutive start gro
 ordered start [] c = tt
 ordered start (g ∷ groups) (begins, ends, rest) = (omega arith, ordered g.end groups rest)
 
--- where a group stands among the types
+-- the position of a group among the types
 pub record IsWithin (space : Space) (g : Range ℕ) : Type 0 where
   pub ordered : g.start ≤ g.end
   pub inside : g.end ≤ length space.types
 
--- each group stands among the types
+-- each group lies within the types
 pub group_within : (space : Space) (k : ℕ) (d : Range ℕ) → AreConsecutive 0 space.groups → next_start space.groups ≤ length space.types → k < length space.groups → IsWithin space (get_or space.groups k d)
 group_within space k d consecutive within lt =
     let ends = All-from_recursion (λ (g : Range ℕ). g.end ≤ next_start space.groups) space.groups (ends_within 0 space.groups consecutive).1 k d lt in

@@ -1,4 +1,4 @@
--- Extended constants, drawn last instruction first.
+-- Extended constants, drawn from the last instruction to the first.
 use Rattle.std.proofs.Common.{rules, ◌≡◌, ◌⊎◌, inl, inr, Bool, ℕ, zero, suc, ◌+◌, ◌-◌, ◌≤◌, ◌<◌, List, [], ◌∷◌, ◌++◌, length, refl, sym, subst, ap, ◌∙◌, arith, append_assoc, length-append}
 use Rattle.std.specs.Prelude.{All, replicate, reverse, IsTrue}
 use Rattle.std.proofs.lemmas.List.{append-nil, replicate_more, reverse-append, length-reverse}
@@ -17,7 +17,7 @@ use Rattle.smith_draw.specs.declared.const_expr.extended.Operator.{Operator}
 use Rattle.smith_draw.specs.Putting.{Adds}
 use Rattle.smith_draw.proofs.PuttingLemmas.{below_itself}
 
--- instructions that take `needed` values of the type, and give one, on top of any others
+-- instructions that take `needed` values of the type and push one, on top of any others
 pub record Ends (context : Context) (wanted : ValType) (needed : ℕ) (made : List ConstInstr) : Type 0 where
   pub steps : (base : List ValType) → AreStackSteps context made (base ++ replicate needed wanted) (base ++ wanted ∷ [])
   pub enabled : All (IsInstrEnabled context.features context.imported_globals) made
@@ -29,7 +29,7 @@ pub ends_adds : (context : Context) (wanted : ValType) (made : List ConstInstr) 
 ends_adds context wanted made ends =
     record { steps = λ base. subst (λ (b : List ValType). AreStackSteps context made b (base ++ wanted ∷ [])) (append-nil base) (ends.steps base); enabled = ends.enabled }
 
--- a constant stands in front
+-- a constant is prepended
 pub ends_constant : (context : Context) (wanted : ValType) (needed : ℕ) (made : List ConstInstr) (constant : ConstInstr) → HasType context constant [] wanted → IsInstrEnabled context.features context.imported_globals constant → Ends context wanted (needed + 1) made
     → Ends context wanted needed (constant ∷ made)
 ends_constant context wanted needed made constant typed enabled ends = record {
@@ -41,7 +41,7 @@ ends_constant context wanted needed made constant typed enabled ends = record {
   enabled = All-cons (IsInstrEnabled context.features context.imported_globals) constant made enabled ends.enabled;
 }
 
--- an operator stands in front
+-- an operator is prepended
 pub ends_operator : (context : Context) (wanted : ValType) (needed : ℕ) (made : List ConstInstr) (operator : ConstInstr) → HasType context operator (wanted ∷ wanted ∷ []) wanted → IsInstrEnabled context.features context.imported_globals operator → Ends context wanted (needed + 1) made
     → Ends context wanted (needed + 2) (operator ∷ made)
 ends_operator context wanted needed made operator typed enabled ends = record {
@@ -57,7 +57,7 @@ ends_operator context wanted needed made operator typed enabled ends = record {
   enabled = All-cons (IsInstrEnabled context.features context.imported_globals) operator made enabled ends.enabled;
 }
 
--- instructions are drawn, the last of the expression first, and `needed` values are needed before them
+-- instructions are drawn from the last to the first, and `needed` values are needed before them
 pub record IsExtending (wanted : ValType) (wide : Bool) (needed : ℕ) (drawn : List ConstInstr) (start bytes : List ℕ) : Type 0 where
   pub number : (wanted ≡ I32) ⊎ (wanted ≡ I64)
   pub width : wide ≡ is_wide wanted
@@ -162,7 +162,7 @@ extending_operator {wanted = wanted} {wide = wide} {needed = needed} {operator =
       left = λ whole h. p whole (now.left whole h);
     }
 
--- no value is needed any more
+-- no further value is needed
 pub extending_done : {wanted : ValType} {wide : Bool} {needed : ℕ} {drawn : List ConstInstr} {start bytes : List ℕ} → IsExtending wanted wide needed drawn start bytes → needed ≡ 0 → extended_at wanted start ≡ (reverse drawn, bytes)
 extending_done {wanted = wanted} {needed = needed} {drawn = drawn} {start = start} {bytes = bytes} now done =
     sym now.so_far ∙ ap (λ (n : ℕ). extended_within (23 - length drawn) wanted n (reverse drawn) bytes) done ∙ stopped (23 - length drawn) wanted (reverse drawn) bytes

@@ -17,7 +17,7 @@ use Rattle.smith_draw.specs.ValueTypes.{val_type_at}
 use Rattle.smith_draw.specs.FieldTypes.{storage_of_number_at, storage_type_at, field_type_at, fields_until_at}
 use Rattle.smith_draw.proofs.ValueTypeLemmas.{MayShare, IsValTypeDrawn, val_type_drawn}
 
--- a drawn storage type is like this
+-- the properties of a drawn storage type
 pub record IsStorageDrawn (config : Config) (types : List SubType) (must_share : Bool) (limit : ℕ) (ty : StorageType) : Type 0 where
   pub values : All (IsValTypeDrawn config types must_share limit) (values_of_storage ty)
   pub stands : IsStorageInRange types ty
@@ -38,7 +38,7 @@ storage_type_drawn config context must_share limit bytes sanitized may =
     let number = range_at 0 2 bytes in
     storage_of_number_drawn config context must_share limit number.0 number.1 sanitized may
 
--- a drawn field is like this
+-- the properties of a drawn field
 pub record IsFieldDrawn (config : Config) (types : List SubType) (must_share : Bool) (limit : ℕ) (field : FieldType) : Type 0 where
   pub values : All (IsValTypeDrawn config types must_share limit) (values_of_storage field.element_type)
   pub stands : IsFieldInRange types field
@@ -63,7 +63,7 @@ unfolding fields_until_at
 fields_until_most config context must_share limit end top fields bytes le few =
     grow_most (λ _. field_type_at config context must_share limit) end (end - length fields) top fields bytes (omega arith)
 
--- what holds of the values of each field holds of all
+-- a property of the value types of each field holds for all
 pub values_of_fields : (P : ValType → Type 0) (fields : List FieldType) → ByRecursion (λ (field : FieldType). All P (values_of_storage field.element_type)) fields
     → All P (flat_map (λ (field : FieldType). values_of_storage field.element_type) fields)
 values_of_fields P [] each = All-nil P

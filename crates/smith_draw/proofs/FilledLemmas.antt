@@ -1,5 +1,5 @@
--- No drawn reference is one that may not be null and is not grounded, and where no field or element type that stands is one, none
--- that is drawn is.
+-- Every drawn non-nullable reference is grounded. If this holds for the fields and elements of the existing types, it holds
+-- for those of drawn types.
 use Rattle.std.proofs.Common.{◌≡◌, inl, inr, ℕ, zero, suc, ◌+◌, ◌-◌, ◌∙◌, Bool, false, Some, List, [], ◌∷◌, ◌++◌, length, refl, sym, subst, arith}
 use Rattle.std.specs.Prelude.{All}
 use Rattle.std.specs.List.{Any, AllByRecursion as Each}
@@ -44,21 +44,21 @@ use Rattle.smith_draw.proofs.GroundingLemmas.{grounded_if}
 use Rattle.smith_draw.proofs.MatchingLemmas.{all_stay, matching_ref_nullable, matching_ref_granted}
 use Rattle.smith_draw.proofs.KeptTypeLemmas.{sub_type_has, types_have}
 
--- a field that stores no reference that may not be null and is not grounded
+-- a field that does not store an ungrounded non-nullable reference
 abbrev pub IsFilledField : Config → Context → FieldType → Type 0
 IsFilledField config context field = ¬ IsUngrounded config context (unpacked field.element_type)
 
--- a type whose fields, or whose element, are no such references
+-- a type whose fields, or whose element, store no such reference
 abbrev pub HasFilledFields : Config → Context → SubType → Type 0
 HasFilledFields config context t = All (IsFilledField config context) (fields_of t.composite_type.inner)
 
--- a drawn reference is not null only where it is grounded
+-- a drawn reference is non-nullable only if it is grounded
 pub ref_type_filled : (config : Config) (context : Context) (orderly : IsOrderly context.types) (must_share : Bool) (limit : ℕ) (bytes : List ℕ) → ¬ IsUngrounded config context (vals.Ref (ref_type_at config context must_share limit bytes).0)
 ref_type_filled config context orderly must_share limit bytes (not_null, none) =
     let (on, grounded) = ref_type_granted config context must_share limit bytes not_null in
     none on (grounded_if context (ref_type_at config context must_share limit bytes).0.heap_type orderly grounded)
 
--- a matching reference is not null only where the other is not, and then its heap type is that of the other or a grounded one
+-- a matching reference is non-nullable only if the other is, and then its heap type is that of the other or a grounded one
 pub matching_ref_ungrounded : (config : Config) (context : Context) (orderly : IsOrderly context.types) (r : RefType) (bytes : List ℕ) → IsUngrounded config context (vals.Ref (matching_ref_type_at config context r bytes).0) → IsUngrounded config context (vals.Ref r)
 matching_ref_ungrounded config context orderly r bytes (not_null, none) =
     let drawn = (matching_ref_type_at config context r bytes).0 in
@@ -166,7 +166,7 @@ sub_type_filled : (config : Config) (context : Context) (orderly : IsOrderly con
 sub_type_filled config context orderly limit bytes all =
     sub_type_has config context limit (HasFilledFields config context) (root_drawn config context orderly limit) (below_drawn config context orderly limit) all bytes
 
--- where all that is grounded stays so, what is not was not before
+-- if grounded heap types stay grounded, an ungrounded value was ungrounded before
 ungrounded_where : (config : Config) (old new : Context) → ((ty : HeapType) → IsGrounded old ty → IsGrounded new ty) → (value : ValType) → IsUngrounded config new value → IsUngrounded config old value
 ungrounded_where config old new stays (vals.Ref r) (not_null, none) = (not_null, λ on grounded. none on (stays r.heap_type grounded))
 ungrounded_where config old new stays vals.I32 never = never
@@ -178,7 +178,7 @@ ungrounded_where config old new stays vals.V128 never = never
 pub any_weaker : {A : Type 0} (P Q : A → Type 0) → ((x : A) → P x → Q x) → (xs : List A) → Any P xs → Any Q xs
 any_weaker P Q f xs (k, x, inside, at, p) = (k, x, inside, at, f x p)
 
--- nor were the fields of the same types
+-- the same for fields of the same types
 fields_where : (config : Config) (old new : Context) → ((ty : HeapType) → IsGrounded old ty → IsGrounded new ty) → new.types ≡ old.types → HoldsUngroundedField config new → HoldsUngroundedField config old
 fields_where config old new stays same holds =
     let Held = λ (context : Context) (t : SubType). Any (IsUngrounded config context) (field_values (fields_of t.composite_type.inner)) in
@@ -186,14 +186,14 @@ fields_where config old new stays same holds =
     (λ t h. any_weaker (IsUngrounded config new) (IsUngrounded config old) (ungrounded_where config old new stays) (field_values (fields_of t.composite_type.inner)) h)
     old.types (subst (Any (Held new)) same holds)
 
--- so it is as a context grows
+-- this holds as a context grows
 pub ungrounded_before : (config : Config) (old new : Context) → IsContextGrown old new → (value : ValType) → IsUngrounded config new value → IsUngrounded config old value
 ungrounded_before config old new growth = ungrounded_where config old new (λ ty. context_grounded old new ty growth)
 
 pub fields_before : (config : Config) (old new : Context) → IsContextGrown old new → new.types ≡ old.types → HoldsUngroundedField config new → HoldsUngroundedField config old
 fields_before config old new growth = fields_where config old new (λ ty. context_grounded old new ty growth)
 
--- and as functions are imported
+-- this holds as functions are imported
 pub fields_imported : (config : Config) (old new : Context) → AreImportsGrown old new → new.types ≡ old.types → HoldsUngroundedField config new → HoldsUngroundedField config old
 fields_imported config old new growth = fields_where config old new (λ ty. imports_grounded old new ty growth)
 
@@ -217,12 +217,12 @@ later_filled config context types more t h =
     All-weaker (IsFilledField config (over context types)) (IsFilledField config (over context (types ++ more)))
     (λ field filled never. filled (later_ungrounded config context types more (unpacked field.element_type) never)) (fields_of t.composite_type.inner) h
 
--- groups that are drawn behind filled types are filled
+-- groups drawn after filled types are filled
 types_filled : (config : Config) (context : Context) (space : Space) (bytes : List ℕ) → IsOrderly space.types → All (HasFilledFields config (over context space.types)) space.types → let drawn = (types_at config context space bytes).0.types in All (HasFilledFields config (over context drawn)) drawn
 types_filled config context space bytes orderly all =
     (types_have (λ types. HasFilledFields config (over context types)) (later_filled config context) config context (λ types limit after still. sub_type_filled config (over context types) still limit after) space bytes (record { orderly = orderly; each = all })).each
 
--- where no item has a property each lacks it, and the other way round
+-- if no item has a property, each item lacks it, and conversely
 pub none_each : {A : Type 0} (P : A → Type 0) (xs : List A) → ¬ Any P xs → Each (λ (x : A). ¬ P x) xs
 none_each P [] none = tt
 none_each P (x ∷ xs) none = ((λ p. none (0, x, omega arith, refl, p)), none_each P xs (λ any. none (suc any.0, any.1, omega (arith, any.2), any.3, any.4)))
@@ -232,7 +232,7 @@ each_none P [] each (k, y, inside, at, p) = omega (arith, inside)
 each_none P (x ∷ xs) each (zero, y, inside, at, p) = each.0 (subst P (sym at) p)
 each_none P (x ∷ xs) each (suc k, y, inside, at, p) = each_none P xs each.1 (k, y, omega (arith, inside), at, p)
 
--- the values of fields together, and each field
+-- the value types of fields together, and of each field
 module _ (P : ValType → Type 0) where
   abbrev pub Held : SubType → Type 0
   Held t = Any P (field_values (fields_of t.composite_type.inner))
@@ -266,7 +266,7 @@ module _ (P : ValType → Type 0) where
   pub held_none : (types : List SubType) → All Lacked types → ¬ Any Held types
   held_none types all = each_none Held types (of_each types (recursion_from_All Lacked types all))
 
--- where no field that stands is ungrounded, none is that is drawn
+-- if no existing field is ungrounded, no drawn field is
 pub types_grounded : (config : Config) (context : Context) (space : Space) (bytes : List ℕ) → IsOrderly space.types → ¬ HoldsUngroundedField config (over context space.types) → ¬ HoldsUngroundedField config (over context (types_at config context space bytes).0.types)
 types_grounded config context space bytes orderly none =
     let drawn = (types_at config context space bytes).0.types in

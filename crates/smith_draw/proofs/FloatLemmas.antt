@@ -1,4 +1,4 @@
--- Without floats no drawn type holds one, where none that stands does.
+-- Without floats, no drawn type contains one if no existing type does.
 use Rattle.std.proofs.Common.{◌≡◌, ℕ, zero, suc, ◌+◌, ◌-◌, Bool, false, Option, Some, None, List, [], length, refl, subst}
 use Rattle.std.specs.Prelude.{IsTrue, slice_get, All}
 use Rattle.std.specs.List.{AllByRecursion as Each}
@@ -39,17 +39,17 @@ use Rattle.smith_draw.proofs.FieldTypeLemmas.{values_of_fields}
 use Rattle.smith_draw.proofs.MatchingCompositeLemmas.{fields_of_values}
 use Rattle.smith_draw.proofs.EachTypeLemmas.{types_keep}
 
--- a class of value types that is no float
+-- a class of value types other than a float
 IsNoFloatClass : ValueClass → Type 0
 IsNoFloatClass F32 = ⊥
 IsNoFloatClass F64 = ⊥
 IsNoFloatClass _ = Unit {0}
 
--- a field that stores no float
+-- a field that does not store a float
 abbrev IsNoFloatField : FieldType → Type 0
 IsNoFloatField field = All IsNoFloat (values_of_storage field.element_type)
 
--- the values of a list that stands hold where each of its items does
+-- an item of a list has a property that all items have
 pub stands_in : {A : Type 0} (P : A → Type 0) (xs : List A) (i : ℕ) (x : A) → slice_get xs i ≡ Some x → All P xs → P x
 stands_in P xs i x at each = subst P (get_or_from_slice_get xs i x x at) (each i x (slice_get_within xs i x at))
 

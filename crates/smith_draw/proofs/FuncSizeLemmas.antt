@@ -1,4 +1,4 @@
--- Drawn function types take at most 20 values and give at most 20, or as many as the function types that they match.
+-- Drawn function types have at most 20 parameters and 20 results, or as many as the function types that they match.
 use Rattle.std.proofs.Common.{ℕ, zero, suc, ◌≤◌, Bool, true, false, cond, Some, List, [], length, arith}
 use Rattle.std.specs.Prelude.{All}
 use Rattle.smith_bytes.proofs.GrownLemmas.{grow_most}
@@ -50,7 +50,7 @@ root_small config context limit bytes =
     let number = inner_number_at config shared.1 in
     number_small config context shared.0 limit number.0 number.1
 
--- whatever bound of 20 or more the function types keep that stand, those that are drawn over them keep too
+-- a bound of at least 20 that holds for the existing function types holds for those drawn over them
 module _ (most : ℕ) (enough : 20 ≤ most) where
   small_within : (inner : CompositeInnerType) → IsSmallInner inner → IsInnerWithin most inner
   small_within (Array array) h = tt
@@ -80,6 +80,6 @@ module _ (most : ℕ) (enough : 20 ≤ most) where
   sub_type_within : (config : Config) (context : Context) (limit : ℕ) (bytes : List ℕ) → All (HasFewValues most) context.types → HasFewValues most (sub_type_at config context limit bytes).0
   sub_type_within config context limit bytes all = sub_type_has config context limit (HasFewValues most) (root_within config context limit) (below_within config context limit) all bytes
 
-  -- so do those of a type space that groups are drawn into
+  -- the same for a type space to which drawn groups are added
   pub types_within : (config : Config) (context : Context) (space : Space) (bytes : List ℕ) → All (HasFewValues most) space.types → All (HasFewValues most) (types_at config context space bytes).0.types
   types_within config context space bytes all = types_keep config context (HasFewValues most) (λ types. sub_type_within config (over context types)) space bytes all

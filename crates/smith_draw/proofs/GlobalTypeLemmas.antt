@@ -1,4 +1,4 @@
--- Drawn global types are valid, without floats hold none, and are read from what spells them.
+-- Drawn global types are valid, contain no floats if floats are off, and are read from the bytes that spell them.
 use Rattle.std.proofs.Common.{◌≡◌, ℕ, true, false, List, [], ◌++◌, length, refl, sym, ap, append-nil, ◌∙◌}
 use Rattle.std.specs.Prelude.{IsTrue}
 use Rattle.smith_bytes.specs.Takes.{Takes, SpellsSuch}

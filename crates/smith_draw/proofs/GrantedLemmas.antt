@@ -1,5 +1,5 @@
--- No value of a drawn type is a reference that may not be null and is not grounded, where none is of the type that it matches and of
--- the types before it.
+-- No value type of a drawn type is an ungrounded non-nullable reference if none is in the type that it matches and in the
+-- types before it.
 use Rattle.std.proofs.Common.{ℕ, zero, suc, ◌∙◌, Bool, true, false, Some, List, [], ◌∷◌, ◌++◌, length, sym}
 use Rattle.std.specs.Prelude.{All}
 use Rattle.std.specs.List.{AllByRecursion as Each}
@@ -39,13 +39,13 @@ use Rattle.smith_draw.proofs.MatchingCompositeLemmas.{fields_of_values}
 use Rattle.smith_draw.proofs.FilledLemmas.{IsFilledField, val_type_filled, storage_of_number, field_drawn, struct_drawn, matching_value, matching_storage, matching_field, matching_struct, later_ungrounded}
 use Rattle.smith_draw.proofs.KeptTypeLemmas.{sub_type_of_has, sub_type_has, cloned, rec_group_has, types_have}
 
--- what each drawn item has, whatever it is drawn for, all have
+-- a property of each drawn item, for whatever item it is drawn, holds for all
 each_drawn : {A : Type 0} (P : A → Type 0) (draw : A → List ℕ → A × List ℕ) → ((x : A) (bytes : List ℕ) → P (draw x bytes).0) → (xs : List A) (bytes : List ℕ) → Each P (each_at draw xs bytes).0
 unfolding each_at
 each_drawn P draw has [] bytes = tt
 each_drawn P draw has (x ∷ xs) bytes = (has x bytes, each_drawn P draw has xs (draw x bytes).1)
 
--- a supertype may be null
+-- a drawn supertype is nullable
 super_value : (config : Config) (context : Context) (ty : ValType) (bytes : List ℕ) → IsGranted config context (super_val_type_at config context.types ty bytes).0
 super_value config context vals.I32 bytes = λ never. never
 super_value config context vals.I64 bytes = λ never. never
@@ -55,7 +55,7 @@ super_value config context vals.V128 bytes = λ never. never
 super_value config context (vals.Ref reference) bytes = λ never. true≢false (sym (super_ref_nullable config context.types reference bytes) ∙ never.0)
 
 module _ (config : Config) (context : Context) where
-  -- what a field stores, and the value that it takes
+  -- the type that a field stores, and the type of the values written to it
   of_storage : (storage : StorageType) → IsGranted config context (unpacked storage) → All (IsGranted config context) (values_of_storage storage)
   of_storage I8 h = All-nil (IsGranted config context)
   of_storage I16 h = All-nil (IsGranted config context)
@@ -66,7 +66,7 @@ module _ (config : Config) (context : Context) where
   to_storage I16 h = λ never. never
   to_storage (Val value) h = (recursion_from_All (IsGranted config context) (value ∷ []) h).0
 
-  -- the values of a struct, and its fields
+  -- the value types of a struct, and of its fields
   abbrev StoresGranted : FieldType → Type 0
   StoresGranted field = All (IsGranted config context) (values_of_storage field.element_type)
 
@@ -151,7 +151,7 @@ module _ (config : Config) (context : Context) (orderly : IsOrderly context.type
   matching_granted must_share limit (Func function) bytes h = matching_func_granted function bytes (results_of function h)
   matching_granted must_share limit (Struct structure) bytes h = matching_struct_granted must_share limit structure bytes h
 
-  -- types without a supertype, and below one
+  -- types without a supertype, and subtypes
   root_granted : (limit : ℕ) (bytes : List ℕ) → HasGranted config context (root_type_at config context limit bytes).0
   unfolding root_type_at
   root_granted limit bytes = composite_granted limit (is_final_at config bytes).1
@@ -166,7 +166,7 @@ module _ (config : Config) (context : Context) (orderly : IsOrderly context.type
   pub sub_type_granted : (limit : ℕ) (bytes : List ℕ) → AreTypesGranted config context → HasGranted config context (sub_type_at config context limit bytes).0
   sub_type_granted limit bytes all = sub_type_has config context limit (HasGranted config context) (root_granted limit) (below_granted limit) all bytes
 
--- types of a type space
+-- the types of a type space
 module _ (config : Config) (context : Context) where
   abbrev IsGrantedAmong : List SubType → SubType → Type 0
   IsGrantedAmong types t = HasGranted config (over context types) t

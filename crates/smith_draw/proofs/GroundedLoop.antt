@@ -3,7 +3,7 @@ use Rattle.std.proofs.Common.{◌≡◌, ℕ, zero, suc, ◌+◌, ◌-◌, ◌<�
 use Rattle.std.specs.Prelude.{slice_get, filter}
 use Rattle.std.proofs.lemmas.Option.{get_or_from_slice_get, slice_get_within, slice_get-get_or}
 
--- what is left of a list from a place on
+-- the rest of a list from a position
 pub left_from : {A : Type 0} (xs : List A) (n : ℕ) (x : A) → slice_get xs n ≡ Some x → drop n xs ≡ x ∷ drop (n + 1) xs
 left_from {A = A} xs n x at =
     let inside = slice_get_within xs n x at in
@@ -21,14 +21,14 @@ module _ {A : Type 0} (test : A → Bool) (xs : List A) (n : ℕ) (x : A) (at : 
       let rest = filter test (drop (n + 1) xs) in
       subst (λ (b : Bool). P (cond b (x ∷ rest) rest)) off (subst (λ (ys : List A). P (filter test ys)) (left_from xs n x at) h)
 
-  -- counting those that pass
+  -- counting the items that pass
   pub counts_one : (count total : ℕ) → test x ≡ true → count + length (filter test (drop n xs)) ≡ total → count + 1 + length (filter test (drop (n + 1) xs)) ≡ total
   counts_one count total on h = let one = passing (λ (ys : List A). count + length ys ≡ total) on h in omega arith
 
   pub counts_none : (count total : ℕ) → test x ≡ false → count + length (filter test (drop n xs)) ≡ total → count + length (filter test (drop (n + 1) xs)) ≡ total
   counts_none count total off h = failing (λ (ys : List A). count + length ys ≡ total) off h
 
-  -- finding one of those that pass
+  -- finding one of the items that pass
   pub found_here : (left : ℕ) → test x ≡ true → left ≡ 0 → slice_get (filter test (drop n xs)) left ≡ Some x
   found_here left on first =
       let rest = filter test (drop (n + 1) xs) in
@@ -44,7 +44,7 @@ module _ {A : Type 0} (test : A → Bool) (xs : List A) (n : ℕ) (x : A) (at : 
   pub found_behind : (left : ℕ) (item : Option A) → test x ≡ false → slice_get (filter test (drop n xs)) left ≡ item → slice_get (filter test (drop (n + 1) xs)) left ≡ item
   found_behind left item off h = failing (λ (ys : List A). slice_get ys left ≡ item) off h
 
--- nothing is left at the end
+-- nothing remains at the end
 pub none_left : {A : Type 0} (xs : List A) (n : ℕ) → length xs ≤ n → drop n xs ≡ []
 none_left [] zero le = refl
 none_left [] (suc n) le = refl

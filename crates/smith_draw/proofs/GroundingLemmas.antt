@@ -1,4 +1,4 @@
--- The test of what is grounded decides it, over orderly types.
+-- The test of groundedness decides it, over orderly types.
 use Rattle.std.proofs.Common.{◌≡◌, ◌⊎◌, inl, inr, ℕ, zero, suc, ◌+◌, ◌<◌, ◌≤◌, Bool, true, false, cond, ◌&&◌, ◌||◌, List, [], ◌∷◌, Some, length, drop, refl, sym, subst, ◌∙◌, arith, nat_lt}
 use Rattle.std.specs.Prelude.{IsTrue, ◌↔◌, slice_get, nat_le}
 use Rattle.std.specs.Bool.{Decides}
@@ -41,7 +41,7 @@ right_is : (a b : Bool) → b ≡ true → (a || b) ≡ true
 right_is true b e = refl
 right_is false b e = e
 
--- an item of a list, of whose index and it a test holds
+-- an item of a list that passes a test together with its index
 record Held {A : Type 0} (test : ℕ → A → Bool) (start : ℕ) (xs : List A) : Type 0 where
   place : ℕ
   index : ℕ
@@ -67,7 +67,7 @@ held_any {A = A} test start zero index (y ∷ xs) x at same on =
 held_any test start (suc place) index (y ∷ xs) x at same on =
     right_is (test start y) (any_from test (start + 1) xs) (held_any test (start + 1) place index xs x at (omega arith) on)
 
--- an item of whose index and it a test holds, from the first index on
+-- an item that passes a test together with its index, counted from 0
 record Standing {A : Type 0} (test : ℕ → A → Bool) (xs : List A) : Type 0 where
   index : ℕ
   item : A
@@ -84,7 +84,7 @@ any_stands {A = A} test xs e =
 stands_any : {A : Type 0} (test : ℕ → A → Bool) (xs : List A) (index : ℕ) (x : A) → slice_get xs index ≡ Some x → test index x ≡ true → any_from test 0 xs ≡ true
 stands_any test xs index x at on = held_any test 0 index index xs x at (omega arith) on
 
--- what struct types ground
+-- the heap types that struct types ground
 pub structs_decide : (context : Context) (ty : HeapType) → IsOrderly context.types → Decides (any_from (type_grounds context ty) 0 context.types) (IsGroundedByStructs context.types context.features.custom_descriptors ty)
 structs_decide context ty orderly =
     let reference = λ (index : ℕ). cond context.features.custom_descriptors (Exact index) (Concrete index) in
@@ -99,7 +99,7 @@ structs_decide context ty orderly =
           (both_are (is_ground t) (is_val_below context.types (created context index) (reference_to ty)) ground ((heap_decides context.types orderly (reference index) ty).1 by.below)),
     )
 
--- a reference to a function stands exactly where its type does
+-- a reference to a function refers to an existing type exactly if its type exists
 reference_within : (types : List SubType) (index : ℕ) (defined descriptors : Bool) → IsValInRange types (cond defined (reference_to (cond descriptors (Exact index) (Concrete index))) (reference_to (Concrete index))) → index < length types
 reference_within types index true true h = h
 reference_within types index true false h = h
@@ -110,7 +110,7 @@ within_reference types index true true h = h
 within_reference types index true false h = h
 within_reference types index false descriptors h = h
 
--- a function grounds a heap type: one whose type stands
+-- a function with an existing type grounds a heap type
 record Names (context : Context) (ty : HeapType) : Type 0 where
   function : ℕ
   index : ℕ
@@ -140,7 +140,7 @@ funcs_decide context ty orderly inside = (
       (both_are (nat_lt index (length context.types)) (is_val_below context.types reference (reference_to ty)) (lt-ltb index (length context.types) within) ((val_decides context.types orderly reference (reference_to ty)).1 below)),
 )
 
--- the test says yes only of what is grounded
+-- the test accepts only grounded heap types
 pub grounded_if : (context : Context) (ty : HeapType) → IsOrderly context.types → IsTrue (is_grounded context ty) → IsGrounded context ty
 unfolding is_grounded
 grounded_if context ty orderly e =
@@ -149,7 +149,7 @@ grounded_if context ty orderly e =
       | inr funcs ↦ let names = names_of context ty orderly funcs in inr (names.function, names.index, names.at, names.below)
     ]
 
--- the test decides what is grounded, of heap types that stand
+-- the test decides groundedness of existing heap types
 pub grounded_decides : (context : Context) (ty : HeapType) → IsOrderly context.types → IsInRange context.types ty → Decides (is_grounded context ty) (IsGrounded context ty)
 unfolding is_grounded
 grounded_decides context ty orderly inside =
@@ -162,7 +162,7 @@ grounded_decides context ty orderly inside =
       ],
     )
 
--- what is grounded stands
+-- a grounded heap type exists
 grounded_stands : (context : Context) (ty : HeapType) → IsOrderly context.types → IsTrue (is_grounded context ty) → IsInRange context.types ty
 unfolding is_grounded
 grounded_stands context ty orderly e =
@@ -184,11 +184,11 @@ false_where : (b : Bool) → (b ≡ true → ⊥) → false ≡ b
 false_where true never = absurd (never refl)
 false_where false never = refl
 
--- no heap type that does not stand is grounded
+-- no heap type that does not exist is grounded
 pub ungrounded : (context : Context) (ty : HeapType) → IsOrderly context.types → (IsInRange context.types ty → ⊥) → false ≡ is_grounded context ty
 ungrounded context ty orderly outside = false_where (is_grounded context ty) (λ e. outside (grounded_stands context ty orderly e))
 
--- what the code finds out: by struct types first, then by functions
+-- the decision of the code: first by struct types, then by functions
 pub by_structs : (context : Context) (ty : HeapType) → IsOrderly context.types → IsGroundedByStructs context.types context.features.custom_descriptors ty → true ≡ is_grounded context ty
 unfolding is_grounded
 by_structs context ty orderly structs =
@@ -203,7 +203,7 @@ unfolding is_grounded
 by_functions context ty r orderly none e =
     or_right (any_from (type_grounds context ty) 0 context.types) (any_from (function_grounds context ty) 0 context.funcs) r (λ on. none ((structs_decide context ty orderly).0 on)) e
 
--- what is kept of functions decides the same
+-- the record of functions decides the same
 pub by_kept : (context : Context) (ty : HeapType) (r : Bool) → IsOrderly context.types → IsInRange context.types ty → IsTrue r ↔ IsGroundedByFuncs context ty → r ≡ any_from (function_grounds context ty) 0 context.funcs
 by_kept context ty r orderly inside decides = same_from_decides r (any_from (function_grounds context ty) 0 context.funcs) decides (funcs_decide context ty orderly inside)
 
@@ -229,7 +229,7 @@ module _ {A : Type 0} (test : ℕ → A → Bool) (xs : List A) (n : ℕ) (whole
       let here : any_from test n (drop n xs) ≡ false = rw (none_left xs n le) refl in
       sym here ∙ so_far
 
--- a function of no type that stands grounds nothing, and another where the reference to it is below
+-- a function without an existing type grounds nothing, and any other grounds the supertypes of its reference
 pub outside_grounds : (context : Context) (ty : HeapType) (function index : ℕ) → length context.types ≤ index → false ≡ function_grounds context ty function index
 outside_grounds context ty function index le = rw (le-ltb index (length context.types) le) refl
 

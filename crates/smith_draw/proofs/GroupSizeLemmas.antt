@@ -1,4 +1,4 @@
--- How many types a drawn group has.
+-- The number of types in a drawn group.
 use Rattle.std.proofs.Common.{◌≡◌, ℕ, ◌+◌, ◌-◌, ◌<◌, ◌≤◌, Bool, true, false, cond, ◌&&◌, ◌||◌, List, length, drop, refl, arith, length-append, length-drop, nat_lt}
 use Rattle.std.specs.Prelude.{IsTrue, nat_le}
 use Rattle.std.specs.declared.ops.Range.{Range}
@@ -25,7 +25,7 @@ range_above : (lo hi : ℕ) (bytes : List ℕ) → lo ≤ (range_at lo hi bytes)
 unfolding range_at
 range_above lo hi bytes = omega arith
 
--- a group adds no more types than there is room for, and some where it must not be empty
+-- a group adds at most as many types as fit, and at least one if it must not be empty
 pub record HasMore (config : Config) (allow_empty : Bool) (space more : Space) : Type 0 where
   pub most : length more.types ≤ config.max_types
   pub kept : length space.types ≤ length more.types
@@ -36,7 +36,7 @@ size_by true true most bytes some = (range_within 0 most bytes (omega arith), λ
 size_by true false most bytes some = (range_within 1 most bytes (omega arith), λ e. range_above 1 most bytes)
 size_by false allow_empty most bytes some = (omega arith, λ e. omega arith)
 
--- types that are drawn until there are `limit` are `limit` types
+-- types drawn up to `limit` types are `limit` types
 pub types_until_length : (config : Config) (context : Context) (limit : ℕ) (types : List SubType) (bytes : List ℕ) → length types ≤ limit → length (types_until_at config context limit types bytes).0 ≡ limit
 unfolding types_until_at
 types_until_length config context limit types bytes le =
@@ -62,7 +62,7 @@ either_false : (a b : Bool) → IsTrue (a || b) → a ≡ false → IsTrue b
 either_false true b h e = cc
 either_false false b h e = h
 
--- what a group that may be cloned is like
+-- the properties of a group that may be cloned
 pub record IsClonable (config : Config) (allow_empty : Bool) (space : Space) (group : Range ℕ) : Type 0 where
   pub room : group.end - group.start ≤ types_left config space
   pub some : allow_empty ≡ false → group.start < group.end
@@ -75,7 +75,7 @@ clonable config allow_empty space group may =
       some = λ e. ltb-true group.start group.end (either_false allow_empty (nat_lt group.start group.end) kind e);
     }
 
--- how many types a group has
+-- the number of types of a group
 pub members_length : (types : List SubType) (group : Range ℕ) → group.start ≤ group.end → group.end ≤ length types → length (members types group) ≡ group.end - group.start
 members_length types group ordered inside =
     let few = length-take (group.end - group.start) (drop group.start types) in
@@ -89,7 +89,7 @@ with_clone_more config allow_empty space group within room may =
     let fits = may.room in
     record { most = omega (arith, len, longer, fits); kept = omega (arith, longer); some = λ e. let one = may.some e in omega (arith, len, longer, one) }
 
--- a clone is asked for only where there is a group
+-- a clone is drawn only if there is a group
 pub clone_wanted : (config : Config) (space : Space) (bytes : List ℕ) → IsTrue (clone_wanted_at config space bytes).0 → IsTrue config.gc_enabled × (0 < length space.groups)
 clone_wanted config space bytes h =
     let (gc, some) = wanted_by config.gc_enabled (nat_lt 0 (length space.groups)) (ratio_at 1 255 bytes) bytes h in

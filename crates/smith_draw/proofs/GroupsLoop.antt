@@ -11,7 +11,7 @@ use Rattle.smith_draw.specs.RecGroups.{rec_group_at, least_types_at, more_types_
 use Rattle.smith_draw.proofs.ValueTypeLemmas.{drawn_is}
 use Rattle.smith_draw.proofs.GroupSizeLemmas.{AreWithin, rec_group_more}
 
--- `turns` more turns suffice, and what they draw completes the whole
+-- `turns` further turns suffice, and complete the whole
 pub record IsReaching (config : Config) (context : Context) (space : Space) (start bytes : List ℕ) (total : Space × List ℕ) : Type 0 where
   pub turns : ℕ
   pub enough : config.min_types ≤ length space.types + turns
@@ -44,7 +44,7 @@ least_done config context (suc turns) space bytes le = rw (le-ltb (length space.
 pub least_full : {config : Config} {context : Context} {space : Space} {start bytes : List ℕ} {total : Space × List ℕ} → IsReaching config context space start bytes total → config.min_types ≤ length space.types → total ≡ (space, bytes)
 least_full {config = config} {context = context} {space = space} {bytes = bytes} now le = sym now.so_far ∙ least_done config context now.turns space bytes le
 
--- the same for the loop that a bool ends: each turn takes a byte
+-- as above, for the loop that a bool ends: each turn takes a byte
 pub record IsAdding (config : Config) (context : Context) (space : Space) (start bytes : List ℕ) (total : Space × List ℕ) : Type 0 where
   pub turns : ℕ
   pub enough : length bytes < turns
@@ -57,7 +57,7 @@ unfolding bool_at
 bool_takes [] after e = let no : false ≡ true = ap (λ (r : Bool × List ℕ). r.0) e in absurd (cc)
 bool_takes (b ∷ bytes) after e = let same : bytes ≡ after = ap (λ (r : Bool × List ℕ). r.1) e in let len = ap (λ (xs : List ℕ). length xs) same in omega arith
 
--- a piece is no longer than the whole
+-- a piece is at most as long as the whole
 pub piece_short : {old new : List ℕ} → KeepsPieces old new → length new ≤ length old
 piece_short {old = old} {new = new} kept =
     let piece = kept old (piece_same old) in

@@ -1,4 +1,4 @@
--- Drawn heap types that match a heap type are below it, and drawn supertypes above; both are valid where it is.
+-- Drawn heap types that match a heap type are subtypes of it, and drawn supertypes are supertypes; both are valid if it is.
 use Rattle.std.proofs.Common.{rules, ◌≡◌, ℕ, ◌<◌, ◌≤◌, Bool, true, false, cond, List, [], ◌∷◌, Some, length, refl, sym, subst, arith}
 use Rattle.std.specs.Prelude.{slice_get, IsTrue, All}
 use Rattle.std.specs.List.{AllByRecursion as Each}
@@ -26,7 +26,7 @@ use Rattle.smith_draw.proofs.EnabledLemmas.{chosen_is}
 use Rattle.smith_draw.proofs.AncestorLemmas.{ancestors_above, ancestors_each, stands}
 use Rattle.smith_draw.proofs.OfferedLemmas.{below_abstract_each, above_abstract_each, below_concrete_each, above_concrete_each}
 
--- below and above
+-- subtypes and supertypes
 kind_below : (types : List SubType) (s : Bool) (a : AbstractHeapType) (k : ℕ) (t : SubType) → slice_get types k ≡ Some t → shared t ≡ s → IsTrue (is_abstract_below (kind t) a) → IsBelow types (Concrete k) (Abstract s a)
 kind_below types s a k t at same below =
     subst (λ (r : Bool). IsBelow types (Concrete k) (Abstract r a)) same (IsBelow-trans types (below_kind types k t at) (below_abstract types (shared t) (kind t) a below))
@@ -45,7 +45,7 @@ gc_supertypes_above types (Concrete i) =
     above_concrete_each (λ (h : HeapType). IsBelow types (Concrete i) h) types i itself (λ t at b below. kind_below types (shared t) b i t at refl below) (ancestors_above types i)
 gc_supertypes_above types (Exact i) = (itself, tt)
 
--- with garbage collection or without it
+-- with and without garbage collection
 pub offered_each : (P : HeapType → Type 0) (gc : Bool) (ty : HeapType) (offered : List HeapType) → P ty → (IsTrue gc → Each P offered) → Each P (cond gc offered (ty ∷ []))
 offered_each P true ty offered own each = each refl
 offered_each P false ty offered own each = (own, tt)
@@ -53,7 +53,7 @@ offered_each P false ty offered own each = (own, tt)
 chosen_each : (P : HeapType → Type 0) (gc : Bool) (ty : HeapType) (offered : List HeapType) → P ty → (IsTrue gc → Each P offered) → All P (cond gc offered (ty ∷ []))
 chosen_each P gc ty offered own each = All-from_recursion P (cond gc offered (ty ∷ [])) (offered_each P gc ty offered own each)
 
--- what holds of the argument and of each subtype that is offered holds of the drawn one
+-- a property of the argument and of each offered subtype holds for the drawn one
 matching_is : (P : HeapType → Type 0) (config : Config) (types : List SubType) (ty : HeapType) (bytes : List ℕ) → P ty → (IsTrue config.gc_enabled → Each P (gc_subtypes config types ty)) → P (matching_heap_type_at config types ty bytes).0
 unfolding matching_heap_type_at subtypes_offered
 matching_is P config types ty bytes own each =

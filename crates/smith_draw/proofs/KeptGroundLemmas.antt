@@ -1,4 +1,4 @@
--- What is kept of functions, as those of spaces are noted in turn.
+-- The record of functions, as those of spaces are noted in turn.
 use Rattle.std.proofs.Common.{◌≡◌, ℕ, ◌+◌, ◌<◌, ◌≤◌, Bool, true, false, List, take, get_or, length, refl, subst, arith, add-one}
 use Rattle.std.specs.Prelude.{◌&&◌, nat_le, if◌then◌else◌}
 use Rattle.std.proofs.Math.Seq.{take-suc}
@@ -9,13 +9,13 @@ use Rattle.smith_types.specs.declared.func_grounds.FuncGrounds.{FuncGrounds}
 use Rattle.smith_types.specs.declared.value_type.HeapType.TheVariants.{Concrete, Exact}
 use Rattle.smith_draw.specs.Grounding.{with_functions}
 
--- the reference that names a function, by the two tests that tell whether it is exact
+-- the reference to a function, by the two tests that determine whether it is exact
 by_tests : (defined descriptors : Bool) (index : ℕ)
     → (if defined then reference_to (if descriptors then Exact index else Concrete index) else reference_to (Concrete index)) ≡ reference_to (if (defined && descriptors) then Exact index else Concrete index)
 by_tests true descriptors index = refl
 by_tests false descriptors index = refl
 
--- the functions up to one, and this one
+-- the functions before one, and this one
 pub function_added : (context : Context) (funcs : List ℕ) (k index d : ℕ) (exact : Bool) → k < length funcs → index ≡ get_or funcs k d → exact ≡ (nat_le context.imported_funcs k && context.features.custom_descriptors)
     → IsFunctionAdded (with_functions context (take k funcs)) (with_functions context (take (k + 1) funcs)) index exact
 function_added context funcs k index d exact inside read is = record {

@@ -1,4 +1,4 @@
--- What is kept of globals and functions, as they are looked at in turn.
+-- The record of globals and functions that are offered, as they are read in turn.
 use Rattle.std.proofs.Common.{◌≡◌, ℕ, zero, suc, ◌+◌, ◌-◌, ◌<◌, ◌≤◌, Bool, true, false, List, [], ◌∷◌, ◌++◌, take, get_or, set, map, length, refl, sym, ap, ◌∙◌, subst, arith}
 use Rattle.std.specs.Prelude.{All, Some, Result, Ok, Err, not, ◌&&◌}
 use Rattle.std.proofs.lemmas.List.{append-nil, append_assoc, get_or-set_same, length-map, length-set, map-append}
@@ -14,7 +14,7 @@ use Rattle.smith_draw.specs.declared.const_expr.kept_offers.KeptOffer.{KeptOffer
 use Rattle.smith_draw.specs.declared.const_expr.node_choice.Choice.TheVariants as choice
 use Rattle.smith_draw.proofs.ConstFoundLemmas.{past_end}
 
--- what the items up to one offer, and this one
+-- the choices of the items before one, and of this one
 each_more : {A B : Type 0} (offer : ℕ → A → List B) (start : ℕ) (xs : List A) (k : ℕ) (d : A) → k < length xs → each_from offer start (take (suc k) xs) ≡ each_from offer start (take k xs) ++ offer (start + k) (get_or xs k d)
 each_more offer start [] k d inside = absurd (omega arith)
 each_more offer start (x ∷ xs) zero d inside = append-nil (offer start x) ∙ ap (λ (n : ℕ). offer n x) (omega arith)
@@ -27,7 +27,7 @@ made_if : {B : Type 0} (make : ℕ → B) (offered : Bool) (k : ℕ) → map mak
 made_if make true k = refl
 made_if make false k = refl
 
--- one more item is looked at, and kept where it is offered
+-- one more item is read, and recorded if it is offered
 kept_more : {A B : Type 0} (make : ℕ → B) (offer : ℕ → A → List B) (xs : List A) (k : ℕ) (d : A) (old : List ℕ) (offered : Bool) → k < length xs → map make old ≡ each_from offer 0 (take k xs) → offer k (get_or xs k d) ≡ offered_if offered (make k)
     → map make (old ++ offered_if offered k) ≡ each_from offer 0 (take (k + 1) xs)
 kept_more make offer xs k d old offered inside kept is =
@@ -66,28 +66,28 @@ func_more context offer index d offered more kept seen inside is longer = record
       ∙ kept_more (λ i. choice.Function i) (function_offers context offer.wanted) context.funcs index d offer.funcs offered inside (rw seen at kept.funcs) (ap (λ (each : Bool). offered_if each (choice.Function index)) (sym is));
 }
 
--- going on through a list whose items are made of another's
+-- a search in a list whose items are made from another list
 pub past_made : {B : Type 0} (make : ℕ → B) (xs : List ℕ) (place d : ℕ) → place < length xs → past (map make xs) place ≡ Err (make (get_or xs place d))
 unfolding past
 past_made make [] place d inside = absurd (omega arith)
 past_made make (x ∷ xs) zero d inside = refl
 past_made make (x ∷ xs) (suc place) d inside = past_made make xs place d (omega arith)
 
--- going on past the end of such a list
+-- a search past the end of such a list
 pub past_all_made : {B : Type 0} (make : ℕ → B) (xs : List ℕ) (place : ℕ) → length xs ≤ place → past (map make xs) place ≡ Ok (place - length xs)
 past_all_made make xs place far =
     let same : length (map make xs) ≡ length xs = length-map xs make in
     past_end (map make xs) place (omega (arith, same, far)) ∙ ap (λ (n : ℕ). Ok (place - n)) same
 
--- what stands at a place is kept there
+-- the entry at a position is recorded
 pub kept_there : (kept : List KeptOffer) (place : ℕ) (d one : KeptOffer) (wanted : ValType) → place < length kept → one ≡ get_or kept place d → one.wanted ≡ wanted → IsKeptAt kept place wanted
 kept_there kept place d one wanted inside is same = (one, slice_get-get_or kept place d inside ∙ ap (λ (each : KeptOffer). Some each) (sym is), same)
 
--- and is what its globals and functions offer
+-- the entry lists the globals and functions that are offered
 pub offer_there : (context : Context) (kept : List KeptOffer) (place : ℕ) (d one : KeptOffer) (wanted : ValType) → IsKeptAt kept place wanted → one ≡ get_or kept place d → All (IsKeptOffer context) kept → IsKeptOffer context one
 offer_there context kept place d one wanted (offer, at, same) is all = subst (IsKeptOffer context) (sym is) (all place d (slice_get_within kept place offer at))
 
--- what takes its place is kept there, too
+-- a replacement of the entry is recorded too
 pub kept_again : (kept : List KeptOffer) (place : ℕ) (d old new : KeptOffer) (wanted : ValType) → IsKeptAt kept place wanted → old ≡ get_or kept place d → new.wanted ≡ old.wanted → IsKeptAt (set kept place new) place wanted
 kept_again kept place d old new wanted (offer, at, same) is still =
     let inside : place < length kept = slice_get_within kept place offer at in (
@@ -96,7 +96,7 @@ kept_again kept place d old new wanted (offer, at, same) is still =
       still ∙ ap (λ (each : KeptOffer). each.wanted) (is ∙ get_or_from_slice_get kept place offer d at) ∙ same,
     )
 
--- what is kept of all visible globals and all functions is all that they offer
+-- an entry for all visible globals and all functions lists all that are offered
 pub whole_kept : (context : Context) (offer : KeptOffer) (wanted : ValType) → IsKeptOffer context offer → offer.wanted ≡ wanted → offer.globals_seen ≡ context.visible → offer.funcs_seen ≡ length context.funcs → IsWhole context wanted offer
 whole_kept context offer wanted kept same globals funcs = record {
   globals =

@@ -1,5 +1,6 @@
--- What drawn types have where the types that they are drawn over have it: a type, by those without a supertype and those below a type;
--- all types of a type space, where it may depend on them all, and stays as more are added.
+-- Properties that drawn types have if the types that they are drawn over have them: for one type, from types without a
+-- supertype and subtypes; for all types of a type space, if the property may depend on all of them and is preserved as more
+-- are added.
 use Rattle.std.proofs.Common.{◌≡◌, ℕ, ◌+◌, ◌-◌, Bool, true, false, ◌||◌, Option, Some, None, List, [], ◌∷◌, ◌++◌, length, get_or, refl, sym, subst, arith, append_assoc}
 use Rattle.std.specs.Prelude.{slice_get, All}
 use Rattle.std.specs.List.{AllByRecursion as Each}
@@ -44,7 +45,7 @@ module _ (config : Config) (context : Context) (limit : ℕ) (P : SubType → Ty
       cond_both (λ (r : SubType × List ℕ). P r.0) wanted.0 (sub_type_of_at config context limit indices wanted.1) (root_type_at config context limit wanted.1)
       (sub_type_of_has indices wanted.1) (root wanted.1)
 
--- orderly types that all have what may depend on them all
+-- orderly types that all have a property, which may depend on all of them
 pub record AllHave (P : List SubType → SubType → Type 0) (types : List SubType) : Type 0 where
   pub orderly : IsOrderly types
   pub each : All (P types) types

@@ -1,4 +1,4 @@
--- Drawn composite types match, and are valid, over every list of types.
+-- Drawn composite types match and are valid, over every list of types.
 use Rattle.std.proofs.Common.{◌≡◌, ℕ, zero, suc, ◌+◌, ◌-◌, ◌≤◌, Bool, List, [], ◌∷◌, ◌++◌, length, refl, nat_lt}
 use Rattle.std.specs.Prelude.{IsTrue, All}
 use Rattle.std.specs.List.{flat_map, AllByRecursion as Each}
@@ -32,7 +32,7 @@ use Rattle.smith_draw.proofs.FieldTypeLemmas.{IsFieldDrawn, field_type_drawn, va
 use Rattle.smith_draw.proofs.SharedLemmas.{storage_shareable, func_shareable, each_join}
 use Rattle.smith_draw.proofs.MatchingLemmas.{all_stay, matching_field_match, matching_field_valid, matched_fields_match, matched_fields_valid, matching_func_match, matching_func_valid}
 
--- what holds of a list, and of it with each drawn item behind, holds of the list that was made longer
+-- a property of a list that is preserved by appending each drawn item holds for the extended list
 pub grow_keeps : {A : Type 0} (P : List A → Type 0) (draw : List A → List ℕ → A × List ℕ) → ((made : List A) (bytes : List ℕ) → P made → P (made ++ (draw made bytes).0 ∷ [])) → (least most : ℕ) (made : List A) (bytes : List ℕ) → P made → P (grow_at draw least most made bytes).0
 unfolding grow_at
 grow_keeps P draw keeps least zero made bytes h = h
@@ -42,14 +42,14 @@ grow_keeps {A = A} P draw keeps least (suc most) made bytes h =
     cond_both (λ (r : List A × List ℕ). P r.0) go.0 (grow_at draw least most (made ++ x.0 ∷ []) x.1) (made, go.1)
     (grow_keeps P draw keeps least most (made ++ x.0 ∷ []) x.1 (keeps made go.1 h)) h
 
--- fields match what those matched that they were made of
+-- fields match the fields that they matched before they were extended
 fields_until_match : (config : Config) (context : Context) (must_share : Bool) (limit end : ℕ) (fields upper : List FieldType) (bytes : List ℕ) → AreFieldsMatched context.types fields upper → AreFieldsMatched context.types (fields_until_at config context must_share limit end fields bytes).0 upper
 unfolding fields_until_at
 fields_until_match config context must_share limit end fields upper bytes =
     grow_keeps (λ (made : List FieldType). AreFieldsMatched context.types made upper) (λ _. field_type_at config context must_share limit)
     (λ made after. AreFieldsMatched-longer context.types made upper ((field_type_at config context must_share limit after).0 ∷ [])) end (end - length fields) fields bytes
 
--- what holds of each field that is drawn, and of those that were there, holds of all
+-- a property of each drawn field and of the fields before holds for all
 fields_until_keep : (P : FieldType → Type 0) (config : Config) (context : Context) (must_share : Bool) (limit end : ℕ) (fields : List FieldType) (bytes : List ℕ) → ((field : FieldType) → IsFieldDrawn config context.types must_share limit field → P field) → IsSanitized config → MayShare config must_share
     → Each P fields → Each P (fields_until_at config context must_share limit end fields bytes).0
 unfolding fields_until_at
@@ -58,21 +58,21 @@ fields_until_keep P config context must_share limit end fields bytes holds sanit
     (λ made after h. (each_join P made ((field_type_at config context must_share limit after).0 ∷ [])).1 (h, (holds (field_type_at config context must_share limit after).0 (field_type_drawn config context must_share limit after sanitized may), tt)))
     end (end - length fields) fields bytes
 
--- what holds of the values of a struct holds of those of each field
+-- a property of the value types of a struct holds for those of each field
 pub fields_of_values : (P : ValType → Type 0) (fields : List FieldType) → Each P (flat_map (λ (field : FieldType). values_of_storage field.element_type) fields) → Each (λ (field : FieldType). All P (values_of_storage field.element_type)) fields
 fields_of_values P [] h = tt
 fields_of_values P (field ∷ fields) h =
     let apart = (each_join P (values_of_storage field.element_type) (flat_map (λ (field : FieldType). values_of_storage field.element_type) fields)).0 h in
     (All-from_recursion P (values_of_storage field.element_type) apart.0, fields_of_values P fields apart.1)
 
--- what a matching composite type keeps, without its sharedness
+-- the properties that a matching composite type keeps, without its sharedness
 pub record IsInnerMatching (config : Config) (types : List SubType) (must_share : Bool) (limit : ℕ) (old new : CompositeInnerType) : Type 0 where
   pub enabled : IsInnerEnabled (features_of config) new
   pub values : All (IsValTypeValid (features_of config) limit) (values_of new)
   pub matched : IsInnerMatch types new old
   pub shareable : IsTrue must_share → All (IsShareable types) (values_of old) → All (IsShareable types) (values_of new)
 
--- what is asked for of the types that stand, and of the type that is matched
+-- the conditions on the existing types and on the matched type
 pub record MayBeMatched (config : Config) (types : List SubType) (must_share : Bool) (limit : ℕ) (old : CompositeInnerType) : Type 0 where
   pub sanitized : IsSanitized config
   pub gc : IsTrue config.gc_enabled
@@ -83,7 +83,7 @@ pub record MayBeMatched (config : Config) (types : List SubType) (must_share : B
   pub enabled : IsInnerEnabled (features_of config) old
   pub values : All (IsValTypeValid (features_of config) limit) (values_of old)
 
--- what each field that is drawn has, and each matched one, each field of the struct has
+-- a property of each drawn field and of each matched field holds for each field of the struct
 struct_fields_keep : (P : FieldType → Type 0) (config : Config) (context : Context) (must_share : Bool) (limit : ℕ) (structure : StructType) (bytes : List ℕ) → ((field : FieldType) → IsFieldDrawn config context.types must_share limit field → P field) → IsSanitized config → MayShare config must_share
     → All P (matched_fields_at config context structure.fields (range_at 0 5 bytes).1).0 → Each P (matching_struct_type_at config context must_share limit structure bytes).0.fields
 unfolding matching_struct_type_at
@@ -159,7 +159,7 @@ matching_inner config context must_share limit (Struct structure) bytes h = reco
   shareable = matching_struct_shareable config context must_share limit structure bytes h.sanitized h.may h.orderly;
 }
 
--- a matching composite type is of the same kind
+-- a matching composite type has the same kind
 pub matching_kind : (config : Config) (context : Context) (must_share : Bool) (limit : ℕ) (inner : CompositeInnerType) (bytes : List ℕ) → kind_of (matching_inner_at config context must_share limit inner bytes).0 ≡ kind_of inner
 matching_kind config context must_share limit (Array array) bytes = refl
 matching_kind config context must_share limit (Func function) bytes = refl

@@ -1,4 +1,4 @@
--- Drawn types that match a type are below it, and drawn supertypes above; both are valid where it is.
+-- Drawn types that match a type are subtypes of it, and drawn supertypes are supertypes; both are valid if it is.
 use Rattle.std.proofs.Common.{◌≡◌, ◌⊎◌, inl, inr, ℕ, ◌≤◌, Bool, true, false, cond, List, [], ◌∷◌, length, drop, refl, sym, subst, arith}
 use Rattle.std.specs.Prelude.{All, IsTrue, filter, not, ◌||◌}
 use Rattle.std.specs.List.{AllByRecursion as Each}
@@ -58,7 +58,7 @@ unfolding each_at
 length-each_at draw [] bytes = refl
 length-each_at draw (x ∷ xs) bytes = let more = length-each_at draw xs (draw x bytes).1 in omega arith
 
--- reference types: what holds of each subtype that is offered of a heap type holds of the drawn one
+-- reference types: a property of each offered subtype of a heap type holds for the drawn one
 first_each : {A : Type 0} (P : A → Type 0) (test : A → Bool) (xs : List A) → Each P xs → Each P (first_and_passing test xs)
 first_each P test [] h = tt
 first_each P test (x ∷ xs) h = (h.0, recursion_from_All P (filter test xs) (All-filter test P xs (All-from_recursion P xs h.1)))
@@ -90,7 +90,7 @@ matching_ref_valid config context ty bytes = record {
   };
 }
 
--- with the field on, the heap type of a reference that is not nullable is that of the argument, or a grounded one
+-- with `non_nullable_enabled`, the heap type of a non-nullable reference is that of the argument or a grounded one
 first_granted : (test : HeapType → Bool) (ty : HeapType) (xs rest : List HeapType) → xs ≡ ty ∷ rest → Each (λ (h : HeapType). (h ≡ ty) ⊎ IsTrue (test h)) (first_and_passing test xs)
 first_granted test ty xs rest e =
     let P = λ (h : HeapType). (h ≡ ty) ⊎ IsTrue (test h) in

@@ -1,4 +1,4 @@
--- How many pages a drawn memory may have.
+-- The numbers of pages that a drawn memory may have.
 use Rattle.std.proofs.Common.{◌≡◌, ℕ, zero, suc, ◌-◌, ◌*◌, ◌/◌, ◌^◌, ◌≤◌, ◌<◌, ◌⊎◌, min, max, Bool, true, false, cond, ◌||◌, Option, Some, None, refl, arith, inl, inr, lit<}
 use Rattle.std.proofs.Math.Nat.{le-div_iff_mul-le, div-mul-le_self, mul-le-mul_right, pow-le-pow_right, one-le-pow}
 use Rattle.std.specs.Prelude.{IsTrue, IsSome, IfSome}
@@ -36,14 +36,14 @@ size_fits : (memory64 : Bool) (log2 : ℕ) → log2 ≤ 16 → 2 ^ log2 ≤ addr
 size_fits true log2 le = let small = pow-le-pow_right {n = 2} (lit< tt) le in omega (arith, small)
 size_fits false log2 le = let small = pow-le-pow_right {n = 2} (lit< tt) le in omega (arith, small)
 
--- no more than a valid memory may have
+-- at most as many as a valid memory may have
 pub drawn_pages_fit : (config : Config) (memory64 : Bool) (page_size : Option ℕ) → page_log2 page_size ≤ 16 → PassesButImports config → drawn_pages config memory64 page_size ≤ most_pages memory64 page_size
 unfolding drawn_pages
 drawn_pages_fit config memory64 page_size small passes =
     pages_fit (least_pages config) (memory_bytes config memory64) (addresses memory64) (2 ^ page_log2 page_size) (one-le-pow (page_log2 page_size) 2 (lit< tt))
     (size_fits memory64 (page_log2 page_size) small) (bytes_fit config memory64 passes) (least_few config.disallow_traps)
 
--- no more than the configured bytes
+-- at most the configured bytes
 pub drawn_pages_kept : (config : Config) (memory64 : Bool) (page_size : Option ℕ)
     → (drawn_pages config memory64 page_size * 2 ^ page_log2 page_size ≤ memory_bytes config memory64) ⊎ (IsTrue config.disallow_traps × (drawn_pages config memory64 page_size ≤ 1))
 unfolding drawn_pages
@@ -56,7 +56,7 @@ fewer : (pages most size bytes : ℕ) (traps : Bool) → pages ≤ most → (mos
 fewer pages most size bytes traps le (inl h) = let less = mul-le-mul_right size le in inl (omega (arith, less))
 fewer pages most size bytes traps le (inr h) = inr (h.0, omega (arith, h.1))
 
--- fewer pages are kept too
+-- fewer pages respect the bytes too
 fewer_kept : (config : Config) (memory : MemoryType) (pages most : ℕ) → pages ≤ most → ArePagesWithin config memory most → ArePagesWithin config memory pages
 fewer_kept config memory pages most le h = fewer pages most (2 ^ page_log2 memory.page_size_log2) (memory_bytes config memory.memory64) config.disallow_traps le h
 
@@ -69,7 +69,7 @@ maximum_kept : (config : Config) (memory : MemoryType) (most : ℕ) (maximum : O
 maximum_kept config memory most None h kept = tt
 maximum_kept config memory most (Some n) h kept = fewer_kept config memory n most h.1 kept
 
--- limits within the drawn pages keep the configured bytes
+-- limits within the drawn pages respect the configured bytes
 pub limits_kept : (config : Config) (memory : MemoryType) (most : ℕ) → memory.minimum ≤ most → IfSome memory.maximum (λ n. (memory.minimum ≤ n) × (n ≤ most)) → ArePagesWithin config memory most
     → (IsTrue config.memory_max_size_required → IsSome memory.maximum) → IsMemoryWithin config memory
 limits_kept config memory most low high kept required = record {
@@ -78,7 +78,7 @@ limits_kept config memory most low high kept required = record {
   required = required;
 }
 
--- a maximum that is asked for by either of two
+-- a maximum that either of two conditions requires
 pub either_left : (a b : Bool) → IsTrue a → (a || b) ≡ true
 either_left true b h = refl
 either_left false b h = cc

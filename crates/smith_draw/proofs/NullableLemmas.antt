@@ -1,4 +1,5 @@
--- With the field off no drawn reference is one that may not be null, and where no field or element type that stands is one, none that is drawn is.
+-- With `non_nullable_enabled` off, no drawn reference is non-nullable. If no field or element of the existing types is, none
+-- of a drawn type is.
 use Rattle.std.proofs.Common.{◌≡◌, ℕ, ◌∙◌, Bool, true, false, List, length, refl, sym}
 use Rattle.std.specs.Prelude.{IsTrue}
 use Rattle.std.specs.List.{Any}
@@ -27,7 +28,7 @@ nullable_unless : (nullable on : Bool) → on ≡ false → (nullable ≡ false 
 nullable_unless true on off h = refl
 nullable_unless false on off h = let e : on ≡ true = h refl in cc
 
--- a drawn reference may be null where the field is off
+-- a drawn reference is nullable if `non_nullable_enabled` is off
 pub ref_type_nullable : (config : Config) (off : config.non_nullable_enabled ≡ false) (context : Context) (must_share : Bool) (limit : ℕ) (bytes : List ℕ) → (ref_type_at config context must_share limit bytes).0.nullable ≡ true
 ref_type_nullable config off context must_share limit bytes =
     nullable_unless (ref_type_at config context must_share limit bytes).0.nullable config.non_nullable_enabled off (λ e. (ref_type_granted config context must_share limit bytes e).0)
@@ -50,7 +51,7 @@ pub global_type_nullable : (config : Config) (off : config.non_nullable_enabled 
 unfolding global_type_at
 global_type_nullable config off context bytes = val_type_nullable config off context false (length context.types) bytes
 
--- a reference that may not be null is ungrounded with the field off
+-- a non-nullable reference is ungrounded if `non_nullable_enabled` is off
 lacking_off : (config : Config) (off : config.non_nullable_enabled ≡ false) (context : Context) (value : ValType) → IsNonNullable value → IsUngrounded config context value
 lacking_off config off context (vals.Ref r) not_null = (not_null, λ on. cc)
 lacking_off config off context vals.I32 never = never
@@ -67,7 +68,7 @@ ungrounded_not_null config context vals.F32 never = never
 ungrounded_not_null config context vals.F64 never = never
 ungrounded_not_null config context vals.V128 never = never
 
--- what holds of a value of some field holds of another there
+-- a weaker property holds for an item if some item has the stronger one
 any_weaker : {A : Type 0} (P Q : A → Type 0) → ((x : A) → P x → Q x) → (xs : List A) → Any P xs → Any Q xs
 any_weaker P Q f xs (k, x, inside, at, p) = (k, x, inside, at, f x p)
 

@@ -1,4 +1,4 @@
--- What holds of each heap type that is offered.
+-- Properties of each heap type that is offered.
 use Rattle.std.proofs.Common.{rules, ◌≡◌, ℕ, zero, suc, ◌+◌, Bool, true, false, cond, not, ◌&&◌, List, [], ◌∷◌, ◌++◌, map, Option, Some, None, refl, sym, ap, subst, arith}
 use Rattle.std.specs.Prelude.{slice_get, IsTrue}
 use Rattle.std.specs.List.{flat_map, AllByRecursion as Each}
@@ -52,7 +52,7 @@ supertype_is : (index : ℕ) (o : Option ℕ) → IsTrue (is_index index o) → 
 supertype_is index None h = cc
 supertype_is index (Some other) h = ap Some (eqb-true other index h)
 
--- types that a test picks
+-- types that satisfy a test
 pick_one : (P : HeapType → Type 0) (b : Bool) (start : ℕ) (rest : List HeapType) → (IsTrue b → P (Concrete start)) → Each P rest → Each P (cond b (Concrete start ∷ rest) rest)
 pick_one P true start rest h more = (h refl, more)
 pick_one P false start rest h more = more
@@ -106,12 +106,12 @@ IsBottomOfKind a b = (inner : CompositeInnerType) → kind_of inner ≡ b → a 
 kinds_are_above : (a : AbstractHeapType) → Each (IsBottomOfKind a) (kinds_above a)
 kinds_are_above a = search rules
 
--- a type that stands
+-- an existing type
 standing_each : (P : HeapType → Type 0) (offers : SubType → List HeapType) (types : List SubType) (i : ℕ) → ((t : SubType) → slice_get types i ≡ Some t → Each P (offers t)) → (o : Option SubType) → slice_get types i ≡ o → Each P (of_standing offers o)
 standing_each P offers types i each None at = tt
 standing_each P offers types i each (Some t) at = each t at
 
--- below an abstract type
+-- subtypes of an abstract type
 pub below_abstract_each : (P : HeapType → Type 0) (types : List SubType) (s : Bool) (a : AbstractHeapType)
     → ((b : AbstractHeapType) → IsTrue (is_abstract_below b a) → P (Abstract s b))
     → ((k : ℕ) (t : SubType) → slice_get types k ≡ Some t → shared t ≡ s → IsTrue (is_abstract_below (kind t) a) → P (Concrete k))
@@ -122,7 +122,7 @@ below_abstract_each P types s a abstracts concretes =
     (each_map P Q (Abstract s) abstracts (abstract_subtypes a) (subtypes_below a))
     (kinds_each P Q types s concretes (kinds_below a) (kinds_are_below a))
 
--- above an abstract type
+-- supertypes of an abstract type
 pub above_abstract_each : (P : HeapType → Type 0) (types : List SubType) (s : Bool) (a : AbstractHeapType)
     → ((b : AbstractHeapType) → IsTrue (is_abstract_below a b) → P (Abstract s b))
     → ((k : ℕ) (t : SubType) → slice_get types k ≡ Some t → shared t ≡ s → a ≡ bottom t → P (Concrete k))
@@ -135,7 +135,7 @@ above_abstract_each P types s a abstracts concretes =
 direct_each : (P : HeapType → Type 0) (types : List SubType) (i : ℕ) → ((k : ℕ) (t : SubType) → slice_get types k ≡ Some t → t.supertype ≡ Some i → P (Concrete k)) → Each P (direct_subtypes types i)
 direct_each P types i each = picked_all P (is_declared_below i) types (λ k t at on. each k t at (supertype_is i t.supertype on))
 
--- below a concrete type
+-- subtypes of a concrete type
 pub below_concrete_each : (P : HeapType → Type 0) (config : Config) (types : List SubType) (i : ℕ) → P (Concrete i)
     → ((k : ℕ) (t : SubType) → slice_get types k ≡ Some t → t.supertype ≡ Some i → P (Concrete k))
     → (IsTrue config.custom_descriptors_enabled → P (Exact i))
@@ -150,7 +150,7 @@ below_concrete_each P config types i own direct exact bottoms =
           (each_append P (exact_subtypes config types i) (bottom_at types i) exacts bottoms_each),
     )
 
--- above a concrete type
+-- supertypes of a concrete type
 pub above_concrete_each : (P : HeapType → Type 0) (types : List SubType) (i : ℕ) → P (Concrete i)
     → ((t : SubType) → slice_get types i ≡ Some t → (b : AbstractHeapType) → IsTrue (is_abstract_below (kind t) b) → P (Abstract (shared t) b))
     → Each P (ancestors types i)

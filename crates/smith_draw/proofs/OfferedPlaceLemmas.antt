@@ -1,4 +1,4 @@
--- How many heap types are offered in place of one, and which of them stands at a place.
+-- The number of heap types offered in place of one, and the type at a position among them.
 use Rattle.std.proofs.Common.{rules, ◌≡◌, ℕ, zero, suc, ◌+◌, ◌-◌, ◌<◌, ◌≤◌, Bool, true, false, not, ◌&&◌, List, [], ◌∷◌, ◌++◌, map, Option, Some, None, length, get_or, drop, refl, sym, ◌∙◌, ap, subst, arith, lit<, drop-cons}
 use Rattle.std.specs.Prelude.{slice_get, if◌then◌else◌}
 use Rattle.std.proofs.lemmas.Option.{slice_get-map}
@@ -25,13 +25,13 @@ use Rattle.smith_types.proofs.WalkLemmas.{below_level, below_above}
 use Rattle.smith_draw.specs.Offered.{is_of_kind, is_kind, is_index, is_declared_below, direct_subtypes, picked_from, of_kinds, supertype_of, ancestors, supertypes_of_inner, kinds_at, of_standing, bottom_at, gc_supertypes}
 use Rattle.smith_draw.proofs.AncestorLemmas.{ancestors_up, ancestors_none}
 
--- what stands in the second of two lists stands behind the first in both
+-- an item of the second of two lists comes after the first in their concatenation
 pub slice_get-behind : {A : Type 0} (xs ys : List A) (n k : ℕ) (x : A) → n ≡ length xs + k → slice_get ys k ≡ Some x → slice_get (xs ++ ys) n ≡ Some x
 slice_get-behind [] ys n k x is at = let same : n ≡ k = omega (arith, is) in rw same at
 slice_get-behind (y ∷ xs) ys zero k x is at = absurd (omega (arith, is))
 slice_get-behind (y ∷ xs) ys (suc n) k x is at = slice_get-behind xs ys n k x (omega (arith, is)) at
 
--- the tests of a kind are one
+-- the two tests of a kind agree
 same_shared : (kind : AbstractHeapType) (is_shared : Bool) (inner : CompositeInnerType) → (is_shared && is_of_kind kind inner) ≡ is_inner_of_kind true kind is_shared inner
 same_shared kind is_shared inner = search rules
 
@@ -48,7 +48,7 @@ pick_turn false false start xs ys e same = same
 pick_turn true false start xs ys e same = cc
 pick_turn false true start xs ys e same = cc
 
--- the types that a test picks, by their indices
+-- the types that satisfy a test, by their indices
 picked_indices : (f g : SubType → Bool) → ((t : SubType) → f t ≡ g t) → (start : ℕ) (types : List SubType) → picked_from f start types ≡ map Concrete (indices_from g start types)
 picked_indices f g one start [] = refl
 picked_indices f g one start (t ∷ types) = pick_turn (f t) (g t) start _ _ (one t) (picked_indices f g one (start + 1) types)
@@ -81,7 +81,7 @@ two_kinds types s a b =
     let first = one_kind types s a in
     omega (arith, both, first)
 
--- the place is within the next kind
+-- the position is within the next kind
 pub kinds_here : (types : List SubType) (s : Bool) (ks : List AbstractHeapType) (i place found : ℕ) (kind d : AbstractHeapType) → i < length ks → kind ≡ get_or ks i d → slice_get (indices_of_kind types s kind) place ≡ Some found
     → slice_get (of_kinds types s (drop i ks)) place ≡ Some (Concrete found)
 kinds_here types s ks i place found kind d inside is at =
@@ -90,7 +90,7 @@ kinds_here types s ks i place found kind d inside is at =
     (slice_get-grown (map Concrete (indices_of_kind types s (get_or ks i d))) (of_kinds types s (drop (i + 1) ks)) place (Concrete found)
     (slice_get-map Concrete (indices_of_kind types s (get_or ks i d)) place ∙ ap (λ o. option_map Concrete o) here))
 
--- or behind it
+-- the position is after it
 pub kinds_later : (types : List SubType) (s : Bool) (ks : List AbstractHeapType) (i n place : ℕ) (kind d : AbstractHeapType) (x : HeapType) → i < length ks → kind ≡ get_or ks i d → n ≡ length (indices_of_kind types s kind) → n ≤ place
     → slice_get (of_kinds types s (drop (i + 1) ks)) (place - n) ≡ Some x → slice_get (of_kinds types s (drop i ks)) place ≡ Some x
 kinds_later types s ks i n place kind d x inside is count past at =
@@ -98,14 +98,14 @@ kinds_later types s ks i n place kind d x inside is count past at =
     rw (kinds_turn types s ks i d inside)
     (slice_get-behind (map Concrete (indices_of_kind types s (get_or ks i d))) (of_kinds types s (drop (i + 1) ks)) place (place - n) x (omega (arith, long, past)) at)
 
--- the types on the way up: one for each smaller depth
+-- the proper supertypes: one for each smaller depth
 pub ancestors_long : (types : List SubType) → IsOrderly types → {i d : ℕ} → HasDepth types i d → length (ancestors types i) + 1 ≡ d
 ancestors_long types o (root {i = i} {t = t} at none) = rw (ancestors_none types i (ap supertype_of at ∙ none)) refl
 ancestors_long types o (deeper {i = i} {s = s} {d = d} {t = t} at up above) =
     let rest = ancestors_long types o above in
     rw (ancestors_up types o i s (ap supertype_of at ∙ up)) (omega (arith, rest))
 
--- and each stands where its depth says
+-- each is at the position given by its depth
 pub ancestor_at : (types : List SubType) → IsOrderly types → (i d k a e : ℕ) → HasDepth types i d → HasDepth types a e → IsBelow types (Concrete i) (Concrete a) → e + suc k ≡ d → slice_get (ancestors types i) k ≡ Some (Concrete a)
 ancestor_at types o i d k a e (root at none) high below far = let some : 1 ≤ e = depth_some types high in absurd (omega (arith, some, far))
 ancestor_at types o i d zero a e (deeper {s = s} {d = f} {t = t} at up above) high below far =
@@ -122,7 +122,7 @@ kinds_long types i t at =
     ap (λ o. length (of_standing (λ (u : SubType). map (Abstract (shared u)) (supertypes_of_inner u.composite_type.inner)) o)) at
     ∙ length-map (supertypes_of_inner t.composite_type.inner) (Abstract (shared t))
 
--- how many supertypes of a concrete type are offered
+-- the number of offered supertypes of a concrete type
 pub supertypes_long : (types : List SubType) → IsOrderly types → (i d : ℕ) (t : SubType) (ks : List AbstractHeapType) → slice_get types i ≡ Some t → HasDepth types i d → ks ≡ supertypes_of_inner t.composite_type.inner
     → length ks + d ≡ length (gc_supertypes types (Concrete i))
 supertypes_long types o i d t ks at deep is =
@@ -139,7 +139,7 @@ supertypes_alone types i gone =
     let both = length-append (kinds_at types i) (ancestors types i) in
     omega (arith, none, kinds, both)
 
--- a place among the types on the way up
+-- a position among the proper supertypes
 pub record IsUp (types : List SubType) (i d n place : ℕ) : Type 0 where
   pub kinds : length (kinds_at types i) ≡ n
   pub near : place - n + 2 ≤ d
@@ -161,7 +161,7 @@ up_found types o i d n place a deep up past high below =
     slice_get-behind (kinds_at types i) (ancestors types i) place (place - n) (Concrete a) (omega (arith, kinds, past))
     (ancestor_at types o i d (place - n) a (d - 1 - (place - n)) deep high below (omega (arith, near)))
 
--- the types directly below a type, by their indices
+-- the direct subtypes of a type, by their indices
 direct_indices : (types : List SubType) (i : ℕ) → direct_subtypes types i ≡ map Concrete (families.direct_subtypes types i)
 direct_indices types i = picked_indices (is_declared_below i) (is_directly_below i) (λ t. one t.supertype) 0 types
   where
@@ -181,7 +181,7 @@ direct_found types i place found at =
     ∙ slice_get-map Concrete (families.direct_subtypes types i) place
     ∙ ap (λ (o : Option ℕ). option_map Concrete o) at
 
--- behind itself and the types directly below
+-- a position after the type itself and its direct subtypes
 pub behind_direct : (own : HeapType) (direct more : List HeapType) (place n : ℕ) (x : HeapType) → n ≡ length direct → n < place → slice_get more (place - 1 - n) ≡ Some x → slice_get (own ∷ direct ++ more) place ≡ Some x
 behind_direct own direct more place n x count past at = slice_get-behind (own ∷ direct) more place (place - 1 - n) x (omega (arith, count, past)) at
 

@@ -1,4 +1,4 @@
--- The places of the items of a list that pass a test.
+-- The positions of the items of a list that pass a test.
 use Rattle.std.proofs.Common.{◌≡◌, ◌∙◌, ℕ, suc, Bool, true, false, List, [], ◌∷◌, length, refl, ap, count_by}
 use Rattle.std.specs.List.{filter}
 use Rattle.std.proofs.lemmas.List.Sums.{length-filter}
@@ -12,6 +12,6 @@ as_filtered : {A : Type 0} (test : A → Bool) (n : ℕ) (xs : List A) → lengt
 as_filtered test n [] = refl
 as_filtered test n (x ∷ xs) = one_more test (test x) n x xs refl (as_filtered test (suc n) xs)
 
--- as many places as items that pass
+-- as many positions as items that pass
 pub length_places : {A : Type 0} (test : A → Bool) (n : ℕ) (xs : List A) → length (places_from test n xs) ≡ count_by test xs
 length_places test n xs = as_filtered test n xs ∙ length-filter test xs

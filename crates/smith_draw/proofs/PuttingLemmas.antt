@@ -1,4 +1,4 @@
--- Instructions one behind another, and the values that they leave.
+-- Concatenated instructions, and the values that they leave.
 use Rattle.std.proofs.Common.{◌≡◌, List, [], ◌∷◌, ◌++◌, refl, sym, subst, ap, append_assoc}
 use Rattle.std.specs.Prelude.{All}
 use Rattle.std.specs.List.{AllZip}
@@ -13,7 +13,7 @@ use Rattle.smith_types.specs.declared.const_instr.ConstInstr.{ConstInstr}
 use Rattle.smith_types.proofs.ConstStepLemmas.{one_step}
 use Rattle.smith_draw.specs.Putting.{Puts, Adds}
 
--- steps one behind another
+-- concatenated steps
 pub steps_append : (context : Context) (xs ys : List ConstInstr) (a b c : List ValType) → AreStackSteps context xs a b → AreStackSteps context ys b c → AreStackSteps context (xs ++ ys) a c
 steps_append context [] ys a b c first second = rw first second
 steps_append context (x ∷ xs) ys a b c (between, step, first) second = (between, step, steps_append context xs ys between b c first second)
@@ -24,7 +24,7 @@ zip_append R [] zs (y ∷ ys) ws h k = absurd h
 zip_append R (x ∷ xs) zs [] ws h k = absurd h
 zip_append R (x ∷ xs) zs (y ∷ ys) ws (p, h) k = (p, zip_append R xs zs ys ws h k)
 
--- what is related to two lists one behind the other is in two parts
+-- a relation to a concatenation splits into two parts
 zip_split : {A B : Type 0} (R : A → B → Type 0) (xs : List A) (ys ws : List B) → AllZip R xs (ys ++ ws) → (front : List A) × (back : List A) × (xs ≡ front ++ back) × AllZip R front ys × AllZip R back ws
 zip_split R xs [] ws h = ([], xs, refl, tt, h)
 zip_split R [] (y ∷ ys) ws h = absurd h
@@ -40,16 +40,16 @@ below_itself context F64 = tt
 below_itself context V128 = tt
 below_itself context (Ref reference) = record { heap = itself; nullable = λ h. h }
 
--- nothing is put
+-- nothing is appended
 pub puts_none : (context : Context) (old : List ConstInstr) → Puts context [] old old
 puts_none context old = record { put = λ base h. rw (append-nil base) h }
 
--- one value more is put
+-- one more value is appended
 pub puts_more : (context : Context) (wanted more : List ValType) (old middle new : List ConstInstr) → Puts context wanted old middle → Puts context more middle new → Puts context (wanted ++ more) old new
 puts_more context wanted more old middle new first second =
     record { put = λ base h. rw (← append_assoc base wanted more) (second.put (base ++ wanted) (first.put base h)) }
 
--- an instruction takes the values that were put, and gives one
+-- an instruction takes the appended values and pushes one
 pub puts_by : (context : Context) (instruction : ConstInstr) (operands : List ValType) (result wanted : ValType) (old middle new : List ConstInstr)
     → Puts context operands old middle → new ≡ middle ++ instruction ∷ [] → HasType context instruction operands result → IsValBelow context.types result wanted → IsInstrEnabled context.features context.imported_globals instruction
     → Puts context (wanted ∷ []) old new
@@ -68,7 +68,7 @@ puts_by context instruction operands result wanted old middle new first longer t
       });
 }
 
--- instructions that add a value are put
+-- instructions that add a value are appended
 pub puts_adds : (context : Context) (wanted : ValType) (more old new : List ConstInstr) → Adds context wanted more → new ≡ old ++ more → Puts context (wanted ∷ []) old new
 puts_adds context wanted more old new adds longer = record {
   put = λ base h.
@@ -86,7 +86,7 @@ alone_below context wanted expression [] steps below enabled = absurd below
 alone_below context wanted expression (value ∷ []) steps below enabled = record { value = value; steps = steps; below = below.0; enabled = enabled }
 alone_below context wanted expression (value ∷ other ∷ values) steps below enabled = absurd below.1
 
--- what is put behind nothing is a constant expression
+-- instructions appended to nothing are a constant expression
 pub expression_of : (context : Context) (wanted : ValType) (expression : List ConstInstr) → Puts context (wanted ∷ []) [] expression → IsConstExpr context wanted expression
 expression_of context wanted expression puts =
     let all = puts.put [] (record { values = []; steps = refl; below = tt; enabled = All-nil (IsInstrEnabled context.features context.imported_globals) }) in

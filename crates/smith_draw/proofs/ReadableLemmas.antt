@@ -16,7 +16,7 @@ use Rattle.smith_draw.specs.ConstOffers.{each_from, offered_if, readable_globals
 use Rattle.smith_draw.specs.ConstScopes.{IsReadable}
 use Rattle.smith_draw.proofs.BelowLemmas.{val_decides}
 
--- one of a list, by recursion
+-- an item of a list, by recursion
 abbrev Among : {A : Type 0} → A → List A → Type 0
 Among x [] = ⊥
 Among x (y ∷ ys) = (y ≡ x) ⊎ Among x ys
@@ -35,7 +35,7 @@ contained (y ∷ xs) x (inr more) = let (k, inside, at) = contained xs x more in
 abbrev passing : {A : Type 0} → (A → Bool) → ℕ → List A → List ℕ
 passing test start xs = each_from (λ index x. offered_if (test x) index) start xs
 
--- an item that passes stands at this index
+-- an item that passes is at this index
 abbrev Passes : {A : Type 0} → (A → Bool) → ℕ → List A → ℕ → Type 0
 Passes {A} test start xs index = (k : ℕ) × (x : A) × (slice_get xs k ≡ Some x) × (test x ≡ true) × (index ≡ start + k)
 
@@ -64,7 +64,7 @@ passing_at test start (y ∷ xs) zero index x at passes is =
 passing_at test start (y ∷ xs) (suc k) index x at passes is =
     behind_first (test y) start index (passing test (start + 1) xs) (passing_at test (start + 1) xs k index x at passes (omega arith))
 
--- what stands in the front of a list
+-- the items of a prefix of a list
 front_stands : {A : Type 0} (n : ℕ) (xs : List A) (k : ℕ) (x : A) → slice_get (take n xs) k ≡ Some x → (k < n) × (slice_get xs k ≡ Some x)
 front_stands zero xs k x at = cc
 front_stands (suc n) [] k x at = cc
@@ -86,7 +86,7 @@ test_decides : (context : Context) → IsOrderly context.types → (wanted : Val
 test_decides context orderly wanted global =
     Decides-and (not global.mutable) (is_val_below context.types global.val_type wanted) (not_decides global.mutable) (val_decides context.types orderly global.val_type wanted)
 
--- a listed index is that of a global that may be read, and the other way round
+-- an index is listed if and only if its global may be read
 pub readable_listed : (context : Context) → IsOrderly context.types → (wanted : ValType) (index : ℕ) → Contains (readable_globals context wanted) index ↔ IsReadable context wanted index
 readable_listed context orderly wanted index =
     let test = λ (global : GlobalType). not global.mutable && is_val_below context.types global.val_type wanted in
@@ -103,7 +103,7 @@ readable_listed context orderly wanted index =
           contained (readable_globals context wanted) index (passing_at test 0 seen index index global (stands_in_front context.visible context.globals index global inside there) passes (omega arith)),
     )
 
--- the same of a list that a loop over the visible globals has made
+-- the same for a list made by a loop over the visible globals
 pub listed_readable : (context : Context) → IsOrderly context.types → (wanted : ValType) (listed : List ℕ) (n : ℕ) → length (take context.visible context.globals) ≤ n
     → listed ++ each_from (λ index (global : GlobalType). offered_if (not global.mutable && is_val_below context.types global.val_type wanted) index) n (drop n (take context.visible context.globals)) ≡ readable_globals context wanted
     → (index : ℕ) → Contains listed index ↔ IsReadable context wanted index

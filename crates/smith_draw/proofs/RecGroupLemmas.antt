@@ -1,4 +1,4 @@
--- Drawn groups are valid, and as many types as are asked for.
+-- Drawn groups are valid, and respect the bounds on the number of types.
 use Rattle.std.proofs.Common.{◌≡◌, ℕ, zero, suc, ◌+◌, ◌-◌, ◌<◌, ◌≤◌, Bool, true, false, cond, ◌||◌, List, [], ◌∷◌, ◌++◌, Some, get_or, length, refl, sym, subst, arith, append_assoc, length-append, nat_lt}
 use Rattle.std.specs.Prelude.{slice_get}
 use Rattle.std.specs.List.{AllByRecursion as Each}
@@ -30,7 +30,7 @@ use Rattle.smith_draw.proofs.SupertypeLemmas.{chosen_of}
 use Rattle.smith_draw.proofs.CopiesLoop.{IsWithin}
 use Rattle.smith_draw.proofs.GroupSizeLemmas.{AreWithin, types_until_length, members_length, clone_wanted, chosen_within, rec_group_more}
 
--- types that are drawn one behind another are valid in the group that is being made
+-- types drawn in order are valid in the group under construction
 grown_open : (config : Config) (context : Context) (space : Space) (limit least most : ℕ) (types : List SubType) (bytes : List ℕ) → IsSanitized config → length types + most ≤ limit → AreTypesOpen (features_of config) limit (record { types = types; groups = space.groups })
     → AreTypesOpen (features_of config) limit (record { types = (grow_at (λ made. sub_type_at config (over context made) limit) least most types bytes).0; groups = space.groups })
 unfolding grow_at
@@ -61,7 +61,7 @@ new_group_valid config context allow_empty space bytes sanitized valid =
     AreTypesOpen-close (features_of config) types.0 space.groups (subst (λ (n : ℕ). AreTypesOpen (features_of config) n (record { types = types.0; groups = space.groups })) (sym len) made)
     (λ off. let one = size_alone config.gc_enabled (range_at (cond allow_empty 0 1) (types_left config space) bytes) bytes off in omega (arith, len, one, whole))
 
--- a type stands among types
+-- a type is among the types
 pub record IsStanding (types : List SubType) (t : SubType) : Type 0 where
   pub place : ℕ
   pub at : slice_get types place ≡ Some t
@@ -73,7 +73,7 @@ each_grown types t (u ∷ more) h = (record { place = h.0.place; at = slice_get-
 i_inside : (types : List SubType) (i : ℕ) (t : SubType) → slice_get types i ≡ Some t → i < length types
 i_inside types i t at = slice_get_within types i t at
 
--- types that stand may be added again to the group that is being made
+-- existing types may be added again to the group under construction
 copies_open : (features : Features) (end : ℕ) (space : Space) (types more : List SubType) → AreTypesOpen features end (record { types = types; groups = space.groups }) → length types + length more ≤ end → Each (IsStanding types) more
     → AreTypesOpen features end (record { types = types ++ more; groups = space.groups })
 copies_open features end space types [] now le h = subst (λ (ts : List SubType). AreTypesOpen features end (record { types = ts; groups = space.groups })) (sym (append-nil types)) now
@@ -139,7 +139,7 @@ rec_group_valid config context allow_empty space bytes sanitized valid =
     cond_where (λ (r : Space × List ℕ). AreTypesValid (features_of config) r.0) wanted.0 (cloned_or_new_at config context allow_empty space wanted.1) (new_group_at config context allow_empty space wanted.1)
     (λ on. cloned_or_new_valid config context allow_empty space wanted.1 sanitized valid (clone_wanted config space bytes on).1) (new_group_valid config context allow_empty space wanted.1 sanitized valid)
 
--- what each group that is added keeps, the loops keep
+-- a property preserved by each added group is preserved by the loops
 pub least_keeps : (config : Config) (context : Context) (P : Space → Type 0) → ((space : Space) (bytes : List ℕ) → length space.types < config.min_types → P space → P (rec_group_at config context false space bytes).0) → (turns : ℕ) (space : Space) (bytes : List ℕ) → P space → P (least_types_at config context turns space bytes).0
 unfolding least_types_at
 least_keeps config context P step zero space bytes h = h
@@ -167,7 +167,7 @@ types_valid config context space bytes sanitized valid =
     more_keeps config context P (λ s after room h. rec_group_valid config context true s after sanitized h) (length least.1 + 1) least.0 least.1
     (least_keeps config context P (λ s after few h. rec_group_valid config context false s after sanitized h) config.min_types space bytes valid)
 
--- valid types, at most as many as may be
+-- valid types, at most as many as permitted
 record IsBounded (config : Config) (space : Space) : Type 0 where
   valid : AreTypesValid (features_of config) space
   most : length space.types ≤ config.max_types
@@ -185,7 +185,7 @@ types_most config context space bytes sanitized ordered valid le =
     (more_keeps config context (IsBounded config) (λ s after room h. bounded_step config context true s after sanitized room h.valid) (length least.1 + 1) least.0 least.1
     (least_keeps config context (IsBounded config) (λ s after few h. bounded_step config context false s after sanitized (omega arith) h.valid) config.min_types space bytes (record { valid = valid; most = le }))).most
 
--- valid types, at least as many as are asked for
+-- valid types, at least as many as required
 record IsEnough (config : Config) (space : Space) : Type 0 where
   valid : AreTypesValid (features_of config) space
   least : config.min_types ≤ length space.types

@@ -1,4 +1,4 @@
--- What the test of a shared heap type says, and that types are shared only where that is enabled.
+-- The test of a shared heap type is correct, and types are shared only if that is enabled.
 use Rattle.std.proofs.Common.{◌≡◌, ℕ, Bool, true, false, Option, Some, None, List, refl, sym, ◌↔◌}
 use Rattle.std.specs.Prelude.{slice_get, IsTrue}
 use Rattle.smith_types.specs.Space.{Space}
@@ -30,7 +30,7 @@ same_truth true b to from = sym (to refl)
 same_truth false true to from = from refl
 same_truth false false to from = refl
 
--- what decides whether a heap type is shared is the test of it
+-- a decision whether a heap type is shared equals the test
 pub decided_shared : (types : List SubType) (heap : HeapType) (b : Bool) → IsTrue b ↔ IsHeapTypeShared types heap → b ≡ is_heap_type_shared types heap
 decided_shared types heap b decided = same_truth b (is_heap_type_shared types heap) (λ on. test_shared types heap (decided.0 on)) (λ on. decided.1 (heap_shared types heap on))
 
@@ -42,7 +42,7 @@ heap_sharing config space end (Abstract is_shared ty) valid h on = h.1 on
 heap_sharing config space end (Concrete index) valid h (t, at, on) = type_sharing config space valid index t at on
 heap_sharing config space end (Exact index) valid h (t, at, on) = type_sharing config space valid index t at on
 
--- over valid types a heap type is shared only where that is enabled
+-- over valid types, a heap type is shared only if that is enabled
 pub sharing : (config : Config) (space : Space) (end : ℕ) (heap : HeapType) → AreTypesValid (features_of config) space → IsHeapTypeValid (features_of config) end heap → IsTrue (is_heap_type_shared space.types heap)
     → IsTrue config.shared_everything_threads_enabled × IsHeapTypeShared space.types heap
 sharing config space end heap valid h on = let is = heap_shared space.types heap on in (heap_sharing config space end heap valid h is, is)

@@ -1,4 +1,4 @@
--- Types that match are shared alike.
+-- Matching types have the same sharedness.
 use Rattle.std.proofs.Common.{rules, ◌≡◌, ℕ, ◌<◌, Bool, List, [], ◌∷◌, ◌++◌, Some, length, sym, ◌∙◌, subst, arith, ◌↔◌}
 use Rattle.std.specs.Prelude.{slice_get, IsTrue, All}
 use Rattle.std.specs.List.{AllByRecursion as Each}
@@ -50,7 +50,7 @@ step_shared types orderly (Concrete i) (Concrete j) (t, at, sup) = declared_shar
 step_shared types orderly (Exact i) (Concrete j) same = subst (λ (n : ℕ). IsHeapTypeShared types (Concrete i) ↔ IsHeapTypeShared types (Concrete n)) same ((λ h. h), (λ h. h))
 step_shared types orderly a b step = absurd step
 
--- a heap type below another is shared where that is
+-- a subtype of a heap type is shared if and only if that type is
 pub below_shared : (types : List SubType) → IsOrderly types → (a b : HeapType) → IsBelow types a b → IsHeapTypeShared types a ↔ IsHeapTypeShared types b
 below_shared types orderly a b itself = ((λ h. h), (λ h. h))
 below_shared types orderly a c (by_step {b = b} step below) = both_ways (step_shared types orderly a b step) (below_shared types orderly b c below)
@@ -58,7 +58,7 @@ below_shared types orderly a c (by_step {b = b} step below) = both_ways (step_sh
 pub above_shared : (types : List SubType) → IsOrderly types → (a b : HeapType) → IsBelow types a b → IsHeapTypeShared types b ↔ IsHeapTypeShared types a
 above_shared types orderly a b below = turned (below_shared types orderly a b below)
 
--- a value type below another may stand in a shared type where that may
+-- a subtype of a value type may occur in a shared type if and only if that type may
 pub val_shareable : (types : List SubType) → IsOrderly types → (a b : ValType) → IsValBelow types a b → IsShareable types a ↔ IsShareable types b
 val_shareable types orderly (Ref a) (Ref b) below = below_shared types orderly a.heap_type b.heap_type below.heap
 val_shareable types orderly a b below = search rules

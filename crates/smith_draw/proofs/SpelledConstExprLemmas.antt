@@ -1,4 +1,4 @@
--- A source that begins with the spelling of a constant gives it.
+-- A constant is drawn from a source that starts with its spelling.
 use Rattle.std.proofs.Common.{◌≡◌, ℕ, zero, suc, ◌+◌, Bool, true, false, List, [], ◌∷◌, ◌++◌, Some, length, take, drop, refl, sym, ap, ◌∙◌}
 use Rattle.std.proofs.lemmas.Option.{same_Some}
 use Rattle.std.proofs.Math.Seq.{take-append_seam}
@@ -25,7 +25,7 @@ use Rattle.smith_draw.specs.declared.const_expr.node_choice.Choice.{Choice}
 use Rattle.smith_types.specs.declared.value_type.ValType.{ValType}
 use Rattle.smith_draw.specs.declared.const_expr.node_choice.Choice.TheVariants as choice
 
--- where no global may be read, none is offered
+-- if no global may be read, none is offered
 none_offered : (b : Bool) (index : ℕ) (rest : List ℕ) (choices : List Choice) → offered_if b index ++ rest ≡ [] → (rest ≡ [] → choices ≡ []) → offered_if b (choice.Global index) ++ choices ≡ []
 none_offered true index rest choices h more = cc
 none_offered false index rest choices h more = more h
@@ -36,7 +36,7 @@ no_globals context wanted start [] h = refl
 no_globals context wanted start (g ∷ globals) h =
     none_offered (not g.mutable && is_val_below context.types g.val_type wanted) start _ _ h (no_globals context wanted (start + 1) globals)
 
--- where each global is mutable, none is read
+-- if each global is mutable, none may be read
 mutable_each : (context : Context) (wanted : ValType) (start n : ℕ) (globals : List GlobalType) → Each (λ (global : GlobalType). global.mutable ≡ true) globals
     → each_from (λ index (global : GlobalType). offered_if (not global.mutable && is_val_below context.types global.val_type wanted) index) start (take n globals) ≡ []
 mutable_each context wanted start zero globals h = refl
@@ -46,7 +46,7 @@ mutable_each context wanted start (suc n) (g ∷ globals) (p, h) = rw p (mutable
 pub mutable_not_read : MutableGlobalsAreNotRead
 mutable_not_read context wanted mutable = mutable_each context wanted 0 context.visible context.globals (recursion_from_All (λ (global : GlobalType). global.mutable ≡ true) context.globals mutable)
 
--- a constant, and where it is enabled an extended one
+-- a constant, and an extended one if enabled
 i32_offers : (config : Config) (context : Context) (fuel : ℕ) → readable_globals context I32 ≡ [] → offers config context I32 fuel ≡ choice.Constant ∷ offered_if context.features.extended_const choice.Extended
 unfolding offers
 i32_offers config context fuel unread =
@@ -56,7 +56,7 @@ i32_offers config context fuel unread =
     plain true = refl
     plain false = refl
 
--- one item alone is chosen without a draw
+-- a single item is chosen without a draw
 first_alone : {A : Type 0} (x : A) (bytes : List ℕ) → choose_at (x ∷ []) bytes ≡ (Some x, bytes)
 unfolding choose_at range_at digit_count
 first_alone x bytes = refl

@@ -1,4 +1,4 @@
--- A source that begins with a piece that spells groups gives them, and leaves what follows.
+-- From a source that starts with a piece that spells groups, these groups are drawn, and the bytes after the piece remain.
 use Rattle.std.proofs.Common.{◌≡◌, ℕ, zero, suc, ◌-◌, ◌+◌, ◌<◌, ◌≤◌, ◌&&◌, Bool, true, false, cond, List, [], ◌∷◌, ◌++◌, length, nat_lt, refl, sym, ap, subst, ◌∙◌, arith, append_assoc, length-append}
 use Rattle.std.specs.List.{All, flat_map}
 use Rattle.std.proofs.lemmas.Bool.{lt-ltb}
@@ -28,7 +28,7 @@ size_without : (on : Bool) (drawn : ℕ × List ℕ) (bytes : List ℕ) → on �
 size_without true drawn bytes e = cc
 size_without false drawn bytes e = refl
 
--- no clone is asked for, and a size is drawn
+-- no clone is drawn, and a size is drawn
 record IsSized (config : Config) (space : Space) (size : ℕ) (bytes after : List ℕ) : Type 0 where
   pub behind : List ℕ
   pub new : clone_wanted_at config space bytes ≡ (false, behind)
@@ -60,7 +60,7 @@ group_of : (config : Config) (context : Context) (space : Space) (group : List S
 unfolding rec_group_at new_group_at
 group_of config context space group bytes behind mid after new sized types = rw (new, sized, types) refl
 
--- a group that is drawn, and that no type has a supertype then
+-- a group is drawn, and no type has a supertype afterwards
 pub record IsAdded (config : Config) (context : Context) (space : Space) (group : List SubType) (bytes after : List ℕ) : Type 0 where
   pub made : rec_group_at config context true space bytes ≡ (with_group (space.types ++ group) space.groups, after)
   pub roots : All IsRoot (space.types ++ group)
@@ -80,7 +80,7 @@ group_read config context same space group piece after sanitized roots back h =
       roots = behind.roots;
     }
 
--- a space with groups added behind
+-- a space with groups appended
 abbrev pub with_groups : Space → List (List SubType) → Space
 with_groups space [] = space
 with_groups space (group ∷ groups) = with_groups (with_group (space.types ++ group) space.groups) groups
@@ -110,7 +110,7 @@ groups_read config context same (suc turns) space stands (group ∷ groups) piec
     let again = groups_read config context same turns next true groups rest.second after sanitized stand (omega arith) added.roots others rest.is_second in
     rw (joined_parts h after, joined_parts rest after, lt-ltb (length space.types) config.max_types below, bool_read true h.first (rest.first ++ later) h.is_first, added.made) again
 
--- each group has a byte
+-- each group takes at least a byte
 groups_short : (config : Config) (before : List SubType) (stands : Bool) (groups : List (List SubType)) (piece : List ℕ) → SpellsGroups config before stands groups piece → length groups ≤ length piece
 unfolding SpellsGroups
 groups_short config before stands [] piece h = omega arith
@@ -122,7 +122,7 @@ groups_short config before stands (group ∷ groups) piece h =
     let inner : length h.second ≡ length rest.first + length rest.second = ap length rest.whole ∙ length-append rest.first rest.second in
     omega arith
 
--- groups added behind a space that its groups cover
+-- groups appended to a space whose groups cover its types
 with_groups_is : (space : Space) (groups : List (List SubType)) → next_start space.groups ≡ length space.types
     → with_groups space groups ≡ record { types = space.types ++ flat_map (λ group. group) groups; groups = space.groups ++ ranges_from (length space.types) groups }
 with_groups_is space [] covered = rw (append-nil, append-nil) refl

@@ -1,4 +1,5 @@
--- A source that begins with a piece that spells types without supertypes gives them, and leaves what follows.
+-- From a source that starts with a piece that spells types without supertypes, these types are drawn, and the bytes after
+-- the piece remain.
 use Rattle.std.proofs.Common.{◌≡◌, ℕ, suc, ◌+◌, ◌<◌, ◌&&◌, ◌||◌, Bool, true, false, cond, Option, Some, None, List, [], ◌∷◌, ◌++◌, length, nat_lt, refl, sym, ap, subst, ◌∙◌, arith, append_assoc, length-append}
 use Rattle.std.specs.Prelude.{IsTrue, slice_get}
 use Rattle.std.specs.List.{All, list_any}
@@ -42,7 +43,7 @@ some_open_from types roots start [] = refl
 some_open_from types roots start (t ∷ more) =
     rw (no_ancestors types start roots) (open_turn (is_open t) start (supertypes_from types (start + 1) more) (list_any is_open more) (some_open_from types roots (start + 1) more))
 
--- a type may have subtypes where one is not final
+-- a type may have subtypes if one is not final
 some_open : (types : List SubType) → All IsRoot types → nat_lt 0 (length (supertypes types)) ≡ list_any is_open types
 unfolding supertypes
 some_open types roots = some_open_from types roots 0 types
@@ -98,7 +99,7 @@ declared_read config context limit t piece after on roots stands root unshared h
     (sub_type_of config context limit t (h.first ++ (rest.first ++ behind)) (rest.first ++ behind) after (none_wanted config context.types h.first (rest.first ++ behind) on roots h.is_first)
     (root_of config context limit t (rest.first ++ behind) behind after root final (composite_type_read config context limit t.composite_type rest.second after stands composite)))
 
--- without garbage collection nothing is shared
+-- nothing is shared without garbage collection
 none_shared : (config : Config) → IsSanitized config → config.gc_enabled ≡ false → (on : Bool) → config.shared_everything_threads_enabled ≡ on → on ≡ false
 none_shared config sanitized off true e = let gc : config.gc_enabled ≡ true = sanitized.shared_gc e in cc
 none_shared config sanitized off false e = refl
@@ -132,7 +133,7 @@ roots_orderly types roots = record {
   under = λ index s t at below. let root : t.supertype ≡ None = no_supertype types index roots (Some t) at in cc;
 }
 
--- what is drawn behind the types of before, and that none has a supertype
+-- the draw that extends the types before, after which no type has a supertype
 pub record Behind (before more : List SubType) (drawn : List SubType × List ℕ) (after : List ℕ) : Type 0 where
   pub made : drawn ≡ (before ++ more, after)
   pub roots : All IsRoot (before ++ more)

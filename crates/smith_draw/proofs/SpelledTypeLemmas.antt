@@ -1,4 +1,5 @@
--- A source that begins with a piece that spells a field, function, struct or composite type gives it, and leaves what follows.
+-- From a source that starts with a piece that spells a field, function, struct or composite type, this type is drawn, and
+-- the bytes after the piece remain.
 use Rattle.std.proofs.Common.{◌≡◌, ℕ, ◌-◌, ◌+◌, Bool, true, false, cond, List, [], ◌++◌, length, refl, arith}
 use Rattle.std.specs.List.{All}
 use Rattle.std.proofs.lemmas.List.Elements.{All-weaker, recursion_from_All}
@@ -81,7 +82,7 @@ number_with : (gc : Bool) (number : ℕ) (bytes drawn : List ℕ) → gc ≡ tru
 number_with true number bytes drawn on read = read
 number_with false number bytes drawn on read = cc
 
--- the number of a composite type, and what it is of
+-- the number of a composite type, and a type of that kind
 inner_read : (config : Config) (context : Context) (limit : ℕ) (inner : CompositeInnerType) (piece after : List ℕ) → config.gc_enabled ≡ true → AreHeld (IsReadable context) inner → SpellsInner config limit inner piece
     → (let number = inner_number_at config (piece ++ after) in inner_of_number_at config context false limit number.0 number.1) ≡ (inner, after)
 inner_read config context limit (Array array) piece after on stands h =
@@ -110,7 +111,7 @@ kind_read : (gc : Bool) (config : Config) (context : Context) (limit : ℕ) (inn
 kind_read true config context limit inner piece after e stands h = inner_read config context limit inner piece after e stands h
 kind_read false config context limit inner piece after e stands h = plain_read config context limit inner piece after e stands h
 
--- over what is drawn first, that it is not shared
+-- the part drawn first: that the type is unshared
 composite_of : (config : Config) (context : Context) (limit : ℕ) (composite : CompositeType) (bytes behind after : List ℕ) → composite.shared ≡ false → sharedness_at config false bytes ≡ (false, behind)
     → (let number = inner_number_at config behind in inner_of_number_at config context false limit number.0 number.1) ≡ (composite.inner, after) → composite_type_at config context limit bytes ≡ (composite, after)
 unfolding composite_type_at
@@ -125,7 +126,7 @@ composite_type_read config context limit composite piece after stands h =
     (composite_of config context limit composite (parts.first ++ behind) behind after h.unshared (unshared_read config parts.first behind parts.is_first)
     (kind_read config.gc_enabled config context limit composite.inner parts.second after refl stands parts.is_second))
 
--- value types that refer to types alone, and are grounded by them, are read
+-- value types that refer only to these types, and are grounded by them, are read
 pub inner_readable : (config : Config) (context : Context) (inner : CompositeInnerType) → context.features.custom_descriptors ≡ config.custom_descriptors_enabled → IsOrderly context.types → All (RefersTo config context.types) (values_of inner)
     → AreHeld (IsReadable context) inner
 inner_readable config context inner same orderly h =

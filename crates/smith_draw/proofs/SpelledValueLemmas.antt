@@ -1,4 +1,5 @@
--- A source that begins with a piece that spells a heap or value type gives it, and leaves what follows.
+-- From a source that starts with a piece that spells a heap or value type, this type is drawn, and the bytes after the piece
+-- remain.
 use Rattle.std.proofs.Common.{◌≡◌, ℕ, zero, suc, [], ◌∷◌, sym, subst, ◌<◌, ◌-◌, ◌&&◌, not, Bool, true, false, cond, Some, List, ◌++◌, length, refl, nat_lt, inl, inr, arith}
 use Rattle.std.specs.Prelude.{IsTrue, ◌⊎◌, slice_get}
 use Rattle.std.proofs.lemmas.Bool.{lt-ltb, ltb-true}
@@ -30,7 +31,7 @@ pub chosen_read : {A : Type 0} (other : A) (items : List A) (item : A) (piece af
 unfolding chosen_at
 chosen_read other items item piece after h = rw (number_read h.place 0 (length items - 1) piece after h.number, get_or_from_slice_get items h.place item other h.stands) refl
 
--- a refusal, where one is asked for
+-- a refusal, if there is a draw
 pub refused_where : (on : Bool) (chances : ℕ) (piece after : List ℕ) → Where on (SpellsRefusal chances) piece → cond on (ratio_at 1 chances (piece ++ after)) (false, piece ++ after) ≡ (false, after)
 refused_where true chances piece after h = refusal_read chances piece after h
 refused_where false chances piece after h = rw h refl
@@ -47,7 +48,7 @@ wanted_where false false piece after may h = rw h refl
 wanted_read : (config : Config) (limit : ℕ) (wanted : Bool) (piece after : List ℕ) → (IsTrue wanted → IsTrue (config.gc_enabled && nat_lt 0 limit)) → SpellsConcrete config limit wanted piece → index_wanted_at config limit (piece ++ after) ≡ (wanted, after)
 wanted_read config limit wanted piece after may h = wanted_where (config.gc_enabled && nat_lt 0 limit) wanted piece after may h
 
--- an index below the limit is one where some index is
+-- if an index is below the limit, the limit is above 0
 some_below : (gc : Bool) (index limit : ℕ) → IsTrue (gc && nat_lt index limit) → IsTrue (gc && nat_lt 0 limit)
 some_below true index limit h =
     let below : index < limit = ltb-true index limit h in
@@ -97,13 +98,13 @@ heap_type_read config types limit (Concrete index) piece after stands h =
     concrete_read config types limit index piece after t at h
 heap_type_read config types limit (Exact index) piece after stands h = absurd h
 
--- a value type is drawn from what spells it over types and functions: those that it refers to stand, and a reference that is not nullable is
--- granted
+-- the condition for reading a value type over types and functions: the types that it refers to exist, and a non-nullable
+-- reference is grounded
 abbrev pub IsReadable : Context → ValType → Type 0
 IsReadable context (vals.Ref reference) = IsInRange context.types reference.heap_type × (IsTrue reference.nullable ⊎ IsTrue (is_grounded context reference.heap_type))
 IsReadable context _ = Unit {0}
 
--- a struct type among the types grounds what it grounds over them and functions
+-- a struct type among the types grounds the same heap types over them and functions
 pub readable : (config : Config) (context : Context) (value : ValType) → context.features.custom_descriptors ≡ config.custom_descriptors_enabled → IsOrderly context.types → RefersTo config context.types value → IsReadable context value
 readable config context vals.I32 same orderly h = tt
 readable config context vals.I64 same orderly h = tt
@@ -126,7 +127,7 @@ granted_by true false false piece after may h = elim may [ inl never ↦ cc | in
 granted_by false true grounded piece after may h = rw h.1 refl
 granted_by false false grounded piece after may h = cc h.0
 
--- with the field off no bool is drawn
+-- with `non_nullable_enabled` off, no bool is drawn
 granted_read : (config : Config) (context : Context) (ty : HeapType) (nullable : Bool) (piece after : List ℕ) → IsTrue nullable ⊎ IsTrue (is_grounded context ty) → SpellsNullable config.non_nullable_enabled nullable piece
     → granted_at config context ty (piece ++ after) ≡ (not nullable, after)
 unfolding granted_at

@@ -1,4 +1,4 @@
--- Types that match refer to types that stand, where the other does.
+-- Matching types refer to existing types if the other type does.
 use Rattle.std.proofs.Common.{rules, List, [], ◌∷◌}
 use Rattle.std.specs.List.{AllByRecursion as Each}
 use Rattle.std.proofs.lemmas.List.Elements.{All-from_recursion, recursion_from_All}

@@ -24,7 +24,7 @@ use Rattle.smith_draw.proofs.CompositeTypeLemmas.{composite_type_drawn}
 use Rattle.smith_draw.proofs.MatchingCompositeLemmas.{matching_inner, matching_kind}
 use Rattle.smith_draw.proofs.SupertypeLemmas.{IsSupertype, supertypes_all, chosen_of}
 
--- what holds of both, the first where the test is true
+-- a property of both, of the first only if the test is true
 pub cond_where : {A : Type 0} (P : A → Type 0) (b : Bool) (x y : A) → (IsTrue b → P x) → P y → P (cond b x y)
 cond_where P true x y p q = p refl
 cond_where P false x y p q = q
@@ -54,7 +54,7 @@ not_final_of : (final deep : Bool) → (not final && deep) ≡ true → final �
 not_final_of true deep e = cc
 not_final_of false deep e = refl
 
--- each type that stands is shared only where that is enabled
+-- each existing type is shared only if that is enabled
 sharing : (config : Config) (limit : ℕ) (space : Space) → AreTypesOpen (features_of config) limit space → All (IsSharingEnabled (features_of config)) space.types
 sharing config limit space open_types k d inside =
     (AreTypesOpen-at (features_of config) limit space open_types k (slice_index_or space.types k d) (slice_get-get_or space.types k d inside)).enabled.shared
@@ -97,7 +97,7 @@ below_follows config context limit index t bytes at may = record {
       subst (λ (n : ℕ). may_have_subtypes context.types n u ≡ true) same (subst (λ (v : SubType). may_have_subtypes context.types index v ≡ true) one may);
 }
 
--- what is drawn below a type that may have subtypes, or without one
+-- a type drawn as a subtype of a type that may have subtypes, or without a supertype
 pub record IsSubTypeDrawn (config : Config) (space : Space) (limit : ℕ) (t : SubType) : Type 0 where
   pub valid : IsTypeValid (features_of config) space.types limit t
   pub follows : HasSuperType space.types t
@@ -126,7 +126,7 @@ sub_type_of_some config context limit bytes some =
     let chosen = chosen_of (IsSupertype context.types) 0 (supertypes context.types) bytes some (supertypes_all context.types) in
     subst (λ (at : Option SubType). IsSome (sub_type_below_at config context limit index.0 at index.1).0.supertype) (sym chosen.stands) (search rules)
 
--- a supertype is asked for only where there is one
+-- a supertype is drawn only if there is one
 wanted_some : (config : Config) (count : ℕ) (bytes : List ℕ) → IsTrue (supertype_wanted_at config count bytes).0 → IsTrue config.gc_enabled × (0 < count)
 wanted_some config count bytes h =
     let (gc, some) = wanted_by config.gc_enabled (nat_lt 0 count) (ratio_at 1 32 bytes) bytes h in

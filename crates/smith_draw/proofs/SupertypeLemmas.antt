@@ -14,7 +14,7 @@ use Rattle.smith_draw.specs.Offered.{supertype_at}
 use Rattle.smith_draw.specs.SubTypes.{depth_at, may_have_subtypes, supertypes_from, supertypes, SomeMayHaveSubtypes}
 use Rattle.smith_draw.proofs.AncestorLemmas.{ancestors_up, ancestors_none}
 
--- the depth of a type, by the list of the types above it
+-- the depth of a type, by the list of its proper supertypes
 pub depth_is : (types : List SubType) → IsOrderly types → {i d : ℕ} → HasDepth types i d → d ≡ depth_at types i
 depth_is types orderly (root {i = i} {t = t} at none) =
     let alone : supertype_at types i ≡ None = rw at none in
@@ -38,7 +38,7 @@ unfolding supertypes
 extensible_are types orderly indices kept =
     kept.exact ∙ listed_same types 0 types kept.depths kept.known.long (λ j i is inside. let same : i ≡ j = omega arith in rw same (sym (depth_is types orderly (kept.known.each j inside))))
 
--- the type of an index stands, and may have subtypes
+-- the type at this index exists and may have subtypes
 pub record IsSupertype (types : List SubType) (i : ℕ) : Type 0 where
   pub ty : SubType
   pub stands : slice_get types i ≡ Some ty
@@ -62,7 +62,7 @@ pub supertypes_all : (types : List SubType) → All (IsSupertype types) (superty
 unfolding supertypes
 supertypes_all types = All-from_recursion (IsSupertype types) (supertypes_from types 0 types) (supertypes_each types 0 types (λ j t at. let same : j ≡ 0 + j = omega arith in subst (λ (n : ℕ). slice_get types n ≡ Some t) same at))
 
--- what holds of each item of a list that has items holds of the chosen one
+-- a property of each item of a non-empty list holds for the chosen one
 pub chosen_of : {A : Type 0} (P : A → Type 0) (other : A) (items : List A) (bytes : List ℕ) → 0 < length items → All P items → P (chosen_at other items bytes).0
 unfolding chosen_at
 chosen_of P other items bytes some each =

@@ -21,7 +21,7 @@ fewer : (elements most configured : ℕ) (traps : Bool) → elements ≤ most �
 fewer elements most configured traps le (inl h) = inl (omega arith)
 fewer elements most configured traps le (inr h) = inr (h.0, omega (arith, h.1))
 
--- no more than the configured elements
+-- at most the configured elements
 within_drawn : (config : Config) (table64 : Bool) (elements : ℕ) → elements ≤ drawn_elements config table64 → AreElementsWithin config elements
 unfolding drawn_elements
 within_drawn config table64 elements le =
@@ -31,7 +31,7 @@ maximum_within : (config : Config) (table64 : Bool) (minimum : ℕ) (maximum : O
 maximum_within config table64 minimum None h = tt
 maximum_within config table64 minimum (Some n) h = within_drawn config table64 n h.1
 
--- limits within the drawn elements keep the configured ones
+-- limits within the drawn elements respect the configured ones
 pub table_within : (config : Config) (table : TableType) → table.minimum ≤ drawn_elements config table.table64 → IfSome table.maximum (λ n. (table.minimum ≤ n) × (n ≤ drawn_elements config table.table64))
     → (IsTrue config.table_max_size_required → IsSome table.maximum) → IsTableWithin config table
 table_within config table low high required = record {
@@ -44,7 +44,7 @@ element_by : (on : Bool) (drawn : RefType × List ℕ) (bytes : List ℕ) → ((
 element_by true drawn bytes other = refl
 element_by false drawn bytes other = absurd (other refl)
 
--- an element type other than that of every table needs reference types
+-- an element type other than `funcref` requires reference types
 pub element_enabled : (config : Config) (context : Context) (must_share : Bool) (limit : ℕ) (bytes : List ℕ) → IsElementEnabled (features_of config) (ref_type_at config context must_share limit bytes).0
 unfolding ref_type_at
 element_enabled config context must_share limit bytes other = element_by config.reference_types_enabled _ bytes other

@@ -1,4 +1,4 @@
--- The types that tags and functions may have are right for them.
+-- The types counted for tags and functions are suitable for them.
 use Rattle.std.proofs.Common.{◌≡◌, ℕ, suc, Bool, true, false, cond, List, [], ◌∷◌, ◌++◌, length, refl, arith, append_assoc, length-append}
 use Rattle.std.specs.Prelude.{◌==◌, Some, slice_get, All}
 use Rattle.std.specs.List.{AllByRecursion as ByRecursion}
@@ -13,7 +13,7 @@ use Rattle.smith_draw.specs.TypeUses.{is_tag_type, is_unshared_function, places_
 use Rattle.smith_draw.specs.declared.type_use.TypeUse.{TypeUse}
 use Rattle.smith_draw.specs.declared.type_use.TypeUse.TheVariants.{Tag, ImportedFunc, DefinedFunc}
 
--- at this place of a list stands an item that passes a test
+-- an item that passes a test is at this position of a list
 pub record IsPassing {A : Type 0} (test : A → Bool) (xs : List A) (place : ℕ) : Type 0 where
   pub item : A
   pub stands : slice_get xs place ≡ Some item
@@ -33,7 +33,7 @@ places_behind test front (x ∷ xs) =
     (λ on. record { item = x; stands = rw (← regrouped) (slice_get-grown (front ++ x ∷ []) xs (length front) x (slice_get-last front x)); passes = on })
     (rw (← longer, ← regrouped) later)
 
--- each place at which a test holds is that of an item that passes it
+-- each position at which a test holds has an item that passes it
 pub places_pass : {A : Type 0} (test : A → Bool) (xs : List A) → All (IsPassing test xs) (places_from test 0 xs)
 places_pass test xs = All-from_recursion (IsPassing test xs) (places_from test 0 xs) (places_behind test [] xs)
 
@@ -53,7 +53,7 @@ usable_by DefinedFunc types n t (Func function) at is on = (function, (t, at, is
 usable_by DefinedFunc types n t (Array array) at is on = absurd (cc (rw is at on))
 usable_by DefinedFunc types n t (Struct structure) at is on = absurd (cc (rw is at on))
 
--- each type that may be used is right
+-- each type that may be used is suitable
 pub types_usable : (for_use : TypeUse) (types : List SubType) → All (IsUsable for_use types) (types_for for_use types)
 types_usable for_use types =
     All-weaker (IsPassing (may_be_used for_use) types) (IsUsable for_use types) (λ n h. usable_by for_use types n h.item h.item.composite_type.inner h.stands refl h.passes) (types_for for_use types) (places_pass (may_be_used for_use) types)

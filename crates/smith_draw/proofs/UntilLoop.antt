@@ -1,4 +1,4 @@
--- One turn of a loop that makes a list longer until it has a given number of items.
+-- One turn of a loop that extends a list up to a given length.
 use Rattle.std.proofs.Common.{◌≡◌, ℕ, ◌+◌, ◌<◌, List, [], ◌∷◌, ◌++◌, true, refl, nat_lt}
 use Rattle.std.proofs.lemmas.Bool.{lt-ltb}
 use Rattle.smith_bytes.specs.Source.{KeepsPieces}
@@ -8,7 +8,7 @@ use Rattle.smith_bytes.proofs.GrowingLoop.{IsGrowing, grow_go}
 goes_while : (n end : ℕ) (bytes : List ℕ) → n < end → goes_at (nat_lt n end) bytes ≡ (true, bytes)
 goes_while n end bytes lt = rw (lt-ltb n end lt) refl
 
--- one more was drawn
+-- one more item was drawn
 pub until_go : {A : Type 0} {draw : List A → List ℕ → A × List ℕ} {end n : ℕ} {made more : List A} {start bytes : List ℕ} {x : A} {after : List ℕ} {total : List A × List ℕ}
     → IsGrowing draw end end n made start bytes total → n < end → draw made bytes ≡ (x, after) → more ≡ made ++ x ∷ [] → KeepsPieces bytes after
     → IsGrowing draw end end (n + 1) more start after total

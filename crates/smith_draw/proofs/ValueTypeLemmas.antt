@@ -28,11 +28,11 @@ use Rattle.smith_draw.specs.Grounding.{is_grounded}
 use Rattle.smith_draw.specs.ValueTypes.{value_classes, abstract_heap_types, sharedness_at, abstract_heap_type_at, index_wanted_at, kept_index, type_index_at, heap_type_of_at, heap_type_at, granted_at, ref_type_at, value_of_class_at, val_type_at}
 use Rattle.smith_draw.proofs.EnabledLemmas.{enabled_all, chosen_is}
 
--- what holds of whatever is drawn holds of this
+-- a property of every drawn value holds for this one
 pub drawn_is : {A : Type 0} (P : A → Type 0) {x : A} {after : List ℕ} (drawn : A × List ℕ) → P drawn.0 → drawn ≡ (x, after) → P x
 drawn_is {A = A} P drawn h e = subst (λ (r : A × List ℕ). P r.0) e h
 
--- what must be shared may be
+-- a type that must be shared is permitted to be
 abbrev pub MayShare : Config → Bool → Type 0
 MayShare config must_share = IsTrue must_share → IsTrue config.shared_everything_threads_enabled
 
@@ -41,7 +41,7 @@ may_share true can drawn bytes may h = may refl
 may_share false true drawn bytes may h = refl
 may_share false false drawn bytes may h = h
 
--- what is drawn as shared may be
+-- a type drawn as shared is permitted to be
 pub sharedness_may : (config : Config) (must_share : Bool) (bytes : List ℕ) → MayShare config must_share → MayShare config (sharedness_at config must_share bytes).0
 unfolding sharedness_at
 sharedness_may config must_share bytes may = may_share must_share config.shared_everything_threads_enabled (ratio_at 1 4 bytes) bytes may
@@ -50,12 +50,12 @@ must_be_shared : (must : Bool) (other : Bool × List ℕ) (bytes : List ℕ) →
 must_be_shared true other bytes h = refl
 must_be_shared false other bytes h = cc
 
--- what must be shared is
+-- a type that must be shared is
 sharedness_must : (config : Config) (must_share : Bool) (bytes : List ℕ) → IsTrue must_share → IsTrue (sharedness_at config must_share bytes).0
 unfolding sharedness_at
 sharedness_must config must_share bytes must = must_be_shared must_share _ bytes must
 
--- where this holds of a configuration, the list of types that stand, and the limit, a drawn heap type is like this
+-- the properties of a drawn heap type, given the configuration, the existing types and the limit
 pub record IsHeapTypeDrawn (config : Config) (types : List SubType) (must_share : Bool) (limit : ℕ) (ty : HeapType) : Type 0 where
   pub valid : IsHeapTypeValid (features_of config) limit ty
   pub stands : IsInRange types ty
@@ -82,7 +82,7 @@ wanted_by true true drawn bytes h = (refl, refl)
 wanted_by true false drawn bytes h = cc
 wanted_by false some drawn bytes h = cc
 
--- an index is asked for only where there is one
+-- an index is drawn only if there is one
 index_wanted : (config : Config) (limit : ℕ) (bytes : List ℕ) → IsTrue (index_wanted_at config limit bytes).0 → IsTrue config.gc_enabled × (0 < limit)
 index_wanted config limit bytes h =
     let (gc, some) = wanted_by config.gc_enabled (nat_lt 0 limit) (bool_at bytes) bytes h in
@@ -127,7 +127,7 @@ heap_type_drawn config types must_share limit bytes may =
     let index = type_index_at config types must_share limit bytes in
     heap_type_of_drawn config types must_share limit index.0 index.1 may (type_index_drawn config types must_share limit bytes)
 
--- a drawn reference type is like this
+-- the properties of a drawn reference type
 pub record IsRefTypeDrawn (config : Config) (types : List SubType) (must_share : Bool) (limit : ℕ) (ty : RefType) : Type 0 where
   pub valid : IsRefTypeValid (features_of config) limit ty
   pub stands : IsInRange types ty.heap_type
@@ -139,7 +139,7 @@ granted_where true true false after bytes e = cc
 granted_where true false grounded after bytes e = cc
 granted_where false wanted grounded after bytes e = cc
 
--- a reference is not nullable only where the field is on and its heap type is grounded
+-- a reference is non-nullable only if `non_nullable_enabled` is on and its heap type is grounded
 granted_only : (config : Config) (context : Context) (ty : HeapType) (bytes : List ℕ) → not (granted_at config context ty bytes).0 ≡ false → IsTrue config.non_nullable_enabled × IsTrue (is_grounded context ty)
 unfolding granted_at
 granted_only config context ty bytes e = granted_where config.non_nullable_enabled (bool_at bytes).0 (is_grounded context ty) (bool_at bytes).1 bytes e
@@ -186,13 +186,13 @@ unfolding granted_to
 granted_by config context ty bytes true e = granted_only config context ty.0 ty.1 e
 granted_by config context ty bytes false e = cc
 
--- a drawn reference is not nullable only where the field is on and its heap type is grounded
+-- a drawn reference is non-nullable only if `non_nullable_enabled` is on and its heap type is grounded
 pub ref_type_granted : (config : Config) (context : Context) (must_share : Bool) (limit : ℕ) (bytes : List ℕ) → let drawn = (ref_type_at config context must_share limit bytes).0 in
     drawn.nullable ≡ false → IsTrue config.non_nullable_enabled × IsTrue (is_grounded context drawn.heap_type)
 unfolding ref_type_at granted_to
 ref_type_granted config context must_share limit bytes e = granted_by config context (heap_type_at config context.types must_share limit bytes) bytes config.reference_types_enabled e
 
--- a drawn value type is like this
+-- the properties of a drawn value type
 pub record IsValTypeDrawn (config : Config) (types : List SubType) (must_share : Bool) (limit : ℕ) (ty : ValType) : Type 0 where
   pub valid : IsValTypeValid (features_of config) limit ty
   pub stands : IsValInRange types ty
@@ -233,6 +233,6 @@ val_type_drawn config context must_share limit bytes sanitized may =
 pub values_valid : (config : Config) (types : List SubType) (must_share : Bool) (limit : ℕ) (values : List ValType) → All (IsValTypeDrawn config types must_share limit) values → All (IsValTypeValid (features_of config) limit) values
 values_valid config types must_share limit values h = All-weaker (IsValTypeDrawn config types must_share limit) (IsValTypeValid (features_of config) limit) (λ v d. d.valid) values h
 
--- and shared where they must be
+-- they are shared if they must be
 pub values_shared : (config : Config) (types : List SubType) (must_share : Bool) (limit : ℕ) (values : List ValType) → IsTrue must_share → All (IsValTypeDrawn config types must_share limit) values → All (IsShareable types) values
 values_shared config types must_share limit values must h = All-weaker (IsValTypeDrawn config types must_share limit) (IsShareable types) (λ v d. d.shared must) values h

@@ -1,4 +1,4 @@
--- The bounds that a configuration sets to drawn entities. Rules of this project.
+-- The bounds of a configuration on drawn entities. Rules of this project.
 use Rattle.std.specs.Prelude.{ℕ, ◌*◌, ◌^◌, ◌≤◌, ◌⊎◌, Bool, IsTrue, IsSome, IfSome, if◌then◌else◌}
 use Rattle.smith_types.specs.Entities.{page_log2}
 use Rattle.smith_types.specs.declared.entity_type.MemoryType.{MemoryType}
@@ -9,23 +9,23 @@ use Rattle.smith_config.specs.declared.config.Config.{Config}
 abbrev pub memory_bytes : Config → Bool → ℕ
 memory_bytes config memory64 = if memory64 then config.max_memory64_bytes else config.max_memory32_bytes
 
--- a number of pages takes at most the configured bytes, or is at most 1 with `disallow_traps`
+-- this number of pages takes at most the configured bytes, or is at most 1 with `disallow_traps`
 abbrev pub ArePagesWithin : Config → MemoryType → ℕ → Type 0
 ArePagesWithin config memory pages =
     (pages * 2 ^ page_log2 memory.page_size_log2 ≤ memory_bytes config memory.memory64)
     ⊎ (IsTrue config.disallow_traps × (pages ≤ 1))
 
--- a memory's limits keep the configured bytes, and there is a maximum where it is required
+-- the limits of a memory respect the configured bytes, and there is a maximum if it is required
 pub record IsMemoryWithin (config : Config) (memory : MemoryType) : Type 0 where
   pub minimum : ArePagesWithin config memory memory.minimum
   pub maximum : IfSome memory.maximum (ArePagesWithin config memory)
   pub required : IsTrue config.memory_max_size_required → IsSome memory.maximum
 
--- a number of elements is at most the configured number, or at most 1 with `disallow_traps`
+-- this number of elements is at most the configured number, or at most 1 with `disallow_traps`
 abbrev pub AreElementsWithin : Config → ℕ → Type 0
 AreElementsWithin config elements = (elements ≤ config.max_table_elements) ⊎ (IsTrue config.disallow_traps × (elements ≤ 1))
 
--- a table's limits keep the configured elements, and there is a maximum where it is required
+-- the limits of a table respect the configured elements, and there is a maximum if it is required
 pub record IsTableWithin (config : Config) (table : TableType) : Type 0 where
   pub minimum : AreElementsWithin config table.minimum
   pub maximum : IfSome table.maximum (AreElementsWithin config)

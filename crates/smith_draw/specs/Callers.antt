@@ -1,9 +1,9 @@
--- What the callers of draws hand in. Rules of this project.
+-- Conditions on the callers of draws. Rules of this project.
 use Rattle.std.specs.Prelude.{ℕ}
 use Rattle.smith_config.specs.declared.config.Config.{Config}
 use Rattle.smith_config.specs.Faults.{Passes}
 
--- a configuration that passes its check, but for the pair of the least and the most imports: it does with some least number of
--- imports
+-- a configuration that passes its check, possibly except for the pair of `min_imports` and `max_imports`: it passes with
+-- some `min_imports`
 abbrev pub PassesButImports : Config → Type 0
 PassesButImports config = (least : ℕ) × Passes (record config { min_imports = least })

@@ -1,13 +1,13 @@
--- Choices among what a configuration enables.
+-- Choices among the items that a configuration enables.
 use Rattle.std.specs.Prelude.{ℕ, ◌-◌, Bool, List, map, length, slice_index_or}
 use Rattle.std.specs.List.{filter}
 use Rattle.smith_bytes.specs.Draws.{range_at}
 
--- the items of a table that are enabled, in order
+-- the enabled items of a table, in order
 abbrev pub enabled : {A : Type 0} → List (A × Bool) → List A
 enabled table = map (λ row. row.0) (filter (λ row. row.1) table)
 
--- the item at a drawn place of a list, and `other` where the list is empty
+-- the item at a drawn position of a list, or `other` if the list is empty
 unfoldable pub chosen_at : {A : Type 0} → A → List A → List ℕ → A × List ℕ
 chosen_at other items bytes =
     let place = range_at 0 (length items - 1) bytes in

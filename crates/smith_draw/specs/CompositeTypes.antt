@@ -13,7 +13,7 @@ use Rattle.smith_bytes.specs.Growth.{grow_at}
 use Rattle.smith_draw.specs.ValueTypes.{sharedness_at, val_type_at}
 use Rattle.smith_draw.specs.FieldTypes.{field_type_at, fields_until_at}
 
--- the greatest number of results (own rule)
+-- the maximum number of results (own rule)
 abbrev pub most_results : Config → ℕ
 most_results config = if config.multi_value_enabled then 20 else 1
 
@@ -36,7 +36,7 @@ struct_type_at config context must_share limit bytes =
     let fields = fields_until_at config context must_share limit count.0 [] count.1 in
     (record { fields = fields.0 }, fields.1)
 
--- the composite type of a number: an array, a function or a struct (own rule)
+-- the composite type for a number: an array, a function or a struct (own rule)
 abbrev pub inner_of_number_at : Config → Context → Bool → ℕ → ℕ → List ℕ → CompositeInnerType × List ℕ
 inner_of_number_at config context must_share limit zero bytes =
     let field = field_type_at config context must_share limit bytes in (Array (record { 0 = field.0 }), field.1)
@@ -45,11 +45,11 @@ inner_of_number_at config context must_share limit (suc zero) bytes =
 inner_of_number_at config context must_share limit _ bytes =
     let structure = struct_type_at config context must_share limit bytes in (Struct structure.0, structure.1)
 
--- the number of a composite type: that of functions without garbage collection (own rule)
+-- the number of a composite type; without garbage collection that of functions (own rule)
 abbrev pub inner_number_at : Config → List ℕ → ℕ × List ℕ
 inner_number_at config bytes = if config.gc_enabled then range_at 0 2 bytes else (1, bytes)
 
--- sharedness, then a composite type of a number, in which everything must be shared where it is (own rule)
+-- sharedness, then a composite type for a number; if it is shared, so is everything in it (own rule)
 unfoldable pub composite_type_at : Config → Context → ℕ → List ℕ → CompositeType × List ℕ
 composite_type_at config context limit bytes =
     let shared = sharedness_at config false bytes in

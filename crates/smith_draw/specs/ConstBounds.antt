@@ -1,4 +1,4 @@
--- How long drawn constant expressions are, and when none is drawn. Rules of this project.
+-- The length of drawn constant expressions, and the cases without an expression. Rules of this project.
 use Rattle.std.specs.Prelude.{◌≡◌, ◌⊎◌, ℕ, ◌+◌, ◌*◌, max, false, IsTrue, List, [], ◌∷◌, length}
 use Rattle.std.specs.List.{Any}
 use Rattle.smith_types.specs.Expressions.{Context, field_values}
@@ -13,30 +13,30 @@ use Rattle.smith_bytes.specs.declared.error.Error.TheVariants.{Memory, EmptyChoo
 use Rattle.smith_config.specs.declared.config.Config.{Config}
 use Rattle.smith_draw.specs.ConstScopes.{fields_of}
 
--- how many fields a struct has
+-- the number of fields of a struct
 abbrev pub field_count : CompositeInnerType → ℕ
 field_count (Struct structure) = length structure.fields
 field_count _ = 0
 
--- the greater of 3 and the longest struct's field count: the most operands of an instruction
+-- the greater of 3 and the greatest number of fields of a struct: the maximum number of operands of an instruction
 unfoldable pub widest : List SubType → ℕ
 widest [] = 3
 widest (t ∷ types) = max (field_count t.composite_type.inner) (widest types)
 
--- the most instructions of an expression over these types
+-- the maximum number of instructions of an expression over these types
 abbrev pub most_instructions : Config → List SubType → ℕ
 most_instructions config types = 23 * (1 + config.const_expr_fuel * widest types)
 
--- a reference that may not be null
+-- a non-nullable reference
 abbrev pub IsNonNullable : ValType → Type 0
 IsNonNullable (Ref reference) = reference.nullable ≡ false
 IsNonNullable _ = ⊥
 
--- a field of a struct, or the element of an array, is a reference that may not be null
+-- a field of a struct, or the element of an array, is a non-nullable reference
 abbrev pub HoldsNonNullableField : List SubType → Type 0
 HoldsNonNullableField types = Any (λ (t : SubType). Any IsNonNullable (field_values (fields_of t.composite_type.inner))) types
 
--- a reference that may not be null, and, where the field is on, is not grounded
+-- a non-nullable reference, which is not grounded either if `non_nullable_enabled` is on
 abbrev pub IsUngrounded : Config → Context → ValType → Type 0
 IsUngrounded config context (Ref reference) = (reference.nullable ≡ false) × (IsTrue config.non_nullable_enabled → ¬ IsGrounded context reference.heap_type)
 IsUngrounded config context _ = ⊥
@@ -45,10 +45,10 @@ IsUngrounded config context _ = ⊥
 abbrev pub HoldsUngroundedField : Config → Context → Type 0
 HoldsUngroundedField config context = Any (λ (t : SubType). Any (IsUngrounded config context) (field_values (fields_of t.composite_type.inner))) context.types
 
--- where there may be nothing to choose from
+-- there may be nothing to choose from
 abbrev pub MayLack : Config → Context → ValType → Type 0
 MayLack config context wanted = IsUngrounded config context wanted ⊎ HoldsUngroundedField config context
 
--- when an expression may be refused
+-- the errors of drawing an expression
 abbrev pub MayRefuseConstExpr : Config → Context → ValType → Error → Type 0
 MayRefuseConstExpr config context wanted e = (e ≡ Memory) ⊎ ((e ≡ EmptyChoose) × MayLack config context wanted)

@@ -1,4 +1,4 @@
--- Drawn constant expressions: which expression the bytes give.
+-- Drawn constant expressions as a function of the bytes.
 use Rattle.std.specs.Prelude.{ℕ, zero, suc, ◌-◌, false, not, List, [], ◌∷◌, ◌++◌, Option, Some, None, option_and_then, if◌then◌else◌}
 use Rattle.std.specs.Option.{option_map}
 use Rattle.std.specs.Int.{cast_signed, w32}
@@ -17,35 +17,35 @@ use Rattle.smith_draw.specs.declared.const_expr.node_choice.Choice.{Choice}
 use Rattle.smith_draw.specs.declared.const_expr.node.Operand.{Operand}
 use Rattle.smith_draw.specs.declared.const_expr.node.Operand.TheVariants.{Value, Length}
 
--- the instructions so far, the fuel and the bytes that are left
+-- the instructions so far, the remaining fuel and the remaining bytes
 pub record State : Type 0 where
   pub made : List ConstInstr
   pub fuel : ℕ
   pub bytes : List ℕ
 
--- a state of these
+-- the state with these fields
 abbrev pub state_of : List ConstInstr → ℕ → List ℕ → State
 state_of made fuel bytes = record { made = made; fuel = fuel; bytes = bytes }
 
--- an instruction behind those so far
+-- the state with an instruction appended
 abbrev pub behind : ConstInstr → State → State
 behind instruction s = record s { made = s.made ++ instruction ∷ [] }
 
--- a length of at most the fuel, which it takes
+-- a length that is at most the fuel, and is subtracted from it
 abbrev pub length_at : State → State
 length_at s = let n = range_at 0 s.fuel s.bytes in state_of (s.made ++ instr.I32Const (cast_signed w32 n.0) ∷ []) (s.fuel - n.0) n.1
 
--- an operand, by the draw of a value: a length is drawn as an i32, save where lengths are limited
+-- an operand, given the draw of a value: a length is drawn as an i32, unless lengths are limited
 abbrev pub operand_at : Config → (ValType → State → Option State) → Operand → State → Option State
 operand_at config draw (Value value) s = draw value s
 operand_at config draw Length s = if config.limit_arrays_in_const_exprs then Some (length_at s) else draw I32 s
 
--- operands in order, one behind another
+-- operands in order
 abbrev pub operands_at : (Operand → State → Option State) → List Operand → State → Option State
 operands_at draw [] s = Some s
 operands_at draw (operand ∷ operands) s = option_and_then (operands_at draw operands) (draw operand s)
 
--- what is drawn after a choice: an extended constant, or operands and the instruction behind them
+-- the draw after a choice: an extended constant, or operands followed by the instruction
 abbrev pub made_at : Context → Config → (ValType → State → Option State) → ValType → State → Choice → Option State
 made_at context config draw wanted s choice =
     let extended = extended_at wanted s.bytes in
@@ -53,29 +53,29 @@ made_at context config draw wanted s choice =
     if is_extended choice then Some (state_of (s.made ++ extended.0) (s.fuel - 1) extended.1)
     else option_map (behind node.0.instruction) (operands_at (operand_at config draw) node.0.operands (state_of s.made (s.fuel - 1) node.1))
 
--- what is drawn after the choice, if there is a choice
+-- the draw after a choice, if there is one
 abbrev pub chosen_at : Context → Config → (ValType → State → Option State) → ValType → State → Option Choice → Option State
 chosen_at context config draw wanted s None = None
 chosen_at context config draw wanted s (Some choice) = made_at context config draw wanted s choice
 
--- a value of a type, by recursion on a depth that is above the fuel: none where there is nothing to choose from
+-- a value of a type, by recursion on a depth above the fuel; none if there is nothing to choose from
 unfoldable pub expression_at : Context → Config → ℕ → ValType → State → Option State
 expression_at context config zero wanted s = None
 expression_at context config (suc depth) wanted s =
     let chosen = choose_at (offers config context wanted s.fuel) s.bytes in
     chosen_at context config (expression_at context config depth) wanted (state_of s.made s.fuel chosen.1) chosen.0
 
--- an expression of its own, and the bytes behind it
+-- an expression from an empty start, and the remaining bytes
 unfoldable pub expression_alone_at : Context → Config → ℕ → ValType → List ℕ → Option (List ConstInstr × List ℕ)
 expression_alone_at context config fuel wanted bytes =
     option_map (λ (s : State). (s.made, s.bytes)) (expression_at context config (suc fuel) wanted (state_of [] fuel bytes))
 
--- the expression of a type that bytes give in a context, with the configured fuel
+-- the expression of a type drawn from bytes in a context, with the configured fuel
 abbrev pub const_expr_at : Config → Context → ValType → List ℕ → Option (List ConstInstr × List ℕ)
 const_expr_at config context wanted bytes =
     expression_alone_at context config config.const_expr_fuel wanted bytes
 
--- the initialiser of a table: none without garbage collection, and where elements may be null a bool says so
+-- the initialiser of a table: none without garbage collection; for nullable elements, a bool decides whether there is none
 unfoldable pub table_init_at : Config → Context → RefType → List ℕ → Option (Option (List ConstInstr) × List ℕ)
 table_init_at config context element bytes =
     let null = if element.nullable then bool_at bytes else (false, bytes) in

@@ -1,4 +1,4 @@
--- The instruction that a choice makes, and the operands that are drawn before it.
+-- The instruction for a choice, and the operands that are drawn before it.
 use Rattle.std.specs.Prelude.{ℕ, zero, suc, Bool, true, false, List, [], ◌∷◌, ◌++◌, map, Option, Some, None, slice_get}
 use Rattle.smith_bytes.specs.Draws.{range_at}
 use Rattle.smith_types.specs.Expressions.{field_values}
@@ -20,16 +20,16 @@ use Rattle.smith_draw.specs.declared.const_expr.node.Operand.{Operand}
 use Rattle.smith_draw.specs.declared.const_expr.node.Operand.TheVariants.{Value, Length}
 use Rattle.smith_draw.specs.declared.const_expr.node.Node.{Node}
 
--- the fields of a type that stands
+-- the fields of a type, if it exists
 abbrev pub fields_there : Option SubType → List FieldType
 fields_there None = []
 fields_there (Some t) = fields_of t.composite_type.inner
 
--- an operand for each field of the type of an index
+-- an operand for each field of the type at this index
 abbrev pub field_operands : List SubType → ℕ → List Operand
 field_operands types index = map Value (field_values (fields_there (slice_get types index)))
 
--- a list behind itself, a number of times
+-- a number of copies of a list, concatenated
 abbrev pub repeated : {A : Type 0} → ℕ → List A → List A
 repeated zero xs = []
 repeated (suc n) xs = xs ++ repeated n xs
@@ -39,21 +39,21 @@ abbrev pub is_shared_heap : HeapType → Bool
 is_shared_heap (Abstract shared ty) = shared
 is_shared_heap _ = false
 
--- the reference type that is converted to the wanted type: of this heap type, and as nullable and as shared
+-- the reference type to convert to the wanted type: to this heap type, with the same nullability and sharedness
 abbrev pub converted : ValType → AbstractHeapType → ValType
 converted (Ref reference) ty = Ref (record { nullable = reference.nullable; heap_type = Abstract (is_shared_heap reference.heap_type) ty })
 converted value ty = value
 
--- the choice of an extended constant
+-- whether a choice is an extended constant
 abbrev pub is_extended : Choice → Bool
 is_extended choice.Extended = true
 is_extended _ = false
 
--- a node of these
+-- the node with these fields
 abbrev pub node_of : List Operand → ConstInstr → Node
 node_of operands instruction = record { operands = operands; instruction = instruction }
 
--- the node of a choice: of a fixed array its size is drawn, of a constant its value
+-- the node of a choice; the size of a fixed array and the value of a constant are drawn
 unfoldable pub node_at : List SubType → ValType → Choice → List ℕ → Node × List ℕ
 node_at types wanted (choice.Global index) bytes = (node_of [] (instr.GlobalGet index), bytes)
 node_at types wanted choice.Constant bytes = let drawn = constant_at wanted bytes in (node_of [] drawn.0, drawn.1)

@@ -1,4 +1,4 @@
--- What constant expressions are drawn over.
+-- The context in which constant expressions are drawn.
 use Rattle.std.specs.Prelude.{◌≡◌, ℕ, ◌<◌, ◌≤◌, ◌^◌, Bool, false, IsTrue, ◌&&◌, if◌then◌else◌, List, [], ◌∷◌, Some, length, slice_get, All}
 use Rattle.smith_types.specs.Expressions.{Context, IsVisible}
 use Rattle.smith_types.specs.Subtyping.{IsValBelow}
@@ -17,7 +17,7 @@ use Rattle.smith_types.specs.Expressions.{IsStructAt, field_values}
 use Rattle.smith_config.specs.Features.{features_of}
 use Rattle.smith_draw.specs.declared.const_expr.scope.Scope.{Scope}
 
--- the context of what an expression may refer to
+-- the context of a scope
 abbrev pub context_of : Scope → Context
 context_of scope = record {
   features = features_of scope.config.now;
@@ -35,7 +35,7 @@ fields_of (Struct structure) = structure.fields
 fields_of (Array array) = array.0 ∷ []
 fields_of (Func function) = []
 
--- what stands is valid so far, and few enough for indices
+-- the items defined so far are valid, and few enough for indices
 pub record IsScope (context : Context) : Type 0 where
   pub orderly : IsOrderly context.types
   pub few_types : length context.types < 2 ^ 32
@@ -48,11 +48,12 @@ pub record IsScope (context : Context) : Type 0 where
   pub structs : (index : ℕ) (fields : List FieldType) → IsStructAt context.types index fields → IsTrue context.features.gc
   pub fields : (index : ℕ) (t : SubType) → slice_get context.types index ≡ Some t → All (IsValTypeValid context.features (length context.types)) (field_values (fields_of t.composite_type.inner))
 
--- where the globals end that may be read: the imported globals, or, with garbage collection where it is allowed, all
+-- the end of the globals that may be read: after the imported globals, or after all globals if that is allowed with garbage
+-- collection
 abbrev pub visible_end : Config → Spaces → Bool → ℕ
 visible_end config spaces allow_defined = if config.gc_enabled && allow_defined then length spaces.entities.globals.now else spaces.entities.imported_globals
 
--- what an expression over spaces may refer to
+-- the context of an expression over spaces
 abbrev pub seen_by : Config → Spaces → Bool → Context
 seen_by config spaces allow_defined = record {
   features = features_of config;
@@ -64,7 +65,7 @@ seen_by config spaces allow_defined = record {
   visible = visible_end config spaces allow_defined;
 }
 
--- the types that stand are valid, and so are the functions and globals over them, few enough for indices
+-- the types defined so far are valid, the functions and globals are valid over them, and all are few enough for indices
 pub record AreSpacesValid (config : Config) (spaces : Spaces) : Type 0 where
   pub types : AreTypesValid (features_of config) spaces.types.now
   pub funcs : All (IsFuncValid spaces.types.now.types) spaces.entities.funcs.now
@@ -73,6 +74,7 @@ pub record AreSpacesValid (config : Config) (spaces : Spaces) : Type 0 where
   pub few_funcs : length spaces.entities.funcs.now < 2 ^ 32
   pub few_globals : length spaces.entities.globals.now < 2 ^ 32
 
--- a visible global whose type is below the wanted type (Validation, Constant Expressions; own rules of subtypes as in `IsStep`)
+-- a visible global whose type is a subtype of the wanted type (Validation, Constant Expressions; own rules of subtyping as
+-- in `IsStep`)
 abbrev pub IsReadable : Context → ValType → ℕ → Type 0
 IsReadable context wanted index = (value : ValType) × IsVisible context index value × IsValBelow context.types value wanted

@@ -1,4 +1,4 @@
--- What each step of drawing a constant expression adds to the instructions that stand.
+-- The instructions added by each step of drawing a constant expression.
 use Rattle.std.specs.Prelude.{◌≡◌, ◌⊎◌, ℕ, ◌+◌, ◌*◌, ◌≤◌, ◌<◌, true, IsTrue, Option, List, Some, None, Result, Ok, Err, length, map, slice_get, All}
 use Rattle.smith_types.specs.Expressions.{Context, HasType}
 use Rattle.smith_types.specs.Flags.{IsInstrEnabled}
@@ -24,13 +24,13 @@ abbrev pub operand_type : Operand → ValType
 operand_type (Value value) = value
 operand_type Length = I32
 
--- values of these types are put behind the old instructions, and what that takes of the fuel
+-- values of these types are appended to the old instructions, and the fuel that this takes
 pub record IsDrawn (context : Context) (values : List ValType) (old : List ConstInstr) (fuel : ℕ) (new : List ConstInstr) (left : ℕ) : Type 0 where
   pub puts : Puts context values old new
   pub spent : left ≤ fuel
   pub short : length new + 23 * widest context.types * left ≤ length old + 23 * length values + 23 * widest context.types * fuel
 
--- a node gives a value of the wanted type from its operands, which are few, valid and paid for
+-- a node produces a value of the wanted type from its operands, which are few, valid and paid for
 pub record IsNode (config : Config) (context : Context) (wanted : ValType) (fuel : ℕ) (node : Node) : Type 0 where
   pub result : ValType
   pub typed : HasType context node.instruction (map operand_type node.operands) result
@@ -41,18 +41,18 @@ pub record IsNode (config : Config) (context : Context) (wanted : ValType) (fuel
   pub valid : All (λ operand. IsValTypeValid context.features (length context.types) (operand_type operand)) node.operands
   pub lacks : (operand : Operand) (place : ℕ) → slice_get node.operands place ≡ Some operand → MayLack config context (operand_type operand) → MayLack config context wanted
 
--- each node that a choice makes gives the wanted type, and an extended constant is of an integer type, and enabled
+-- each node of a choice has the wanted type; an extended constant has an integer type and is enabled
 pub record IsFit (config : Config) (context : Context) (wanted : ValType) (fuel : ℕ) (choice : Choice) : Type 0 where
   pub node : (bytes : List ℕ) → IsNode config context wanted fuel (node_at context.types wanted choice bytes).0
   pub extended : is_extended choice ≡ true → ((wanted ≡ I32) ⊎ (wanted ≡ I64)) × IsTrue context.features.extended_const
 
--- a step that succeeds leaves what its definition gives; of a step that had nothing to choose from, the definition gives none
+-- a successful step leaves the state that its definition returns; if a step had no choice, its definition returns none
 abbrev pub Reads : Result (Unit {0}) Error → State → Option State → Type 0
 Reads (Ok done) new read = read ≡ Some new
 Reads (Err errors.Memory) new read = Unit {0}
 Reads (Err errors.EmptyChoose) new read = read ≡ None
 Reads (Err _) new read = ⊥
 
--- a value, by its definition at whatever depth above the fuel
+-- a value, by its definition at any depth above the fuel
 pub record ReadsValue (context : Context) (config : Config) (wanted : ValType) (old new : State) (result : Result (Unit {0}) Error) : Type 0 where
   pub exact : (depth : ℕ) → old.fuel < depth → Reads result new (expression_at context config depth wanted old)

@@ -1,4 +1,4 @@
--- What one task of drawing a constant expression does, and leaves to do. Lists of tasks begin with the next one.
+-- The effect of one task of drawing a constant expression. Lists of tasks start with the next task.
 use Rattle.std.specs.Prelude.{◌≡◌, ◌⊎◌, ℕ, ◌+◌, ◌-◌, ◌<◌, ◌≤◌, List, [], ◌∷◌, ◌++◌, Some, None, map, length}
 use Rattle.std.specs.Option.{option_map}
 use Rattle.smith_types.specs.Expressions.{Context}
@@ -14,17 +14,17 @@ use Rattle.smith_draw.specs.declared.const_expr.node.Node.{Node}
 use Rattle.smith_draw.specs.declared.const_expr.task.Task.{Task}
 use Rattle.smith_draw.specs.declared.const_expr.task.Task.TheVariants.{Draw, Write}
 
--- what a task draws is of a valid type
+-- the type that a task draws is valid
 abbrev pub IsTaskValid : Context → Task → Type 0
 IsTaskValid context (Draw operand) = IsValTypeValid context.features (length context.types) (operand_type operand)
 IsTaskValid context (Write instruction) = Unit {0}
 
--- an operand was drawn, by its definition at whatever depth above the fuel
+-- an operand was drawn, by its definition at any depth above the fuel
 pub record IsOperandDrawn (context : Context) (config : Config) (operand : Operand) (old new : State) : Type 0 where
   pub read : (depth : ℕ) → old.fuel < depth → operand_at config (expression_at context config depth) operand old ≡ Some new
   pub drawn : IsDrawn context (operand_type operand ∷ []) old.made old.fuel new.made new.fuel
 
--- a node was chosen for an operand: its operands are to be drawn, and its instruction is to be written after them
+-- a node was chosen for an operand: its operands are drawn next, and its instruction is appended after them
 pub record IsOperandBegun (context : Context) (config : Config) (operand : Operand) (todo : List Task) (old : State) (todo' : List Task) (new : State) : Type 0 where
   pub node : Node
   pub bytes : List ℕ
@@ -35,22 +35,22 @@ pub record IsOperandBegun (context : Context) (config : Config) (operand : Opera
   pub read : (depth : ℕ) → old.fuel < depth
       → operand_at config (expression_at context config depth) operand old ≡ option_map (behind node.instruction) (operands_at (operand_at config (expression_at context config (depth - 1))) node.operands (state_of old.made (old.fuel - 1) bytes))
 
--- a task was carried out, and the tasks after it became these
+-- a task was carried out, and the remaining tasks became these
 abbrev pub IsStep : Context → Config → Task → List Task → State → List Task → State → Type 0
 IsStep context config (Draw operand) todo old todo' new = ((todo' ≡ todo) × IsOperandDrawn context config operand old new) ⊎ IsOperandBegun context config operand todo old todo' new
 IsStep context config (Write instruction) todo old todo' new = (todo' ≡ todo) × (new ≡ behind instruction old)
 
--- a step leaves at most the operands of one node and its instruction more to do, and more than before only where it spends fuel
+-- a step adds at most the operands of one node and its instruction to the tasks, and makes them more only if it spends fuel
 pub record IsGrowthPaid (context : Context) (todo : List Task) (fuel : ℕ) (todo' : List Task) (left : ℕ) : Type 0 where
   pub few : length todo' ≤ length todo + (widest context.types + 1)
   pub paid : length todo < length todo' → left < fuel
 
--- nothing is offered for an operand, which its definition says too
+-- no choice is offered for an operand, and its definition returns none
 pub record IsOperandLacking (context : Context) (config : Config) (operand : Operand) (old : State) : Type 0 where
   pub lacks : MayLack config context (operand_type operand)
   pub none : (depth : ℕ) → old.fuel < depth → operand_at config (expression_at context config depth) operand old ≡ None
 
--- when a task is refused
+-- the errors of a task
 abbrev pub MayRefuseTask : Context → Config → Task → State → Error → Type 0
 MayRefuseTask context config (Draw operand) old e = (e ≡ errors.Memory) ⊎ ((e ≡ errors.EmptyChoose) × IsOperandLacking context config operand old)
 MayRefuseTask context config (Write instruction) old e = e ≡ errors.Memory

@@ -1,4 +1,4 @@
--- Contexts of constant expressions, and a law of them, on which the definitions are tried.
+-- Contexts of constant expressions, and laws about them, on which the definitions are tried.
 use Rattle.std.specs.Prelude.{◌≡◌, true, false, List, [], ◌∷◌, All}
 use Rattle.smith_types.specs.Expressions.{Context}
 use Rattle.smith_types.specs.declared.value_type.ValType.{ValType}
@@ -14,11 +14,11 @@ use Rattle.smith_draw.specs.declared.spaces.Spaces.{Spaces}
 use Rattle.smith_draw.specs.ConstScopes.{AreSpacesValid}
 use Rattle.smith_draw.specs.ConstOffers.{readable_globals}
 
--- these types, and nothing else
+-- only these types
 abbrev pub context_of_types : List SubType → Context
 context_of_types types = record { features = usual_features; types = types; funcs = []; globals = []; imported_funcs = 0; imported_globals = 0; visible = 0 }
 
--- a struct of one byte
+-- a struct with one packed field of a byte
 abbrev pub packed_struct : SubType
 packed_struct = final_type (struct (constant I8 ∷ []))
 
@@ -26,11 +26,11 @@ packed_struct = final_type (struct (constant I8 ∷ []))
 abbrev pub packed_array : SubType
 packed_array = final_type (array (constant I8))
 
--- where each global is mutable, none is read
+-- if all globals are mutable, none is readable
 abbrev pub MutableGlobalsAreNotRead : Type 0
 MutableGlobalsAreNotRead = (context : Context) (wanted : ValType) → All (λ (global : GlobalType). global.mutable ≡ true) context.globals → readable_globals context wanted ≡ []
 
--- nothing stands
+-- nothing is defined so far
 pub record IsNothing (spaces : Spaces) : Type 0 where
   pub types : spaces.types.now.types ≡ []
   pub groups : spaces.types.now.groups ≡ []
@@ -38,18 +38,18 @@ pub record IsNothing (spaces : Spaces) : Type 0 where
   pub globals : spaces.entities.globals.now ≡ []
   pub imported_globals : spaces.entities.imported_globals ≡ 0
 
--- where nothing stands, nothing is wrong
+-- spaces without items are valid
 abbrev pub NothingIsValid : Type 0
 NothingIsValid = (config : Config) (spaces : Spaces) → IsNothing spaces → AreSpacesValid config spaces
 
--- no type stands, but a function does
+-- a function without its type is not valid
 abbrev pub AFunctionNeedsItsType : Type 0
 AFunctionNeedsItsType = (config : Config) (spaces : Spaces) → spaces.types.now.types ≡ [] → spaces.entities.funcs.now ≡ 0 ∷ [] → ¬ AreSpacesValid config spaces
 
--- a vector without its feature
+-- a global of a vector type is not valid without its feature
 abbrev pub AGlobalNeedsItsFeature : Type 0
 AGlobalNeedsItsFeature = (config : Config) (spaces : Spaces) → config.simd_enabled ≡ false → spaces.entities.globals.now ≡ constant_global V128 ∷ [] → ¬ AreSpacesValid config spaces
 
--- more globals are imported than stand
+-- there are no more imported globals than globals
 abbrev pub ImportedGlobalsStand : Type 0
 ImportedGlobalsStand = (config : Config) (spaces : Spaces) → spaces.entities.globals.now ≡ [] → spaces.entities.imported_globals ≡ 1 → ¬ AreSpacesValid config spaces

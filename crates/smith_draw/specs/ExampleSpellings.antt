@@ -5,14 +5,14 @@ use Rattle.smith_types.specs.declared.composite_type.SubType.{SubType}
 use Rattle.smith_config.specs.declared.config.Config.{Config}
 use Rattle.smith_draw.specs.Spelling.{SpellsGroups}
 
--- a function that takes and gives nothing
+-- a function type without parameters and results
 abbrev pub plain_function : SubType
 plain_function = record { is_final = true; supertype = None; composite_type = record { inner = Func (record { params = []; results = [] }); shared = false } }
 
--- without garbage collection: a group, no parameter, no result, and no group more
+-- without garbage collection: a group, no parameter, no result, and no further group
 abbrev pub OneFunctionIsSpelled : Type 0
 OneFunctionIsSpelled = (config : Config) → config.gc_enabled ≡ false → 1 < config.max_types → SpellsGroups config [] false ((plain_function ∷ []) ∷ []) (1 ∷ 0 ∷ 0 ∷ 0 ∷ [])
 
--- that another byte does not end the groups
+-- a byte that starts another group does not end the groups
 abbrev pub MoreIsAskedFor : Type 0
 MoreIsAskedFor = (config : Config) → 0 < config.max_types → ¬ SpellsGroups config [] false [] (1 ∷ [])

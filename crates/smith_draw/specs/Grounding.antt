@@ -1,4 +1,4 @@
--- What a drawn reference is over, and whether a heap type is grounded there, as a test over orderly types.
+-- The context of a drawn reference, and whether a heap type is grounded in it, as a test over orderly types.
 use Rattle.std.specs.Prelude.{ℕ, ◌+◌, Bool, false, ◌&&◌, ◌||◌, nat_lt, List, [], ◌∷◌, length}
 use Rattle.smith_types.specs.Features.{Features}
 use Rattle.smith_types.specs.Expressions.{Context, created, function_reference, reference_to}
@@ -39,20 +39,21 @@ over context types = record context { types = types }
 abbrev pub with_functions : Context → List ℕ → Context
 with_functions context funcs = record context { funcs = funcs }
 
--- what a drawn reference is over: the types and functions of the spaces
+-- the context of a drawn reference: the types and functions of the spaces
 abbrev pub standing_in : Config → Spaces → Context
 standing_in config spaces = over (functions_in config spaces.entities) spaces.types.now.types
 
--- whether a test holds of an item of a list, and its index; the first item has the index `start`
+-- whether a test of an index and an item holds for some item of a list; the first item has the index `start`
 abbrev pub any_from : {A : Type 0} → (ℕ → A → Bool) → ℕ → List A → Bool
 any_from test start [] = false
 any_from test start (x ∷ xs) = test start x || any_from test (start + 1) xs
 
--- whether the type of an index is a struct type whose fields all have defaults, and a reference to its struct is below a heap type
+-- whether the type at this index is a struct type whose fields all have defaults, and a reference to such a struct is below
+-- a heap type
 abbrev pub type_grounds : Context → HeapType → ℕ → SubType → Bool
 type_grounds context ty index t = is_ground t && is_val_below context.types (created context index) (reference_to ty)
 
--- whether a reference to a function, whose type has this index, is below a heap type
+-- whether a reference to a function with this type index is below a heap type
 abbrev pub function_grounds : Context → HeapType → ℕ → ℕ → Bool
 function_grounds context ty function index =
     nat_lt index (length context.types) && is_val_below context.types (function_reference context function index) (reference_to ty)

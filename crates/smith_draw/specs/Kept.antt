@@ -1,4 +1,4 @@
--- What a type that is drawn in place of another keeps of it.
+-- Properties of a type that a type drawn in its place keeps.
 use Rattle.std.specs.Prelude.{ℕ, ◌≤◌, IsTrue, List, length, All}
 use Rattle.smith_types.specs.Features.{Features}
 use Rattle.smith_types.specs.ValidTypes.{IsValTypeValid, IsShareable, values_of_storage, values_of}
@@ -8,27 +8,27 @@ use Rattle.smith_types.specs.declared.composite_type.FuncType.{FuncType}
 use Rattle.smith_types.specs.declared.composite_type.CompositeInnerType.TheVariants.{Func}
 use Rattle.smith_types.specs.declared.composite_type.SubType.{SubType}
 
--- a type is shared only where that is enabled (own rule)
+-- a type is shared only if that is enabled (own rule)
 abbrev pub IsSharingEnabled : Features → SubType → Type 0
 IsSharingEnabled features t = IsTrue t.composite_type.shared → IsTrue features.shared_everything_threads
 
--- over types that are shared only where that is enabled: what is drawn is valid against each end behind these types
--- against which the other was (own rule)
+-- over types that are shared only if that is enabled: the drawn item is valid for each end after these types for which the
+-- other item is (own rule)
 pub record StaysValid {A : Type 0} (IsValid : ℕ → A → Type 0) (features : Features) (types : List SubType) (ty drawn : A) : Type 0 where
   pub against : (end : ℕ) → length types ≤ end → All (IsSharingEnabled features) types → IsValid end ty → IsValid end drawn
 
--- the value that a field stores, if it is not packed, is valid (Validation, Field Types)
+-- the value type that a field stores, unless it is packed, is valid (Validation, Field Types)
 abbrev pub IsStorageValid : Features → ℕ → StorageType → Type 0
 IsStorageValid features end ty = All (IsValTypeValid features end) (values_of_storage ty)
 
--- what a field stores is valid (Validation, Field Types)
+-- the type that a field stores is valid (Validation, Field Types)
 abbrev pub IsFieldValid : Features → ℕ → FieldType → Type 0
 IsFieldValid features end field = IsStorageValid features end field.element_type
 
--- the value that a field stores, if it is not packed, may stand in a shared type (own rule)
+-- the value type that a field stores, unless it is packed, may occur in a shared type (own rule)
 abbrev pub IsStorageShareable : List SubType → StorageType → Type 0
 IsStorageShareable types ty = All (IsShareable types) (values_of_storage ty)
 
--- the parameters and results of a function may stand in a shared type (own rule)
+-- the parameters and results of a function may occur in a shared type (own rule)
 abbrev pub IsFuncShareable : List SubType → FuncType → Type 0
 IsFuncShareable types function = All (IsShareable types) (values_of (Func function))

@@ -1,33 +1,33 @@
--- Drawn limits: numbers of which small numbers are likely.
+-- Drawn limits, with small numbers more likely.
 use Rattle.std.specs.Prelude.{ℕ, ◌+◌, ◌-◌, ◌*◌, ◌/◌, Bool, true, Option, Some, None, List, nat_lt, ◌==◌, if◌then◌else◌}
 use Rattle.smith_bytes.specs.Draws.{whole_at, bool_at, range_at}
 
--- the greatest number of 32 bits
+-- the greatest 32-bit number
 abbrev pub most_u32 : ℕ
 most_u32 = 4294967295
 
--- the part of n that x is of the greatest number of 32 bits, rounded down
+-- n * x divided by the greatest 32-bit number, rounded down
 unfoldable pub scaled : ℕ → ℕ → ℕ
 scaled n x = n * x / most_u32
 
--- with x for the part of one that it is of the greatest number of 32 bits: its sixth power, rounded down at each product
+-- the sixth power of x as a fraction of the greatest 32-bit number, rounded down at each product
 unfoldable pub sixth_power : ℕ → ℕ
 sixth_power x = scaled (scaled (scaled (scaled (scaled x x) x) x) x) x
 
--- by a number x of 32 bits: mostly near min and at most inbounds, for the greatest five of a thousand anywhere
+-- the number for a 32-bit number x: mostly near min and at most inbounds; anywhere up to max for the greatest 0.5 % of x
 unfoldable pub gradual : ℕ → ℕ → ℕ → ℕ → ℕ
 gradual min inbounds max x =
     if nat_lt (1000 * x) (995 * most_u32)
     then min + scaled (inbounds - min) (sixth_power x)
     else min + scaled (max - min) x
 
--- a number of min to max
+-- a number in min..=max
 unfoldable pub gradually_at : ℕ → ℕ → ℕ → List ℕ → ℕ × List ℕ
 gradually_at min inbounds max bytes =
     if min == max then (min, bytes)
     else (let x = whole_at 4 bytes in (gradual min inbounds max x.0, x.1))
 
--- a minimum, and a maximum where it is required or a bool says so
+-- a minimum, and a maximum if it is required or a bool is true
 unfoldable pub limits64_at : ℕ → ℕ → Bool → ℕ → List ℕ → (ℕ × Option ℕ) × List ℕ
 limits64_at least most required inbounds bytes =
     let minimum = gradually_at least inbounds most bytes in

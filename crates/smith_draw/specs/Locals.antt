@@ -5,6 +5,6 @@ use Rattle.smith_types.specs.Expressions.{Context}
 use Rattle.smith_config.specs.declared.config.Config.{Config}
 use Rattle.smith_draw.specs.CompositeTypes.{val_types_at}
 
--- the types of locals: at most a hundred value types, over the types that stand (own rule)
+-- the types of locals: at most 100 value types over the existing types (own rule)
 unfoldable pub locals_at : Config → Context → List ℕ → List ValType × List ℕ
 locals_at config context bytes = val_types_at config context false (length context.types) 100 bytes

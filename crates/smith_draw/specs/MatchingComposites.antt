@@ -10,7 +10,7 @@ use Rattle.smith_bytes.specs.Draws.{range_at}
 use Rattle.smith_draw.specs.FieldTypes.{fields_until_at}
 use Rattle.smith_draw.specs.MatchingTypes.{matching_field_type_at, matched_fields_at, matching_func_type_at}
 
--- the number of extra fields, at most 5, then the matched fields, then the extra fields (own rule)
+-- the number of further fields, at most 5, then the matched fields, then the further fields (own rule)
 unfoldable pub matching_struct_type_at : Config → Context → Bool → ℕ → StructType → List ℕ → StructType × List ℕ
 matching_struct_type_at config context must_share limit structure bytes =
     let extra = range_at 0 5 bytes in
@@ -27,7 +27,7 @@ matching_inner_at config context must_share limit (Func function) bytes =
 matching_inner_at config context must_share limit (Struct structure) bytes =
     let drawn = matching_struct_type_at config context must_share limit structure bytes in (Struct drawn.0, drawn.1)
 
--- as shared as the type that it matches (own rule)
+-- with the sharedness of the type that it matches (own rule)
 unfoldable pub matching_composite_type_at : Config → Context → ℕ → CompositeType → List ℕ → CompositeType × List ℕ
 matching_composite_type_at config context limit composite bytes =
     let inner = matching_inner_at config context composite.shared limit composite.inner bytes in

@@ -15,26 +15,26 @@ shared_memory_at config bytes = if config.threads_enabled then ratio_at 1 4 byte
 unfoldable pub memory64_at : Config → List ℕ → Bool × List ℕ
 memory64_at config bytes = if config.memory64_enabled then bool_at bytes else (false, bytes)
 
--- the logarithm of a stated page size: of one byte or of 64 KiB
+-- the logarithm of an explicit page size of 1 byte or 64 KiB
 unfoldable pub stated_page_at : List ℕ → Option ℕ × List ℕ
 stated_page_at bytes = let small = bool_at bytes in (Some (if small.0 then 0 else 16), small.1)
 
--- a page size, where it is stated
+-- a page size, if it is explicit
 unfoldable pub page_size_at : Config → List ℕ → Option ℕ × List ℕ
 page_size_at config bytes =
     let stated = if config.custom_page_sizes_enabled then bool_at bytes else (false, bytes) in
     if stated.0 then stated_page_at stated.1 else (None, stated.1)
 
--- a memory has at least a page with `disallow_traps`
+-- the minimum number of pages of a memory: 1 with `disallow_traps`
 abbrev pub least_pages : Config → ℕ
 least_pages config = if config.disallow_traps then 1 else 0
 
--- the most pages that are drawn
+-- the maximum number of pages that is drawn
 unfoldable pub drawn_pages : Config → Bool → Option ℕ → ℕ
 drawn_pages config memory64 page_size =
     min (max (least_pages config) (memory_bytes config memory64 / 2 ^ page_log2 page_size)) (addresses memory64 - 1)
 
--- the most pages that are likely: a gibibyte for all memories together
+-- the maximum number of pages that is likely: 1 GiB for all memories together
 unfoldable pub likely_pages : Config → Bool → Option ℕ → ℕ
 likely_pages config memory64 page_size =
     min (max (least_pages config) (2 ^ 30 / max 1 config.max_memories / 2 ^ page_log2 page_size)) (drawn_pages config memory64 page_size)

@@ -1,4 +1,4 @@
--- The heap types that are offered in place of a heap type: subtypes and supertypes of it.
+-- The subtypes and supertypes of a heap type that are offered in its place.
 use Rattle.std.specs.Prelude.{◌≡◌, ℕ, zero, suc, ◌+◌, Bool, true, false, not, ◌&&◌, Option, Some, None, List, [], ◌∷◌, ◌++◌, map, length, slice_get, ◌==◌, if◌then◌else◌}
 use Rattle.std.specs.List.{flat_map}
 use Rattle.smith_types.specs.declared.value_type.AbstractHeapType.{AbstractHeapType}
@@ -12,7 +12,7 @@ use Rattle.smith_types.specs.Kinds.{bottom, shared}
 use Rattle.smith_types.specs.Types.{IsOrderly}
 use Rattle.smith_config.specs.declared.config.Config.{Config}
 
--- the abstract heap types that are offered below an abstract heap type, with itself (own rule)
+-- the abstract heap types that are offered as subtypes of an abstract heap type, including itself (own rule)
 abbrev pub abstract_subtypes : AbstractHeapType → List AbstractHeapType
 abstract_subtypes heap.Any = heap.Any ∷ heap.Eq ∷ heap.Struct ∷ heap.Array ∷ heap.I31 ∷ heap.None ∷ []
 abstract_subtypes heap.Eq = heap.Eq ∷ heap.Struct ∷ heap.Array ∷ heap.I31 ∷ heap.None ∷ []
@@ -27,7 +27,7 @@ abstract_subtypes heap.NoExtern = heap.NoExtern ∷ []
 abstract_subtypes heap.Exn = heap.Exn ∷ []
 abstract_subtypes heap.NoExn = heap.NoExn ∷ []
 
--- the abstract heap types that are offered above an abstract heap type, with itself (own rule)
+-- the abstract heap types that are offered as supertypes of an abstract heap type, including itself (own rule)
 abbrev pub abstract_supertypes : AbstractHeapType → List AbstractHeapType
 abstract_supertypes heap.Any = heap.Any ∷ []
 abstract_supertypes heap.Eq = heap.Eq ∷ heap.Any ∷ []
@@ -42,13 +42,13 @@ abstract_supertypes heap.NoExtern = heap.NoExtern ∷ heap.Extern ∷ []
 abstract_supertypes heap.Exn = heap.Exn ∷ []
 abstract_supertypes heap.NoExn = heap.NoExn ∷ heap.Exn ∷ []
 
--- the abstract heap types above a composite type that are offered (own rule)
+-- the abstract heap types that are offered as supertypes of a composite type (own rule)
 abbrev pub supertypes_of_inner : CompositeInnerType → List AbstractHeapType
 supertypes_of_inner (Array a) = heap.Any ∷ heap.Eq ∷ heap.Array ∷ []
 supertypes_of_inner (Struct s) = heap.Any ∷ heap.Eq ∷ heap.Struct ∷ []
 supertypes_of_inner (Func f) = heap.Func ∷ []
 
--- the kinds of which concrete types are offered below an abstract heap type (own rule)
+-- the kinds whose concrete types are offered as subtypes of an abstract heap type (own rule)
 abbrev pub kinds_below : AbstractHeapType → List AbstractHeapType
 kinds_below heap.Any = heap.Array ∷ heap.Struct ∷ []
 kinds_below heap.Eq = heap.Array ∷ heap.Struct ∷ []
@@ -57,105 +57,105 @@ kinds_below heap.Array = heap.Array ∷ []
 kinds_below heap.Func = heap.Func ∷ []
 kinds_below _ = []
 
--- the kinds of which concrete types are offered above an abstract heap type (own rule)
+-- the kinds whose concrete types are offered as supertypes of an abstract heap type (own rule)
 abbrev pub kinds_above : AbstractHeapType → List AbstractHeapType
 kinds_above heap.None = heap.Array ∷ heap.Struct ∷ []
 kinds_above heap.NoFunc = heap.Func ∷ []
 kinds_above _ = []
 
--- a composite type is of a kind (Validation, Matching, Heap Types)
+-- a composite type has this kind (Validation, Matching, Heap Types)
 abbrev pub is_of_kind : AbstractHeapType → CompositeInnerType → Bool
 is_of_kind heap.Array (Array a) = true
 is_of_kind heap.Struct (Struct s) = true
 is_of_kind heap.Func (Func f) = true
 is_of_kind _ _ = false
 
--- a type is shared, or is not (own rule)
+-- a type has this sharedness (own rule)
 abbrev pub is_shared_as : Bool → SubType → Bool
 is_shared_as true t = shared t
 is_shared_as false t = not (shared t)
 
--- a type is of a kind, and shared or not (own rule)
+-- a type has this kind and sharedness (own rule)
 abbrev pub is_kind : Bool → AbstractHeapType → SubType → Bool
 is_kind is_shared kind t = is_shared_as is_shared t && is_of_kind kind t.composite_type.inner
 
--- there is an index, and it is the given index
+-- the option holds this index
 abbrev pub is_index : ℕ → Option ℕ → Bool
 is_index index None = false
 is_index index (Some other) = other == index
 
--- a type is declared directly below the type of an index (Structure, Recursive Types)
+-- a type declares the type at this index as its supertype (Structure, Recursive Types)
 abbrev pub is_declared_below : ℕ → SubType → Bool
 is_declared_below index t = is_index index t.supertype
 
--- the concrete heap types of the types that a test picks, by index; the first type has the index `start` (own rule)
+-- the concrete heap types of the types that satisfy a test, by index; the first type has the index `start` (own rule)
 abbrev pub picked_from : (SubType → Bool) → ℕ → List SubType → List HeapType
 picked_from test start [] = []
 picked_from test start (t ∷ types) = if test t then Concrete start ∷ picked_from test (start + 1) types else picked_from test (start + 1) types
 
--- the concrete heap types of the types that stand and are of these kinds, kind by kind, each by index (own rule)
+-- the concrete heap types of the existing types of these kinds, kind by kind, each by index (own rule)
 abbrev pub of_kinds : List SubType → Bool → List AbstractHeapType → List HeapType
 of_kinds types is_shared kinds = flat_map (λ kind. picked_from (is_kind is_shared kind) 0 types) kinds
 
--- the types that are declared directly below the type of an index, by index (own rule)
+-- the types that declare the type at this index as their supertype, by index (own rule)
 abbrev pub direct_subtypes : List SubType → ℕ → List HeapType
 direct_subtypes types index = picked_from (is_declared_below index) 0 types
 
--- the declared supertype of a type that stands (Structure, Recursive Types)
+-- the declared supertype of a type, if it exists (Structure, Recursive Types)
 abbrev pub supertype_of : Option SubType → Option ℕ
 supertype_of None = None
 supertype_of (Some t) = t.supertype
 
--- the declared supertype of the type of an index, where that stands and has a supertype (Structure, Recursive Types)
+-- the declared supertype of the type at this index, if it exists and has one (Structure, Recursive Types)
 abbrev pub supertype_at : List SubType → ℕ → Option ℕ
 supertype_at types index = supertype_of (slice_get types index)
 
--- at most `most` of the types on the way up from the type of an index, nearest first (own rule)
+-- at most `most` of the proper supertypes of the type at this index, nearest first (own rule)
 abbrev pub ancestors_within : ℕ → List SubType → ℕ → List HeapType
 ancestors_within zero types index = []
 ancestors_within (suc most) types index = elim (supertype_at types index) [ None ↦ [] | Some supertype ↦ Concrete supertype ∷ ancestors_within most types supertype ]
 
--- the types on the way up from the type of an index, nearest first: no more than there are types (own rule)
+-- the proper supertypes of the type at this index, nearest first; at most as many as there are types (own rule)
 unfoldable pub ancestors : List SubType → ℕ → List HeapType
 ancestors types index = ancestors_within (length types) types index
 
--- over orderly types none is left out: on the way up stands the declared supertype, and then what is on the way up from that
+-- over orderly types none is missing: the first is the declared supertype, and the others are the proper supertypes of that
 abbrev pub AncestorsAreAll : Type 0
 AncestorsAreAll = (types : List SubType) → IsOrderly types → (index supertype : ℕ) → supertype_at types index ≡ Some supertype → ancestors types index ≡ Concrete supertype ∷ ancestors types supertype
 
--- what is offered of a type that stands, and nothing where none stands (own rule)
+-- the types offered for a type, or none if it does not exist (own rule)
 abbrev pub of_standing : (SubType → List HeapType) → Option SubType → List HeapType
 of_standing offers None = []
 of_standing offers (Some t) = offers t
 
--- the bottom of its kind, of a type that stands (own rule)
+-- the bottom of the kind of a type, if it exists (own rule)
 abbrev pub bottom_at : List SubType → ℕ → List HeapType
 bottom_at types index = of_standing (λ t. Abstract (shared t) (bottom t) ∷ []) (slice_get types index)
 
--- its kind and what is above it, of a type that stands (own rule)
+-- the kind of a type and its supertypes, if the type exists (own rule)
 abbrev pub kinds_at : List SubType → ℕ → List HeapType
 kinds_at types index = of_standing (λ t. map (Abstract (shared t)) (supertypes_of_inner t.composite_type.inner)) (slice_get types index)
 
--- the exact type, and the direct subtypes again, with custom descriptors (own rule)
+-- with custom descriptors, the exact type, and the direct subtypes again (own rule)
 abbrev pub exact_subtypes : Config → List SubType → ℕ → List HeapType
 exact_subtypes config types index = if config.custom_descriptors_enabled then Exact index ∷ direct_subtypes types index else []
 
--- the subtypes that are offered with garbage collection: itself first (own rule)
+-- the subtypes that are offered with garbage collection, the type itself first (own rule)
 abbrev pub gc_subtypes : Config → List SubType → HeapType → List HeapType
 gc_subtypes config types (Abstract is_shared ty) = map (Abstract is_shared) (abstract_subtypes ty) ++ of_kinds types is_shared (kinds_below ty)
 gc_subtypes config types (Concrete index) = Concrete index ∷ direct_subtypes types index ++ (exact_subtypes config types index ++ bottom_at types index)
 gc_subtypes config types (Exact index) = Exact index ∷ []
 
--- the supertypes that are offered with garbage collection: itself first (own rule)
+-- the supertypes that are offered with garbage collection, the type itself first (own rule)
 abbrev pub gc_supertypes : List SubType → HeapType → List HeapType
 gc_supertypes types (Abstract is_shared ty) = map (Abstract is_shared) (abstract_supertypes ty) ++ of_kinds types is_shared (kinds_above ty)
 gc_supertypes types (Concrete index) = Concrete index ∷ kinds_at types index ++ ancestors types index
 gc_supertypes types (Exact index) = Exact index ∷ []
 
--- the subtypes that are offered of a heap type, over the types that stand: without garbage collection itself alone (own rule)
+-- the subtypes offered for a heap type over the existing types; without garbage collection only itself (own rule)
 unfoldable pub subtypes_offered : Config → List SubType → HeapType → List HeapType
 subtypes_offered config types ty = if config.gc_enabled then gc_subtypes config types ty else ty ∷ []
 
--- the supertypes that are offered of a heap type, over the types that stand: without garbage collection itself alone (own rule)
+-- the supertypes offered for a heap type over the existing types; without garbage collection only itself (own rule)
 unfoldable pub supertypes_offered : Config → List SubType → HeapType → List HeapType
 supertypes_offered config types ty = if config.gc_enabled then gc_supertypes types ty else ty ∷ []

@@ -1,4 +1,4 @@
--- Drawn recursive groups: new groups, and clones of groups that stand.
+-- Drawn recursive groups: new groups, and clones of existing groups.
 use Rattle.std.specs.Prelude.{ℕ, zero, suc, ◌-◌, ◌+◌, Bool, true, false, ◌&&◌, ◌||◌, nat_lt, nat_le, List, [], ◌∷◌, ◌++◌, length, take, drop, if◌then◌else◌}
 use Rattle.std.specs.declared.ops.Range.{Range}
 use Rattle.smith_types.specs.declared.composite_type.SubType.{SubType}
@@ -12,25 +12,25 @@ use Rattle.smith_draw.specs.Choices.{chosen_at}
 use Rattle.smith_draw.specs.Grounding.{over}
 use Rattle.smith_draw.specs.SubTypes.{sub_type_at}
 
--- how many more types there may be (own rule)
+-- the number of types that may still be added (own rule)
 abbrev pub types_left : Config → Space → ℕ
 types_left config space = config.max_types - length space.types
 
--- the types, with a group of those behind the last group (own rule)
+-- the types, with a group of those after the last group (own rule)
 abbrev pub with_group : List SubType → List (Range ℕ) → Space
 with_group types groups = record { types = types; groups = groups ++ next_group types groups ∷ [] }
 
--- types with more behind them until their number is `limit`, each drawn over those before it (own rule)
+-- types, extended to `limit` types, each drawn over those before it (own rule)
 unfoldable pub types_until_at : Config → Context → ℕ → List SubType → List ℕ → List SubType × List ℕ
 types_until_at config context limit types bytes =
     grow_at (λ made. sub_type_at config (over context made) limit) limit (limit - length types) types bytes
 
--- the size of a new group: one type without garbage collection (own rule)
+-- the size of a new group; 1 without garbage collection (own rule)
 abbrev pub group_size_at : Config → Bool → ℕ → List ℕ → ℕ × List ℕ
 group_size_at config allow_empty most bytes =
     if config.gc_enabled then range_at (if allow_empty then 0 else 1) most bytes else (1, bytes)
 
--- its size, then its types (own rule)
+-- the size of a new group, then its types (own rule)
 unfoldable pub new_group_at : Config → Context → Bool → Space → List ℕ → Space × List ℕ
 new_group_at config context allow_empty space bytes =
     let size = group_size_at config allow_empty (types_left config space) bytes in
@@ -41,34 +41,34 @@ new_group_at config context allow_empty space bytes =
 abbrev pub members : List SubType → Range ℕ → List SubType
 members types group = take (group.end - group.start) (drop group.start types)
 
--- a group may be added again: unless it is empty where that is not allowed, or has more types than there is room for (own rule)
+-- a group may be cloned unless it is empty and that is not allowed, or it has more types than may still be added (own rule)
 abbrev pub may_be_cloned : Config → Bool → Space → Range ℕ → Bool
 may_be_cloned config allow_empty space group =
     (allow_empty || nat_lt group.start group.end) && nat_le (group.end - group.start) (types_left config space)
 
--- the space with a group added again (own rule)
+-- the space with a clone of a group added (own rule)
 abbrev pub with_clone : Space → Range ℕ → Space
 with_clone space group = with_group (space.types ++ members space.types group) space.groups
 
--- a chosen group is added again, where it may be: whether it is, and the space (own rule)
+-- a chosen group is cloned, if it may be: whether it is, and the space (own rule)
 unfoldable pub clone_rec_group_at : Config → Bool → Space → List ℕ → Bool × (Space × List ℕ)
 clone_rec_group_at config allow_empty space bytes =
     let group = chosen_at (record { start = 0; end = 0 }) space.groups bytes in
     let cloned = may_be_cloned config allow_empty space group.0 in
     (cloned, ((if cloned then with_clone space group.0 else space), group.1))
 
--- whether a clone is asked for: with garbage collection, where there is a group, one time of 255 (own rule)
+-- whether to clone a group: with garbage collection, if there is a group, in one case of 255 (own rule)
 abbrev pub clone_wanted_at : Config → Space → List ℕ → Bool × List ℕ
 clone_wanted_at config space bytes =
     if config.gc_enabled && nat_lt 0 (length space.groups) then ratio_at 1 255 bytes else (false, bytes)
 
--- a clone; and where none is added and a group must not be empty, a new group (own rule)
+-- a clone; if none is added and the group must not be empty, a new group (own rule)
 abbrev pub cloned_or_new_at : Config → Context → Bool → Space → List ℕ → Space × List ℕ
 cloned_or_new_at config context allow_empty space bytes =
     let clone = clone_rec_group_at config allow_empty space bytes in
     if clone.0 || allow_empty then clone.1 else new_group_at config context allow_empty clone.1.0 clone.1.1
 
--- a clone where it is asked for, else a new group (own rule)
+-- a clone or a new group, as drawn (own rule)
 unfoldable pub rec_group_at : Config → Context → Bool → Space → List ℕ → Space × List ℕ
 rec_group_at config context allow_empty space bytes =
     let wanted = clone_wanted_at config space bytes in
@@ -81,7 +81,7 @@ least_types_at config context (suc most) space bytes =
     let grown = rec_group_at config context false space bytes in
     if nat_lt (length space.types) config.min_types then least_types_at config context most grown.0 grown.1 else (space, bytes)
 
--- at most `most` groups, while there may be more types and a bool asks for a group (own rule)
+-- at most `most` groups, while there may be more types and a bool is true (own rule)
 unfoldable pub more_types_at : Config → Context → ℕ → Space → List ℕ → Space × List ℕ
 more_types_at config context zero space bytes = (space, bytes)
 more_types_at config context (suc most) space bytes =
@@ -91,7 +91,8 @@ more_types_at config context (suc most) space bytes =
     then (if go.0 then more_types_at config context most grown.0 grown.1 else (space, go.1))
     else (space, bytes)
 
--- groups until the least number of types stands, then more: each group but the last takes a byte (own rule)
+-- groups until the minimum number of types is reached, then further groups; each of these but the last takes a byte (own
+-- rule)
 unfoldable pub types_at : Config → Context → Space → List ℕ → Space × List ℕ
 types_at config context space bytes =
     let least = least_types_at config context config.min_types space bytes in

@@ -1,4 +1,4 @@
--- Which bytes spell a constant of 32 bits. Rules of this project.
+-- Bytes that spell a 32-bit constant. Rules of this project.
 use Rattle.std.specs.Prelude.{◌≡◌, ℕ, ℤ, List, [], ◌∷◌, length}
 use Rattle.std.specs.Int.{cast_signed, w32}
 use Rattle.smith_bytes.specs.Draws.{little_endian}
@@ -7,16 +7,16 @@ use Rattle.smith_types.specs.declared.const_instr.ConstInstr.{ConstInstr}
 use Rattle.smith_types.specs.declared.const_instr.ConstInstr.TheVariants.{I32Const}
 use Rattle.smith_config.specs.declared.config.Config.{Config}
 
--- a number of 32 bits, with sign: its four bytes, the lowest first
+-- a signed 32-bit number: its four bytes, least significant first
 pub record SpellsI32 (value : ℤ) (piece : List ℕ) : Type 0 where
   pub four : length piece ≡ 4
   pub read : value ≡ cast_signed w32 (little_endian piece)
 
--- a constant of this number: where extended constants are enabled the first choice, then the number
+-- a constant with this value: the first choice if extended constants are enabled, then the number
 abbrev pub SpellsConstant : Config → ℤ → List ℕ → Type 0
 SpellsConstant config value = Joined (Where config.extended_const_enabled (SpellsNumber 0 0 1)) (SpellsI32 value)
 
--- an expression that is one constant
+-- an expression of a single constant
 pub record SpellsConstExpr (config : Config) (expression : List ConstInstr) (piece : List ℕ) : Type 0 where
   pub number : ℤ
   pub alone : expression ≡ I32Const number ∷ []

@@ -1,4 +1,4 @@
--- Which bytes spell the type of a global that is a mutable number of 32 bits. Rules of this project.
+-- Bytes that spell the type of a global that is a mutable 32-bit number. Rules of this project.
 use Rattle.std.specs.Prelude.{ℕ, ◌-◌, true, false, List, length}
 use Rattle.smith_bytes.specs.Spelling.{SpellsBool, SpellsNumber, Joined}
 use Rattle.smith_types.specs.declared.value_type.ValType.TheVariants.{I32}
@@ -8,7 +8,7 @@ use Rattle.smith_draw.specs.Choices.{enabled}
 use Rattle.smith_draw.specs.ValueTypes.{value_classes}
 use Rattle.smith_draw.specs.Spelling.{SpellsUnshared}
 
--- a mutable number of 32 bits, unshared
+-- a mutable, unshared 32-bit number
 abbrev pub mutable_i32 : GlobalType
 mutable_i32 = record { val_type = I32; mutable = true; shared = false }
 

@@ -1,4 +1,4 @@
--- Which types tags and functions may have. Rules of this project.
+-- The types that tags and functions may have. Rules of this project.
 use Rattle.std.specs.Prelude.{ℕ, suc, Bool, true, false, not, ◌&&◌, ◌==◌, List, [], ◌∷◌, length, if◌then◌else◌}
 use Rattle.smith_types.specs.declared.composite_type.CompositeInnerType.{CompositeInnerType}
 use Rattle.smith_types.specs.declared.composite_type.CompositeInnerType.TheVariants.{Func}
@@ -17,20 +17,20 @@ abbrev pub gives_nothing : CompositeInnerType → Bool
 gives_nothing (Func function) = length function.results == 0
 gives_nothing _ = false
 
--- whether tags may have a type: it is a function type without results
+-- whether a tag may have the type: a function type without results
 unfoldable pub is_tag_type : SubType → Bool
 is_tag_type t = gives_nothing t.composite_type.inner
 
--- whether a function may be defined with a type: it is that of a function that is not shared
+-- whether a defined function may have the type: an unshared function type
 unfoldable pub is_unshared_function : SubType → Bool
 is_unshared_function t = is_function t.composite_type.inner && not t.composite_type.shared
 
--- the places at which a test holds, in a list that begins at place n
+-- the positions at which a test holds, in a list that starts at position n
 abbrev pub places_from : {A : Type 0} → (A → Bool) → ℕ → List A → List ℕ
 places_from test n [] = []
 places_from test n (x ∷ xs) = if test x then n ∷ places_from test (suc n) xs else places_from test (suc n) xs
 
--- whether a type may be used: by a tag, by an imported function, which may be shared, or by a function that is defined
+-- whether a type may be used: by a tag, by an imported function, which may be shared, or by a defined function
 abbrev pub may_be_used : TypeUse → SubType → Bool
 may_be_used Tag t = is_tag_type t
 may_be_used ImportedFunc t = is_function t.composite_type.inner
@@ -40,7 +40,7 @@ may_be_used DefinedFunc t = is_unshared_function t
 abbrev pub types_for : TypeUse → List SubType → List ℕ
 types_for for_use types = places_from (may_be_used for_use) 0 types
 
--- the type of this index is right for a use
+-- the type at this index is suitable for a use
 abbrev pub IsUsable : TypeUse → List SubType → ℕ → Type 0
 IsUsable Tag types index = IsTagValid types index
 IsUsable ImportedFunc types index = IsFuncValid types index

@@ -1,4 +1,4 @@
--- Drawn value, reference and heap types, over the types that stand and below a limit of indices.
+-- Drawn value, reference and heap types, over the existing types below a limit of indices.
 use Rattle.std.specs.Prelude.{ℕ, ◌-◌, Bool, true, false, not, ◌&&◌, ◌||◌, nat_lt, Option, Some, None, List, [], ◌∷◌, slice_get, if◌then◌else◌}
 use Rattle.smith_types.specs.declared.value_type.ValType.{ValType}
 use Rattle.smith_types.specs.declared.value_type.ValType.TheVariants as vals
@@ -24,7 +24,7 @@ value_classes config =
     ∷ ((F32, config.allow_floats) ∷ ((F64, config.allow_floats)
     ∷ ((V128, config.simd_enabled) ∷ ((Reference, config.reference_types_enabled) ∷ [])))))
 
--- the abstract heap types that are drawn, each with whether it is enabled (own rule)
+-- the abstract heap types, each with whether it is enabled (own rule)
 abbrev pub abstract_heap_types : Config → List (AbstractHeapType × Bool)
 abstract_heap_types config =
     (heap.Func, true) ∷ (heap.Extern, true) ∷ (heap.Exn, config.exceptions_enabled) ∷
@@ -33,37 +33,37 @@ abstract_heap_types config =
     (heap.Eq, config.gc_enabled) ∷ (heap.Struct, config.gc_enabled) ∷
     (heap.Array, config.gc_enabled) ∷ (heap.I31, config.gc_enabled) ∷ []
 
--- whether a type is shared: where it must be, and one time of four where there is a choice (own rule)
+-- whether a type is shared: always if it must be, and in one case of four if there is a choice (own rule)
 unfoldable pub sharedness_at : Config → Bool → List ℕ → Bool × List ℕ
 sharedness_at config must_share bytes =
     if must_share then (true, bytes)
     else (if config.shared_everything_threads_enabled then ratio_at 1 4 bytes else (false, bytes))
 
--- an abstract heap type: its sharedness, then a type among those that are enabled (own rule)
+-- an abstract heap type: its sharedness, then one of the enabled types (own rule)
 unfoldable pub abstract_heap_type_at : Config → Bool → List ℕ → HeapType × List ℕ
 abstract_heap_type_at config must_share bytes =
     let is_shared = sharedness_at config must_share bytes in
     let ty = chosen_at heap.Func (enabled (abstract_heap_types config)) is_shared.1 in
     (Abstract is_shared.0 ty.0, ty.1)
 
--- whether a type index is asked for: with garbage collection, where a type is below the limit (own rule)
+-- whether to use a type index: with garbage collection, if there is a type below the limit (own rule)
 abbrev pub index_wanted_at : Config → ℕ → List ℕ → Bool × List ℕ
 index_wanted_at config limit bytes =
     if config.gc_enabled && nat_lt 0 limit then bool_at bytes else (false, bytes)
 
--- the index of a type that stands, and is shared where it must be (own rule)
+-- the index of an existing type, which is shared if it must be (own rule)
 abbrev pub kept_index : Bool → ℕ → Option SubType → Option ℕ
 kept_index must_share index None = None
 kept_index must_share index (Some t) = if not must_share || shared t then Some index else None
 
--- a type index below the limit, where it is asked for and kept (own rule)
+-- a type index below the limit, if a bool is true and the index is kept (own rule)
 unfoldable pub type_index_at : Config → List SubType → Bool → ℕ → List ℕ → Option ℕ × List ℕ
 type_index_at config types must_share limit bytes =
     let wanted = index_wanted_at config limit bytes in
     let index = range_at 0 (limit - 1) wanted.1 in
     if wanted.0 then (kept_index must_share index.0 (slice_get types index.0), index.1) else (None, wanted.1)
 
--- the concrete heap type of a type index, or else an abstract heap type (own rule)
+-- the concrete heap type of a type index, or an abstract heap type if there is none (own rule)
 abbrev pub heap_type_of_at : Config → Bool → Option ℕ → List ℕ → HeapType × List ℕ
 heap_type_of_at config must_share (Some index) bytes = (Concrete index, bytes)
 heap_type_of_at config must_share None bytes = abstract_heap_type_at config must_share bytes
@@ -74,14 +74,14 @@ heap_type_at config types must_share limit bytes =
     let index = type_index_at config types must_share limit bytes in
     heap_type_of_at config must_share index.0 index.1
 
--- whether a reference is not nullable: where the field is on, if a bool asks for it and the heap type is grounded (own rule)
+-- whether a reference is non-nullable: with `non_nullable_enabled`, if a bool is true and the heap type is grounded (own
+-- rule)
 unfoldable pub granted_at : Config → Context → HeapType → List ℕ → Bool × List ℕ
 granted_at config context ty bytes =
     let wanted = bool_at bytes in
     if config.non_nullable_enabled then (wanted.0 && is_grounded context ty, wanted.1) else (false, bytes)
 
--- a heap type, then whether the reference is nullable; without a draw, nullable and of unshared functions, where reference types
--- are off (own rule)
+-- a heap type, then whether the reference is nullable; without reference types, `funcref` without a draw (own rule)
 unfoldable pub ref_type_at : Config → Context → Bool → ℕ → List ℕ → RefType × List ℕ
 ref_type_at config context must_share limit bytes =
     let ty = heap_type_at config context.types must_share limit bytes in

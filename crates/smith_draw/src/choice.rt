@@ -4,7 +4,7 @@ ghost use Rattle.smith_draw.specs.Choices.{chosen_at};
 
 use smith_bytes::Unstructured;
 
-/// Chooses an item of `items`, each about as likely as the others. `items` is not empty.
+/// Chooses one of `items`, all about equally likely. Requires `items` to be non-empty.
 #[tactic(auto, unfolding(crate::specs::Choices::chosen_at))]
 pub fn choose<T: Copy>(items: &[T], u: &mut Unstructured<'_>) -> T
     requires { 0 < length items.now }

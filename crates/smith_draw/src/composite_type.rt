@@ -74,7 +74,7 @@ fn draw_func_type(
     Ok(FuncType { params, results })
 }
 
-/// Draws fields behind those of `fields`, until there are `end` fields.
+/// Appends drawn fields to `fields` until there are `end` fields.
 #[tactic(auto, unfolding(crate::specs::FieldTypes::fields_until_at))]
 pub(crate) fn draw_fields(
     config: &Config,
@@ -119,7 +119,7 @@ fn draw_inner_number(config: &Config, u: &mut Unstructured<'_>) -> u8
     1
 }
 
-/// Draws an array, a function or a struct type, as `number` is 0, 1 or more.
+/// Draws an array, a function or a struct type, for a `number` of 0, 1 or more.
 fn draw_inner_of_number(
     alloc: Global,
     config: &Config,
@@ -163,11 +163,13 @@ pub(crate) fn draw_composite_type(
     Ok(CompositeType { inner, shared })
 }
 
-/// Draws a function type of at most 20 parameters and at most 20 results, or at most one result where `config` has several
-/// results off. The standard's section Structure, Composite Types.
+/// Draws a function type with at most 20 parameters and at most 20 results, or at most one result
+/// if `config` disables multiple values. See the standard, section Structure, Composite Types.
 ///
-/// `config` is sanitised, and `must_share` is set only where `config` allows shared types. The function type refers only to types
-/// of `spaces` below `limit`, and only to shared types where `must_share` is set.
+/// The function type refers only to types of `spaces` below `limit`, and only to shared types if
+/// `must_share` is `true`.
+///
+/// Requires `config` to be sanitised, and to permit shared types if `must_share` is `true`.
 pub fn arbitrary_func_type(
     alloc: Global,
     config: &Config,
@@ -190,10 +192,13 @@ pub fn arbitrary_func_type(
     draw_func_type(alloc, config, &standing, must_share, limit, u)
 }
 
-/// Draws a struct type of at most 20 fields. The standard's section Structure, Composite Types.
+/// Draws a struct type with at most 20 fields. See the standard, section Structure, Composite
+/// Types.
 ///
-/// `config` is sanitised, and `must_share` is set only where `config` allows shared types. The struct type refers only to types
-/// of `spaces` below `limit`, and only to shared types where `must_share` is set.
+/// The struct type refers only to types of `spaces` below `limit`, and only to shared types if
+/// `must_share` is `true`.
+///
+/// Requires `config` to be sanitised, and to permit shared types if `must_share` is `true`.
 pub fn arbitrary_struct_type(
     alloc: Global,
     config: &Config,
@@ -217,11 +222,13 @@ pub fn arbitrary_struct_type(
     draw_struct_type(alloc, config, &standing, must_share, limit, u)
 }
 
-/// Draws a composite type, which may be shared where `config` allows it: with garbage collection an array, a function or a struct
-/// type, else a function type. The standard's section Structure, Composite Types.
+/// Draws a composite type: an array, a function or a struct type with garbage collection, otherwise
+/// a function type. See the standard, section Structure, Composite Types.
 ///
-/// `config` is sanitised. The composite type refers only to types of `spaces` below `limit`. A shared composite type refers only
-/// to shared types.
+/// The composite type may be shared if `config` permits it. It refers only to types of `spaces`
+/// below `limit`, and only to shared types if it is shared.
+///
+/// Requires `config` to be sanitised.
 pub fn arbitrary_composite_type(
     alloc: Global,
     config: &Config,

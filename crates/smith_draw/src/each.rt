@@ -8,7 +8,7 @@ use std::alloc::Global;
 
 /// A draw of an item in place of another.
 pub(crate) trait Replacement<T> {
-    /// What is drawn in place of an item, and the bytes left, by the value of the draw.
+    /// Returns the item drawn in place of an item, and the remaining bytes.
     ghost draw_at: { Self → T → List ℕ → T × List ℕ };
 
     /// Draws an item in place of `item`.

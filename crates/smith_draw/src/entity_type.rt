@@ -61,7 +61,8 @@ fn draw_page_size(config: &Config, u: &mut Unstructured<'_>) -> Option<u32>
     draw_stated_page(u)
 }
 
-/// The number of whole pages in `bytes` bytes. `page_size` is the binary logarithm of a page's bytes, at most 16; none is 16.
+/// Returns the number of whole pages in `bytes` bytes. `page_size` is the binary logarithm of the
+/// page size, at most 16; `None` means 16.
 fn pages_in(bytes: u128, page_size: Option<u32>) -> u128
     requires { page_log2 page_size ≤ 16 }
     ensures { result ≡ bytes / 2 ^ page_log2 page_size }
@@ -69,7 +70,8 @@ fn pages_in(bytes: u128, page_size: Option<u32>) -> u128
     bytes / (1 << page_size.unwrap_or(16))
 }
 
-/// The greatest number of pages of a drawn memory: within the bytes that `config` allows, but at least 1 with `disallow_traps`.
+/// Returns the maximum number of pages of a drawn memory: those that fit in the bytes that `config`
+/// permits, but at least 1 with `disallow_traps`.
 #[tactic(auto, unfolding(crate::specs::Memories::drawn_pages))]
 fn drawn_pages(config: &Config, memory64: bool, page_size: Option<u32>) -> u64
     requires { page_log2 page_size ≤ 16 }
@@ -90,7 +92,8 @@ fn drawn_pages(config: &Config, memory64: bool, page_size: Option<u32>) -> u64
     pages_in(bytes, page_size).max(least).min(last_address) as u64
 }
 
-/// The greatest likely number of pages, at most `most`: all memories that `config` allows take a gibibyte together.
+/// Returns the upper bound of likely numbers of pages: at most `most`, and such that all memories
+/// that `config` permits take 1 GiB together.
 #[tactic(auto, unfolding(crate::specs::Memories::likely_pages))]
 fn likely_pages(config: &Config, most: u64, page_size: Option<u32>) -> u64
     requires size { page_log2 page_size ≤ 16 }
@@ -106,7 +109,7 @@ fn likely_pages(config: &Config, most: u64, page_size: Option<u32>) -> u64
         .min(u128::from(most)) as u64
 }
 
-/// Whether a memory, `shared` or not, has a maximum without a draw.
+/// Returns whether a memory, `shared` or not, has a maximum without a draw.
 fn needs_maximum(config: &Config, shared: bool) -> bool
     ensures { result ≡ (config.now.memory_max_size_required || shared) }
 {
@@ -136,12 +139,15 @@ fn draw_memory_type(config: &Config, u: &mut Unstructured<'_>) -> MemoryType
     }
 }
 
-/// Draws a memory type. Its limits, in pages, stay within the bytes that `config` allows, but for a single page with
-/// `disallow_traps`. The standard's section Structure, Memory Types.
+/// Draws a memory type. See the standard, section Structure, Memory Types.
 ///
-/// The memory type is valid where `config` passes its check, but for the pair of `min_imports` and `max_imports`.
+/// Its limits, in pages, stay within the bytes that `config` permits, except for a single page with
+/// `disallow_traps`.
 ///
-/// The result is always `Ok`, since no memory is taken: all draws of entities give a `Result`.
+/// The memory type is valid if `config` passes its check, possibly except for the pair of
+/// `min_imports` and `max_imports`.
+///
+/// Always returns `Ok`, since it does not allocate. All draws of entities return a `Result`.
 pub fn arbitrary_memtype(config: &Config, u: &mut Unstructured<'_>) -> Result<MemoryType, Error>
     ensures ok { IsOk result }
     ensures draws { Draws (memtype_at config.now u.old) result u.old u.new }

@@ -53,12 +53,15 @@ pub(crate) fn draw_field_type(
     }
 }
 
-/// Draws a storage type: a packed type or a value type. The standard's section Structure, Composite Types.
+/// Draws a storage type: a packed type or a value type. See the standard, section Structure,
+/// Composite Types.
 ///
-/// `config` is sanitised, and `must_share` is set only where `config` allows shared types. The storage type refers only to types
-/// of `spaces` below `limit`, and only to shared types where `must_share` is set.
+/// The storage type refers only to types of `spaces` below `limit`, and only to shared types if
+/// `must_share` is `true`.
 ///
-/// The result is always `Ok`, since no memory is taken: all draws of types give a `Result`.
+/// Requires `config` to be sanitised, and to permit shared types if `must_share` is `true`.
+///
+/// Always returns `Ok`, since it does not allocate. All draws of types return a `Result`.
 pub fn arbitrary_storage_type(
     _alloc: Global,
     config: &Config,
@@ -82,12 +85,15 @@ pub fn arbitrary_storage_type(
     Ok(draw_storage_type(config, &standing, must_share, limit, u))
 }
 
-/// Draws a field type: a storage type, and whether the field is mutable. The standard's section Structure, Composite Types.
+/// Draws a field type: a storage type, and whether the field is mutable. See the standard, section
+/// Structure, Composite Types.
 ///
-/// `config` is sanitised, and `must_share` is set only where `config` allows shared types. The field type refers only to types of
-/// `spaces` below `limit`, and only to shared types where `must_share` is set.
+/// The field type refers only to types of `spaces` below `limit`, and only to shared types if
+/// `must_share` is `true`.
 ///
-/// The result is always `Ok`, since no memory is taken: all draws of types give a `Result`.
+/// Requires `config` to be sanitised, and to permit shared types if `must_share` is `true`.
+///
+/// Always returns `Ok`, since it does not allocate. All draws of types return a `Result`.
 pub fn arbitrary_field_type(
     _alloc: Global,
     config: &Config,

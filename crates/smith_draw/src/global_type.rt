@@ -21,7 +21,8 @@ use smith_config::Config;
 use smith_types::{GlobalType, SubType, ValType};
 use std::alloc::Global;
 
-/// Whether a global of the type `val_type` is shared: a reference where its heap type is, anything else by a draw.
+/// Returns whether a global of the type `val_type` is shared. A reference is shared exactly if its
+/// heap type is; for any other type this is drawn.
 fn is_global_shared(
     config: &Config,
     types: &[SubType],
@@ -51,7 +52,7 @@ fn draw_global(config: &Config, standing: &Standing<'_>, u: &mut Unstructured<'_
     }
 }
 
-/// Draws a global type, as [`arbitrary_global_type`] does, over `standing`.
+/// Draws a global type over `standing` as [`arbitrary_global_type`] does.
 pub fn draw_global_type(
     config: &Config,
     standing: &Standing<'_>,
@@ -69,13 +70,15 @@ pub fn draw_global_type(
     draw_global(config, standing, u)
 }
 
-/// Draws a global type: a value type over the types of `spaces`, whether the global is shared, and whether it is mutable. A
-/// global of a reference is shared exactly where the heap type of the reference is. The standard's section Structure, Global
-/// Types.
+/// Draws a global type: a value type over the types of `spaces`, whether the global is shared, and
+/// whether it is mutable. See the standard, section Structure, Global Types.
 ///
-/// `config` is sanitised. The global type is valid where the types of `spaces` are.
+/// A global that holds a reference is shared exactly if the heap type of the reference is. The
+/// global type is valid if the types of `spaces` are.
 ///
-/// The result is always `Ok`, since no memory is taken: all draws of entities give a `Result`.
+/// Requires `config` to be sanitised.
+///
+/// Always returns `Ok`, since it does not allocate. All draws of entities return a `Result`.
 pub fn arbitrary_global_type(
     _alloc: Global,
     config: &Config,

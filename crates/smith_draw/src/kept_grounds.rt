@@ -11,22 +11,24 @@ use smith_config::Config;
 use smith_types::{FuncGrounds, TypeSpace};
 use std::alloc::Global;
 
-/// What functions ground, where it is kept: many draws then look at the functions once. Nothing is kept, and no memory taken, where the
-/// configuration has no references that aren't nullable.
+/// A record of the heap types that functions ground, so that repeated draws read the functions only
+/// once.
+///
+/// If the configuration disables non-nullable references, nothing is recorded or allocated.
 #[derive(Drop)]
 pub struct KeptGrounds {
     kept: Option<FuncGrounds>,
 }
 
 impl KeptGrounds {
-    /// Begins with nothing kept. Takes no memory.
+    /// Creates an empty record. Does not allocate.
     pub fn new() -> KeptGrounds
         ensures { (context : Context) → AreKeptGrounds context result }
     {
         KeptGrounds { kept: None }
     }
 
-    /// Keeps what no functions ground, over `types`, so that functions can be noted.
+    /// Starts a record over `types` without functions, so that functions can be noted.
     pub fn begin(&mut self, alloc: Global, config: &Config, types: &TypeSpace) -> Result<(), Error>
         ensures none { (context : Context) → context.types ≡ types.now.types → context.funcs ≡ [] → OnOk result (AreKeptGrounds context self.new) }
         ensures memory { IfErr result (λ e. e ≡ Error.Memory) }
@@ -48,7 +50,7 @@ impl KeptGrounds {
         }
     }
 
-    /// Keeps what the functions of `spaces` ground, if there are any.
+    /// Records the heap types that the functions of `spaces` ground, if there are functions.
     pub fn keep(&mut self, alloc: Global, config: &Config, spaces: &Spaces<'_>) -> Result<(), Error>
         ensures kept { OnOk result (AreKeptGrounds (standing_in config.now spaces.now) self.new) }
         ensures memory { IfErr result (λ e. e ≡ Error.Memory) }
@@ -61,7 +63,7 @@ impl KeptGrounds {
         Ok(())
     }
 
-    /// The types and functions of `spaces`, for draws.
+    /// Returns the types and functions of `spaces`, with this record.
     pub fn standing<'a>(&'a self, config: &'a Config, spaces: &Spaces<'a>) -> Standing<'a>
         requires { AreKeptGrounds (standing_in config.now spaces.now) self.now }
         ensures { result ≡ standing_in config.now spaces.now }
@@ -70,7 +72,7 @@ impl KeptGrounds {
     }
 }
 
-/// Returns what the functions of `spaces` ground.
+/// Returns the heap types that the functions of `spaces` ground.
 fn grounds_of(alloc: Global, config: &Config, spaces: &Spaces<'_>) -> Result<FuncGrounds, Error>
     ensures kept { IfOk result (AreFuncGrounds (standing_in config.now spaces.now)) }
     ensures memory { IfErr result (λ e. e ≡ Error.Memory) }
@@ -80,7 +82,7 @@ fn grounds_of(alloc: Global, config: &Config, spaces: &Spaces<'_>) -> Result<Fun
     Ok(grounds)
 }
 
-/// Notes the functions of `spaces` among `grounds`, which has none.
+/// Notes the functions of `spaces` in `grounds`. Requires `grounds` to have none.
 fn note_functions(config: &Config, spaces: &Spaces<'_>, grounds: &mut FuncGrounds)
     requires { AreFuncGrounds (with_functions (standing_in config.now spaces.now) []) grounds.old }
     ensures { AreFuncGrounds (standing_in config.now spaces.now) grounds.new }
@@ -92,7 +94,7 @@ fn note_functions(config: &Config, spaces: &Spaces<'_>, grounds: &mut FuncGround
     }
 }
 
-/// Whether the reference that names the function `function` of `spaces` is exact.
+/// Returns whether a reference to the function `function` of `spaces` is exact.
 fn is_exact(config: &Config, spaces: &Spaces<'_>, function: usize) -> bool
     ensures { result ≡ (nat_le spaces.now.entities.imported_funcs function && config.now.custom_descriptors_enabled) }
 {

@@ -1,5 +1,8 @@
-//! Drawn types, entities and constant expressions, over the type space and the index spaces that stand so far. A draw takes its
-//! bytes from `u`. A call that gives a `Result` is refused only for want of memory, but for what its `# Errors` add.
+//! Draws of types, entities and constant expressions over the types and index spaces defined so
+//! far.
+//!
+//! A draw takes its bytes from `u`. A call that returns a `Result` fails only if an allocation
+//! fails, apart from the errors in its section `# Errors`.
 #![tactic(auto)]
 
 mod choice;

@@ -4,7 +4,7 @@ ghost use Rattle.smith_draw.specs.Limits.{scaled, sixth_power, gradual, graduall
 
 use smith_bytes::Unstructured;
 
-/// The part of `n` that `x` is of the greatest `u32`, rounded down.
+/// Returns `n * x / u32::MAX`, rounded down.
 #[tactic(auto, unfolding(crate::specs::Limits::scaled))]
 fn scale(n: u64, x: u32) -> u64
     ensures exact { result ≡ scaled n x }
@@ -44,7 +44,8 @@ fn grow_by(min: u64, inbounds: u64, max: u64, x: u32) -> u64
     }
 }
 
-/// Draws a number from `min` to `max`, mostly near `min` and not above `inb`. `inb` is at least `min` and at most `max`.
+/// Draws a number between `min` and `max`, mostly near `min` and at most `inb`. Requires `inb` to
+/// be between `min` and `max`.
 #[tactic(auto, unfolding(crate::specs::Limits::gradually_at))]
 pub fn gradually_grow(min: u64, inb: u64, max: u64, u: &mut Unstructured<'_>) -> u64
     requires low { min ≤ inb }
@@ -60,11 +61,13 @@ pub fn gradually_grow(min: u64, inb: u64, max: u64, u: &mut Unstructured<'_>) ->
     grow_by(min, inb, max, x)
 }
 
-/// Draws limits: a minimum from `least` to `most` by [`gradually_grow`], mostly not above `inbounds`, and a maximum from the
-/// minimum to `most`. A maximum that is not `required` is drawn only where a bool asks for it. The standard's section Structure,
-/// Limits.
+/// Draws limits: a minimum between `least` and `most`, and a maximum between that minimum and
+/// `most`. See the standard, section Structure, Limits.
 ///
-/// `inbounds` is at least `least` and at most `most`.
+/// The minimum is drawn by [`gradually_grow`], and is mostly at most `inbounds`. If `required` is
+/// `false`, a bool is drawn to decide whether there is a maximum.
+///
+/// Requires `inbounds` to be between `least` and `most`.
 #[tactic(auto, unfolding(crate::specs::Limits::limits64_at))]
 pub fn arbitrary_limits64(
     least: u64,

@@ -17,7 +17,7 @@ use smith_config::Config;
 use smith_types::{Items, ValType};
 use std::alloc::Global;
 
-/// Draws the types of the locals of a function, as [`arbitrary_locals`] does, over `standing`.
+/// Draws the types of the locals of a function over `standing` as [`arbitrary_locals`] does.
 #[tactic(auto, unfolding(crate::specs::Locals::locals_at))]
 pub fn draw_locals(
     alloc: Global,
@@ -31,10 +31,10 @@ pub fn draw_locals(
     draw_val_types(alloc, config, standing, false, limit, 100, u)
 }
 
-/// Draws the types of the locals of a function, behind its parameters: at most 100 value types over the types of `spaces`. The
-/// standard's section Structure, Functions.
+/// Draws the types of the locals of a function, without its parameters: at most 100 value types
+/// over the types of `spaces`. See the standard, section Structure, Functions.
 ///
-/// `config` is sanitised.
+/// Requires `config` to be sanitised.
 pub fn arbitrary_locals(
     alloc: Global,
     config: &Config,

@@ -84,7 +84,7 @@ fn draw_subtype(
     }
 }
 
-/// Draws one of the subtypes that are offered of the abstract type `ty`, shared or not as `shared` says.
+/// Draws one of the offered subtypes of the abstract type `ty` with the sharedness `shared`.
 fn draw_abstract_subtype(
     space: &TypeSpace,
     shared: bool,
@@ -100,7 +100,7 @@ fn draw_abstract_subtype(
     offered_abstract(space, shared, abstracts, kinds, place)
 }
 
-/// Draws one of the subtypes that are offered of the type of the index `index`.
+/// Draws one of the offered subtypes of the type `index`.
 fn draw_concrete_subtype(
     config: &Config,
     space: &TypeSpace,
@@ -114,7 +114,7 @@ fn draw_concrete_subtype(
     offered_concrete_subtype(config, space, index, place)
 }
 
-/// Draws `ty`, or a grounded one of the other subtypes that are offered of it.
+/// Draws `ty`, or a grounded one among the other offered subtypes of it.
 fn draw_grounded_heap_type(
     config: &Config,
     standing: &Standing<'_>,
@@ -134,7 +134,8 @@ fn draw_grounded_heap_type(
     offered_grounded(config, standing, ty, place - 1)
 }
 
-/// Counts the grounded ones among the subtypes of `ty` that are offered with garbage collection, `ty` itself aside.
+/// Counts the grounded types among the subtypes of `ty` that are offered with garbage collection,
+/// without `ty` itself.
 fn count_grounded(config: &Config, standing: &Standing<'_>, ty: HeapType) -> usize
     ensures { result ≡ length (filter (is_grounded standing.now) (drop 1 (gc_subtypes config.now standing.now.types ty))) }
 {
@@ -150,7 +151,7 @@ fn count_grounded(config: &Config, standing: &Standing<'_>, ty: HeapType) -> usi
     grounded
 }
 
-/// Returns the one of these at the place `place`.
+/// Returns the type at `place` among those that [`count_grounded`] counts.
 fn offered_grounded(
     config: &Config,
     standing: &Standing<'_>,
@@ -175,14 +176,14 @@ fn offered_grounded(
     ty
 }
 
-/// Whether all subtypes of the heap type of `ty` are offered, grounded or not.
+/// Returns whether all subtypes of the heap type of `ty` are offered, grounded or not.
 fn are_all_offered(config: &Config, ty: RefType) -> bool
     ensures { result ≡ (ty.nullable || not config.now.non_nullable_enabled) }
 {
     ty.nullable || !config.non_nullable_enabled
 }
 
-/// Draws the heap type of a reference below `ty`.
+/// Draws the heap type of a reference that is a subtype of `ty`.
 fn draw_referent(
     config: &Config,
     standing: &Standing<'_>,
@@ -197,7 +198,8 @@ fn draw_referent(
     Ok(draw_grounded_heap_type(config, standing, ty.heap_type, u))
 }
 
-/// Draws a reference type below `ty`, as [`arbitrary_matching_ref_type`] does, over `standing`.
+/// Draws a reference type that is a subtype of `ty` over `standing`, as
+/// [`arbitrary_matching_ref_type`] does.
 #[tactic(auto, unfolding(crate::specs::MatchingTypes::matching_ref_type_at))]
 pub fn draw_matching_ref_type(
     alloc: Global,
@@ -267,7 +269,7 @@ pub(crate) fn draw_matching_field_type(
     })
 }
 
-/// Draws what matches: a subtype of a value type, and a field that matches a field.
+/// Draws a matching type: a subtype of a value type, or a field that matches a field.
 #[derive(Clone, Copy)]
 pub(crate) struct Matching<'a> {
     pub(crate) config: &'a Config,
@@ -320,8 +322,9 @@ pub(crate) fn draw_matching_func_type(
     Ok(FuncType { params, results })
 }
 
-/// Draws a heap type below `ty`, over the types of `spaces`; without garbage collection `ty` itself. The standard's section
-/// Validation, Matching, Heap Types, with the rules of this project as in [`TypeSpace::heap_type_is_sub_type`].
+/// Draws a heap type that is a subtype of `ty` over the types of `spaces`. Without garbage
+/// collection this is `ty` itself. See the standard, section Validation, Matching, Heap Types, with
+/// the rules of this project of [`TypeSpace::heap_type_is_sub_type`].
 pub fn arbitrary_matching_heap_type(
     alloc: Global,
     config: &Config,
@@ -340,9 +343,13 @@ pub fn arbitrary_matching_heap_type(
     draw_matching_heap_type(config, spaces.types, ty, u)
 }
 
-/// Draws a reference type below `ty`, over the types of `spaces`, nullable exactly where `ty` is. Where `config` has references that
-/// aren't nullable and `ty` isn't, the heap type is that of `ty` or one that a struct type or a function of `spaces` grounds. The
-/// standard's section Validation, Matching, Reference Types, over heap types as in [`TypeSpace::heap_type_is_sub_type`].
+/// Draws a reference type that is a subtype of `ty` over the types of `spaces`. See the standard,
+/// section Validation, Matching, Reference Types; heap types are compared as in
+/// [`TypeSpace::heap_type_is_sub_type`].
+///
+/// The result is nullable exactly if `ty` is. If `ty` is non-nullable and `config` enables
+/// non-nullable references, the heap type is that of `ty` or one that a struct type or a function
+/// of `spaces` grounds.
 pub fn arbitrary_matching_ref_type(
     alloc: Global,
     config: &Config,
@@ -363,8 +370,9 @@ pub fn arbitrary_matching_ref_type(
     draw_matching_ref_type(alloc, config, &standing, ty, u)
 }
 
-/// Draws a value type below `ty`, over the types of `spaces`; a number or a vector is `ty` itself. The standard's section
-/// Validation, Matching, Value Types, over heap types as in [`TypeSpace::heap_type_is_sub_type`].
+/// Draws a value type that is a subtype of `ty` over the types of `spaces`. For a number or a
+/// vector this is `ty` itself. See the standard, section Validation, Matching, Value Types; heap
+/// types are compared as in [`TypeSpace::heap_type_is_sub_type`].
 pub fn arbitrary_matching_val_type(
     alloc: Global,
     config: &Config,
@@ -384,8 +392,9 @@ pub fn arbitrary_matching_val_type(
     draw_matching_val_type(alloc, config, &standing, ty, u)
 }
 
-/// Draws a storage type that matches `ty`, over the types of `spaces`; a packed type is `ty` itself. The standard's section
-/// Validation, Matching, Field Types, over heap types as in [`TypeSpace::heap_type_is_sub_type`].
+/// Draws a storage type that matches `ty` over the types of `spaces`. For a packed type this is
+/// `ty` itself. See the standard, section Validation, Matching, Field Types; heap types are
+/// compared as in [`TypeSpace::heap_type_is_sub_type`].
 pub fn arbitrary_matching_storage_type(
     alloc: Global,
     config: &Config,
@@ -405,8 +414,9 @@ pub fn arbitrary_matching_storage_type(
     draw_matching_storage_type(alloc, config, &standing, ty, u)
 }
 
-/// Draws a field type that matches `field`, over the types of `spaces`; a mutable field is `field` itself. The standard's section
-/// Validation, Matching, Field Types, over heap types as in [`TypeSpace::heap_type_is_sub_type`].
+/// Draws a field type that matches `field` over the types of `spaces`. For a mutable field this is
+/// `field` itself. See the standard, section Validation, Matching, Field Types; heap types are
+/// compared as in [`TypeSpace::heap_type_is_sub_type`].
 pub fn arbitrary_matching_field_type(
     alloc: Global,
     config: &Config,
@@ -426,9 +436,9 @@ pub fn arbitrary_matching_field_type(
     draw_matching_field_type(alloc, config, &standing, field, u)
 }
 
-/// Draws a function type that matches `function`, over the types of `spaces`: supertypes of its parameters, and subtypes of its
-/// results. The standard's section Validation, Matching, Composite Types, over heap types as in
-/// [`TypeSpace::heap_type_is_sub_type`].
+/// Draws a function type that matches `function` over the types of `spaces`: supertypes of its
+/// parameters, and subtypes of its results. See the standard, section Validation, Matching,
+/// Composite Types; heap types are compared as in [`TypeSpace::heap_type_is_sub_type`].
 pub fn arbitrary_matching_func_type(
     alloc: Global,
     config: &Config,

@@ -74,7 +74,7 @@ fn draw_matching_inner(
     }
 }
 
-/// Draws a composite type that matches `composite`, and is shared where `composite` is.
+/// Draws a composite type that matches `composite` and has its sharedness.
 #[tactic(auto, unfolding(crate::specs::MatchingComposites::matching_composite_type_at))]
 pub(crate) fn draw_matching_composite_type(
     alloc: Global,
@@ -91,14 +91,17 @@ pub(crate) fn draw_matching_composite_type(
     Ok(CompositeType { inner, shared })
 }
 
-/// Draws a struct type that matches `structure`: a matching field for each of its fields, and at most 5 fields behind them. The
-/// standard's section Validation, Matching, Composite Types, over heap types as in [`TypeSpace::heap_type_is_sub_type`].
+/// Draws a struct type that matches `structure`: a matching field for each of its fields, followed
+/// by at most 5 further fields. See the standard, section Validation, Matching, Composite Types;
+/// heap types are compared as in [`TypeSpace::heap_type_is_sub_type`].
 ///
-/// `config` is sanitised, and `must_share` is set only where `config` allows shared types. The fields behind refer only to types
-/// of `spaces` below `limit`, and only to shared types where `must_share` is set.
+/// The further fields refer only to types of `spaces` below `limit`, and only to shared types if
+/// `must_share` is `true`.
 ///
-/// The struct type is valid below `limit` where `structure` is, `spaces` has at most `limit` types, and these are shared only
-/// where `config` allows it.
+/// The struct type is valid below `limit` if `structure` is, `spaces` has at most `limit` types,
+/// and these are shared only if `config` permits it.
+///
+/// Requires `config` to be sanitised, and to permit shared types if `must_share` is `true`.
 pub fn arbitrary_matching_struct_type(
     alloc: Global,
     config: &Config,

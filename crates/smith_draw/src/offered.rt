@@ -48,7 +48,8 @@ pub(crate) fn count_supertypes(space: &TypeSpace, ty: HeapType) -> usize
     }
 }
 
-/// Returns the supertype of `ty` that is offered with garbage collection at the place `place`, which is below [`count_supertypes`].
+/// Returns the supertype of `ty` at `place` among those that are offered with garbage collection.
+/// Requires `place` to be less than [`count_supertypes`].
 pub(crate) fn offered_supertype(space: &TypeSpace, ty: HeapType, place: usize) -> HeapType
     requires { place < length (gc_supertypes space.now.types ty) }
     ensures { slice_get (gc_supertypes space.now.types ty) place ≡ Some result }
@@ -68,8 +69,8 @@ pub(crate) fn offered_supertype(space: &TypeSpace, ty: HeapType, place: usize) -
     }
 }
 
-/// Returns the number of the abstract types `abstracts` and of the concrete types of the kinds `kinds`, all of them shared, or all of
-/// them not, as `shared` says.
+/// Returns the number of abstract types `abstracts` and of concrete types of the kinds `kinds`, all
+/// with the sharedness `shared`.
 fn count_abstract(
     space: &TypeSpace,
     shared: bool,
@@ -86,7 +87,8 @@ fn count_abstract(
     count
 }
 
-/// Returns the number of concrete types that are offered below the abstract type `ty`, shared or not as `shared` says.
+/// Returns the number of concrete types that are offered as subtypes of the abstract type `ty` with
+/// the sharedness `shared`.
 pub(crate) fn count_of_kinds_below(space: &TypeSpace, shared: bool, ty: AbstractHeapType) -> usize
     ensures count { result ≡ length (of_kinds space.now.types shared (kinds_below ty)) }
     ensures few { result < 2 ^ 33 }
@@ -101,7 +103,7 @@ pub(crate) fn count_of_kinds_below(space: &TypeSpace, shared: bool, ty: Abstract
     }
 }
 
-/// Returns the number of array and struct types, shared or not as `shared` says.
+/// Returns the number of array and struct types with the sharedness `shared`.
 fn count_of_aggregates(space: &TypeSpace, shared: bool) -> usize
     ensures count { result ≡ length (of_kinds space.now.types shared (Array ∷ Struct ∷ [])) }
     ensures few { result < 2 ^ 33 }
@@ -110,7 +112,7 @@ fn count_of_aggregates(space: &TypeSpace, shared: bool) -> usize
         + count_of_kind(space, shared, AbstractHeapType::Struct)
 }
 
-/// Returns the number of types of the kind `kind`, shared or not as `shared` says.
+/// Returns the number of types of the kind `kind` with the sharedness `shared`.
 fn count_of_kind(space: &TypeSpace, shared: bool, kind: AbstractHeapType) -> usize
     ensures count { result ≡ length (of_kinds space.now.types shared (kind ∷ [])) }
     ensures few { result < 2 ^ 32 }
@@ -118,7 +120,8 @@ fn count_of_kind(space: &TypeSpace, shared: bool, kind: AbstractHeapType) -> usi
     space.count_of_kind(shared, kind) as usize
 }
 
-/// Returns the type at the place `place` among those that [`count_abstract`] counts, the abstract types first.
+/// Returns the type at `place` among those that [`count_abstract`] counts, the abstract types
+/// first.
 pub(crate) fn offered_abstract(
     space: &TypeSpace,
     shared: bool,
@@ -138,8 +141,8 @@ pub(crate) fn offered_abstract(
     HeapType::Concrete(offered_of_kinds(space, shared, kinds, place - abstracts.len()))
 }
 
-/// Returns the index of the type at the place `place` among the types of the kinds `kinds`, kind by kind, each in the order of the
-/// indices.
+/// Returns the index of the type at `place` among the types of the kinds `kinds`, kind by kind,
+/// each in index order.
 fn offered_of_kinds(
     space: &TypeSpace,
     shared: bool,
@@ -160,7 +163,7 @@ fn offered_of_kinds(
     0
 }
 
-/// Returns the number of supertypes that are offered of the type of the index `index`, itself among them.
+/// Returns the number of offered supertypes of the type `index`, including the type itself.
 fn count_concrete_supertypes(space: &TypeSpace, index: u32) -> usize
     ensures { result ≡ length (gc_supertypes space.now.types (Concrete index)) }
 {
@@ -172,7 +175,8 @@ fn count_concrete_supertypes(space: &TypeSpace, index: u32) -> usize
     }
 }
 
-/// Returns the one of these at the place `place`, the type itself first.
+/// Returns the type at `place` among those that [`count_concrete_supertypes`] counts, the type
+/// itself first.
 fn offered_concrete_supertype(space: &TypeSpace, index: u32, place: usize) -> HeapType
     requires { place < length (gc_supertypes space.now.types (Concrete index)) }
     ensures { slice_get (gc_supertypes space.now.types (Concrete index)) place ≡ Some result }
@@ -186,8 +190,8 @@ fn offered_concrete_supertype(space: &TypeSpace, index: u32, place: usize) -> He
     }
 }
 
-/// Returns the type at the place `place` above the type `ty` of the index `index`: abstract types, and then the types on the way up,
-/// nearest first.
+/// Returns the type at `place` among the proper supertypes of the type `ty` with the index `index`:
+/// abstract types, and then declared supertypes, nearest first.
 fn offered_above(space: &TypeSpace, index: u32, ty: &SubType, place: usize) -> HeapType
     requires orderly { IsOrderly space.now.types }
     requires stands { slice_get space.now.types index ≡ Some ty.now }
@@ -218,7 +222,8 @@ pub(crate) fn count_subtypes(config: &Config, space: &TypeSpace, ty: HeapType) -
     }
 }
 
-/// Returns the subtype of `ty` that is offered with garbage collection at the place `place`, which is below [`count_subtypes`].
+/// Returns the subtype of `ty` at `place` among those that are offered with garbage collection.
+/// Requires `place` to be less than [`count_subtypes`].
 pub(crate) fn offered_subtype(
     config: &Config,
     space: &TypeSpace,
@@ -237,7 +242,7 @@ pub(crate) fn offered_subtype(
     }
 }
 
-/// Returns the number of subtypes that are offered of the type of the index `index`, itself among them.
+/// Returns the number of offered subtypes of the type `index`, including the type itself.
 pub(crate) fn count_concrete_subtypes(config: &Config, space: &TypeSpace, index: u32) -> usize
     ensures { result ≡ length (gc_subtypes config.now space.now.types (Concrete index)) }
 {
@@ -245,8 +250,8 @@ pub(crate) fn count_concrete_subtypes(config: &Config, space: &TypeSpace, index:
     1 + direct + count_exact(config, direct) + count_bottom(space.types(), index)
 }
 
-/// Returns the number of types that are offered with custom descriptors alone: the exact type, and the `direct` types directly below
-/// once more.
+/// Returns the number of types that are offered only with custom descriptors: the exact type, and
+/// the `direct` direct subtypes once more.
 fn count_exact(config: &Config, direct: usize) -> usize
     requires { direct < 2 ^ 32 }
     ensures { result ≡ (if config.now.custom_descriptors_enabled then 1 + direct else 0) }
@@ -258,7 +263,7 @@ fn count_exact(config: &Config, direct: usize) -> usize
     }
 }
 
-/// Returns the number of bottoms of the kind of the type of the index `index`: one where that type exists.
+/// Returns the number of bottom types of the type `index`: 1 if that type exists, otherwise 0.
 fn count_bottom(types: &[SubType], index: u32) -> usize
     ensures { result ≡ length (bottom_at types.now index) }
 {
@@ -268,7 +273,8 @@ fn count_bottom(types: &[SubType], index: u32) -> usize
     }
 }
 
-/// Returns the one of the subtypes of the type of the index `index` at the place `place`, the type itself first.
+/// Returns the type at `place` among the offered subtypes of the type `index`, the type itself
+/// first.
 pub(crate) fn offered_concrete_subtype(
     config: &Config,
     space: &TypeSpace,
@@ -288,8 +294,8 @@ pub(crate) fn offered_concrete_subtype(
     offered_below(config, space, index, direct, place - 1 - direct)
 }
 
-/// Returns the type at the place `place` among those that are offered below the type of the index `index` after the `direct` types
-/// directly below.
+/// Returns the type at `place` among the offered subtypes of the type `index` that follow its
+/// `direct` direct subtypes.
 fn offered_below(
     config: &Config,
     space: &TypeSpace,
@@ -314,7 +320,7 @@ fn offered_below(
     offered_bottom(space.types(), index)
 }
 
-/// Returns the bottom of the kind of the type of the index `index`, which exists.
+/// Returns the bottom of the kind of the type `index`. Requires the type to exist.
 fn offered_bottom(types: &[SubType], index: u32) -> HeapType
     requires { 0 < length (bottom_at types.now index) }
     ensures { bottom_at types.now index ≡ result ∷ [] }
@@ -328,7 +334,7 @@ fn offered_bottom(types: &[SubType], index: u32) -> HeapType
     }
 }
 
-/// Returns the number of types that are declared directly below the type of the index `supertype`.
+/// Returns the number of types that declare the type `supertype` as their supertype.
 fn count_direct(space: &TypeSpace, supertype: u32) -> usize
     ensures count { result ≡ length (direct_subtypes space.now.types supertype) }
     ensures few { result < 2 ^ 32 }
@@ -336,7 +342,8 @@ fn count_direct(space: &TypeSpace, supertype: u32) -> usize
     space.count_of_direct_subtypes(supertype) as usize
 }
 
-/// Returns the index of the one of these at the place `place`, in the order of their indices.
+/// Returns the index of the type at `place` among those that [`count_direct`] counts, in index
+/// order.
 fn offered_direct(space: &TypeSpace, supertype: u32, place: usize) -> u32
     requires few { place < 2 ^ 32 }
     requires inside { place < length (direct_subtypes space.now.types supertype) }
@@ -345,7 +352,7 @@ fn offered_direct(space: &TypeSpace, supertype: u32, place: usize) -> u32
     space.direct_subtype(supertype, place as u32)
 }
 
-/// The abstract types that are offered above `inner`, widest first.
+/// Returns the abstract types that are offered as supertypes of `inner`, widest first.
 fn supertypes_of_inner(inner: &CompositeInnerType) -> &'static [AbstractHeapType]
     ensures { result.now ≡ supertypes_of_inner inner.now }
 {
@@ -357,7 +364,7 @@ fn supertypes_of_inner(inner: &CompositeInnerType) -> &'static [AbstractHeapType
     }
 }
 
-/// The abstract types that are offered below `ty`, `ty` itself first.
+/// Returns the abstract types that are offered as subtypes of `ty`, `ty` itself first.
 pub(crate) fn abstract_subtypes(ty: AbstractHeapType) -> &'static [AbstractHeapType]
     ensures { result.now ≡ abstract_subtypes ty }
 {
@@ -380,7 +387,7 @@ pub(crate) fn abstract_subtypes(ty: AbstractHeapType) -> &'static [AbstractHeapT
     }
 }
 
-/// The abstract types that are offered above `ty`, `ty` itself first.
+/// Returns the abstract types that are offered as supertypes of `ty`, `ty` itself first.
 fn abstract_supertypes(ty: AbstractHeapType) -> &'static [AbstractHeapType]
     ensures { result.now ≡ abstract_supertypes ty }
 {
@@ -403,7 +410,7 @@ fn abstract_supertypes(ty: AbstractHeapType) -> &'static [AbstractHeapType]
     }
 }
 
-/// The kinds of the concrete types that are offered below `ty`.
+/// Returns the kinds of the concrete types that are offered as subtypes of `ty`.
 pub(crate) fn kinds_below(ty: AbstractHeapType) -> &'static [AbstractHeapType]
     ensures { result.now ≡ kinds_below ty }
 {
@@ -418,7 +425,7 @@ pub(crate) fn kinds_below(ty: AbstractHeapType) -> &'static [AbstractHeapType]
     }
 }
 
-/// The kinds of the concrete types that are offered above `ty`.
+/// Returns the kinds of the concrete types that are offered as supertypes of `ty`.
 fn kinds_above(ty: AbstractHeapType) -> &'static [AbstractHeapType]
     ensures { result.now ≡ kinds_above ty }
 {

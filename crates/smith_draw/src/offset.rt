@@ -5,11 +5,13 @@ ghost use Rattle.smith_draw.specs.Offsets.{offset_at};
 use crate::limits::gradually_grow;
 use smith_bytes::Unstructured;
 
-/// Draws the offset of an active segment of `size` elements or bytes, in a table or a memory of at least `min` elements or bytes.
-/// The offset is a number from 0 to `max`, mostly near 0 and such that the segment fits into `min`. The offset of a segment that
-/// is longer than `min` is any number from 0 to `max`.
+/// Draws the offset of an active segment of `size` elements or bytes, in a table or a memory with a
+/// minimum size of `min`.
 ///
-/// `min` is at most `max`.
+/// The offset is between 0 and `max`, mostly near 0 and such that the segment fits into `min`. If
+/// the segment is longer than `min`, the offset is any number between 0 and `max`.
+///
+/// Requires `min` to be at most `max`.
 #[tactic(auto, unfolding(crate::specs::Offsets::offset_at))]
 pub fn arbitrary_offset(min: u64, max: u64, size: usize, u: &mut Unstructured<'_>) -> u64
     requires { min ≤ max }

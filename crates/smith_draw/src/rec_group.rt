@@ -37,10 +37,11 @@ use smith_types::{SubType, TypeSpace};
 use std::alloc::Global;
 use std::ops::Range;
 
-/// Adds the type `added` at the end of `types`, and gives its index. The standard's section Structure, Recursive Types.
+/// Adds the type `added` at the end of `types` and returns its index. See the standard, section
+/// Structure, Recursive Types.
 ///
-/// A supertype that `added` declares stands in `types`, and is of the kind and sharedness of `added`. `types` has fewer than 2^32
-/// - 1 types. [`TypeSpace::may_follow`] tells both.
+/// Requires [`TypeSpace::may_follow`] to hold for `added`: its declared supertype, if any, exists
+/// in `types` and has the same kind and sharedness, and `types` has fewer than 2^32 - 1 types.
 pub fn add_type(types: &mut TypeSpace, added: SubType) -> Result<u32, Error>
     requires { MayFollow types.old.types added }
     ensures ok { OnOk result (types.new ≡ record types.old { types = types.old.types ++ added ∷ [] }) }
@@ -52,7 +53,7 @@ pub fn add_type(types: &mut TypeSpace, added: SubType) -> Result<u32, Error>
     types.push_type(added)
 }
 
-/// Adds types to `types`, until there are `limit` types.
+/// Adds drawn types to `types` until there are `limit` types.
 #[tactic(auto, unfolding(crate::specs::RecGroups::types_until_at))]
 fn add_types(
     alloc: Global,
@@ -90,7 +91,7 @@ fn draw_group_size(
     u.int_in_range(least..=most)
 }
 
-/// Adds a new group to `types`, empty only where `allow_empty` is set.
+/// Adds a new group to `types`, which may be empty only if `allow_empty` is `true`.
 #[tactic(auto, unfolding(crate::specs::RecGroups::new_group_at))]
 fn add_new_group(
     alloc: Global,
@@ -112,7 +113,7 @@ fn add_new_group(
     Ok(())
 }
 
-/// Adds copies of the types `start..end` of `types`.
+/// Adds copies of the types `start..end` to `types`.
 fn add_copies(alloc: Global, types: &mut TypeSpace, start: usize, end: usize) -> Result<(), Error>
     requires ordered { start ≤ end }
     requires inside { end ≤ length types.old.types }
@@ -127,7 +128,7 @@ fn add_copies(alloc: Global, types: &mut TypeSpace, start: usize, end: usize) ->
     Ok(())
 }
 
-/// The group at `place` among the groups of `types`.
+/// Returns the group at `place` among the groups of `types`.
 fn group_at(types: &TypeSpace, place: usize) -> Range<usize>
     requires { place < length types.now.groups }
     ensures value { result ≡ slice_index_or types.now.groups place (record { start = 0; end = 0 }) }
@@ -139,7 +140,7 @@ fn group_at(types: &TypeSpace, place: usize) -> Range<usize>
     group.start..group.end
 }
 
-/// Whether `group` may be added to `types` again.
+/// Returns whether a clone of `group` may be added to `types`.
 fn may_be_cloned(
     config: &Config,
     types: &TypeSpace,
@@ -153,7 +154,8 @@ fn may_be_cloned(
     (allow_empty || group.start < group.end) && group.end - group.start <= room
 }
 
-/// Adds a chosen group of `types` again, where it may be, and gives whether it was added.
+/// Chooses a group of `types` and adds a clone of it, if it fits. Returns whether a clone was
+/// added.
 #[tactic(auto, unfolding(crate::specs::RecGroups::clone_rec_group_at, crate::specs::Choices::chosen_at))]
 fn clone_group(
     alloc: Global,
@@ -180,7 +182,7 @@ fn clone_group(
     Ok(true)
 }
 
-/// Whether a clone of a group of `types` is asked for.
+/// Draws whether to clone a group of `types`.
 fn is_clone_wanted(config: &Config, types: &TypeSpace, u: &mut Unstructured<'_>) -> bool
     ensures draws { AlwaysDraws (clone_wanted_at config.now types.now u.old) result u.old u.new }
     ensures some { IsTrue result → 0 < length types.now.groups }
@@ -191,8 +193,8 @@ fn is_clone_wanted(config: &Config, types: &TypeSpace, u: &mut Unstructured<'_>)
     u.ratio(1u32, 255)
 }
 
-/// Adds a clone where a draw asks for it, else a new group. In place of a clone that may not be added stands a new group, or
-/// nothing where `allow_empty` is set.
+/// Adds a clone or a new group, as drawn. If the clone does not fit, adds a new group, or nothing
+/// if `allow_empty` is `true`.
 #[tactic(auto, unfolding(crate::specs::RecGroups::rec_group_at))]
 fn add_rec_group(
     alloc: Global,
@@ -234,7 +236,7 @@ fn add_least_types(
     Ok(())
 }
 
-/// Adds groups while `types` may have more types and a bool asks for a group.
+/// Adds groups while `types` may have more types and a drawn bool is true.
 fn add_more_types(
     alloc: Global,
     config: &Config,
@@ -270,11 +272,14 @@ fn add_all_types(
     add_more_types(alloc, config, types, entities, u)
 }
 
-/// Adds a chosen group of `types` again, and gives whether it was added. A group is not added if it is empty and `allow_empty` is
-/// off, or if `types` would have more types than `config` allows. The standard's section Structure, Recursive Types.
+/// Chooses a group of `types` and adds a clone of it. Returns whether a clone was added. See the
+/// standard, section Structure, Recursive Types.
 ///
-/// `config` passes its check, but for the pair of `min_imports` and `max_imports`. `types` has a group, and fewer types than
-/// `config` allows. Valid types stay valid.
+/// No clone is added if the group is empty and `allow_empty` is `false`, or if `types` would have
+/// more types than `config` permits. Valid types stay valid.
+///
+/// Requires `config` to pass its check, possibly except for the pair of `min_imports` and
+/// `max_imports`. Requires `types` to have a group, and fewer types than `config` permits.
 pub fn clone_rec_group(
     alloc: Global,
     config: &Config,
@@ -298,12 +303,15 @@ pub fn clone_rec_group(
     clone_group(alloc, config, types, allow_empty, u)
 }
 
-/// Adds a group to `types`: a new group, or with garbage collection in one case of 255 a clone. A new group is empty only where
-/// `allow_empty` is set, and of one type without garbage collection. Where a clone is not added, as [`clone_rec_group`] says,
-/// nothing takes its place if `allow_empty` is set, else a new group does. The standard's section Structure, Recursive Types.
+/// Adds a group to `types`: with garbage collection a clone in one case of 255, otherwise a new
+/// group. See the standard, section Structure, Recursive Types.
 ///
-/// `config` is sanitised and passes its check, but for the pair of `min_imports` and `max_imports`. `types` has fewer types than
-/// `config` allows. Valid types stay valid.
+/// A new group is empty only if `allow_empty` is `true`, and has one type without garbage
+/// collection. If [`clone_rec_group`] adds no clone, adds a new group, or nothing if `allow_empty`
+/// is `true`. Valid types stay valid.
+///
+/// Requires `config` to be sanitised and to pass its check, possibly except for the pair of
+/// `min_imports` and `max_imports`. Requires `types` to have fewer types than `config` permits.
 pub fn arbitrary_rec_group(
     alloc: Global,
     config: &Config,
@@ -326,10 +334,14 @@ pub fn arbitrary_rec_group(
     add_rec_group(alloc, config, types, entities, allow_empty, u)
 }
 
-/// Adds groups to `types` until there are at least `config.min_types` types, then more groups while bools ask for them, up to
-/// `config.max_types` types. The standard's section Structure, Recursive Types.
+/// Adds groups to `types` until there are at least `config.min_types` types, then further groups as
+/// drawn bools decide, up to `config.max_types` types. See the standard, section Structure,
+/// Recursive Types.
 ///
-/// `config` is sanitised and passes its check, but for the pair of `min_imports` and `max_imports`. Valid types stay valid.
+/// Valid types stay valid.
+///
+/// Requires `config` to be sanitised and to pass its check, possibly except for the pair of
+/// `min_imports` and `max_imports`.
 pub fn arbitrary_types(
     alloc: Global,
     config: &Config,

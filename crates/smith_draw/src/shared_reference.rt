@@ -3,7 +3,7 @@ ghost use Rattle.smith_draw.specs.SharedHeapTypes.{is_heap_type_shared};
 
 use smith_types::{Predicate, RefType, ShareableValue, SubType, ValType};
 
-/// Whether the heap type of `reference` is shared.
+/// Returns whether the heap type of `reference` is shared.
 pub(crate) fn is_reference_shared(types: &[SubType], reference: RefType) -> bool
     ensures { result ≡ is_heap_type_shared types.now reference.heap_type }
 {

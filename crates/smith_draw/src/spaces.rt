@@ -3,18 +3,18 @@ ghost use Rattle.smith_types.specs.Types.{IsOrderly};
 
 use smith_types::{GlobalType, MemoryType, TableType, TypeSpace};
 
-/// The index spaces that stand so far, that of types aside. Imported entities come first in each.
+/// The index spaces defined so far, except that of types. Imported entities come first in each.
 #[derive(Clone, Copy)]
 pub struct Entities<'a> {
-    /// The type indices of the tags.
+    /// The type index of each tag.
     pub tags: &'a [u32],
-    /// The type indices of the functions.
+    /// The type index of each function.
     pub funcs: &'a [u32],
-    /// The tables.
+    /// The type of each table.
     pub tables: &'a [TableType],
-    /// The memories.
+    /// The type of each memory.
     pub memories: &'a [MemoryType],
-    /// The globals.
+    /// The type of each global.
     pub globals: &'a [GlobalType],
     /// The number of imported functions.
     pub imported_funcs: usize,
@@ -23,7 +23,7 @@ pub struct Entities<'a> {
 }
 
 impl<'a> Entities<'a> {
-    /// Index spaces without an entity.
+    /// Returns empty index spaces.
     pub fn none() -> Entities<'a>
         ensures tags { result.tags.now ≡ [] }
         ensures funcs { result.funcs.now ≡ [] }
@@ -48,13 +48,13 @@ impl<'a> Entities<'a> {
 /// The types and entities that a drawn type or expression may refer to.
 #[derive(Clone, Copy)]
 pub struct Spaces<'a> {
-    /// The types that stand.
+    /// The types defined so far.
     pub types: &'a TypeSpace,
     /// The entities, over the types of `types`.
     pub entities: Entities<'a>,
 }
 
-/// Tells that the types of `spaces` are orderly, as those of every type space are.
+/// Proves that the types of `spaces` are orderly, as those of every type space are.
 pub(crate) fn orderly(spaces: &Spaces<'_>)
     ensures { IsOrderly spaces.now.types.now.types }
 {

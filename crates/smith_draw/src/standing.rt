@@ -10,14 +10,14 @@ use smith_config::Config;
 use smith_types::{FuncGrounds, HeapType, SubType, TypeSpace};
 use std::marker::Model;
 
-/// What drawn references are over: types, and functions, which may ground references.
+/// The types over which references are drawn, and the functions that may ground them.
 #[derive(Drop)]
 pub struct Standing<'a> {
     config: &'a Config,
     types: &'a TypeSpace,
     funcs: &'a [u32],
     imported_funcs: usize,
-    // What the functions ground, where it is kept.
+    // The record of the heap types that the functions ground, if there is one.
     grounds: Option<&'a FuncGrounds>,
 }
 
@@ -36,7 +36,8 @@ impl<'a> Model for Standing<'a> {
 }
 
 impl<'a> Standing<'a> {
-    /// The types and functions of `spaces`. The functions are looked through for each heap type that they may ground.
+    /// Returns the types and functions of `spaces`. Every query whether a function grounds a heap
+    /// type reads all functions.
     pub(crate) fn over(config: &'a Config, spaces: &Spaces<'a>) -> Standing<'a>
         ensures { result ≡ standing_in config.now spaces.now }
     {
@@ -49,7 +50,7 @@ impl<'a> Standing<'a> {
         }
     }
 
-    /// The types of `types` and the functions of `entities`, as [`Standing::over`] has those of one value.
+    /// Returns the types of `types` and the functions of `entities`, as [`Standing::over`] does.
     pub(crate) fn beside(
         config: &'a Config,
         types: &'a TypeSpace,
@@ -66,7 +67,8 @@ impl<'a> Standing<'a> {
         }
     }
 
-    /// The types and functions of `spaces`. What these functions ground is read from `grounds`, where that is given.
+    /// Returns the types and functions of `spaces`. Queries whether a function grounds a heap type
+    /// use the record `grounds`, if given.
     pub(crate) fn kept(
         config: &'a Config,
         spaces: &Spaces<'a>,
@@ -84,21 +86,21 @@ impl<'a> Standing<'a> {
         }
     }
 
-    /// The types.
+    /// Returns the types.
     pub fn types(&self) -> &'a TypeSpace
         ensures { result.now.types ≡ self.now.types }
     {
         self.types
     }
 
-    /// Tells that the types are orderly, as those of every type space are.
+    /// Proves that the types are orderly, as those of every type space are.
     pub(crate) fn orderly(&self)
         ensures { IsOrderly self.now.types }
     {
         let _types = self.types.types();
     }
 
-    /// Whether a type or a function grounds the heap type `ty`.
+    /// Returns whether a type or a function grounds the heap type `ty`.
     pub(crate) fn is_grounded(&self, ty: HeapType) -> bool
         ensures { result ≡ is_grounded self.now ty }
     {
@@ -112,7 +114,8 @@ impl<'a> Standing<'a> {
         self.is_grounded_by_functions(ty)
     }
 
-    /// Whether a function grounds the heap type `ty`, whose type stands.
+    /// Returns whether a function grounds the heap type `ty`. Requires the type named by `ty`, if
+    /// any, to exist.
     fn is_grounded_by_functions(&self, ty: HeapType) -> bool
         requires orderly { IsOrderly self.now.types }
         requires stands { IsInRange self.now.types ty }
@@ -124,7 +127,7 @@ impl<'a> Standing<'a> {
         self.is_above_a_function(ty)
     }
 
-    /// The same, by a look at each function.
+    /// Returns the same as [`Standing::is_grounded_by_functions`], by reading each function.
     fn is_above_a_function(&self, ty: HeapType) -> bool
         requires { IsInRange self.now.types ty }
         ensures { result ≡ any_from (function_grounds self.now ty) 0 self.now.funcs }
@@ -138,7 +141,8 @@ impl<'a> Standing<'a> {
         false
     }
 
-    /// Whether a reference to the function `function`, whose type is `index`, is below the heap type `ty`, whose type stands.
+    /// Returns whether a reference to the function `function` with the type `index` is a subtype of
+    /// the heap type `ty`. Requires the type named by `ty`, if any, to exist.
     fn is_function_below(&self, function: usize, index: u32, ty: HeapType) -> bool
         requires { IsInRange self.now.types ty }
         ensures { result ≡ function_grounds self.now ty function index }
@@ -150,7 +154,7 @@ impl<'a> Standing<'a> {
         self.types.heap_type_is_sub_type(reference, ty)
     }
 
-    /// The heap type of a reference to the function `function`, whose type is `index`.
+    /// Returns the heap type of a reference to the function `function` with the type `index`.
     fn reference_to(&self, function: usize, index: u32) -> HeapType
         ensures value { reference_to result ≡ function_reference self.now function index }
         ensures stands { index < length self.now.types → IsInRange self.now.types result }
@@ -163,7 +167,7 @@ impl<'a> Standing<'a> {
     }
 }
 
-/// Whether the type that `ty` names is one of `types`.
+/// Returns whether the type that `ty` refers to is one of `types`.
 fn stands(types: &[SubType], ty: HeapType) -> bool
     ensures { IsTrue result ↔ IsInRange types.now ty }
 {

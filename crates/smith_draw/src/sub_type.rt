@@ -31,14 +31,14 @@ use smith_config::Config;
 use smith_types::{SubType, TypeSpace};
 use std::alloc::Global;
 
-/// The indices of the types that may have subtypes.
+/// Returns the indices of the types that may have subtypes.
 fn supertypes(space: &TypeSpace) -> &[u32]
     ensures { result.now ≡ supertypes space.now.types }
 {
     space.extensible()
 }
 
-/// Whether a type is final: without garbage collection it is.
+/// Draws whether a type is final. Without garbage collection it is.
 fn is_final(config: &Config, u: &mut Unstructured<'_>) -> bool
     ensures { AlwaysDraws (is_final_at config.now u.old) result u.old u.new }
 {
@@ -68,7 +68,8 @@ fn draw_root_type(
     })
 }
 
-/// Draws a type below the type `index`, or, if no type stands there, without a supertype.
+/// Draws a subtype of the type `index`, or a type without a supertype if the type `index` does not
+/// exist.
 fn draw_sub_type_below(
     alloc: Global,
     config: &Config,
@@ -96,7 +97,7 @@ fn draw_sub_type_below(
     }
 }
 
-/// Draws a type below a chosen type of `indices`.
+/// Chooses one of `indices` and draws a subtype of that type.
 #[tactic(auto, unfolding(crate::specs::SubTypes::sub_type_of_at))]
 fn draw_sub_type_of(
     alloc: Global,
@@ -113,7 +114,7 @@ fn draw_sub_type_of(
     draw_sub_type_below(alloc, config, standing, limit, index, u)
 }
 
-/// Whether a supertype is asked for, where `count` types may have subtypes.
+/// Draws whether to choose a supertype, if `count` types may have subtypes.
 fn is_supertype_wanted(config: &Config, count: usize, u: &mut Unstructured<'_>) -> bool
     ensures draws { AlwaysDraws (supertype_wanted_at config.now count u.old) result u.old u.new }
     ensures some { IsTrue result → 0 < count }
@@ -124,7 +125,8 @@ fn is_supertype_wanted(config: &Config, count: usize, u: &mut Unstructured<'_>) 
     u.ratio(1u32, 32)
 }
 
-/// Draws a type over `types` and the functions of `entities`: below a type that may have subtypes, or without a supertype.
+/// Draws a type over `types` and the functions of `entities`: a subtype of a type that may have
+/// subtypes, or a type without a supertype.
 #[tactic(auto, unfolding(crate::specs::SubTypes::sub_type_at))]
 pub(crate) fn draw_sub_type(
     alloc: Global,
@@ -144,10 +146,13 @@ pub(crate) fn draw_sub_type(
     draw_root_type(alloc, config, &standing, limit, u)
 }
 
-/// Draws a subtype: below a type of `spaces` that may have subtypes, or without a supertype. Without garbage collection the
-/// subtype is a final function type without a supertype. The standard's section Structure, Recursive Types.
+/// Draws a type of a group: a subtype of a type of `spaces` that may have subtypes, or a type
+/// without a supertype. Without garbage collection the result is a final function type without a
+/// supertype. See the standard, section Structure, Recursive Types.
 ///
-/// `config` is sanitised. The subtype is valid in a group that ends at `limit`, where the types of `spaces` are valid so far.
+/// The result is valid in a group that ends at `limit`, if the types of `spaces` are valid so far.
+///
+/// Requires `config` to be sanitised.
 pub fn arbitrary_sub_type(
     alloc: Global,
     config: &Config,
@@ -166,11 +171,14 @@ pub fn arbitrary_sub_type(
     draw_sub_type(alloc, config, spaces.types, &spaces.entities, limit, u)
 }
 
-/// Draws a subtype below a type of `spaces` that may have subtypes. The standard's section Structure, Recursive Types.
+/// Draws a subtype of a type of `spaces` that may have subtypes. See the standard, section
+/// Structure, Recursive Types.
 ///
-/// `config` is sanitised, with garbage collection on. Some type of `spaces` may have subtypes: it is not final, and its depth is
-/// below 60. [`TypeSpace::extensible`] lists such types. The subtype is valid in a group that ends at `limit`, where the types of
-/// `spaces` are valid so far.
+/// The result is valid in a group that ends at `limit`, if the types of `spaces` are valid so far.
+///
+/// Requires `config` to be sanitised and to enable garbage collection. Requires some type of
+/// `spaces` to be allowed subtypes: it is not final and its depth is less than 60, so that
+/// [`TypeSpace::extensible`] lists it.
 pub fn arbitrary_sub_type_of_super_type(
     alloc: Global,
     config: &Config,

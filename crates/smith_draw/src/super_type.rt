@@ -85,8 +85,9 @@ impl<'a> Replacement<ValType> for Above<'a> {
     }
 }
 
-/// Draws a heap type above `ty`, over the types of `spaces`; without garbage collection `ty` itself. The standard's section
-/// Validation, Matching, Heap Types, with the rules of this project as in [`TypeSpace::heap_type_is_sub_type`].
+/// Draws a heap type that is a supertype of `ty` over the types of `spaces`. Without garbage
+/// collection this is `ty` itself. See the standard, section Validation, Matching, Heap Types, with
+/// the rules of this project of [`TypeSpace::heap_type_is_sub_type`].
 pub fn arbitrary_super_type_of_heap_type(
     alloc: Global,
     config: &Config,
@@ -105,8 +106,9 @@ pub fn arbitrary_super_type_of_heap_type(
     draw_super_heap_type(config, spaces.types, ty, u)
 }
 
-/// Draws a nullable reference type above `ty`, over the types of `spaces`. The standard's section Validation, Matching, Reference
-/// Types, over heap types as in [`TypeSpace::heap_type_is_sub_type`].
+/// Draws a nullable reference type that is a supertype of `ty` over the types of `spaces`. See the
+/// standard, section Validation, Matching, Reference Types; heap types are compared as in
+/// [`TypeSpace::heap_type_is_sub_type`].
 pub fn arbitrary_super_type_of_ref_type(
     alloc: Global,
     config: &Config,
@@ -125,8 +127,9 @@ pub fn arbitrary_super_type_of_ref_type(
     draw_super_ref_type(alloc, config, spaces.types, ty, u)
 }
 
-/// Draws a value type above `ty`, over the types of `spaces`; a number or a vector is `ty` itself. The standard's section
-/// Validation, Matching, Value Types, over heap types as in [`TypeSpace::heap_type_is_sub_type`].
+/// Draws a value type that is a supertype of `ty` over the types of `spaces`. For a number or a
+/// vector this is `ty` itself. See the standard, section Validation, Matching, Value Types; heap
+/// types are compared as in [`TypeSpace::heap_type_is_sub_type`].
 pub fn arbitrary_super_type_of_val_type(
     alloc: Global,
     config: &Config,

@@ -22,7 +22,8 @@ use smith_config::Config;
 use smith_types::{TableType, most_elements_of};
 use std::alloc::Global;
 
-/// The greatest number of elements of a drawn table: at most what `config` allows, but at least 1 with `disallow_traps`.
+/// Returns the maximum number of elements of a drawn table: as many as `config` permits, but at
+/// least 1 with `disallow_traps`.
 #[tactic(auto, unfolding(crate::specs::TableTypes::drawn_elements))]
 fn drawn_elements(config: &Config, table64: bool) -> u64
     ensures exact { result ≡ drawn_elements config.now table64 }
@@ -35,7 +36,7 @@ fn drawn_elements(config: &Config, table64: bool) -> u64
         .min(most_elements_of(table64))
 }
 
-/// Draws a table type, as [`arbitrary_table_type`] does, over `standing`.
+/// Draws a table type over `standing` as [`arbitrary_table_type`] does.
 #[tactic(auto, unfolding(crate::specs::TableTypes::table_type_at))]
 pub fn draw_table_type(
     config: &Config,
@@ -66,13 +67,16 @@ pub fn draw_table_type(
     }
 }
 
-/// Draws a table type over the types of `spaces`, of nullable references or such as [`arbitrary_ref_type`] draws. Its limits, in
-/// elements, stay within the number that `config` allows, but for a single element with `disallow_traps`. The table is shared
-/// where its references are. The standard's section Structure, Table Types.
+/// Draws a table type over the types of `spaces`, with elements as drawn by [`arbitrary_ref_type`].
+/// See the standard, section Structure, Table Types.
 ///
-/// `config` is sanitised. The table type is valid where the types of `spaces` are.
+/// Its limits, in elements, stay within the number that `config` permits, except for a single
+/// element with `disallow_traps`. The table is shared exactly if its references are. The table type
+/// is valid if the types of `spaces` are.
 ///
-/// The result is always `Ok`, since no memory is taken: all draws of entities give a `Result`.
+/// Requires `config` to be sanitised.
+///
+/// Always returns `Ok`, since it does not allocate. All draws of entities return a `Result`.
 pub fn arbitrary_table_type(
     _alloc: Global,
     config: &Config,

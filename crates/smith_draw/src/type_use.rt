@@ -11,14 +11,14 @@ use smith_config::Config;
 use smith_types::{CompositeInnerType, Items, SubType};
 use std::alloc::Global;
 
-/// The use of a function type.
+/// A use of a function type.
 #[derive(Clone, Copy)]
 pub enum TypeUse {
-    /// For a tag: a function type without results.
+    /// A tag, which requires a function type without results.
     Tag,
-    /// For an imported function: any function type.
+    /// An imported function, which may have any function type.
     ImportedFunc,
-    /// For a defined function: a function type that is not shared.
+    /// A defined function, which requires an unshared function type.
     DefinedFunc,
 }
 
@@ -61,14 +61,15 @@ fn may_be_used(for_use: TypeUse, t: &SubType) -> bool
     }
 }
 
-/// Counts the types of `types` that are right for `for_use`.
+/// Counts the types of `types` that are suitable for `for_use`.
 pub fn count_types(for_use: TypeUse, types: &[SubType]) -> usize
     ensures { result ≡ length (types_for for_use types.now) }
 {
     types.iter().filter(|t| may_be_used(for_use, t)).count()
 }
 
-/// Lists the indices of the types of `types` that are right for `for_use`, in ascending order. `types` has fewer than 2^32 types.
+/// Lists the indices of the types of `types` that are suitable for `for_use`, in ascending order.
+/// Requires `types` to have fewer than 2^32 types.
 pub fn list_types(alloc: Global, for_use: TypeUse, types: &[SubType]) -> Result<Items<u32>, Error>
     requires few { length types.now < 2 ^ 32 }
     ensures exact { IfOk result (λ indices. indices ≡ types_for for_use types.now) }
@@ -83,7 +84,7 @@ pub fn list_types(alloc: Global, for_use: TypeUse, types: &[SubType]) -> Result<
     Ok(indices)
 }
 
-/// The index of the type at `place` among those of `types` that are right for `for_use`.
+/// Returns the index of the type at `place` among those of `types` that are suitable for `for_use`.
 fn type_at(for_use: TypeUse, types: &[SubType], mut place: usize) -> u32
     requires { length types.now < 2 ^ 32 }
     ensures { result ≡ slice_index_or (types_for for_use types.now) place 0 }
@@ -100,7 +101,7 @@ fn type_at(for_use: TypeUse, types: &[SubType], mut place: usize) -> u32
     0
 }
 
-/// Chooses a type of `types` that is right for `for_use`, and gives its index.
+/// Chooses a type of `types` that is suitable for `for_use` and returns its index.
 #[tactic(auto, unfolding(crate::specs::Choices::chosen_at))]
 fn choose_type(for_use: TypeUse, types: &[SubType], u: &mut Unstructured<'_>) -> u32
     requires few { length types.now < 2 ^ 32 }
@@ -113,12 +114,13 @@ fn choose_type(for_use: TypeUse, types: &[SubType], u: &mut Unstructured<'_>) ->
     type_at(for_use, types, place)
 }
 
-/// Draws the type of a tag: the index of a function type without results, among the types of `spaces`. The standard's section
-/// Structure, Tag Types.
+/// Draws the type of a tag: the index of a function type without results in the types of `spaces`.
+/// See the standard, section Structure, Tag Types.
 ///
-/// Some type of `spaces` is such a function type: [`count_types`] tells it.
+/// Requires some type of `spaces` to be such a function type: [`count_types`] for [`TypeUse::Tag`]
+/// is above 0.
 ///
-/// The result is always `Ok`, since no memory is taken: all draws of entities give a `Result`.
+/// Always returns `Ok`, since it does not allocate. All draws of entities return a `Result`.
 pub fn arbitrary_tag_type(
     _alloc: Global,
     _config: &Config,

@@ -40,7 +40,7 @@ use smith_config::Config;
 use smith_types::{AbstractHeapType, HeapType, RefType, SubType, ValType};
 use std::alloc::Global;
 
-/// The class of a value type, which is chosen first.
+/// The class of a value type, which is drawn first.
 #[derive(Clone, Copy)]
 pub(crate) enum ValueClass {
     I32,
@@ -64,7 +64,7 @@ pub(crate) fn draw_sharedness(config: &Config, must_share: bool, u: &mut Unstruc
     false
 }
 
-/// The abstract heap types that are drawn under `config`.
+/// Returns the abstract heap types that `config` enables.
 fn abstract_heap_types(config: &Config) -> &'static [AbstractHeapType]
     ensures { result.now ≡ enabled (abstract_heap_types config.now) }
 {
@@ -96,7 +96,7 @@ fn draw_abstract_heap_type(config: &Config, must_share: bool, u: &mut Unstructur
     HeapType::Abstract { shared, ty }
 }
 
-/// Whether the index of a type below `limit` is asked for.
+/// Draws whether to use the index of a type below `limit`.
 fn is_index_wanted(config: &Config, limit: u32, u: &mut Unstructured<'_>) -> bool
     ensures draws { AlwaysDraws (index_wanted_at config.now limit u.old) result u.old u.new }
     ensures below { IsTrue result → 0 < limit }
@@ -107,7 +107,7 @@ fn is_index_wanted(config: &Config, limit: u32, u: &mut Unstructured<'_>) -> boo
     u.arbitrary()
 }
 
-/// Gives `index`, if its type stands, and is shared where `must_share` is set.
+/// Returns `index` if its type exists, and is shared if `must_share` is `true`.
 fn kept_index(types: &[SubType], must_share: bool, index: u32) -> Option<u32>
     ensures { result ≡ kept_index must_share index (slice_get types.now index) }
 {
@@ -123,7 +123,8 @@ fn kept_index(types: &[SubType], must_share: bool, index: u32) -> Option<u32>
     }
 }
 
-/// Draws the index of a type below `limit`, if a bool asks for it and the index is kept.
+/// Draws the index of a type below `limit`, if a drawn bool is true. Discards the index if its type
+/// does not exist, or is unshared although `must_share` is `true`.
 #[tactic(auto, unfolding(crate::specs::ValueTypes::type_index_at))]
 fn draw_type_index(
     config: &Config,
@@ -157,8 +158,8 @@ fn draw_heap_type(
     }
 }
 
-/// Whether a reference to `heap_type` is not nullable: where `config` has such references, if a bool asks for it and the heap type is
-/// grounded.
+/// Draws whether a reference to `heap_type` is non-nullable. This is possible only if `config`
+/// enables non-nullable references and the heap type is grounded.
 #[tactic(auto, unfolding(crate::specs::ValueTypes::granted_at))]
 fn is_granted(
     config: &Config,
@@ -174,7 +175,7 @@ fn is_granted(
     u.arbitrary() && standing.is_grounded(heap_type)
 }
 
-/// Draws a reference type, as [`arbitrary_ref_type`] does, over `standing`.
+/// Draws a reference type over `standing` as [`arbitrary_ref_type`] does.
 #[tactic(auto, unfolding(crate::specs::ValueTypes::ref_type_at))]
 pub fn draw_ref_type(
     config: &Config,
@@ -202,7 +203,7 @@ pub fn draw_ref_type(
     }
 }
 
-/// The classes of the value types that `config` enables.
+/// Returns the classes of the value types that `config` enables.
 pub(crate) fn value_classes(config: &Config) -> &'static [ValueClass]
     ensures { result.now ≡ enabled (value_classes config.now) }
 {
@@ -242,7 +243,7 @@ fn draw_value_of_class(
     }
 }
 
-/// Draws a value type of one of `classes`, which are those that `config` enables.
+/// Draws a value type of one of `classes`. Requires `classes` to be those that `config` enables.
 #[tactic(auto, unfolding(crate::specs::ValueTypes::val_type_at))]
 pub(crate) fn draw_val_type_among(
     config: &Config,
@@ -278,12 +279,13 @@ pub(crate) fn draw_val_type(
     )
 }
 
-/// Draws a heap type: a type of `spaces` below `limit`, or an abstract heap type that `config` enables. The heap type is shared
-/// where `must_share` is set. The standard's section Structure, Heap Types.
+/// Draws a heap type: a type of `spaces` below `limit`, or an abstract heap type that `config`
+/// enables. The heap type is shared if `must_share` is `true`. See the standard, section Structure,
+/// Heap Types.
 ///
-/// `config` is sanitised, and `must_share` is set only where `config` allows shared types.
+/// Requires `config` to be sanitised, and to permit shared types if `must_share` is `true`.
 ///
-/// The result is always `Ok`, since no memory is taken: all draws of types give a `Result`.
+/// Always returns `Ok`, since it does not allocate. All draws of types return a `Result`.
 pub fn arbitrary_heap_type(
     _alloc: Global,
     config: &Config,
@@ -304,14 +306,19 @@ pub fn arbitrary_heap_type(
     Ok(draw_heap_type(config, spaces.types.types(), must_share, limit, u))
 }
 
-/// Draws a reference type, which is `funcref` where `config` has reference types off. The reference type is nullable, but where
-/// `config` has references that aren't nullable, a bool asks for one, and a struct type or a function of `spaces` grounds the heap
-/// type: it gives a reference without operands. The standard's section Structure, Reference Types.
+/// Draws a reference type. This is `funcref` if `config` disables reference types. See the
+/// standard, section Structure, Reference Types.
 ///
-/// `config` is sanitised, and `must_share` is set only where `config` allows shared types. The reference type refers only to
-/// types of `spaces` below `limit`, and only to shared types where `must_share` is set.
+/// The reference type is non-nullable only if `config` enables non-nullable references, a drawn
+/// bool is true, and a struct type or a function of `spaces` grounds the heap type, so that it
+/// provides a reference without operands.
 ///
-/// The result is always `Ok`, since no memory is taken: all draws of types give a `Result`.
+/// The reference type refers only to types of `spaces` below `limit`, and only to shared types if
+/// `must_share` is `true`.
+///
+/// Requires `config` to be sanitised, and to permit shared types if `must_share` is `true`.
+///
+/// Always returns `Ok`, since it does not allocate. All draws of types return a `Result`.
 pub fn arbitrary_ref_type(
     _alloc: Global,
     config: &Config,
@@ -335,12 +342,14 @@ pub fn arbitrary_ref_type(
     Ok(draw_ref_type(config, &standing, must_share, limit, u))
 }
 
-/// Draws a value type that `config` enables. The standard's section Structure, Value Types.
+/// Draws a value type that `config` enables. See the standard, section Structure, Value Types.
 ///
-/// `config` is sanitised, and `must_share` is set only where `config` allows shared types. The value type refers only to types of
-/// `spaces` below `limit`, and only to shared types where `must_share` is set.
+/// The value type refers only to types of `spaces` below `limit`, and only to shared types if
+/// `must_share` is `true`.
 ///
-/// The result is always `Ok`, since no memory is taken: all draws of types give a `Result`.
+/// Requires `config` to be sanitised, and to permit shared types if `must_share` is `true`.
+///
+/// Always returns `Ok`, since it does not allocate. All draws of types return a `Result`.
 pub fn arbitrary_valtype(
     _alloc: Global,
     config: &Config,

@@ -1,4 +1,4 @@
--- Available imports that are taken: what is counted of them, and what holds of them.
+-- Available imports that are taken: their counts and their properties.
 use Rattle.std.proofs.Common.{◌≡◌, ℕ, suc, ◌+◌, ◌<◌, ◌≤◌, ◌^◌, Bool, true, false, ◌&&◌, List, [], ◌∷◌, ◌++◌, length, drop, refl, sym, ap, arith, length-append, ◌∙◌}
 use Rattle.std.specs.Prelude.{nat_lt, nat_le, All, IsTrue, if◌then◌else◌}
 use Rattle.std.specs.List.{Contains}
@@ -42,7 +42,7 @@ room_is config spaces (entity.Table table) = refl
 room_is config spaces (entity.Memory memory) = refl
 room_is config spaces (entity.Global global) = refl
 
--- whether an import fits is told by what is counted
+-- the counts decide whether an import fits
 fits_counted : (config : Config) (types : List SubType) (taken : List Import) (one : Import) (spaces : IndexSpaces) (count size : ℕ) → spaces ≡ imported_spaces taken → count ≡ length taken → size ≡ sizes_of types taken
     → (nat_lt count config.max_imports && has_room config spaces (kind_of one.entity_type) && is_allowed config one.entity_type && nat_le (size + size_in types one.entity_type) config.max_type_size) ≡ is_fitting config types taken one
 unfolding is_fitting
@@ -56,7 +56,7 @@ bool_picks : (bytes : List ℕ) (place : ℕ) → bool_at (drop place bytes) ≡
 unfolding bool_at
 bool_picks bytes place = rw (get_or-drop place bytes 0 0, drop-drop 1 place bytes) (let at : place + 0 ≡ place = omega arith in let next : place + 1 ≡ suc place = omega arith in rw (at, next) refl)
 
--- what the bools pick are the imports that the input picks
+-- the imports that the bools pick are those that the input picks
 picked_is_taken : (config : Config) (types : List SubType) (bytes : List ℕ) (place : ℕ) (taken imports : List Import) → (picked_at config types taken imports (drop place bytes)).0 ≡ taken_from config types bytes place taken imports
 unfolding picked_at
 picked_is_taken config types bytes place taken [] = refl
@@ -66,7 +66,7 @@ picked_is_taken config types bytes place taken (one ∷ more) =
 pub drawn_is_taken : (config : Config) (types : List SubType) (bytes after : List ℕ) (imports made : List Import) → picked_at config types [] imports bytes ≡ (made, after) → made ≡ taken_from config types bytes 0 [] imports
 drawn_is_taken config types bytes after imports made drawn = sym (ap (λ (d : List Import × List ℕ). d.0) drawn) ∙ picked_is_taken config types bytes 0 [] imports
 
--- what holds of imports, and stays as one more is taken that fits, holds of those that are taken
+-- a property that offered imports keep, as one more that fits is taken, holds of the taken imports
 module _ (config : Config) (types : List SubType) (bytes : List ℕ) (P : List Import → Type 0) (Q : Import → Type 0) (grows : (taken : List Import) (one : Import) → P taken → Q one → is_fitting config types taken one ≡ true → P (taken ++ one ∷ [])) where
   picked_or_not : (picked fit : Bool) (taken : List Import) (one : Import) → P taken → (fit ≡ true → P (taken ++ one ∷ [])) → P (if picked && fit then taken ++ one ∷ [] else taken)
   picked_or_not true true taken one old new = new refl
@@ -79,7 +79,7 @@ module _ (config : Config) (types : List SubType) (bytes : List ℕ) (P : List I
       taken_keeps (suc place) (if is_picked bytes place && is_fitting config types taken one then taken ++ one ∷ [] else taken) more
       (picked_or_not (is_picked bytes place) (is_fitting config types taken one) taken one old (λ fit. grows taken one old (All-head Q one more each) fit)) (All-tail Q one more each)
 
--- what holds of each entity of a kind among the imports that are offered holds of it among those that are taken
+-- a property of each offered entity of a kind holds of each taken one
 kept_of_kind : (config : Config) (types : List SubType) (bytes : List ℕ) (imports : List Import) {A : Type 0} (of_kind : EntityType → List A) (P : A → Type 0) → All P (imported of_kind imports) → All P (imported of_kind (taken_from config types bytes 0 [] imports))
 kept_of_kind config types bytes imports of_kind P all =
     let Here = λ (one : Import). All P (of_kind one.entity_type) in
@@ -96,7 +96,7 @@ tag_allowed config (entity.Global global) on some = absurd (omega arith)
 sizes_more : (types : List SubType) (taken : List Import) (one : Import) → sizes_of types (taken ++ one ∷ []) ≡ sizes_of types taken + size_in types one.entity_type
 sizes_more types taken one = let parts = sum_by-append (λ (each : Import). size_in types each.entity_type) taken (one ∷ []) in omega (arith, parts)
 
--- imports stay within the bounds as one more is taken that fits
+-- imports stay within the bounds as one more that fits is taken
 within_more : (config : Config) (types : List SubType) (taken : List Import) (one : Import) → AreImportsWithin config types taken → is_fitting config types taken one ≡ true → AreImportsWithin config types (taken ++ one ∷ [])
 unfolding is_fitting
 within_more config types taken one old fit =
@@ -177,6 +177,6 @@ offered_sized config shape valid =
     All-weaker Here (IsSized types) (λ one here. let both = sized types one.entity_type valid.short.inner here in record { typed = both.0; few = both.1 }) imports
     (All-from_recursion Here imports (parts_of_all (IsFuncValid types) (λ (one : Import). func_of one.entity_type) imports offered.funcs))
 
--- what is counted stays as groups are put in place
+-- the counts stay as groups are put in place
 pub counts_grouped : {types : List SubType} {counted : Imported} {taken : List Import} (made : List Imports) → CountsTaken types counted taken → flattened made ≡ taken → CountsTaken types (record counted { groups = made }) (flattened made)
 counts_grouped made counts same = rw same (record { spaces = counts.spaces; count = counts.count; type_size = counts.type_size })

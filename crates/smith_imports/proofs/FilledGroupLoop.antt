@@ -1,4 +1,4 @@
--- The turns of the loop that fills a compact group.
+-- The iterations of the loop that fills a compact group.
 use Rattle.std.proofs.Common.{◌≡◌, ℕ, suc, ◌+◌, ◌-◌, ◌<◌, ◌≤◌, Bool, true, false, List, ◌++◌, refl, sym, arith, ◌∙◌}
 use Rattle.std.specs.Prelude.{Option, Some, None}
 use Rattle.smith_bytes.specs.Draws.{bool_at}
@@ -12,7 +12,7 @@ use Rattle.smith_imports.specs.ImportNames.{import_name_at}
 use Rattle.smith_imports.specs.ImportedEntities.{sizes}
 use Rattle.smith_imports.specs.Importing.{fill_at, next_entity_at, module_name, with_import}
 
--- what the group is filled with from here on completes the whole
+-- filling the group from here on completes the whole
 pub record IsFilling (config : Config) (types : List SubType) (distinct : Bool) (before : List Import) (count : ℕ) (group : Imports) (bytes : List ℕ) (total : Bool × (Imports × List ℕ)) : Type 0 where
   pub so_far : fill_at config types distinct before (config.max_imports - count) group bytes ≡ total
 

@@ -1,4 +1,4 @@
--- What a step that may refuse gives, and what it takes of a source.
+-- The result of a step that may refuse, and the bytes that it takes of a source.
 use Rattle.std.proofs.Common.{◌≡◌, ℕ, List, ◌++◌, sym, ap, subst, ◌∙◌}
 use Rattle.std.specs.Prelude.{Result, Ok, Err, IfOk}
 use Rattle.smith_bytes.specs.Takes.{Takes}
@@ -6,7 +6,7 @@ use Rattle.smith_bytes.specs.declared.error.Why.{Why}
 use Rattle.smith_bytes.specs.declared.error.Error.{Error}
 use Rattle.smith_imports.specs.Steps.{Gives}
 
--- what holds of whatever is read holds of what a step gives
+-- a property of every value that is read is a property of the result of a step
 pub given_is : {X A : Type 0} (P : A → Type 0) (view : X → A) (read : Result (A × List ℕ) Why) (after : List ℕ) (result : Result X Error) → IfOk read (λ drawn. P drawn.0) → Gives (λ x. (view x, after)) result read → IfOk result (λ x. P (view x))
 given_is {A = A} P view read after (Ok x) h given = subst (λ (r : Result (A × List ℕ) Why). IfOk r (λ drawn. P drawn.0)) given h
 given_is P view read after (Err e) h given = tt

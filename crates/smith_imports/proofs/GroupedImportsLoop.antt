@@ -1,4 +1,4 @@
--- The turns of the loop that puts available imports into groups.
+-- The iterations of the loop that puts available imports into groups.
 use Rattle.std.proofs.Common.{◌≡◌, ℕ, Bool, true, false, List, ◌∷◌, ◌++◌, [], refl, sym, ap, ◌∙◌, arith, append_assoc, append-nil, length-append}
 use Rattle.std.specs.Prelude.{IsTrue}
 use Rattle.std.proofs.lemmas.Grind.{flat_map-append}
@@ -22,7 +22,7 @@ use Rattle.smith_imports.specs.declared.import_groups.GroupKind.TheVariants as g
 use Rattle.smith_imports.proofs.ImportedEntityLemmas.{first_holds, second_holds}
 use Rattle.smith_imports.proofs.ImportsGrownLemmas.{import_added}
 
--- the groups of what is left complete the whole
+-- the groups of the remaining imports complete the whole
 pub record IsJoining (config : Config) (made : List Imports) (group : Imports) (more : List Import) (bytes : List ℕ) (total : List Imports × List ℕ) : Type 0 where
   pub so_far : joined_at config made group more bytes ≡ total
 
@@ -37,7 +37,7 @@ module _ {config : Config} {made : List Imports} {group : Imports} {bytes : List
       let one : joined_at config made group more bytes ≡ (made ++ group ∷ [], bytes) = rw none refl in
       sym now.so_far ∙ one
 
--- one turn
+-- one iteration
 pub joining_more : {config : Config} {made : List Imports} {group : Imports} {more : List Import} {bytes : List ℕ} {total : List Imports × List ℕ} (next : Import) (rest : List Import) (new : List Imports) (last : Imports) (after : List ℕ)
     → IsJoining config made group more bytes total → more ≡ next ∷ rest → joined_at config made group (next ∷ rest) bytes ≡ joined_at config new last rest after → IsJoining config new last rest after total
 joining_more {config = config} {made = made} {group = group} {bytes = bytes} next rest new last after now cut turn = record { so_far = sym turn ∙ sym (ap (λ xs. joined_at config made group xs bytes) cut) ∙ now.so_far }
@@ -51,7 +51,7 @@ module _ (config : Config) (made : List Imports) (group : Imports) (bytes : List
   unfolding joined_at
   begins_group drawn off first = rw (drawn, off, first) refl
 
--- a group of one import is of that import
+-- the imports of a group of one import
 pub begun_one : (kind : GroupKind) (first : Import) → imports_of (begun kind first) ≡ first ∷ []
 begun_one groups.Single first = refl
 begun_one groups.OfOneModule first = refl
@@ -77,7 +77,7 @@ may_stand (Compact2 from entity_type names) next may = record {
   of_group = sym ((exact_entity entity_type next.entity_type).0 (second_holds _ _ may));
 }
 
--- the imports of a group that another joins
+-- the imports of a group after another has joined
 joined_imports : (group : Imports) (next : Import) → may_join group next ≡ true → imports_of (with_import group next.name next.entity_type) ≡ imports_of group ++ next ∷ []
 joined_imports group next may =
     let stands = may_stand group next may in

@@ -14,7 +14,7 @@ use Rattle.smith_draw.specs.declared.kept_grounds.KeptGrounds.{KeptGrounds}
 use Rattle.smith_imports.specs.ImportedEntities.{import_scope}
 
 module _ (config : Config) (types : List SubType) (spaces : IndexSpaces) where
-  -- a function that is imported pushes a reference that is not exact
+  -- an imported function pushes a reference that is not exact
   pub function_imported : (index : ℕ) → IsFunctionAdded (import_scope config types spaces) (import_scope config types (with_entity spaces (entity.Func index))) index false
   function_imported index =
       let longer : length (spaces.funcs ++ index ∷ []) ≡ length spaces.funcs + 1 = length-append spaces.funcs (index ∷ []) in record {

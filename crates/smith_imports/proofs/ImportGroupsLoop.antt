@@ -1,4 +1,4 @@
--- The turns of the loop over groups of imports.
+-- The iterations of the loop over groups of imports.
 use Rattle.std.proofs.Common.{◌≡◌, ℕ, suc, ◌+◌, ◌-◌, ◌<◌, ◌≤◌, Bool, true, false, List, length, refl, sym, ap, arith, ◌∙◌, lt-ltb, le-ltb, nat_lt}
 use Rattle.smith_bytes.specs.Source.{KeepsPieces}
 use Rattle.smith_bytes.specs.Growth.{goes_at}
@@ -9,7 +9,7 @@ use Rattle.smith_types.specs.Imports.{flattened}
 use Rattle.smith_config.specs.declared.config.Config.{Config}
 use Rattle.smith_imports.specs.Importing.{group_at, groups_at}
 
--- `turns` turns suffice, and the groups that are added from here on complete the whole
+-- `turns` iterations suffice, and the groups added from here on complete the whole
 pub record IsGrouping (config : Config) (types : List SubType) (distinct : Bool) (made : List Imports) (count : ℕ) (start bytes : List ℕ) (total : List Imports × List ℕ) : Type 0 where
   pub turns : ℕ
   pub count_is : count ≡ length (flattened made)

@@ -1,4 +1,5 @@
--- A pair of names that is made new: its name grows at each turn, and is new once it is longer than each name there is.
+-- A pair of names that is made new: its name grows at each iteration, and is new once it is longer
+-- than each existing name.
 use Rattle.std.proofs.Common.{◌≡◌, ℕ, zero, suc, ◌+◌, ◌≤◌, ◌<◌, Bool, true, false, List, [], ◌∷◌, ◌++◌, length, max, refl, sym, ap, ◌||◌, ◌&&◌, ◌∙◌, arith, below_more, string_bytes, length-append, inl, inr, ◌⊎◌}
 use Rattle.std.specs.Prelude.{not, if◌then◌else◌}
 use Rattle.std.specs.Str.{bytes_eq}
@@ -32,7 +33,7 @@ present_short from name [] there = absurd cc
 present_short from name (pair ∷ pairs) there =
     short_by from name pair pairs (bytes_eq from (string_bytes pair.0)) (bytes_eq name (string_bytes pair.1)) refl there (present_short from name pairs)
 
--- name is the text with some copies behind it, and with fewer it was taken
+-- the name is the text followed by some copies, and with fewer copies it is taken
 pub record IsMaking (taken : List ℕ → Bool) (digits text name : List ℕ) : Type 0 where
   pub some : 0 < length digits
   pub copies : ℕ
@@ -54,7 +55,7 @@ making_more now there is_longer = record {
 pub making_done : {taken : List ℕ → Bool} {digits text name : List ℕ} → IsMaking taken digits text name → taken name ≡ false → IsNewName taken digits text name
 making_done now new = record { some = now.some; copies = now.copies; made = now.made; fresh = new; needed = now.needed }
 
--- a set has one pair more once a pair is inserted that it had not
+-- a set has one more pair after the insertion of a new one
 pub pair_added : {S : Type 0} (old new : HashSet (String Global × String Global) S) (pair : String Global × String Global) (from name : List ℕ) (added : Bool)
     → string_bytes pair.0 ≡ from → string_bytes pair.1 ≡ name → has_pair old from (string_bytes pair.1) ≡ false → added ≡ not (has_pair old (string_bytes pair.0) (string_bytes pair.1)) → PutsKey old new pair added → hash_set_len new ≡ hash_set_len old + (if added then 1 else 0)
     → AddsPair old new from name
@@ -74,7 +75,7 @@ short_name_by from name one imports true true same there later = omega (arith, a
 short_name_by from name one imports true false same there later = omega (arith, later there)
 short_name_by from name one imports false b same there later = omega (arith, later there)
 
--- a name that is taken is no longer than the longest
+-- a taken name is no longer than the longest
 taken_short : (from name : List ℕ) (imports : List Import) → is_taken imports from name ≡ true → length name ≤ longest_name imports
 taken_short from name [] there = absurd cc
 taken_short from name (one ∷ imports) there = short_name_by from name one imports (bytes_eq from one.«module») (bytes_eq name one.name) refl there (taken_short from name imports)
@@ -86,7 +87,7 @@ copies_long text digits (suc n) some = omega (arith, copies_long text digits n s
 at_end : (j copies : ℕ) → j ≤ copies → (j ≡ copies) ⊎ (j < copies)
 at_end j copies below = eq-or-lt_of_le below
 
--- from some copies on
+-- from a number of copies on
 new_from : (taken : List ℕ → Bool) (digits text : List ℕ) (copies turns j : ℕ) → taken (with_copies text digits copies) ≡ false → ((n : ℕ) → n < copies → taken (with_copies text digits n) ≡ true)
     → j ≤ copies → copies ≤ j + turns → new_name taken digits turns (with_copies text digits j) ≡ with_copies text digits copies
 unfolding new_name
@@ -101,14 +102,14 @@ few_copies taken digits text zero most some short needed = omega arith
 few_copies taken digits text (suc n) most some short needed =
     omega (arith, short (with_copies text digits n) (needed n (omega arith)), copies_long text digits n some)
 
--- a name that was made new is the one that the definition makes, where no name that is taken is longer
+-- a name that is made new is the one of the definition, if no taken name is longer than the limit
 pub new_name_is : (taken : List ℕ → Bool) (digits text name : List ℕ) (longest : ℕ) → ((other : List ℕ) → taken other ≡ true → length other ≤ longest) → IsNewName taken digits text name → new_name taken digits (longest + 1) text ≡ name
 new_name_is taken digits text name longest short made =
     let fresh : taken (with_copies text digits made.copies) ≡ false = rw made.made at made.fresh in
     let few = few_copies taken digits text made.copies longest made.some short made.needed in
     new_from taken digits text made.copies (longest + 1) 0 fresh made.needed (omega arith) (omega arith) ∙ sym made.made
 
--- the same by another test that tells the same
+-- the same by an equal test
 pub new_by : {taken : List ℕ → Bool} {digits text name : List ℕ} (other : List ℕ → Bool) → ((any : List ℕ) → taken any ≡ other any) → IsNewName taken digits text name → IsNewName other digits text name
 new_by {digits = digits} {text = text} {name = name} other same made = record {
   copies = made.copies;
@@ -118,7 +119,7 @@ new_by {digits = digits} {text = text} {name = name} other same made = record {
   needed = λ n below. sym (same (with_copies text digits n)) ∙ made.needed n below;
 }
 
--- the name of an import that was made new is the one that the definition makes
+-- the name of an import that is made new is the one of the definition
 pub name_made : (imports : List Import) (from text name : List ℕ) (taken : List ℕ → Bool) (count : ℕ) → ((other : List ℕ) → taken other ≡ is_taken imports from other) → count ≡ length imports → IsNewName taken (decimal count) text name
     → new_name (is_taken imports from) (decimal (length imports)) (longest_name imports + 1) text ≡ name
 name_made imports from text name taken count same size made =
@@ -130,7 +131,7 @@ or_flip true false = refl
 or_flip false true = refl
 or_flip false false = refl
 
--- a set with one pair more has the pairs of one import more
+-- a set with one more pair has the pairs of one more import
 pub knows_more : {S : Type 0} {old new : HashSet (String Global × String Global) S} {imports : List Import} (added : Import) → HasPairs old imports → AddsPair old new added.«module» added.name → HasPairs new (imports ++ added ∷ [])
 knows_more {old = old} {new = new} {imports = imports} added known more = record {
   has = λ from name.
@@ -140,7 +141,7 @@ knows_more {old = old} {new = new} {imports = imports} added known more = record
   size = more.size ∙ rw (known.size, length-append) refl;
 }
 
--- the drawn name, where pairs must be distinct
+-- the drawn name, if pairs must be distinct
 pub name_is : (imports : List Import) (from bytes rest text name : List ℕ) (distinct : Bool) → distinct ≡ true → text_at 1000 bytes ≡ (text, rest) → new_name (is_taken imports from) (decimal (length imports)) (longest_name imports + 1) text ≡ name
     → import_name_at distinct imports from bytes ≡ (name, rest)
 unfolding import_name_at

@@ -41,7 +41,7 @@ enabled_next : {A : Type 0} (row : A × Bool) (rest : List (A × Bool)) (place :
 enabled_next row rest zero other on some = absurd (some refl)
 enabled_next row rest (suc place) other on some = let back : suc place - 1 ≡ place = omega arith in rw (on, back) refl
 
--- behind an item that is enabled each other stands one place earlier
+-- after an enabled item each other one is one place earlier
 pub enabled_turn : {A : Type 0} (table : List (A × Bool)) (i place : ℕ) (d : A × Bool) (other : A) → i < length table → (get_or table i d).1 ≡ true → (place ≡ 0 → ⊥) → get_or (enabled (drop (i + 1) table)) (place - 1) other ≡ get_or (enabled (drop i table)) place other
 enabled_turn table i place d other inside on some =
     rw (drop-cons table i d inside, add-one) (sym (enabled_next (get_or table i d) (drop (suc i) table) place other on some))
@@ -54,7 +54,7 @@ kind_offered config types spaces bytes of_kind after some chosen =
     let each = enabled_all P (kind_rows config types spaces) (All-from_recursion (λ (r : ExportKind × Bool). IsTrue r.1 → P r.0) (kind_rows config types spaces) rows) in
     subst (λ (drawn : ExportKind × List ℕ). P drawn.0) chosen (chosen_of P kind.Memory (enabled (kind_rows config types spaces)) bytes some each)
 
--- what is chosen of a table, which has the rows of the kinds, may be imported
+-- the kind chosen from a table with the rows of the kinds may be imported
 pub row_offered : (config : Config) (types : List SubType) (spaces : IndexSpaces) (table : List (ExportKind × Bool)) (bytes after : List ℕ) (of_kind : ExportKind) (count : ℕ) → table ≡ kind_rows config types spaces → count ≡ length (enabled table) → (count ≡ 0 → ⊥)
     → chosen_at kind.Memory (enabled table) bytes ≡ (of_kind, after) → IsOffered config types spaces of_kind
 row_offered config types spaces table bytes after of_kind count is size some chosen =
@@ -70,11 +70,11 @@ pub second_holds : (a b : Bool) → (a && b) ≡ true → b ≡ true
 second_holds true b both = both
 second_holds false b both = absurd cc
 
--- a type that is chosen for a use is right for it
+-- a type chosen for a use is right for it
 pub chosen_usable : (for_use : TypeUse) (types : List SubType) (bytes : List ℕ) → 0 < length (types_for for_use types) → IsUsable for_use types (chosen_at 0 (types_for for_use types) bytes).0
 chosen_usable for_use types bytes some = chosen_of (IsUsable for_use types) 0 (types_for for_use types) bytes some (types_usable for_use types)
 
--- a small function type takes and gives at most 40 values
+-- a small function type has at most 40 parameters and results
 few_values : (inner : CompositeInnerType) → IsSmallInner inner → value_count inner ≤ 40
 few_values (inners.Func function) small = let params = small.params in let results = small.results in omega (arith, params, results)
 few_values (inners.Array array) small = omega arith
@@ -86,7 +86,7 @@ small_at types all index t at =
     let small : IsSmall t = rw (get_or_from_slice_get types index t t at) at (all index t (slice_get_within types index t at)) in
     rw at (omega (arith, few_values t.composite_type.inner small))
 
--- an entity that is no table and no global has no references to be grounded
+-- an entity other than a table and a global has no references to ground
 pub fit_without_references : (config : Config) (types : List SubType) (spaces : IndexSpaces) (added : EntityType) → IsEntityFit config types added → table_of added ≡ [] → global_of added ≡ [] → IsFitBeside config types spaces added
 fit_without_references config types spaces added fit no_table no_global =
     let Elements = HasGroundedElements config (import_scope config types spaces) in

@@ -1,4 +1,4 @@
--- Imports, and one more.
+-- Imports, and one more import.
 use Rattle.std.proofs.Common.{◌≡◌, ◌⊎◌, ℕ, zero, suc, ◌+◌, ◌*◌, ◌<◌, ◌≤◌, Bool, true, false, List, [], ◌∷◌, ◌++◌, length, refl, sym, ap, subst, arith, length-append, inl, inr, ◌∙◌, ltb, String, Global, BuildHasherDefault, FoldHasher}
 use Rattle.std.specs.Prelude.{slice_get, IsTrue, Some, map, All}
 use Rattle.std.specs.Str.{bytes_eq}
@@ -43,11 +43,11 @@ use Rattle.smith_imports.specs.Importing.{module_name, with_import}
 use Rattle.smith_imports.specs.Imported.{Counts, IsCounted, AreNumbersWithin, AreSpacesWithin, HasNoFloatValue, AreImportsFit, IsEntityFit, IsFitBeside, IsNext, IsOpen, IsOfGroup, IsCompact, IsImported, MayEnd, MayEndAt, spaces_of, entity_spaces}
 use Rattle.smith_imports.specs.declared.imported.Imported.{Imported}
 
--- what is imported of a kind, with one import more
+-- the imports of a kind, with one more import
 pub imported_more : {A : Type 0} (of_kind : EntityType → List A) (imports : List Import) (one : Import) → imported of_kind (imports ++ one ∷ []) ≡ imported of_kind imports ++ of_kind one.entity_type
 imported_more of_kind imports one = flat_map-append (λ (each : Import). of_kind each.entity_type) imports (one ∷ []) ∙ ap (λ xs. imported of_kind imports ++ xs) (append-nil (of_kind one.entity_type))
 
--- two index spaces, one behind the other
+-- one index space after another
 abbrev pub joined : IndexSpaces → IndexSpaces → IndexSpaces
 joined a b = record { tags = a.tags ++ b.tags; funcs = a.funcs ++ b.funcs; tables = a.tables ++ b.tables; memories = a.memories ++ b.memories; globals = a.globals ++ b.globals }
 
@@ -66,7 +66,7 @@ entities_more features types a b old new = record {
   globals = All-append (IsGlobalValid features types) a.globals b.globals old.globals new.globals;
 }
 
--- one more where there is room
+-- one more, if there is room
 pushed : {A : Type 0} (xs : List A) (x : A) (most : ℕ) → ltb (length xs) most ≡ true → length (xs ++ x ∷ []) ≤ most
 pushed xs x most room = let lt = ltb-true (length xs) most room in omega (arith, length-append xs (x ∷ []))
 
@@ -127,7 +127,7 @@ both_places xs x i j item old apart (inr (is_i, same)) (inr (is_j, other)) = is_
 pub distinct_push : {A : Type 0} (xs : List A) (x : A) → AreDistinct xs → ((i : ℕ) → slice_get xs i ≡ Some x → ⊥) → AreDistinct (xs ++ x ∷ [])
 distinct_push xs x old apart = record { once = λ i j item at_i at_j. both_places xs x i j item old apart (slice_get-push xs x i item at_i) (slice_get-push xs x j item at_j) }
 
--- a reference that is not grounded was not before functions were imported
+-- a reference that is not grounded was not grounded before functions were imported
 pub ungrounded_imported : (config : Config) (old new : Context) → AreImportsGrown old new → (value : ValType) → IsUngrounded config new value → IsUngrounded config old value
 ungrounded_imported config old new growth (vals.Ref reference) (not_null, none) = (not_null, λ on grounded. none on (imports_grounded old new reference.heap_type growth grounded))
 ungrounded_imported config old new growth vals.I32 never = never
@@ -136,7 +136,7 @@ ungrounded_imported config old new growth vals.F32 never = never
 ungrounded_imported config old new growth vals.F64 never = never
 ungrounded_imported config old new growth vals.V128 never = never
 
--- elements and values that are grounded stay so as functions are imported
+-- grounded elements and values stay grounded as functions are imported
 module _ (config : Config) {A : Type 0} (value_of : A → ValType) where
   abbrev IsFilled : Context → A → Type 0
   IsFilled context item = ¬ IsUngrounded config context (value_of item)
@@ -163,7 +163,7 @@ module _ (config : Config) {A : Type 0} (value_of : A → ValType) where
       subst (All Filled) (sym (imported_more of_kind imports one))
       (All-append Filled (imported of_kind imports) (of_kind one.entity_type) (later (imported of_kind imports) before) (later (of_kind one.entity_type) next))
 
--- the references of a table, and the values of a global
+-- the references of a table, and the value of a global
 abbrev elements_of : TableType → ValType
 elements_of table = vals.Ref table.element_type
 
@@ -189,7 +189,7 @@ fit_more config types distinct imports one fit next room fresh =
       apart = λ on. rw map-append (distinct_push (map pair_of imports) (pair_of one) (fit.apart on) (not_there imports one (fresh on)));
     }
 
--- an entity behind index spaces
+-- an entity after index spaces
 entity_behind : (spaces : IndexSpaces) (added : EntityType) → with_entity spaces added ≡ joined spaces (entity_spaces added)
 entity_behind spaces (entity.Tag x) = simp append-nil refl
 entity_behind spaces (entity.Func x) = simp append-nil refl
@@ -227,7 +227,7 @@ ready_more config types spaces (Single imported) name one ready = absurd ready.c
 ready_more config types spaces (Compact1 from items) name one ready = record { fit = tt; enabled = ready.enabled; compact = tt }
 ready_more config types spaces (Compact2 from entity_type names) name one ready = record { fit = fit_later config types spaces entity_type one ready.fit; enabled = ready.enabled; compact = tt }
 
--- no kind has more than all together
+-- there are no more of a kind than imports
 few_of_kind : {A : Type 0} (of_kind : EntityType → List A) → ((one : EntityType) → length (of_kind one) ≤ 1) → (imports : List Import) → length (imported of_kind imports) ≤ length imports
 few_of_kind of_kind few [] = omega arith
 few_of_kind of_kind few (one ∷ imports) = omega (arith, few one.entity_type, few_of_kind of_kind few imports, length-append (of_kind one.entity_type) (imported of_kind imports))
@@ -261,7 +261,7 @@ ends config types imports small (inr (of_kind, full)) = full_ends config imports
 pub ends_counted : {config : Config} {types : List SubType} {distinct : Bool} {made : Imported} {imports : List Import} → Counts types distinct made imports → AreImportsFit config types distinct imports → MayEndAt config (spaces_of made) made.type_size → MayEnd config made.count
 ends_counted {config = config} {types = types} {imports = imports} counts fit at = rw counts.count (ends config types imports fit.small (rw (counts.spaces, counts.type_size) at at))
 
--- no import of an empty group
+-- an empty group has no import
 pub none_added : (imports : List Import) (group : Imports) → (0 < length (imports_of group) → ⊥) → imports ++ imports_of group ≡ imports
 none_added imports group none = nothing_behind (imports_of group) none
   where
@@ -269,7 +269,7 @@ none_added imports group none = nothing_behind (imports_of group) none
     nothing_behind [] none = append-nil imports
     nothing_behind (one ∷ more) none = absurd (none (omega arith))
 
--- an import by itself behind the groups
+-- a single import after the groups
 pub single_added : {config : Config} {types : List SubType} {distinct : Bool} {old counted : Imported} {pairs : HashSet (String Global × String Global) (BuildHasherDefault FoldHasher)} {groups : List Imports} (one : Import)
     → IsImported config types distinct old → KnowsPairs distinct pairs (flattened old.groups ++ one ∷ []) → IsCounted types one.entity_type (record old { pairs = pairs }) counted → groups ≡ counted.groups ++ Single one ∷ []
     → IsNext config types (spaces_of old) old.type_size one.entity_type → old.count < config.max_imports → (IsTrue distinct → is_taken (flattened old.groups) one.«module» one.name ≡ false) → IsImported config types distinct (record counted { groups = groups })

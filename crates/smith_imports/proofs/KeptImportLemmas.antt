@@ -29,7 +29,7 @@ kept_more compact all place group groups longer inside is now pushed =
     let front : take (place + 1) all ≡ take place all ++ group ∷ [] = take_more all place group inside ∙ ap (λ (one : Imports). take place all ++ one ∷ []) (sym is) in
     rw (pushed, now, front) (sym (flat_map-append (kept_of compact) (take place all) (group ∷ []) ∙ ap (λ (l : List Imports). flat_map (kept_of compact) (take place all) ++ l) (append-nil (kept_of compact group))))
 
--- the groups of a shape as a module has them
+-- the groups of a shape in the form that a module has them
 abbrev kept : Bool → List Imports → List Imports
 kept compact groups = cond compact (filter is_filled groups) (map Single (flattened groups))
 
@@ -55,7 +55,7 @@ singles_flat : (imports : List Import) → flattened (map Single imports) ≡ im
 singles_flat [] = refl
 singles_flat (one ∷ imports) = ap (λ (l : List Import). one ∷ l) (singles_flat imports)
 
--- they are the same imports
+-- the imports are the same
 pub kept_flat : (compact : Bool) (groups : List Imports) → flattened (kept compact groups) ≡ flattened groups
 kept_flat false groups = singles_flat (flattened groups)
 kept_flat true [] = refl
@@ -79,12 +79,12 @@ module _ (features : Features) where
   compact_valid [] on = All-nil (IsImportsValid features)
   compact_valid (group ∷ groups) on = filled_valid (is_filled group) group (filter is_filled groups) refl on (compact_valid groups on)
 
-  -- their groups are valid
+  -- the groups are valid
   pub kept_valid : (compact : Bool) (groups : List Imports) → (compact ≡ true → IsTrue features.compact_imports) → All (IsImportsValid features) (kept compact groups)
   kept_valid true groups on = compact_valid groups (on refl)
   kept_valid false groups on = singles_valid (flattened groups)
 
--- what is imported by a shape is valid, beside what it defines
+-- the imports of a module shape are valid
 pub imported_valid : (config : Config) (shape : Shape) → IsShapeValid ModuleShape config shape → AreEntitiesValid (features_of config) (shape_types shape) (imported_spaces (shape_imports shape))
 imported_valid config shape valid =
     let features = features_of config in

@@ -1,4 +1,4 @@
--- What no import leaves of a source, and the kind of a group.
+-- The bytes left of a source after no import, and the kind of a group.
 use Rattle.std.proofs.Common.{◌≡◌, ℕ, zero, suc, ◌+◌, ◌<◌, Bool, false, List, [], ◌∷◌, ◌++◌, length, refl, ap, arith, lt-ltb, drop, length-drop}
 use Rattle.std.specs.Prelude.{Result, Ok, OnOk}
 use Rattle.smith_bytes.specs.Draws.{whole_at}
@@ -14,7 +14,7 @@ use Rattle.smith_imports.specs.Importing.{groups_at, imports_at}
 use Rattle.smith_imports.specs.Imported.{SpellsNoImport}
 use Rattle.smith_imports.proofs.GivenLemmas.{given_takes}
 
--- the pieces of a number above 0
+-- a drawn number above 0 takes a byte
 pub whole_takes : (bytes after : List ℕ) (x : ℕ) → whole_at 4 bytes ≡ (x, after) → 0 < x → length after < length bytes
 unfolding whole_at
 whole_takes [] after x read some = let none : 0 ≡ x = ap (λ (r : ℕ × List ℕ). r.0) read in absurd (omega arith)

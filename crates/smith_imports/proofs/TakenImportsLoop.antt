@@ -1,4 +1,4 @@
--- The turns of the loop that takes available imports.
+-- The iterations of the loop that takes available imports.
 use Rattle.std.proofs.Common.{◌≡◌, ℕ, ◌+◌, ◌<◌, Bool, true, false, List, ◌∷◌, ◌++◌, [], drop, get_or, length, refl, sym, ap, ◌∙◌}
 use Rattle.std.specs.Prelude.{if◌then◌else◌}
 use Rattle.std.proofs.lemmas.List.{drop_more}
@@ -9,11 +9,11 @@ use Rattle.smith_config.specs.declared.config.Config.{Config}
 use Rattle.smith_imports.specs.AvailableImports.{picked_at}
 use Rattle.smith_imports.specs.ShapeImports.{is_fitting}
 
--- what is taken from here on completes the whole
+-- taking imports from here on completes the whole
 pub record IsPicking (config : Config) (types : List SubType) (taken more : List Import) (bytes : List ℕ) (total : List Import × List ℕ) : Type 0 where
   pub so_far : picked_at config types taken more bytes ≡ total
 
--- the next of the imports that are offered
+-- the next of the offered imports
 pub offered_next : (offered : List Import) (i : ℕ) (one d : Import) → i < length offered → one ≡ get_or offered i d → drop i offered ≡ one ∷ drop (i + 1) offered
 offered_next offered i one d inside read = drop_more offered i d inside ∙ ap (λ (x : Import). x ∷ drop (i + 1) offered) (sym read)
 

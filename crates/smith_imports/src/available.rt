@@ -18,10 +18,10 @@ use smith_types::TypeSpace;
 use std::alloc::Global;
 
 /// Takes the types of `shape`, and those of its imports that fit and for which a drawn bool is
-/// true. The imports taken are put in groups of drawn kinds.
+/// true. Puts the imports taken into groups of drawn kinds.
 ///
-/// An import fits if it stays within the maximums and the type size of `config`. A tag requires
-/// exceptions too. `shape` passes [`Shape::check`] as available imports for `config`.
+/// An import fits if it stays within the maximums and the type size of `config`. A tag also
+/// requires exceptions. `shape` passes [`Shape::check`] as available imports for `config`.
 #[tactic(auto, unfolding(crate::specs::AvailableImports::available_at))]
 pub fn take_available_imports(
     alloc: Global,

@@ -109,7 +109,7 @@ fn if_fits(
 }
 
 /// Draws the entity to import after `imported`, of a kind with room. Returns none if no kind has
-/// room or the entity drawn is too large.
+/// room or the drawn entity is too large.
 #[tactic(auto, unfolding(crate::specs::ImportedEntities::entity_at))]
 pub(crate) fn draw_entity(
     config: &Config,
@@ -131,8 +131,8 @@ pub(crate) fn draw_entity(
     Ok(if_fits(config, types.space(), imported, added))
 }
 
-/// Returns the entity `added` again if its kind has room and an import of it fits after `imported`,
-/// else none.
+/// Returns the entity `added` if its kind has room and an import of it fits after `imported`, else
+/// none.
 pub(crate) fn again(
     config: &Config,
     types: &TypeSpace,

@@ -46,8 +46,8 @@ fn note_import(types: &TypeSpace, grounds: &mut KeptGrounds, added: EntityType)
     grounds.note(types, index, false);
 }
 
-/// Draws the entity that the compact group `group` imports next. Returns none if no entity fits
-/// after `imported`.
+/// Draws the entity that the compact group `group` imports next. Returns none if it does not fit
+/// after `imported`, or no kind has room.
 fn draw_next_entity(
     config: &Config,
     types: &ImportTypes<'_>,
@@ -267,8 +267,8 @@ fn add_group(
     }
 }
 
-/// Adds groups of imports to `imported`, until there is no room, a drawn bool ends them, or no
-/// further import fits.
+/// Adds groups of imports to `imported`, until there is no room, a drawn bool ends them, or the
+/// next import does not fit.
 fn add_groups(
     alloc: Global,
     config: &Config,

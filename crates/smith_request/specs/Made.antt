@@ -1,4 +1,4 @@
--- Which program a configuration's text and an input give.
+-- The program that a configuration's text and an input produce.
 use Rattle.std.specs.Prelude.{◌≡◌, ℕ, List, [], Result, Ok}
 use Rattle.smith_bytes.specs.declared.error.Error.{Error}
 use Rattle.smith_config.specs.Config.{default_config}
@@ -9,23 +9,24 @@ use Rattle.smith_program.specs.Generated.{IsProgram}
 use Rattle.smith_program.specs.declared.program.Program.{Program}
 use Rattle.smith_program_binary.specs.Programs.{IsProgramBinary}
 
--- the configuration that a text stands for: the default one where the text is empty, else that of the JSON object
+-- the configuration of a text: the default one if the text is empty, else that of the JSON object
 pub data IsConfigured (text : List ℕ) (config : Config) : Type 0 where
   by_default : text ≡ [] → config ≡ default_config → IsConfigured text config
   read : ReadsText text (Ok (config, [])) → IsConfigured text config
 
--- the generator may answer this for a configuration and an input: all that it promises holds of it
+-- a possible answer of the generator for a configuration and an input: all that it promises holds
+-- of it
 pub record Answers (config : Config) (input : List ℕ) (answer : Result Program Error) : Type 0 where
   pub left : List ℕ
   pub generated : IsProgram config input answer left
 
--- it may answer this for a configuration's text
+-- a possible answer for a configuration's text
 pub record AnswersText (text input : List ℕ) (answer : Result Program Error) : Type 0 where
   pub config : Config
   pub configured : IsConfigured text config
   pub answers : Answers config input answer
 
--- the bytes are that program in the binary format, with the sections that its module wants
+-- the bytes are that program in the binary format, with the sections that its module requires
 pub record IsBinary (text input bytes : List ℕ) : Type 0 where
   pub program : Program
   pub made : AnswersText text input (Ok program)

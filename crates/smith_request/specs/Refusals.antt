@@ -1,4 +1,4 @@
--- Why there is no program, and the number that says so.
+-- The reasons why there is no program, and their numbers.
 use Rattle.std.specs.Prelude.{◌≢◌, ℕ, List, Ok, Err}
 use Rattle.std.specs.Str.{IsUtf8}
 use Rattle.std.specs.String.{string_bytes}
@@ -15,14 +15,14 @@ use Rattle.smith_request.specs.Made.{AnswersText}
 use Rattle.smith_request.specs.declared.refusal.Refusal.{Refusal}
 use Rattle.smith_request.specs.declared.refusal.Refusal.TheVariants.{NotUtf8, Config, Module, Encoding}
 
--- a configuration's text and an input may be refused so
+-- a possible refusal of a configuration's text and an input
 abbrev pub IsRefusal : List ℕ → List ℕ → Refusal → Type 0
 IsRefusal text input NotUtf8 = IsUtf8 text → ⊥
 IsRefusal text input (Config refusal) = refusal.fault ≢ OutOfMemory → ReadsText text (Err (refusal.fault, string_bytes refusal.field))
 IsRefusal text input (Module e) = AnswersText text input (Err e)
 IsRefusal text input (Encoding e) = (program : Program) × AnswersText text input (Ok program) × IsFault (IsLongProgram program.«module» program.bodies) e
 
--- a refusal is another one than that a program is too long
+-- any refusal except that a program is too long
 abbrev pub IsNotTooLong : Refusal → Type 0
 IsNotTooLong NotUtf8 = Unit {0}
 IsNotTooLong (Config refusal) = Unit {0}
@@ -30,11 +30,11 @@ IsNotTooLong (Module e) = Unit {0}
 IsNotTooLong (Encoding encoding.Memory) = Unit {0}
 IsNotTooLong (Encoding encoding.TooLong) = ⊥
 
--- a program's text may be refused so: as its binary may, and never as too long
+-- a possible refusal of a program's text: one of its binary, except that it is too long
 abbrev pub IsTextRefusal : List ℕ → List ℕ → Refusal → Type 0
 IsTextRefusal text input refusal = IsRefusal text input refusal × IsNotTooLong refusal
 
--- the number of what is wrong with a configuration's text
+-- the number of a fault of a configuration's text
 abbrev pub fault_status : Fault → ℕ
 fault_status OutOfMemory = 2
 fault_status NotAnObject = 3
@@ -44,7 +44,7 @@ fault_status WrongType = 3
 fault_status OutOfRange = 3
 fault_status TextAfter = 3
 
--- the number of why a program wasn't drawn
+-- the number of the reason why a program was not drawn
 abbrev pub error_status : Error → ℕ
 error_status errors.Memory = 2
 error_status (errors.Config _) = 4

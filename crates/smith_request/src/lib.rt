@@ -1,4 +1,5 @@
-//! The program of a request: the text of a configuration, and an input. A program is a module with bodies of instructions.
+//! The program of a request: the text of a configuration, and an input. A program is a module with
+//! bodies of instructions.
 //!
 //! The text is a JSON object in UTF-8, or empty for the default configuration.
 #![tactic(auto)]

@@ -22,7 +22,7 @@ fn parsed(alloc: Global, text: &str) -> Result<Config, Refusal>
     }
 }
 
-/// Reads a configuration from `text`: the default one where it is empty.
+/// Reads a configuration from `text`. Returns the default one if `text` is empty.
 fn configured(alloc: Global, text: &[u8]) -> Result<Config, Refusal>
     ensures ok { IfOk result (λ config. IsConfigured text.now config) }
     ensures refused { IfErr result (λ refusal. (input : List ℕ) → IsRefusal text.now input refusal) }
@@ -43,8 +43,8 @@ fn drawn(alloc: Global, config: Config, input: &[u8]) -> Result<Program, Error>
     Program::new(alloc, config, &mut Unstructured::new(input))
 }
 
-/// Draws the program of the configuration that `text` stands for and of `input`: the module, and then from the bytes that are left a
-/// body for each function that it defines.
+/// Draws a program from `input`, for the configuration in `text`: the module, and then, from the
+/// bytes left, a body for each function that it defines.
 pub fn program(alloc: Global, text: &[u8], input: &[u8]) -> Result<Program, Refusal>
     ensures ok { IfOk result (λ program. AnswersText text.now input.now (Ok program)) }
     ensures refused { IfErr result (λ refusal. IsRefusal text.now input.now refusal) }
@@ -56,7 +56,7 @@ pub fn program(alloc: Global, text: &[u8], input: &[u8]) -> Result<Program, Refu
     }
 }
 
-/// Draws that program, and encodes it in the binary format.
+/// Draws the program of [`program`], and encodes it in the binary format.
 pub fn binary(alloc: Global, text: &[u8], input: &[u8]) -> Result<Vec<u8>, Refusal>
     ensures ok { IfOk result (λ bytes. IsBinary text.now input.now bytes.items) }
     ensures refused { IfErr result (λ refusal. IsRefusal text.now input.now refusal) }
@@ -79,8 +79,8 @@ fn written(alloc: Global, program: &Program) -> Result<String, Refusal>
     }
 }
 
-/// Draws that program, and writes it in the text format. It is never refused as too long. Tests try that the text is right; no clause
-/// says so.
+/// Draws the program of [`program`], and writes it in the text format. Never refuses it as too
+/// long. No clause says that the text is right; tests try it.
 pub fn text(alloc: Global, text: &[u8], input: &[u8]) -> Result<String, Refusal>
     ensures ok { IfOk result (λ written. HasProgram text.now input.now) }
     ensures refused { IfErr result (λ refusal. IsRefusal text.now input.now refusal) }

@@ -6,21 +6,21 @@ use smith_bytes::Error;
 use smith_json::{ConfigRefusal, Fault};
 use std::fmt;
 
-/// Why there is no program.
+/// Reason why there is no program.
 #[derive(Debug, Drop)]
 pub enum Refusal {
     /// The text of the configuration isn't UTF-8.
     NotUtf8,
-    /// The text of the configuration is refused.
+    /// The text of the configuration is refused, for this reason.
     Config(ConfigRefusal),
-    /// The configuration, or the want of memory, allows no module.
+    /// The generator drew no module, for this reason.
     Module(Error),
-    /// The program can't be written.
+    /// The program cannot be written, for this reason.
     Encoding(EncodeError),
 }
 
 impl Refusal {
-    /// The number of the refusal, from 2.
+    /// Returns the number of the refusal, which is 2 or more.
     pub fn status(&self) -> u32
         ensures { result ≡ status_of self.now }
     {

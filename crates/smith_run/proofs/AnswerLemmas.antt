@@ -1,4 +1,4 @@
--- What the written line says of the answer, and when writing it failed.
+-- What the written line says of the answer, and when writing it fails.
 use Rattle.std.proofs.Common.{rules, ◌≡◌, ℕ, Bool, true, false, List, Option, Result, Ok, Err, inl}
 use Rattle.std.specs.Prelude.{◌⊎◌, ◌↔◌, ◌||◌, IfOk, IfErr, OnOk, IsErrOf, is_err}
 use Rattle.std.specs.Io.KnownBytes.{Appends}
@@ -14,19 +14,19 @@ use Rattle.smith_run.specs.Input.{AreKnown}
 use Rattle.smith_run.specs.Line.{line_of}
 use Rattle.smith_run.specs.Run.{MayAnswer, IsAnswered, IsUnread, outcome_of}
 
--- the line of an answer that the generator may give was written
+-- the line of a possible answer was written
 pub answer_told : (drawn : Bool) (left : Option (List ℕ)) (input : List ℕ) (answer : Result Parts Error) (before after : Option (List ℕ)) (result : Result Outcome RunFault)
     → AreKnown left input → MayAnswer drawn input answer → OnOk result (Appends before after (line_of answer)) → IfOk result (λ outcome. outcome ≡ outcome_of answer)
     → IfOk result (λ outcome. IsAnswered drawn left before after outcome ⊎ IsUnread before after outcome)
 answer_told drawn left input answer before after (Ok outcome) read allowed written told = inl (record { input = input; answer = answer; read = read; allowed = allowed; written = written; told = told })
 answer_told drawn left input answer before after (Err e) read allowed written told = search rules
 
--- what is answered for the default configuration may be where no configuration is drawn
+-- an answer for the default configuration is possible if no configuration is drawn
 pub answered_by_default : (drawn : Bool) (input : List ℕ) (answer : Result Parts Error) (left : List ℕ) → drawn ≡ false → IsGenerated false default_config input answer left → IfErr answer (λ e. e ≡ Memory) → MayAnswer drawn input answer
 answered_by_default false input answer left off generated memory_alone = record { answered = record { left = left; generated = generated }; memory_alone = memory_alone }
 answered_by_default true input answer left off generated memory_alone = cc
 
--- the sink has failed exactly where this is answered
+-- the sink has failed exactly if this is returned
 pub failed_writing : (before after : Bool) (result : Result Outcome RunFault) → before ≡ false → IfErr result (λ e. e ≡ fault.Write) → after ≡ (before || is_err result)
     → IsErrOf result fault.Write ↔ (after ≡ true)
 failed_writing before after (Ok outcome) sound told failed = search rules

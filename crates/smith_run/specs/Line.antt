@@ -9,7 +9,7 @@ abbrev pub index_or_none : Option ℕ → List ℕ
 index_or_none (Some index) = decimal index
 index_or_none None = codes "none"
 
--- how many of each kind a module has, and which function starts it
+-- the number of items of each kind of a module, and its start function
 unfoldable pub counts_line : Parts → List ℕ
 counts_line parts =
     codes "types " ++ decimal (length parts.types)
@@ -26,7 +26,7 @@ counts_line parts =
     ++ codes " data " ++ decimal (length parts.segments)
     ++ codes "\n"
 
--- the line that tells a module or a refusal
+-- the line that reports a module or a refusal
 abbrev pub line_of : Result Parts Error → List ℕ
 line_of (Ok parts) = counts_line parts
 line_of (Err refusal) = codes "refused: " ++ kind_name refusal ++ codes "\n"

@@ -1,4 +1,4 @@
--- What a run of the program comes to.
+-- The result of a run of the program.
 use Rattle.std.specs.Prelude.{◌≡◌, ℕ, List, Bool, true, false, Option, Result, Ok, Err, IfErr}
 use Rattle.std.specs.Io.KnownBytes.{Appends}
 use Rattle.smith_bytes.specs.declared.error.Error.{Error}
@@ -14,28 +14,29 @@ use Rattle.smith_run.specs.declared.run.RunFault.{RunFault}
 use Rattle.smith_run.specs.Input.{AreKnown}
 use Rattle.smith_run.specs.Line.{line_of}
 
--- the generator may answer this for a configuration and bytes, of which some are left: all that it promises holds of it
+-- a possible answer of the generator for a configuration and bytes, of which some are left: all
+-- that it promises holds of it
 pub record Answers (config : Config) (bytes : List ℕ) (answer : Result Parts Error) : Type 0 where
   pub left : List ℕ
   pub generated : IsGenerated false config bytes answer left
 
--- it may answer this for the default configuration: a module, or that there was no memory
+-- a possible answer for the default configuration: a module, or lack of memory
 pub record AnswersByDefault (bytes : List ℕ) (answer : Result Parts Error) : Type 0 where
   pub answered : Answers default_config bytes answer
   pub memory_alone : IfErr answer (λ e. e ≡ Memory)
 
--- it may answer this for the input: with the default configuration, or with the one that the input gives first and the bytes that
--- this leaves
+-- a possible answer for the input: for the default configuration, or for the one that is drawn
+-- first from the input, and the bytes left after it
 abbrev pub MayAnswer : Bool → List ℕ → Result Parts Error → Type 0
 MayAnswer false input answer = AnswersByDefault input answer
 MayAnswer true input answer = let drawn = config_at input in Answers drawn.0 drawn.1 answer
 
--- the outcome that says which answer it was
+-- the outcome that reports an answer
 abbrev pub outcome_of : Result Parts Error → Outcome
 outcome_of (Ok _) = Made
 outcome_of (Err refusal) = Refused refusal
 
--- the reader's bytes were answered, and the answer's line was written
+-- the written line reports an answer for the reader's bytes
 pub record IsAnswered (drawn : Bool) (left : Option (List ℕ)) (before after : Option (List ℕ)) (outcome : Outcome) : Type 0 where
   pub input : List ℕ
   pub answer : Result Parts Error
@@ -49,7 +50,7 @@ pub record IsUnread (before after : Option (List ℕ)) (outcome : Outcome) : Typ
   pub written : Appends before after (line_of (Err Memory))
   pub told : outcome ≡ Refused Memory
 
--- the status that the program ends with
+-- the exit status of the program
 abbrev pub status_of : Result Outcome RunFault → ℕ
 status_of (Ok Made) = 0
 status_of (Ok (Refused refusal)) = 1

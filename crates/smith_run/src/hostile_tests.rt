@@ -8,10 +8,10 @@ use std::io;
 use std::io::{ErrorKind, Read, Write};
 use std::test::Fail;
 
-// The most bytes that a line of the program has.
+// Maximum number of bytes of a line of the program.
 const MOST_BYTES: usize = 512;
 
-// Inputs without bytes, of a function, of imports in a group, and of bytes that are no text.
+// Inputs without bytes, with a function, with imports in a group, and with bytes that are not text.
 const INPUTS: [&[u8]; 4] = [
     &[],
     &[1, 1, 1, 1, 0, 0, 0, 0, 0, 0, 1, 0],
@@ -19,7 +19,8 @@ const INPUTS: [&[u8]; 4] = [
     &[3, 102, 255, 4, 2, 4, 8, 6, 9, 2, 5, 200],
 ];
 
-/// Gives one byte of an input a read, and an error at one of the reads, counted from 1.
+/// Reader that returns one byte of an input per read, and fails at one of the reads, counted from
+/// 1.
 #[derive(Drop)]
 struct Trickle {
     rest: &'static [u8],
@@ -45,7 +46,8 @@ impl Read for Trickle {
     }
 }
 
-/// Keeps a line in memory that it has from the start. Takes one byte a write, and gives an error at one of the writes, counted from 1.
+/// Writer that keeps a line in its own memory. Takes one byte per write, and fails at one of the
+/// writes, counted from 1.
 #[derive(Drop)]
 struct Page {
     line: [u8; MOST_BYTES],
@@ -91,7 +93,8 @@ impl Write for Page {
     }
 }
 
-// Runs the program on `input`, whose read of the number `read` fails, with `page` for its line.
+// Runs the program on `input`, with a reader that fails at the read number `read`, and with `page`
+// for its line.
 fn ended(
     alloc: Global,
     input: &'static [u8],
@@ -153,7 +156,7 @@ fn each_write_fails_in_turn(rt: HostRuntime) {
     }
 }
 
-/// A run over an input in memory.
+/// Run over an input in memory.
 #[derive(Drop)]
 struct Running {
     input: &'static [u8],

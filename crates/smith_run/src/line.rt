@@ -6,10 +6,10 @@ ghost use Rattle.smith_run.specs.Line.{line_of, counts_line, index_or_none};
 use arrayvec::ArrayString;
 use wasm_smith::{Error, Module};
 
-/// A line of text, which takes no memory. Lines of this program have at most 400 bytes.
+/// Line of text, which takes no memory. Lines of this program have at most 400 bytes.
 pub type Line = ArrayString<512>;
 
-/// Tells `answer`, a module or a refusal, in a line.
+/// Returns the line for `answer`, a module or a refusal.
 pub fn line(answer: &Result<Module, Error>) -> Line
     ensures { result.bytes ≡ line_of answer.now }
 {

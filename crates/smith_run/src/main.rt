@@ -1,5 +1,5 @@
-//! Reads bytes from standard input, makes a WebAssembly module of them, and tells on one line of
-//! standard output how much of each kind it has.
+//! Reads bytes from standard input, draws a WebAssembly module from them, and writes one line to
+//! standard output that counts its items of each kind.
 #![tactic(auto)]
 
 #[cfg(test)]
@@ -34,13 +34,13 @@ fn main(rt: HostRuntime) -> ExitCode {
     ExitCode::from(exit_status(&ended))
 }
 
-/// Tells that the words weren't read.
+/// Reports that the words were not read.
 fn tell_unread(rt: &HostRuntime) -> ExitCode {
     let _ = eprintln!(rt; "{}", RunFault::Read);
     ExitCode::FAILURE
 }
 
-/// Reads the words after the program's name. A word that isn't UTF-8 is a failure, and so is want of memory.
+/// Reads the words after the program's name. Fails if a word is not UTF-8, or memory runs out.
 fn read_words(rt: &HostRuntime) -> io::Result<Vec<String>> {
     let words = env::args(rt)?.skip(1).collect(rt.alloc())?;
     Ok(words)

@@ -9,10 +9,10 @@ use crate::source::Source;
 use crate::words::{status, words};
 use std::alloc::Global;
 
-/// The fault for which the program tells no outcome.
+/// Fault of the program, after which there is no outcome.
 #[derive(Clone, Copy, Debug, PartialEq, Eq, thiserror::Error)]
 pub enum ProgramFault {
-    /// The program has no use for its words. Nothing was read or written.
+    /// The words are not accepted. Nothing was read or written.
     #[error("usage: smith_run [arbitrary]")]
     Usage,
     /// The run failed.
@@ -20,14 +20,14 @@ pub enum ProgramFault {
     Run(RunFault),
 }
 
-/// Runs the program for `asked`, the words after its name: looks at them first, then reads `r` to its end and writes a line to
-/// `w` as [`run`] does.
+/// Runs the program for `asked`, the words after its name. Checks `asked` first, then reads `r` to
+/// its end and writes a line to `w` as [`run`] does.
 ///
 /// Neither `r` nor `w` has failed before.
 ///
 /// # Errors
 ///
-/// `Usage` where the program has no use for `asked`, else the faults of [`run`].
+/// `Usage` if `asked` is not accepted, else the faults of [`run`].
 pub fn run_words<R: Source, W: Sink>(
     alloc: Global,
     asked: &[String],
@@ -52,7 +52,8 @@ pub fn run_words<R: Source, W: Sink>(
     run(alloc, drawn, r, w).map_err(ProgramFault::Run)
 }
 
-/// The status that the program ends with: 2 where it has no use for its words, else as [`status`].
+/// Returns the exit status of the program: 2 if its words are not accepted, else that of
+/// [`status`].
 pub fn exit_status(ended: &Result<Outcome, ProgramFault>) -> u8
     ensures { result ≡ exit_status_of ended.now }
 {

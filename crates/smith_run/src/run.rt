@@ -9,34 +9,36 @@ use crate::source::{Failed, InputFault, Source, read_whole};
 use std::alloc::Global;
 use wasm_smith::{Config, Error, Module, Unstructured};
 
-/// The outcome that the written line tells.
+/// Outcome that the written line reports.
 #[derive(Clone, Copy, Debug, PartialEq, Eq)]
 pub enum Outcome {
-    /// A module was made.
+    /// A module was drawn.
     Made,
-    /// No module was made, for this reason.
+    /// No module was drawn, for this reason.
     Refused(Error),
 }
 
-/// The fault for which no whole line was written.
+/// Fault of a run, after which there is no whole line.
 #[derive(Clone, Copy, Debug, PartialEq, Eq, thiserror::Error)]
 pub enum RunFault {
-    /// The input wasn't read to its end. Nothing was written.
+    /// The input was not read to its end. Nothing was written.
     #[error("read failed")]
     Read,
-    /// The line wasn't written to its end. How much of it was is open.
+    /// The line was not written to its end. Any part of it may have been written.
     #[error("write failed")]
     Write,
 }
 
-/// Reads `r` to its end, draws a module from the bytes, and writes a line to `w` that tells the module or the refusal, without
-/// memory for the line. Where `drawn` is set the configuration is drawn from the bytes first, else it is the default.
+/// Reads `r` to its end, draws a module from the bytes, and writes a line to `w` that reports the
+/// module or the refusal. The line takes no memory. If `drawn` is set, the configuration is drawn
+/// from the bytes first, else it is the default.
 ///
 /// Neither `r` nor `w` has failed before.
 ///
 /// # Errors
 ///
-/// `Read` where a read fails, and then nothing is written; `Write` where a write fails.
+/// - `Read` if a read fails. Nothing is written then.
+/// - `Write` if a write fails.
 pub fn run<R: Source, W: Sink>(
     alloc: Global,
     drawn: bool,

@@ -5,28 +5,29 @@ ghost use Rattle.std.specs.Io.KnownBytes.{WriteAppends, Appends};
 use crate::source::Failed;
 use std::io::Write;
 
-/// A destination of the program's output.
+/// Destination of the program's output.
 pub trait Sink {
-    // The bytes that were written, where the sink tells them.
+    // The bytes written so far, if the sink knows them.
     ghost written: { Self → Option (List ℕ) } = { λ _. None };
 
     // Whether a write has failed.
     ghost failed: { Self → Bool };
 
-    /// Writes bytes from the front of `piece`, and gives their number: at least 1, unless `piece` is empty.
+    /// Writes bytes from the front of `piece`, and returns their number: at least 1, unless `piece`
+    /// is empty.
     fn write(&mut self, piece: &[u8]) -> Result<usize, Failed>
         ensures bound { WritesAtMost result piece.now }
         ensures some { IfOk result (λ count. 0 < length piece.now → 0 < count) }
         ensures bytes { WriteAppends (written self.old) (written self.new) result piece.now }
         ensures fault { failed self.new ≡ (failed self.old || is_err result) };
 
-    /// Tells whether a write has failed. A failure stays.
+    /// Whether a write has failed. A failed sink stays failed.
     fn has_failed(&self) -> bool
         ensures { result ≡ failed self.now };
 }
 
-/// A sink that writes to a writer. Every error is a failure, an interruption too, and so is a
-/// write that takes nothing of a piece that isn't empty.
+/// Sink that writes to a writer. Every error is a failure, even an interruption, and so is a write
+/// that takes nothing of a piece that is not empty.
 #[derive(Drop)]
 pub struct FromWrite<W> {
     writer: W,
@@ -34,7 +35,7 @@ pub struct FromWrite<W> {
 }
 
 impl<W: Write> FromWrite<W> {
-    /// Makes a sink that adds to what `writer` holds. Takes no memory.
+    /// Makes a sink that appends to the contents of `writer`. Takes no memory.
     pub fn new(writer: W) -> Self
         ensures written { ⟦<FromWrite<W> as Sink>⟧.written result ≡ W.contents writer }
         ensures fresh { ⟦<FromWrite<W> as Sink>⟧.failed result ≡ false }
@@ -66,7 +67,7 @@ impl<W: Write> Sink for FromWrite<W> {
     }
 }
 
-/// Writes all of `bytes` to `sink`, in as many pieces as `sink` takes.
+/// Writes all of `bytes` to `sink`, in as many pieces as needed.
 pub fn write_whole<W: Sink>(sink: &mut W, bytes: &[u8]) -> Result<(), Failed>
     ensures bytes { OnOk result (Appends (W.written sink.old) (W.written sink.new) bytes.now) }
     ensures fault { W.failed sink.new ≡ (W.failed sink.old || is_err result) }

@@ -7,31 +7,31 @@ ghost use Rattle.smith_run.specs.declared.source.InputFault.TheVariants.{Read, M
 use std::alloc::{AllocError, Global};
 use std::io::Read;
 
-/// The failure of a read or a write, whose reason isn't kept.
+/// Failure of a read or a write, without its reason.
 #[derive(Clone, Copy, Debug)]
 pub struct Failed;
 
-/// A source of the program's input.
+/// Source of the program's input.
 pub trait Source {
-    // The bytes that reads will give from here on, where the source tells them.
+    // The bytes that later reads will return, if the source knows them.
     ghost left: { Self → Option (List ℕ) } = { λ _. None };
 
     // Whether a read has failed.
     ghost failed: { Self → Bool };
 
-    /// Puts bytes into the front of `buffer`, and gives their number. The input is at its end where that is 0, unless `buffer`
-    /// is empty.
+    /// Reads bytes into the front of `buffer`, and returns their number. The input is at its end if
+    /// that is 0, unless `buffer` is empty.
     fn read(&mut self, buffer: &mut [u8]) -> Result<usize, Failed>
         ensures bound { ReadsAtMost result buffer.new }
         ensures bytes { ReadConsumes (left self.old) (left self.new) result buffer.new }
         ensures fault { failed self.new ≡ (failed self.old || is_err result) };
 
-    /// Tells whether a read has failed. A failure stays.
+    /// Whether a read has failed. A failed source stays failed.
     fn has_failed(&self) -> bool
         ensures { result ≡ failed self.now };
 }
 
-/// A source that reads from a reader. Every error is a failure, an interruption too.
+/// Source that reads from a reader. Every error is a failure, even an interruption.
 #[derive(Drop)]
 pub struct FromRead<R> {
     reader: R,
@@ -39,7 +39,7 @@ pub struct FromRead<R> {
 }
 
 impl<R: Read> FromRead<R> {
-    /// Makes a source of what `reader` has left. Takes no memory.
+    /// Makes a source of the remaining input of `reader`. Takes no memory.
     pub fn new(reader: R) -> Self
         ensures left { ⟦<FromRead<R> as Source>⟧.left result ≡ R.remaining reader }
         ensures fresh { ⟦<FromRead<R> as Source>⟧.failed result ≡ false }
@@ -71,12 +71,12 @@ impl<R: Read> Source for FromRead<R> {
     }
 }
 
-/// The fault for which an input wasn't read whole.
+/// Fault after which an input is not read whole.
 #[derive(Clone, Copy, Debug)]
 pub enum InputFault {
     /// A read failed.
     Read,
-    /// A growth was refused.
+    /// The buffer could not grow.
     Memory,
 }
 

@@ -7,7 +7,7 @@ use std::io;
 use std::io::{ErrorKind, Read, Write};
 use std::test::Fail;
 
-/// Gives a zero a read, and an error at one of the reads.
+/// Reader that returns one zero per read, and fails at one of the reads.
 #[derive(Drop)]
 struct ZeroReader {
     reads: usize,
@@ -29,7 +29,7 @@ impl Read for ZeroReader {
     }
 }
 
-/// Takes a byte a write, and at one of the writes gives an error or takes nothing.
+/// Writer that takes one byte per write, and at one of the writes fails or takes nothing.
 #[derive(Drop)]
 struct ByteWriter {
     writes: usize,

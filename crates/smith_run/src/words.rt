@@ -5,8 +5,8 @@ ghost use Rattle.smith_run.specs.Words.{drawn_by};
 
 use crate::run::{Outcome, RunFault};
 
-/// Tells from `words`, which stand after the program's name, whether the configuration is to be drawn from the input. `None`
-/// where the program has no use for `words`.
+/// Returns whether `words`, the words after the program's name, select a configuration that is
+/// drawn from the input. Returns none if `words` are not accepted.
 pub fn words(words: &[String]) -> Option<bool>
     ensures { result ≡ drawn_by (map string_bytes words.now) }
 {
@@ -23,7 +23,7 @@ fn is_arbitrary(word: &String) -> bool
     word.as_str() == "arbitrary"
 }
 
-/// The status that the program ends with: 0 where a module was made, else 1.
+/// Returns the exit status of the program: 0 if a module was drawn, else 1.
 pub fn status(ended: &Result<Outcome, RunFault>) -> u8
     ensures { result ≡ status_of ended.now }
 {

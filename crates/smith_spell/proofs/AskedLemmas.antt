@@ -1,4 +1,4 @@
--- Minimums one by one, and what sanitising leaves of what is asked for.
+-- Minimums one by one, and what sanitising keeps of minimums, shapes and export-everything.
 use Rattle.std.proofs.Common.{◌≡◌, ℕ, ◌∙◌, sym, map, rules}
 use Rattle.std.specs.Prelude.{All, slice_index_or}
 use Rattle.std.proofs.lemmas.List.Elements.{All-map, recursion_from_All}
@@ -10,7 +10,7 @@ use Rattle.smith_config.specs.Sanitized.{sanitized}
 use Rattle.smith_spell.specs.Minimums.{HasNoMinimums}
 use Rattle.smith_spell.specs.Decided.{AsksForNothing}
 
--- the minimums are zero where each is
+-- there are no minimums if each is 0
 pub zero_each : (config : Config) → All (λ minimum. minimum ≡ 0) (map (minimum_of config) counts) → HasNoMinimums config
 zero_each config all count =
     let zero = recursion_from_All (λ (minimum : ℕ). minimum ≡ 0) (map (minimum_of config) counts) all in
@@ -35,7 +35,7 @@ each_zero config none = All-map (λ (minimum : ℕ). minimum ≡ 0) (minimum_of 
 same_minimum : (config : Config) (count : Count) → minimum_of (sanitized config) count ≡ minimum_of config count
 same_minimum config count = search rules
 
--- it neither adds a shape nor takes one alone away
+-- it adds no shape, and never removes the only one
 pub asked_once_sanitised : (config : Config) → AsksForNothing config → AsksForNothing (sanitized config)
 asked_once_sanitised config h =
     let alone = h.no_shapes.module_shape in

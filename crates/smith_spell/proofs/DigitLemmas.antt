@@ -1,4 +1,4 @@
--- The base-256 digits of a number, the highest first.
+-- The base-256 digits of a number, most significant first.
 use Rattle.std.proofs.Common.{◌≡◌, ℕ, zero, suc, ◌+◌, ◌-◌, ◌*◌, ◌/◌, ◌%◌, ◌<◌, ◌≤◌, ◌^◌, List, [], ◌∷◌, ◌++◌, refl, ap, ◌∙◌, arith, length-append, append_assoc}
 use Rattle.std.proofs.Math.Nat.{pow-succ', mod-eq_of_lt}
 use Rattle.std.proofs.lemmas.List.Sums.{fold-append}
@@ -6,7 +6,7 @@ use Rattle.smith_bytes.specs.Draws.{big_endian, digit_count, digit_count_within}
 use Rattle.smith_bytes.specs.Spelling.{SpellsNumber, SpellsRefusal}
 use Rattle.smith_spell.specs.Written.{SpellsDigits, Writes}
 
--- to look at one digit more changes nothing where there are no more
+-- counting one digit more changes nothing if there are no more
 enough_digits : (n d : ℕ) → d < 256 ^ n → digit_count_within n d ≡ digit_count_within (suc n) d
 enough_digits zero zero few = refl
 enough_digits zero (suc d) few = absurd (omega arith)
@@ -15,7 +15,7 @@ enough_digits (suc n) (suc d) few =
     let top : 256 ^ suc n ≡ 256 * 256 ^ n = rw pow-succ' refl in
     omega (arith, enough_digits n (suc d / 256) (omega arith))
 
--- a digit more than the number without its lowest one
+-- one digit more than the number without its last one
 digit_count_more : (d : ℕ) → 0 < d → d < 2 ^ 64 → digit_count d ≡ 1 + digit_count (d / 256)
 unfolding digit_count
 digit_count_more zero some few = absurd (omega arith)
@@ -25,7 +25,7 @@ pub no_digits : (number : ℕ) → number ≤ 0 → SpellsDigits number 0 []
 unfolding digit_count
 no_digits number none = record { digits = refl; read = omega arith }
 
--- the lowest digit behind the others
+-- the last digit after the others
 pub digit_written : (number most : ℕ) {old between new : List ℕ} → 0 < most → most < 2 ^ 64 → Writes (SpellsDigits (number / 256) (most / 256)) old between
     → new ≡ between ++ number % 256 ∷ [] → Writes (SpellsDigits number most) old new
 digit_written number most {old} some few front whole =
@@ -39,7 +39,7 @@ digit_written number most {old} some few front whole =
       whole = whole ∙ ap (λ (bytes : List ℕ). bytes ++ number % 256 ∷ []) front.whole ∙ append_assoc old front.piece (number % 256 ∷ []);
     }
 
--- a number of 0 to the greatest
+-- a number from 0 to the maximum
 pub number_of_digits : (number most : ℕ) (piece : List ℕ) → number ≤ most → SpellsDigits number most piece → SpellsNumber number 0 most piece
 number_of_digits number most piece within h =
     let all : most - 0 ≡ most = omega arith in

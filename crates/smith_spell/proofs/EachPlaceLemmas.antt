@@ -1,10 +1,10 @@
--- What holds of each item of a list, with its place.
+-- A property of each item of a list, with its place.
 use Rattle.std.proofs.Common.{◌≡◌, ℕ, zero, suc, List, [], ◌∷◌, Some, refl, subst}
 use Rattle.std.specs.Prelude.{slice_get}
 use Rattle.std.proofs.lemmas.Option.{same_Some}
 use Rattle.smith_types.specs.Exports.{AreDistinct}
 
--- the items of a list, the first of which stands at this place, one by one
+-- the items of a list, of which the first has this place, one by one
 abbrev pub EachFrom : {A : Type 0} → (ℕ → A → Type 0) → ℕ → List A → Type 0
 EachFrom P start [] = Unit {0}
 EachFrom P start (x ∷ xs) = P start x × EachFrom P (suc start) xs

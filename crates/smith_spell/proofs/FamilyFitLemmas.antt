@@ -1,4 +1,4 @@
--- The types of a member of the family refer to types before them alone, and its groups fit.
+-- The types of a member of the family refer only to earlier types, and its groups fit.
 use Rattle.std.proofs.Common.{◌≡◌, ℕ, ◌<◌, ◌≤◌, List, [], ◌∷◌, ◌++◌, Some, length, take, refl, inl, inr, sym, subst, arith, append_assoc, length-append}
 use Rattle.std.specs.Prelude.{slice_get}
 use Rattle.std.specs.List.{All, flat_map, AllByRecursion as ByRecursion}

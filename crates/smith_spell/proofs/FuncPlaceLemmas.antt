@@ -13,7 +13,7 @@ use Rattle.smith_spell.specs.FuncTypes.{func_types}
 use Rattle.smith_spell.specs.Spelling.{SpellsFuncs}
 use Rattle.smith_spell.specs.Written.{ArePlaces}
 
--- for each item, how many before it pass a test, and n more
+-- for each item, how many items before it pass a test, plus n
 abbrev pub counts_from : {A : Type 0} → (A → Bool) → ℕ → List A → List ℕ
 counts_from test n [] = []
 counts_from test n (x ∷ xs) = n ∷ counts_from test (if test x then n + 1 else n) xs
@@ -32,7 +32,7 @@ counts_told test n m (x ∷ xs) zero d inside = omega arith
 counts_told test n m (x ∷ xs) (suc i) d inside =
     counts_told test (if test x then n + 1 else n) (suc m) xs i d (omega arith) ∙ count_turn (test x) n m (places_from test (suc m) (take i xs))
 
--- all counts are the places of types
+-- these counts are the places of the types
 pub places_told : (types : List SubType) (places : List ℕ) → places ≡ counts_from (may_be_used DefinedFunc) 0 types → ArePlaces types places
 places_told types places is = rw is (record {
   sized = counts_sized (may_be_used DefinedFunc) 0 types;
@@ -56,7 +56,7 @@ place_found test m (y ∷ ys) (suc place) x at passes =
     let next : suc m + place ≡ m + suc place = omega arith in
     found_turn (test y) m (m + suc place) (places_from test (suc m) ys) (places_from test (suc m) (take place ys)) (place_found test (suc m) ys place x at passes ∙ ap Some next)
 
--- a function's type stands at its place
+-- the type of a function is at its place
 pub func_place : (types : List SubType) (places : List ℕ) (func d : ℕ) → ArePlaces types places → All (λ (t : SubType). t.composite_type.shared ≡ false) types → IsFuncValid types func
     → slice_get (func_types types) (get_or places func d) ≡ Some func
 unfolding is_unshared_function
@@ -67,7 +67,7 @@ func_place types places func d are unshared (function, (t, at, is)) =
     let same : 0 + func ≡ func = omega arith in
     rw (are.told func d inside) (found ∙ ap Some same)
 
--- where no function type stands there is no function
+-- if no type may be that of a function, there is no function
 pub no_funcs : (config : Config) (types : List SubType) (funcs : List ℕ) → length (func_types types) ≡ 0 → All (λ (t : SubType). t.composite_type.shared ≡ false) types → All (IsFuncValid types) funcs → SpellsFuncs config types funcs []
 unfolding Listed
 no_funcs config types [] none unshared valid = rw none refl

@@ -1,4 +1,4 @@
--- Which heap types the types of the examples ground.
+-- The heap types that the types of the examples ground.
 use Rattle.std.proofs.Common.{◌&&◌, Bool, false, [], refl, ap, arith}
 use Rattle.std.specs.Prelude.{IsTrue, ◌↔◌}
 use Rattle.std.specs.List.{list_any}
@@ -19,7 +19,7 @@ use Rattle.smith_spell.specs.Decided.{IsKnown}
 use Rattle.smith_spell.specs.ExampleMembers.{final, alone}
 use Rattle.smith_spell.proofs.KnownLemmas.{abstract_known, concrete_known}
 
--- what is known of one type
+-- facts about one type
 known_of : CompositeInnerType → Known
 known_of inner = record { count = 1; has_ground = list_any (is_ground_of false) (alone inner) }
 
@@ -27,7 +27,7 @@ known_alone : (inner : CompositeInnerType) → IsKnown (alone inner) (known_of i
 unfolding known_of
 known_alone inner = record { counted = refl; grounds = refl; roots = All-from_recursion IsRoot (alone inner) (refl, tt) }
 
--- one type grounds itself where it is a struct type whose fields all have defaults
+-- a type grounds itself if it is a struct type whose fields all have defaults
 pub grounds_itself : (inner : CompositeInnerType) (descriptors : Bool) → IsTrue (is_ground (final inner)) ↔ IsGroundedByStructs (alone inner) descriptors (Concrete 0)
 grounds_itself inner descriptors = concrete_known (alone inner) (known_of inner) descriptors 0 (Concrete 0) _ (known_alone inner) refl (omega arith) (λ t at. ap is_ground (same_Some _ t at))
 

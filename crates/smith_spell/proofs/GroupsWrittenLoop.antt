@@ -1,4 +1,4 @@
--- Groups that are written one behind another: each turn adds the types of one to those before.
+-- Groups written one after another: each iteration adds the types of one to those before.
 use Rattle.std.proofs.Common.{◌≡◌, ℕ, zero, suc, ◌+◌, ◌<◌, ◌≤◌, Bool, true, false, nat_lt, ◌-◌, List, [], ◌∷◌, ◌++◌, Some, length, take, drop, get_or, refl, sym, ap, ◌∙◌, subst, add-one, arith, length-append, drop-cons}
 use Rattle.std.specs.Prelude.{slice_get, All}
 use Rattle.std.specs.List.{flat_map}
@@ -26,7 +26,7 @@ pub group_written : (config : Config) (types : List SubType) (before : Before) (
 unfolding SpellsGroup
 group_written config types before stands group summary size members = joined_written (rw summary.counted at size) (rw summary.counted at members)
 
--- what stands at a place
+-- the item at a place
 pub at_place : {A : Type 0} (xs : List A) (k : ℕ) (d : A) → k < length xs → slice_get xs k ≡ Some (get_or xs k d)
 at_place [] k d inside = absurd (omega arith)
 at_place (x ∷ xs) zero d inside = refl
@@ -37,7 +37,7 @@ at_behind [] xs n k d is inside = let same : n ≡ k = omega arith in rw same (a
 at_behind (y ∷ front) xs zero k d is inside = absurd (omega arith)
 at_behind (y ∷ front) xs (suc n) k d is inside = at_behind front xs n k d (omega arith) inside
 
--- each type of a group is a member after types, no more than those up to the end of the group
+-- each type of a group is a member after some types, no more than those up to the end of the group
 pub group_members : (config : Config) (groups : List (List SubType)) (i : ℕ) (group d : List SubType) → i < length groups → group ≡ get_or groups i d → AreMembers config (space_of groups).types
     → All (λ (t : SubType). OverSome (length (space_of (take i groups)).types + length group) (λ types. IsMemberType config types t)) group
 group_members config groups i group d inside read each = λ k other small.

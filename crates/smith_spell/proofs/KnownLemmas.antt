@@ -1,4 +1,4 @@
--- Which heap types struct types without supertypes ground, by what is known of the types.
+-- The heap types that struct types without supertypes ground, by the facts about the types.
 use Rattle.std.proofs.Common.{◌≡◌, ◌∙◌, ℕ, zero, suc, ◌+◌, ◌<◌, Bool, true, false, ◌&&◌, ◌||◌, List, [], ◌∷◌, ◌++◌, Some, None, IsTrue, length, refl, sym, ap, subst, arith, length-append}
 use Rattle.std.specs.Prelude.{◌↔◌, slice_get, if◌then◌else◌}
 use Rattle.std.specs.List.{All, list_any}
@@ -34,7 +34,7 @@ any_push test (y ∷ xs) x = ap (λ b. test y || b) (any_push test xs x) ∙ or_
     or_apart true b c = refl
     or_apart false b c = refl
 
--- what is known with a type more
+-- the facts with one more type
 pub known_more : (types : List SubType) (known after : Known) (t : SubType) → after.count ≡ known.count + 1 → after.has_ground ≡ (known.has_ground || is_ground_of false t) → IsKnown types known → IsRoot t → IsKnown (types ++ t ∷ []) after
 known_more types known after t count grounds h root = record {
   counted = let long = length-append types (t ∷ []) in omega (arith, long, count, h.counted);
@@ -49,7 +49,8 @@ kinds_are types known h = record { each = each }
     each true = refl
     each false = h.grounds
 
--- an unshared abstract heap type is grounded where it is above struct types and one of them grounds
+-- an unshared abstract heap type is grounded if it is above struct types and there is a struct type
+-- with defaults
 pub abstract_known : (types : List SubType) (known : Known) (descriptors s : Bool) (b : AbstractHeapType) (ty : HeapType) (r : Bool) → IsKnown types known → ty ≡ Abstract s b → s ≡ false → r ≡ (known.has_ground && is_abstract_below Struct b)
     → IsTrue r ↔ IsGroundedByStructs types descriptors ty
 abstract_known types known descriptors s b ty r h is unshared read =
@@ -78,7 +79,7 @@ stands [] j inside = absurd (omega arith)
 stands (t ∷ types) zero inside = (t, refl)
 stands (t ∷ types) (suc j) inside = stands types j (omega arith)
 
--- a type without a supertype is grounded by itself alone
+-- a type without a supertype is grounded only by itself
 pub concrete_known : (types : List SubType) (known : Known) (descriptors : Bool) (j : ℕ) (ty : HeapType) (r : Bool) → IsKnown types known → ty ≡ Concrete j → j < length types → ((t : SubType) → slice_get types j ≡ Some t → r ≡ is_ground t)
     → IsTrue r ↔ IsGroundedByStructs types descriptors ty
 concrete_known types known descriptors j ty r h is inside read =

@@ -1,4 +1,4 @@
--- The abstract heap types that are listed are those that are offered.
+-- The abstract heap types that are listed are those that are drawn.
 use Rattle.std.proofs.Common.{◌≡◌, zero, suc, Bool, true, false, List, [], ◌∷◌, refl, ap, arith}
 use Rattle.std.specs.Prelude.{IsTrue}
 use Rattle.std.specs.List.{Contains, AllByRecursion as ByRecursion}
@@ -11,7 +11,7 @@ use Rattle.smith_draw.specs.ValueTypes.{abstract_heap_types}
 use Rattle.smith_draw.proofs.EnabledLemmas.{enabled_all}
 use Rattle.smith_spell.specs.Decided.{IsOffered}
 
--- an item is enabled where a row turns it on
+-- an item is enabled if its row turns it on
 row_enabled : {A : Type 0} (rows : List (A × Bool)) (x : A) → Contains rows (x, true) → Contains (enabled rows) x
 row_enabled [] x (k, inside, at) = absurd (omega arith)
 row_enabled ((y, true) ∷ rows) x (zero, inside, at) = (0, omega arith, ap (λ row. row.0) at)

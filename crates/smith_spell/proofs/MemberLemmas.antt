@@ -1,4 +1,4 @@
--- Types one after another are members where each is, and what lists of the family are by their parts.
+-- Types one after another are members if each is, and lists of the family by their parts.
 use Rattle.std.proofs.Common.{◌≡◌, ℕ, zero, suc, ◌+◌, ◌<◌, List, [], ◌∷◌, ◌++◌, Some, length, take, drop, get_or, refl, sym, subst, rules, arith, add-one, drop-cons, append_assoc, append-nil}
 use Rattle.std.specs.Prelude.{◌≤◌, ◌↔◌, slice_get, All}
 use Rattle.std.specs.List.{flat_map}
@@ -22,7 +22,7 @@ module _ (config : Config) where
   after_same : (types : List SubType) {before other : List SubType} → before ≡ other → AreMembersAfter config before types → AreMembersAfter config other types
   after_same types same h = subst (λ (list : List SubType). AreMembersAfter config list types) same h
 
-  -- members that are joined are those of each part
+  -- if joined types are members, so are those of each part
   members_apart : (before xs ys : List SubType) → AreMembersAfter config before (xs ++ ys) → AreMembersAfter config before xs × AreMembersAfter config (before ++ xs) ys
   members_apart before [] ys h = (tt, after_same ys (sym (append-nil before)) h)
   members_apart before (x ∷ xs) ys (here, more) =
@@ -33,7 +33,7 @@ module _ (config : Config) where
   members_joined before [] ys h more = after_same ys (append-nil before) more
   members_joined before (x ∷ xs) ys (here, rest) more = (here, members_joined (before ++ x ∷ []) xs ys rest (after_same ys (sym (append_assoc before (x ∷ []) xs)) more))
 
-  -- the types of groups are members where those from a place on are, and so on after the group there
+  -- the types of groups are members if those from a place on are, and so on after the group there
   pub groups_turn : (groups : List (List SubType)) (i : ℕ) (group other : List SubType) (Whole : Type 0) → i < length groups → group ≡ get_or groups i other → AreMembersAfter config (all_types (take i groups)) group
       → AreMembersAfter config (all_types (take i groups)) (all_types (drop i groups)) ↔ Whole → AreMembersAfter config (all_types (take i groups) ++ group) (all_types (drop (i + 1) groups)) ↔ Whole
   groups_turn groups i group other Whole inside read here (to, back) =

@@ -1,4 +1,4 @@
--- A member of the family that is written by its parts.
+-- A member of the family, written by its parts.
 use Rattle.std.proofs.Common.{◌≡◌, ℕ, suc, Bool, true, false, nat_lt, cond, List, [], ◌∷◌, length, get_or, refl, arith}
 use Rattle.std.specs.Prelude.{All, ◌||◌}
 use Rattle.std.specs.List.{list_any}
@@ -20,7 +20,7 @@ any_turn : (b : Bool) (n : ℕ) (places : List ℕ) (rest : Bool) → nat_lt 0 (
 any_turn true n places rest h = lt-ltb 0 (length (n ∷ places)) (omega arith)
 any_turn false n places rest h = h
 
--- some item passes a test exactly where its places are not none
+-- some item passes a test exactly if its places are not empty
 pub some_passes : {A : Type 0} (test : A → Bool) (n : ℕ) (xs : List A) → nat_lt 0 (length (places_from test n xs)) ≡ list_any test xs
 some_passes test n [] = refl
 some_passes test n (x ∷ xs) = any_turn (test x) n (places_from test (suc n) xs) (list_any test xs) (some_passes test (suc n) xs)

@@ -1,4 +1,4 @@
--- What the examples of spelled lists have in common.
+-- Facts that the examples of spelled lists share.
 use Rattle.std.proofs.Common.{rules, arith, List, [], ◌∷◌, take, refl, inr, false}
 use Rattle.std.proofs.lemmas.List.Elements.{All-from_recursion}
 use Rattle.smith_types.specs.Entities.{IsFuncValid}
@@ -41,7 +41,7 @@ holder_member =
     let field = constant (Val (Ref (not_null (Concrete 0)))) in
     record { unshared = refl; root = refl; final = λ no. cc; inner = (refl, omega arith, All-from_recursion P (field ∷ []) ((refl, (refl, omega arith), inr (refl, (grounds_itself (struct_of_bytes 0) false).0 refl)), tt)) }
 
--- they are in the family, where there are references that are not nullable
+-- they are in the family if there are non-nullable references
 pub holder_in_family : IsInFamily with_non_nullable struct_and_holder []
 unfolding holder_types
 holder_in_family = record {
@@ -53,7 +53,7 @@ holder_in_family = record {
   each_func = search rules;
 }
 
--- nothing can be spelled, and so can they
+-- empty lists can be spelled, and so can these
 pub nothing_spellable : IsSpellable default_config [] []
 nothing_spellable = search rules
 

@@ -1,4 +1,4 @@
--- Pieces of bytes put together to a spelling, and what a spelling says of its first byte.
+-- Pieces of bytes joined to a spelling, and what a spelling says of its first byte.
 use Rattle.std.proofs.Common.{arith, ◌≡◌, ℕ, suc, ◌+◌, ◌-◌, ◌%◌, ◌<◌, Bool, true, false, List, [], ◌∷◌, ◌++◌, length, refl, ap, sym, ◌∙◌, subst, append_assoc}
 use Rattle.std.specs.Prelude.{ℤ, Some, slice_get, if◌then◌else◌}
 use Rattle.std.specs.Int.{cast_signed, w32}
@@ -15,7 +15,7 @@ use Rattle.smith_draw.specs.TypeUses.{is_tag_type, is_unshared_function}
 use Rattle.smith_spell.specs.Spelling.{SpellsMember, SpellsGlobal}
 use Rattle.smith_spell.specs.ExampleMembers.{one_function_type}
 
--- one piece behind another
+-- one piece after another
 pub joined : {First Second : List ℕ → Type 0} (first second : List ℕ) → First first → Second second → Joined First Second (first ++ second)
 joined first second is_first is_second = record { first = first; second = second; is_first = is_first; is_second = is_second; whole = refl }
 
@@ -56,7 +56,7 @@ pub not_shared : SpellsRefusal 4 (1 ∷ [])
 unfolding digit_count
 not_shared = record { drawn = 2; later = omega arith; number = record { digits = refl; read = refl } }
 
--- every spelling of one function of a type that takes and gives nothing
+-- every spelling of one function of a type without parameters and results
 pub one_function_spelled : (next size final kind no_param no_result no_group no_import flag no_tag more no_more : ℕ)
     → next % 2 ≡ 1 → SpellsNumber 1 0 100 (size ∷ []) → final % 2 ≡ 1 → SpellsNumber 1 0 2 (kind ∷ []) → no_param % 2 ≡ 0 → no_result % 2 ≡ 0 → no_group % 2 ≡ 0
     → no_import % 2 ≡ 0 → no_tag % 2 ≡ 0 → more % 2 ≡ 1 → no_more % 2 ≡ 0
@@ -87,15 +87,15 @@ regrouped {piece = piece} outer =
       whole = apart ∙ append_assoc inner.first inner.second outer.second;
     }
 
--- a first piece that says more
+-- a stronger first piece
 pub first_weaker : {First Weaker Second : List ℕ → Type 0} {piece : List ℕ} → ((part : List ℕ) → First part → Weaker part) → Joined First Second piece → Joined Weaker Second piece
 first_weaker less both = record { first = both.first; second = both.second; is_first = less both.first both.is_first; is_second = both.is_second; whole = both.whole }
 
--- a second piece that says more
+-- a stronger second piece
 pub second_weaker : {First Second Weaker : List ℕ → Type 0} {piece : List ℕ} → ((part : List ℕ) → Second part → Weaker part) → Joined First Second piece → Joined First Weaker piece
 second_weaker less both = record { first = both.first; second = both.second; is_first = both.is_first; is_second = less both.second both.is_second; whole = both.whole }
 
--- the parts of a global one behind another
+-- the parts of a global, one after another
 pub global_parts : (config : Config) (value : ℤ) {piece : List ℕ} → SpellsGlobal config value piece
     → Joined (SpellsNumber 0 0 (length (enabled (value_classes config)) - 1)) (Joined (SpellsUnshared config) (Joined (SpellsBool true) (SpellsConstant config value))) piece
 unfolding SpellsGlobal
@@ -106,7 +106,7 @@ without_nothing {Second = Second} {piece = piece} both =
     let same : piece ≡ both.second = subst (λ part. piece ≡ part ++ both.second) both.is_first both.whole in
     subst Second (sym same) both.is_second
 
--- a bool in front is the first byte, and the rest is behind it
+-- a leading bool is the first byte, and the rest follows it
 pub bool_first : {value : Bool} {Second : List ℕ → Type 0} {byte : ℕ} {rest : List ℕ} → Joined (SpellsBool value) Second (byte ∷ rest) → (byte % 2 ≡ (if value then 1 else 0)) × Second rest
 bool_first {Second = Second} {byte = byte} {rest = rest} both =
     let bool = both.is_first in
@@ -115,7 +115,7 @@ bool_first {Second = Second} {byte = byte} {rest = rest} both =
     let tail : both.second ≡ rest = cc in
     (ap (λ n. n % 2) head ∙ bool.lowest, subst Second tail both.is_second)
 
--- a number that takes no byte, in front
+-- a leading number that takes no byte
 pub number_alone : {value lo hi : ℕ} {Second : List ℕ → Type 0} {piece : List ℕ} → digit_count (hi - lo) ≡ 0 → Joined (SpellsNumber value lo hi) Second piece → Second piece
 number_alone {lo = lo} {hi = hi} none both = without_nothing (first_weaker (λ part h. empty part (h.digits ∙ none)) both)
   where
@@ -123,7 +123,7 @@ number_alone {lo = lo} {hi = hi} none both = without_nothing (first_weaker (λ p
     empty [] none = refl
     empty (byte ∷ part) none = cc none
 
--- a number of one byte in front is told by the first byte
+-- the first byte decides a leading number of one byte
 pub digit_first : {value lo hi : ℕ} {Second : List ℕ → Type 0} {byte : ℕ} {rest : List ℕ}
     → digit_count (hi - lo) ≡ 1 → Joined (SpellsNumber value lo hi) Second (byte ∷ rest) → (value ≡ lo + big_endian (byte ∷ []) % (hi - lo + 1)) × Second rest
 digit_first {value} {lo} {hi} {Second} {byte} {rest} one both = of both.first both.is_first.digits both.is_first.read both.whole
@@ -137,7 +137,7 @@ digit_first {value} {lo} {hi} {Second} {byte} {rest} one both = of both.first bo
         (subst (λ n. value ≡ lo + big_endian (n ∷ []) % (hi - lo + 1)) head read, subst Second tail both.is_second)
     of (digit ∷ other ∷ more) digits read whole = let long : suc (suc (length more)) ≡ 1 = digits ∙ one in absurd (omega (arith, long))
 
--- a byte in front, whatever it is
+-- any leading byte
 pub any_first : {Second : List ℕ → Type 0} {byte : ℕ} {rest : List ℕ} → Joined SpellsAnyByte Second (byte ∷ rest) → Second rest
 any_first {Second = Second} {byte = byte} {rest = rest} both =
     let one = both.is_first in
@@ -145,7 +145,7 @@ any_first {Second = Second} {byte = byte} {rest = rest} both =
     let tail : both.second ≡ rest = cc in
     subst Second tail both.is_second
 
--- a certain byte in front is the first
+-- a certain leading byte is the first
 pub this_first : {this : ℕ} {Second : List ℕ → Type 0} {byte : ℕ} {rest : List ℕ} → Joined (λ one. one ≡ this ∷ []) Second (byte ∷ rest) → (byte ≡ this) × Second rest
 this_first {this} {Second} {byte} {rest} both =
     let apart : byte ∷ rest ≡ this ∷ both.second = subst (λ part. byte ∷ rest ≡ part ++ both.second) both.is_first both.whole in
@@ -153,7 +153,7 @@ this_first {this} {Second} {byte} {rest} both =
     let tail : both.second ≡ rest = cc in
     (head, subst Second tail both.is_second)
 
--- a number of four bytes in front is told by the first four
+-- the first four bytes decide a leading number of four bytes
 pub word_first : {value : ℤ} {Second : List ℕ → Type 0} {a b c d : ℕ} {rest : List ℕ}
     → Joined (SpellsI32 value) Second (a ∷ b ∷ c ∷ d ∷ rest) → (value ≡ cast_signed w32 (little_endian (a ∷ b ∷ c ∷ d ∷ []))) × Second rest
 word_first {value} {Second} {a} {b} {c} {d} {rest} both = of both.first both.is_first.four both.is_first.read both.whole
@@ -170,7 +170,7 @@ word_first {value} {Second} {a} {b} {c} {d} {rest} both = of both.first both.is_
     of (p ∷ q ∷ r ∷ []) four read whole = cc four
     of (p ∷ q ∷ r ∷ s ∷ t ∷ more) four read whole = let long : suc (suc (suc (suc (suc (length more))))) ≡ 4 = four in absurd (omega (arith, long))
 
--- a refusal of one byte in front is told by the first byte
+-- the first byte decides a leading refusal of one byte
 pub refused_first : {chances : ℕ} {Second : List ℕ → Type 0} {byte : ℕ} {rest : List ℕ}
     → digit_count (chances - 1) ≡ 1 → Joined (SpellsRefusal chances) Second (byte ∷ rest) → (1 < 1 + big_endian (byte ∷ []) % (chances - 1 + 1)) × Second rest
 refused_first {chances} {Second} {byte} {rest} one both =
@@ -180,7 +180,7 @@ refused_first {chances} {Second} {byte} {rest} one both =
     let (read, behind) = digit_first {value = refusal.drawn} {lo = 1} {hi = chances} {Second = Second} one numbered in
     (subst (λ n. 1 < n) read refusal.later, behind)
 
--- a place of one byte in front is told by the first byte
+-- the first byte decides a leading place of one byte
 pub place_first : {A : Type 0} {items : List A} {item : A} {Second : List ℕ → Type 0} {byte : ℕ} {rest : List ℕ}
     → digit_count (length items - 1 - 0) ≡ 1 → Joined (SpellsPlace items item) Second (byte ∷ rest) → (slice_get items (0 + big_endian (byte ∷ []) % (length items - 1 - 0 + 1)) ≡ Some item) × Second rest
 place_first {A} {items} {item} {Second} {byte} {rest} one both =
@@ -199,11 +199,11 @@ place_alone both = without_nothing (first_weaker (λ part h. empty part h.number
     empty [] none = refl
     empty (byte ∷ part) none = cc none
 
--- a first piece that is itself two, opened
+-- a first piece that itself has two parts, split
 pub opened : {First Second : List ℕ → Type 0} {piece : List ℕ} (One Other : List ℕ → Type 0) → Joined First Second piece → ((part : List ℕ) → First part → Joined One Other part) → Joined One (Joined Other Second) piece
 opened One Other both as_two = regrouped (first_weaker as_two both)
 
--- what follows a concrete heap type, where there is one type
+-- what follows a concrete heap type, if there is one type
 pub after_reference : (on nullable : Bool) (rest : List ℕ) → SpellsRefType (record default_config { non_nullable_enabled = on }) 1 (record { nullable = nullable; heap_type = Concrete 0 }) (1 ∷ rest) → SpellsNullable on nullable rest
 unfolding digit_count
 after_reference on nullable rest h = number_alone {value = 0} {lo = 0} {hi = 0} refl (bool_first (opened (SpellsBool true) (SpellsNumber 0 0 0) h.form (λ part stands. stands.1))).1

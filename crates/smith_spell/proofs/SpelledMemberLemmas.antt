@@ -1,4 +1,5 @@
--- What a spelling of types and functions says of its bytes: the groups that are drawn from them, and what is left behind these.
+-- What a spelling of types and functions says of its bytes: the groups that are drawn from them,
+-- and the bytes left after these.
 use Rattle.std.proofs.Common.{◌≡◌, ℕ, ◌+◌, ◌*◌, ◌^◌, Bool, true, false, List, [], length, refl, ap, sym, subst, ◌∙◌}
 use Rattle.std.specs.Prelude.{fold, if◌then◌else◌}
 use Rattle.std.proofs.Math.Dec.{T, eqb, eqb_refl}
@@ -24,11 +25,11 @@ use Rattle.smith_draw.specs.Spelling.{GroupsFit}
 use Rattle.smith_draw.proofs.SpelledGroupLemmas.{types_read}
 use Rattle.smith_spell.specs.Spelling.{SpellsMember, SpellsNoTag, SpellsFuncs}
 
--- what stands behind the groups
+-- the bytes after the groups
 abbrev pub SpellsBehindGroups : Config → List SubType → List ℕ → List ℕ → Type 0
 SpellsBehindGroups config types funcs = Joined (SpellsNone config.max_imports) (Joined SpellsAnyByte (Joined (SpellsNoTag config types) (SpellsFuncs config types funcs)))
 
--- no functions stand
+-- no functions exist
 abbrev pub no_functions : Config → Context
 no_functions config = record { features = features_of config; types = []; funcs = []; globals = []; imported_funcs = 0; imported_globals = 0; visible = 0 }
 
@@ -42,7 +43,7 @@ member_read config groups funcs bytes left space sanitized least fit drawn h =
     let behind : left ≡ h.second = ap (λ pair. pair.1) same in
     (ap (λ pair. pair.0) same, subst (SpellsBehindGroups config (space_of groups).types funcs) (sym behind) h.is_second)
 
--- a number that tells types apart, as far as the examples need it
+-- a number that tells heap types apart, as far as the examples need it
 abbrev heap_number : HeapType → ℕ
 heap_number (Abstract shared ty) = 0
 heap_number (Exact index) = 1

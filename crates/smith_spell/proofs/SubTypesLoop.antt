@@ -1,4 +1,4 @@
--- Types that are written one behind another: each turn adds one to those before.
+-- Types written one after another: each iteration adds one to those before.
 use Rattle.std.proofs.Common.{◌≡◌, ℕ, ◌+◌, ◌<◌, ◌≤◌, Bool, true, false, List, [], ◌∷◌, ◌++◌, length, take, drop, get_or, refl, subst, add-one, append_assoc, drop-cons}
 use Rattle.std.proofs.Math.Seq.{take-suc}
 use Rattle.std.proofs.Math.ListN.{drop_of_length-le}
@@ -17,7 +17,7 @@ form_of : (gc : Bool) (config : Config) (types : List SubType) (limit : ℕ) (t 
 form_of true config types limit t piece on h = h
 form_of false config types limit t piece on h = cc
 
--- a type by its parts, where there is garbage collection
+-- a type by its parts, with garbage collection
 pub declared_written : (config : Config) (types : List SubType) (before : Before) (limit : ℕ) (t : SubType) {old asked final unshared new : List ℕ} → config.gc_enabled ≡ true → OverSome limit (λ before. IsMemberType config before t) → IsSummary types before
     → Writes (Where before.has_open (SpellsRefusal 32)) old asked → Writes (SpellsBool t.is_final) asked final → Writes (SpellsUnshared config) final unshared
     → Writes (SpellsInner config limit t.composite_type.inner) unshared new → Writes (SpellsSubType config types limit t) old new
@@ -38,7 +38,7 @@ leads_sub_types config others limit i types t d inside read so_far one =
     let behind = next_before others types i t d inside read in
     leads_over (leads_as (λ piece h. rw (next, behind) h) so_far) one
 
--- what stands before with a type more
+-- the summary with one more type
 pub summary_more : (others types : List SubType) (i : ℕ) (t d : SubType) (after : Before) → i < length types → t ≡ get_or types i d → IsSummary ((others ++ take i types) ++ t ∷ []) after → IsSummary (others ++ take (i + 1) types) after
 summary_more others types i t d after inside read h = rw (← next_before others types i t d inside read) h
 

@@ -1,4 +1,4 @@
--- Loops that write: each turn leads over one piece to the rest.
+-- Loops that write: each iteration writes one piece and leads to the rest.
 use Rattle.std.proofs.Common.{◌≡◌, ℕ, zero, suc, ◌+◌, ◌-◌, ◌<◌, ◌≤◌, true, false, nat_lt, List, [], ◌∷◌, length, drop, get_or, refl, add-one, arith, drop-cons}
 use Rattle.std.proofs.Math.ListN.{drop_of_length-le}
 use Rattle.std.proofs.lemmas.Bool.{lt-ltb}
@@ -6,7 +6,7 @@ use Rattle.smith_bytes.specs.Spelling.{SpellsBool, Where, Joined, Each, Listed}
 use Rattle.smith_spell.specs.Written.{Writes}
 use Rattle.smith_spell.proofs.WrittenLemmas.{nothing_written, joined_written, written_as}
 
--- to write more behind the bytes so far is to write the whole behind those at the start
+-- writing more after the bytes so far is writing the whole after those at the start
 pub record Leads (More Whole : List ℕ → Type 0) (start now : List ℕ) : Type 0 where
   pub to : (final : List ℕ) → Writes More now final → Writes Whole start final
 
@@ -14,11 +14,11 @@ pub record Leads (More Whole : List ℕ → Type 0) (start now : List ℕ) : Typ
 pub leads_over : {One More Whole : List ℕ → Type 0} {start now later : List ℕ} → Leads (Joined One More) Whole start now → Writes One now later → Leads More Whole start later
 leads_over so_far one = record { to = λ final rest. so_far.to final (joined_written one rest) }
 
--- what is left, in other words
+-- the rest, restated
 pub leads_as : {More Other Whole : List ℕ → Type 0} {start now : List ℕ} → ((piece : List ℕ) → Other piece → More piece) → Leads More Whole start now → Leads Other Whole start now
 leads_as weaker so_far = record { to = λ final rest. so_far.to final (written_as weaker rest) }
 
--- one item more of a list that may be stopped
+-- one more item of a list whose loop may stop
 pub leads_listed : {A : Type 0} (Item : A → List ℕ → Type 0) {Whole : List ℕ → Type 0} {start now asked later : List ℕ} (most i : ℕ) (xs : List A) (x d : A) → i < length xs → length xs ≤ most → x ≡ get_or xs i d
     → Leads (Listed Item (most - i) (drop i xs)) Whole start now → Writes (SpellsBool true) now asked → Writes (Item x) asked later → Leads (Listed Item (most - (i + 1)) (drop (i + 1) xs)) Whole start later
 unfolding Listed
@@ -41,7 +41,7 @@ leads_each Item i xs x d inside read so_far item =
     let next : drop i xs ≡ x ∷ drop (i + 1) xs = rw (read, add-one) (drop-cons xs i d inside) in
     leads_over (leads_as (λ piece h. rw next h) so_far) item
 
--- the end of such a list, behind its last item
+-- the end of such a list, after its last item
 pub listed_written : {A : Type 0} (Item : A → List ℕ → Type 0) {Whole : List ℕ → Type 0} {start now later : List ℕ} (most i room : ℕ) (xs : List A) → length xs ≤ i → room ≡ most - i → Leads (Listed Item (most - i) (drop i xs)) Whole start now
     → Writes (Where (nat_lt 0 room) (SpellsBool false)) now later → Writes Whole start later
 listed_written Item most i room xs past is so_far last =

@@ -1,4 +1,4 @@
--- Fields and composite types that are written by their parts.
+-- Fields and composite types, written by their parts.
 use Rattle.std.proofs.Common.{ℕ, List, length}
 use Rattle.smith_bytes.specs.Spelling.{SpellsBool, SpellsNumber, Each, Listed}
 use Rattle.smith_types.specs.declared.composite_type.FieldType.{FieldType}
@@ -10,7 +10,7 @@ use Rattle.smith_draw.specs.Spelling.{SpellsValType, SpellsStorage, SpellsField,
 use Rattle.smith_spell.specs.Written.{Writes}
 use Rattle.smith_spell.proofs.WrittenLemmas.{joined_written}
 
--- what is stored, then whether it is mutable
+-- the storage type, then whether it is mutable
 pub field_written : (config : Config) (limit : ℕ) (field : FieldType) {old between new : List ℕ} → Writes (SpellsStorage config limit field.element_type) old between
     → Writes (SpellsBool field.mutable) between new → Writes (SpellsField config limit field) old new
 unfolding SpellsField

@@ -1,9 +1,9 @@
--- Pieces that are written one behind another.
+-- Pieces written one after another.
 use Rattle.std.proofs.Common.{◌≡◌, ℕ, List, [], ◌∷◌, ◌++◌, refl, sym, subst, ap, ◌∙◌, append_assoc, append-nil}
 use Rattle.smith_bytes.specs.Spelling.{Joined}
 use Rattle.smith_spell.specs.Written.{Writes}
 
--- no byte, where none spells it
+-- no byte, if no byte spells it
 pub nothing_written : {Spells : List ℕ → Type 0} {old : List ℕ} → Spells [] → Writes Spells old old
 nothing_written {old = old} spelled = record { piece = []; spelled = spelled; whole = sym (append-nil old) }
 
@@ -11,7 +11,7 @@ nothing_written {old = old} spelled = record { piece = []; spelled = spelled; wh
 pub byte_written : {Spells : List ℕ → Type 0} {old new : List ℕ} (byte : ℕ) → Spells (byte ∷ []) → new ≡ old ++ byte ∷ [] → Writes Spells old new
 byte_written byte spelled whole = record { piece = byte ∷ []; spelled = spelled; whole = whole }
 
--- one piece, and another behind it
+-- one piece, and another after it
 pub joined_written : {First Second : List ℕ → Type 0} {old between new : List ℕ} → Writes First old between → Writes Second between new → Writes (Joined First Second) old new
 joined_written {old = old} {between = between} {new = new} one other = record {
   piece = one.piece ++ other.piece;
@@ -19,10 +19,10 @@ joined_written {old = old} {between = between} {new = new} one other = record {
   whole = other.whole ∙ ap (λ (bytes : List ℕ). bytes ++ other.piece) one.whole ∙ append_assoc old one.piece other.piece;
 }
 
--- a piece that spells something else too
+-- a piece that also spells something else
 pub written_as : {Spells Other : List ℕ → Type 0} {old new : List ℕ} → ((piece : List ℕ) → Spells piece → Other piece) → Writes Spells old new → Writes Other old new
 written_as weaker one = record { piece = one.piece; spelled = weaker one.piece one.spelled; whole = one.whole }
 
--- what is written behind nothing
+-- the bytes written after none
 pub written_whole : {Spells : List ℕ → Type 0} {new : List ℕ} → Writes Spells [] new → Spells new
 written_whole {Spells = Spells} one = subst Spells (sym one.whole) one.spelled

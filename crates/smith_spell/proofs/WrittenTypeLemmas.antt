@@ -1,4 +1,4 @@
--- Value types that are written by their parts.
+-- Value types, written by their parts.
 use Rattle.std.proofs.Common.{◌≡◌, ℕ, ◌-◌, ◌≤◌, Bool, true, false, Some, List, [], ◌∷◌, length, refl, arith}
 use Rattle.std.specs.Prelude.{IsTrue, slice_get}
 use Rattle.std.proofs.lemmas.Option.{slice_get_within}
@@ -13,7 +13,7 @@ use Rattle.smith_draw.specs.Spelling.{SpellsPlace, SpellsHeapType, SpellsNullabl
 use Rattle.smith_spell.specs.Written.{Writes}
 use Rattle.smith_spell.proofs.WrittenLemmas.{nothing_written, joined_written, written_as}
 
--- the last of six rows of a table, where it is enabled
+-- the last of six rows of a table, if it is enabled
 pub last_stands : {A : Type 0} (a b c d e f : A) (floats vectors references : Bool) → IsTrue references → let items = enabled ((a, true) ∷ (b, true) ∷ (c, floats) ∷ (d, floats) ∷ (e, vectors) ∷ (f, references) ∷ []) in
     slice_get items (length items - 1) ≡ Some f
 last_stands a b c d e f true true true on = refl
@@ -30,7 +30,7 @@ place_within items place item stands = omega (arith, slice_get_within items plac
 pub place_written : {A : Type 0} {items : List A} {item : A} {old new : List ℕ} (place : ℕ) → slice_get items place ≡ Some item → Writes (SpellsNumber place 0 (length items - 1)) old new → Writes (SpellsPlace items item) old new
 place_written place stands = written_as (λ piece number. record { place = place; stands = stands; number = number })
 
--- a reference: its heap type, then whether it is not nullable
+-- a reference: its heap type, then whether it is non-nullable
 pub ref_type_written : (config : Config) (limit : ℕ) (reference : RefType) {old between new : List ℕ} → IsTrue config.reference_types_enabled → Writes (SpellsHeapType config limit reference.heap_type) old between
     → Writes (SpellsNullable config.non_nullable_enabled reference.nullable) between new → Writes (SpellsRefType config limit reference) old new
 ref_type_written config limit reference on heap_type nullable = written_as (λ piece form. record { enabled = on; form = form }) (joined_written heap_type nullable)

@@ -1,4 +1,5 @@
--- Facts of a whole by its parts, as decisions meet them: proofs turn each into the rule of the family that it stands for.
+-- Wholes as the parts that decisions test. Proofs turn each into the rule of the family that it is
+-- equal to.
 use Rattle.std.specs.Prelude.{◌≡◌, ◌<◌, ◌≤◌, false, IsTrue, List, [], ◌∷◌, ◌++◌, length, All}
 use Rattle.std.specs.List.{list_any}
 use Rattle.smith_types.specs.Grounds.{is_ground_of}
@@ -13,13 +14,13 @@ use Rattle.smith_spell.specs.declared.earlier.Known.{Known}
 use Rattle.smith_spell.specs.Family.{IsMemberType}
 use Rattle.smith_spell.specs.Minimums.{HasNoMinimums}
 
--- the configuration asks for nothing beside what is spelled
+-- the configuration imposes no minimums, shapes or export-everything
 pub record AsksForNothing (config : Config) : Type 0 where
   pub no_minimums : HasNoMinimums config
   pub no_shapes : HasNoShapes config
   pub not_everything : config.export_everything ≡ false
 
--- an abstract heap type that is offered
+-- an abstract heap type that is drawn under the configuration
 abbrev pub IsOffered : Config → AbstractHeapType → Type 0
 IsOffered config Func = Unit {0}
 IsOffered config Extern = Unit {0}
@@ -34,13 +35,13 @@ IsOffered config Struct = IsTrue config.gc_enabled
 IsOffered config Array = IsTrue config.gc_enabled
 IsOffered config I31 = IsTrue config.gc_enabled
 
--- types after these are members, each after those before it
+-- each of these types is a member after the first types and those before it
 abbrev pub AreMembersAfter : Config → List SubType → List SubType → Type 0
 AreMembersAfter config before [] = Unit {0}
 AreMembersAfter config before (t ∷ types) = IsMemberType config before t × AreMembersAfter config (before ++ t ∷ []) types
 
--- what is known of types without supertypes: their number, and whether one is an unshared struct type whose fields all have
--- defaults
+-- facts about types without supertypes: their number, and whether one of them is an unshared struct
+-- type whose fields all have defaults
 pub record IsKnown (types : List SubType) (known : Known) : Type 0 where
   pub counted : known.count ≡ length types
   pub grounds : known.has_ground ≡ list_any (is_ground_of false) types

@@ -1,4 +1,4 @@
--- Types, functions and configurations that the examples of families and spellings speak of.
+-- Types, functions and configurations of the examples of families and spellings.
 use Rattle.std.specs.Prelude.{ℕ, zero, suc, Bool, true, false, List, [], ◌∷◌, Option, None, replicate}
 use Rattle.smith_types.specs.declared.value_type.HeapType.{HeapType}
 use Rattle.smith_types.specs.declared.value_type.HeapType.TheVariants.{Concrete}
@@ -13,7 +13,7 @@ use Rattle.smith_types.specs.ExampleTypes.{constant, variable, nullable, not_nul
 use Rattle.smith_config.specs.declared.config.Config.{Config}
 use Rattle.smith_config.specs.Config.{default_config}
 
--- a type that is not shared
+-- an unshared type
 abbrev pub a_type : CompositeInnerType → Bool → Option ℕ → SubType
 a_type inner final supertype = record { is_final = final; supertype = supertype; composite_type = record { inner = inner; shared = false } }
 
@@ -21,15 +21,15 @@ a_type inner final supertype = record { is_final = final; supertype = supertype;
 abbrev pub bytes_array : CompositeInnerType
 bytes_array = Array (record { 0 = record { element_type = I8; mutable = false } })
 
--- a function type that takes and gives nothing
+-- a function type without parameters and results
 abbrev pub plain_function : CompositeInnerType
 plain_function = Func (record { params = []; results = [] })
 
--- a function type from a number to another
+-- a function type with one i32 parameter and one i64 result
 abbrev pub foo_type : SubType
 foo_type = a_type (Func (record { params = I32 ∷ []; results = I64 ∷ [] })) true None
 
--- a function type from a float to nothing
+-- a function type with one float parameter and no result
 abbrev pub quux_type : SubType
 quux_type = a_type (Func (record { params = F32 ∷ []; results = [] })) true None
 
@@ -41,19 +41,19 @@ final inner = a_type inner true None
 abbrev pub alone : CompositeInnerType → List SubType
 alone inner = final inner ∷ []
 
--- one group, of a function type that takes and gives nothing
+-- one group, of a function type without parameters and results
 abbrev pub one_function_type : List (List SubType)
 one_function_type = alone plain_function ∷ []
 
--- a function type that takes a number
+-- a function type with one number as a parameter
 abbrev pub taking_a_number : CompositeInnerType
 taking_a_number = Func (record { params = I32 ∷ []; results = [] })
 
--- a function type that gives two numbers
+-- a function type with two numbers as results
 abbrev pub giving_two : CompositeInnerType
 giving_two = Func (record { params = []; results = I32 ∷ I32 ∷ [] })
 
--- a field for a reference to the type of this index, which may be null
+-- a field with a nullable reference to the type of this index
 abbrev pub field_of : ℕ → FieldType
 field_of index = variable (Val (Ref (nullable (Concrete index))))
 
@@ -69,23 +69,23 @@ array_and_struct = alone bytes_array ∷ alone (struct_of 0) ∷ []
 abbrev pub struct_of_bytes : ℕ → CompositeInnerType
 struct_of_bytes count = Struct (record { fields = replicate count (constant I8) })
 
--- one type and one function without garbage collection
+-- one type and one function, without garbage collection
 abbrev pub one_of_each_without_gc : Config
 one_of_each_without_gc = record default_config { gc_enabled = false; max_types = 1; max_funcs = 1 }
 
--- a function type of a number of parameters
+-- a function type with a number of parameters
 abbrev pub taking_numbers : ℕ → CompositeInnerType
 taking_numbers count = Func (record { params = replicate count I32; results = [] })
 
--- a function type of a number of results
+-- a function type with a number of results
 abbrev pub giving_numbers : ℕ → CompositeInnerType
 giving_numbers count = Func (record { params = []; results = replicate count I32 })
 
--- a function type that gives this
+-- a function type with this result
 abbrev pub giving : ValType → CompositeInnerType
 giving result = Func (record { params = []; results = result ∷ [] })
 
--- a function type that takes this
+-- a function type with this parameter
 abbrev pub taking : ValType → CompositeInnerType
 taking param = Func (record { params = param ∷ []; results = [] })
 
@@ -93,11 +93,11 @@ taking param = Func (record { params = param ∷ []; results = [] })
 abbrev pub array_and_struct_together : List (List SubType)
 array_and_struct_together = (final bytes_array ∷ final (struct_of 0) ∷ []) ∷ []
 
--- a struct of one constant reference to this, which is not nullable
+-- a struct of one constant non-nullable reference to this heap type
 abbrev pub struct_with : HeapType → CompositeInnerType
 struct_with ty = Struct (record { fields = constant (Val (Ref (not_null ty))) ∷ [] })
 
--- a struct without fields, and in a group of its own a struct of a reference to it that is not nullable
+-- a struct without fields, and in a group of its own a struct of a non-nullable reference to it
 abbrev pub struct_and_holder : List (List SubType)
 struct_and_holder = alone (struct_of_bytes 0) ∷ alone (struct_with (Concrete 0)) ∷ []
 
@@ -129,7 +129,7 @@ with_exact_types = record default_config { custom_descriptors_enabled = true }
 abbrev pub single_results : Config
 single_results = record default_config { multi_value_enabled = false }
 
--- nothing at all
+-- every maximum is 0
 abbrev pub nothing_may_be : Config
 nothing_may_be = record default_config {
   max_types = 0;
@@ -145,11 +145,11 @@ nothing_may_be = record default_config {
   max_tables = 0;
 }
 
--- bytes that spell one function, of a type that takes and gives nothing
+-- bytes that spell one function, of a type without parameters and results
 abbrev pub function_bytes : List ℕ
 function_bytes = 1 ∷ 1 ∷ 1 ∷ 1 ∷ 0 ∷ 0 ∷ 0 ∷ 0 ∷ 0 ∷ 0 ∷ 1 ∷ 0 ∷ []
 
--- without garbage collection and room for more, one function that takes a number
+-- one function with a number as its parameter, without garbage collection and without room for more
 abbrev pub full_bytes : List ℕ
 full_bytes = 1 ∷ 1 ∷ 0 ∷ 0 ∷ 0 ∷ 0 ∷ 0 ∷ 0 ∷ 1 ∷ []
 
@@ -157,15 +157,15 @@ full_bytes = 1 ∷ 1 ∷ 0 ∷ 0 ∷ 0 ∷ 0 ∷ 0 ∷ 0 ∷ 1 ∷ []
 abbrev pub array_and_struct_bytes : List ℕ
 array_and_struct_bytes = 1 ∷ 1 ∷ 1 ∷ 0 ∷ 0 ∷ 0 ∷ 1 ∷ 1 ∷ 1 ∷ 1 ∷ 2 ∷ 1 ∷ 2 ∷ 5 ∷ 1 ∷ 0 ∷ 1 ∷ 0 ∷ 0 ∷ 0 ∷ []
 
--- a struct without fields and, in a group of its own, a struct of a reference to it that is not nullable
+-- a struct without fields and, in a group of its own, a struct of a non-nullable reference to it
 abbrev pub struct_and_holder_bytes : List ℕ
 struct_and_holder_bytes = 1 ∷ 1 ∷ 1 ∷ 2 ∷ 0 ∷ 1 ∷ 1 ∷ 1 ∷ 1 ∷ 2 ∷ 1 ∷ 2 ∷ 5 ∷ 1 ∷ 0 ∷ 1 ∷ 0 ∷ 0 ∷ 0 ∷ 0 ∷ []
 
--- behind no types: a global of the number 7
+-- after no types, a global of the number 7
 abbrev pub number_bytes : List ℕ
 number_bytes = 0 ∷ 0 ∷ 1 ∷ 0 ∷ 1 ∷ 0 ∷ 7 ∷ 0 ∷ 0 ∷ 0 ∷ 0 ∷ 0 ∷ 0 ∷ 0 ∷ 0 ∷ []
 
--- behind no types: passive data of one byte
+-- after no types, passive data of one byte
 abbrev pub data_bytes : List ℕ
 data_bytes = 0 ∷ 0 ∷ 0 ∷ 0 ∷ 0 ∷ 0 ∷ 1 ∷ 1 ∷ 42 ∷ 0 ∷ 0 ∷ []
 
@@ -175,7 +175,7 @@ with_byte place other [] = []
 with_byte zero other (byte ∷ bytes) = other ∷ bytes
 with_byte (suc place) other (byte ∷ bytes) = byte ∷ with_byte place other bytes
 
--- each of these changes, of the byte at a place to another, makes of the bytes none that spell this
+-- after each of these changes, of the byte at a place to another, the bytes no longer spell this
 abbrev pub EachChangeCounts : (List ℕ → Type 0) → List ℕ → List (ℕ × ℕ) → Type 0
 EachChangeCounts Spells bytes [] = Unit {0}
 EachChangeCounts Spells bytes (change ∷ changes) = (¬ Spells (with_byte change.0 change.1 bytes)) × EachChangeCounts Spells bytes changes

@@ -1,5 +1,6 @@
--- The lists of types and functions that a generator is to reach, for a sanitised configuration. A rule of this project; it
--- knows nothing of bytes: that each member has bytes which give it is for theorems to say.
+-- The lists of types and functions that a generator must reach, for a sanitised configuration. A
+-- rule of this project, about the contents of lists alone: theorems say that each member has bytes
+-- that produce it.
 use Rattle.std.specs.Prelude.{◌≡◌, ℕ, ◌<◌, ◌≤◌, ◌⊎◌, false, IsTrue, List, Some, None, length, slice_get, take, All}
 use Rattle.std.specs.List.{Contains}
 use Rattle.smith_types.specs.Entities.{IsFuncValid}
@@ -22,19 +23,21 @@ use Rattle.smith_draw.specs.Choices.{enabled}
 use Rattle.smith_draw.specs.ValueTypes.{abstract_heap_types}
 use Rattle.smith_draw.specs.CompositeTypes.{most_results}
 
--- a heap type that a type after these may name: an unshared abstract heap type that is offered, or one of these types
+-- a heap type that a type after these may name: an unshared abstract heap type that is drawn, or
+-- one of these types
 abbrev pub IsMemberHeapType : Config → List SubType → HeapType → Type 0
 IsMemberHeapType config before (Abstract shared ty) = (shared ≡ false) × Contains (enabled (abstract_heap_types config)) ty
 IsMemberHeapType config before (Concrete index) = IsTrue config.gc_enabled × (index < length before)
 IsMemberHeapType config before (Exact index) = ⊥
 
--- a reference that a type after these may name is nullable, or, where there are others, its heap type is grounded by one of these
--- types: a struct type below it whose fields all have defaults
+-- a reference of a type after these is nullable or, if non-nullable references are enabled, its
+-- heap type is grounded by one of these types: a struct type below it whose fields all have
+-- defaults
 abbrev pub IsMemberNullability : Config → List SubType → RefType → Type 0
 IsMemberNullability config before reference =
     IsTrue reference.nullable ⊎ (IsTrue config.non_nullable_enabled × IsGroundedByStructs before config.custom_descriptors_enabled reference.heap_type)
 
--- a value type that a type after these may name: a number or a vector that is enabled, or a reference
+-- a value type that a type after these may name: an enabled number or vector, or a reference
 abbrev pub IsMemberValType : Config → List SubType → ValType → Type 0
 IsMemberValType config before I32 = Unit {0}
 IsMemberValType config before I64 = Unit {0}
@@ -50,32 +53,33 @@ IsMemberStorage config before I8 = Unit {0}
 IsMemberStorage config before I16 = Unit {0}
 IsMemberStorage config before (Val value) = IsMemberValType config before value
 
--- the same of a field
+-- a field that a type after these may have
 abbrev pub IsMemberField : Config → List SubType → FieldType → Type 0
 IsMemberField config before field = IsMemberStorage config before field.element_type
 
--- a function type of at most 20 parameters and 20 results, or one result where there may not be several
+-- a function type of at most 20 parameters and 20 results, or one result without multiple values
 pub record IsMemberFunction (config : Config) (before : List SubType) (function : FuncType) : Type 0 where
   pub few_params : length function.params ≤ 20
   pub few_results : length function.results ≤ most_results config
   pub params : All (IsMemberValType config before) function.params
   pub results : All (IsMemberValType config before) function.results
 
--- a composite type: with garbage collection also an array, or a struct of at most 20 fields
+-- a composite type of a type after these: a function; with garbage collection also an array, or a
+-- struct of at most 20 fields
 abbrev pub IsMemberInner : Config → List SubType → CompositeInnerType → Type 0
 IsMemberInner config before (Array array) = IsTrue config.gc_enabled × IsMemberField config before array.0
 IsMemberInner config before (Func function) = IsMemberFunction config before function
 IsMemberInner config before (Struct structure) = IsTrue config.gc_enabled × (length structure.fields ≤ 20) × All (IsMemberField config before) structure.fields
 
--- a type after these: unshared and without a supertype, and final without garbage collection
+-- a type after these: unshared, without a supertype, and final without garbage collection
 pub record IsMemberType (config : Config) (before : List SubType) (t : SubType) : Type 0 where
   pub unshared : t.composite_type.shared ≡ false
   pub root : t.supertype ≡ None
   pub final : config.gc_enabled ≡ false → IsTrue t.is_final
   pub inner : IsMemberInner config before t.composite_type.inner
 
--- groups of such types, each after those of smaller index, none empty and without garbage collection of one type each, and
--- functions of types among them
+-- groups of such types, each after those of smaller index; no group is empty, without garbage
+-- collection each has one type; and functions of types among them
 pub record IsInFamily (config : Config) (groups : List (List SubType)) (funcs : List ℕ) : Type 0 where
   pub filled : All (λ (group : List SubType). 0 < length group) groups
   pub single : config.gc_enabled ≡ false → All (λ (group : List SubType). length group ≡ 1) groups

@@ -1,4 +1,4 @@
--- Which types are drawn from bytes that spell them.
+-- The types that are drawn from bytes that spell them.
 use Rattle.std.specs.Prelude.{◌≡◌, ℕ, false, List, [], ◌++◌}
 use Rattle.smith_types.specs.Expressions.{Context}
 use Rattle.smith_types.specs.declared.composite_type.SubType.{SubType}
@@ -10,8 +10,8 @@ use Rattle.smith_draw.specs.RecGroups.{types_at}
 use Rattle.smith_draw.specs.Spelling.{SpellsGroups}
 use Rattle.smith_spell.specs.Family.{IsInFamily}
 
--- where no type is asked for, the groups of each member of the family are drawn from each piece that spells them, and what
--- follows is left, whatever functions exist
+-- with a minimum of 0 types, the groups of each member of the family are drawn from each piece that
+-- spells them, and the bytes after it are left, whichever functions exist
 abbrev pub GroupsAreRead : Type 0
 GroupsAreRead =
     (config : Config) (functions : Context) (groups : List (List SubType)) (funcs : List ℕ) (piece after : List ℕ) → functions.features ≡ features_of config → IsSanitized config → config.min_types ≡ 0

@@ -1,5 +1,5 @@
--- What spelling answers: bytes from which a module gets these types and functions, whatever follows them. Rules of this
--- project.
+-- The answers of `spell`: bytes from which a module with these types and functions is drawn,
+-- whatever follows them. Rules of this project.
 use Rattle.std.specs.Prelude.{◌≡◌, ℕ, ◌≤◌, false, List, [], length, Option, Some, None, Result, Ok, Err}
 use Rattle.smith_bytes.specs.declared.error.Error.{Error}
 use Rattle.smith_bytes.specs.declared.error.Error.TheVariants.{Memory}
@@ -12,8 +12,8 @@ use Rattle.smith_spell.specs.Minimums.{HasNoMinimums}
 use Rattle.smith_spell.specs.Family.{IsInFamily}
 use Rattle.smith_spell.specs.Spelling.{SpellsMember}
 
--- lists that can be spelled: they are in the family, and the configuration passes and asks for nothing beside them, for a
--- sanitised configuration
+-- lists that can be spelled, for a sanitised configuration: they are in the family, and the
+-- configuration passes its check and imposes no minimums, shapes or export-everything
 pub record IsSpellable (config : Config) (groups : List (List SubType)) (funcs : List ℕ) : Type 0 where
   pub passes : Passes config
   pub no_minimums : HasNoMinimums config
@@ -21,14 +21,14 @@ pub record IsSpellable (config : Config) (groups : List (List SubType)) (funcs :
   pub not_everything : config.export_everything ≡ false
   pub member : IsInFamily config groups funcs
 
--- want of memory, of lists that nothing rules out before memory is taken: with no function the groups can be spelled, and there
--- are no more functions than the configuration allows
+-- lack of memory, for lists that are possible as far as can be told without memory: the groups can
+-- be spelled with no function, and there are no more functions than the configuration allows
 pub record IsSpellingRefused (config : Config) (groups : List (List SubType)) (funcs : List ℕ) (error : Error) : Type 0 where
   pub memory : error ≡ Memory
   pub groups_alone : IsSpellable config groups []
   pub few_funcs : length funcs ≤ config.max_funcs
 
--- what is answered: bytes that spell the lists, none exactly where they cannot be spelled, or want of memory
+-- the answer: bytes that spell the lists, none exactly if they cannot be spelled, or lack of memory
 abbrev pub AnswersSpelling : Config → List (List SubType) → List ℕ → Result (Option (List ℕ)) Error → Type 0
 AnswersSpelling config groups funcs (Ok (Some bytes)) = IsSpellable (sanitized config) groups funcs × SpellsMember (sanitized config) groups funcs bytes
 AnswersSpelling config groups funcs (Ok None) = IsSpellable (sanitized config) groups funcs → ⊥

@@ -1,5 +1,6 @@
--- Which bytes spell a module's types and functions, and the rest of a module that has no more than globals and passive data.
--- Rules of this project, for a sanitised configuration. One pair of lists has many spellings.
+-- The bytes that spell a module's types and functions, and those of the rest of a module with only
+-- globals and passive data. Rules of this project, for a sanitised configuration. One pair of lists
+-- has many spellings.
 use Rattle.std.specs.Prelude.{◌≡◌, ℕ, ◌≤◌, ◌==◌, ◌&&◌, nat_lt, Bool, true, false, if◌then◌else◌, ℤ, List, [], ◌∷◌, length, slice_get, option_to_list}
 use Rattle.std.specs.List.{list_any}
 use Rattle.smith_bytes.specs.Spelling.{SpellsBool, SpellsAnyByte, SpellsNone, Where, Joined, Listed}
@@ -14,11 +15,12 @@ use Rattle.smith_draw.specs.SpelledGlobals.{SpellsMutableI32}
 use Rattle.smith_draw.specs.TypeUses.{is_tag_type}
 use Rattle.smith_spell.specs.FuncTypes.{func_types}
 
--- that there is no tag, where tags might be
+-- that there is no tag, if one is possible
 abbrev pub SpellsNoTag : Config → List SubType → List ℕ → Type 0
 SpellsNoTag config types = Where (config.exceptions_enabled && nat_lt 0 config.max_tags && list_any is_tag_type types) (SpellsBool false)
 
--- functions by the places of their types among those that functions may have; without such a type no function and no byte
+-- functions, as the places of their types among those that functions may have; without such a type
+-- no function and no byte
 abbrev pub SpellsFuncs : Config → List SubType → List ℕ → List ℕ → Type 0
 SpellsFuncs config types funcs =
     Listed (SpellsPlace (func_types types)) (if nat_lt 0 (length (func_types types)) then config.max_funcs else 0) funcs
@@ -34,37 +36,39 @@ SpellsMember config groups funcs =
 unfoldable pub SpellsGlobal : Config → ℤ → List ℕ → Type 0
 SpellsGlobal config value = Joined (SpellsMutableI32 config) (SpellsConstant config value)
 
--- bytes, each behind a bool that asks for it, then a bool that ends them
+-- bytes, each after a bool that announces it, then a bool that ends them
 unfoldable pub SpellsBytes : List ℕ → List ℕ → Type 0
 SpellsBytes [] piece = SpellsBool false piece
 SpellsBytes (byte ∷ bytes) piece = Joined (SpellsBool true) (Joined (λ one. one ≡ byte ∷ []) (SpellsBytes bytes)) piece
 
--- whether a type takes and gives nothing
+-- whether a type is a function type without parameters and results
 abbrev pub takes_and_gives_nothing : CompositeInnerType → Bool
 takes_and_gives_nothing (Func function) = (length function.params == 0) && (length function.results == 0)
 takes_and_gives_nothing _ = false
 
--- whether the type of this index takes and gives nothing
+-- whether the type of this index is such a type
 abbrev pub is_start_type : List SubType → ℕ → Bool
 is_start_type types index = list_any (λ (t : SubType). takes_and_gives_nothing t.composite_type.inner) (option_to_list (slice_get types index))
 
--- that no function starts the module, where a function might
+-- that no function starts the module, if one may
 abbrev pub SpellsNoStart : Config → List SubType → List ℕ → List ℕ → Type 0
 SpellsNoStart config types funcs = Where (config.allow_start_export && list_any (is_start_type types) funcs) (SpellsBool false)
 
--- no element segment, then passive data; no segment and no byte where there is no bulk memory
+-- no element segment, then passive data; no segment and no byte without bulk memory
 abbrev pub SpellsSegments : Config → List (List ℕ) → List ℕ → Type 0
 SpellsSegments config passive =
     let most = λ (count : ℕ). if config.bulk_memory_enabled then count else 0 in
     Joined (SpellsNone (most config.max_element_segments)) (Listed SpellsBytes (most config.max_data_segments) passive)
 
--- what may stand behind a member: no more numbers than globals, and byte lists only with bulk memory
+-- numbers and byte lists that may follow a member: at most as many numbers as globals, as many
+-- lists as data segments, and no list without bulk memory
 pub record IsRest (config : Config) (numbers : List ℤ) (passive : List (List ℕ)) : Type 0 where
   pub few_globals : length numbers ≤ config.max_globals
   pub few_segments : length passive ≤ config.max_data_segments
   pub bulk : config.bulk_memory_enabled ≡ false → passive ≡ []
 
--- no table, no memory, a global for each number, no export, whether the types section is written, no start, segments
+-- no table, no memory, a global for each number, no export, whether the types section is written,
+-- no start, segments
 unfoldable pub SpellsRest : Config → List (List SubType) → List ℕ → List ℤ → List (List ℕ) → List ℕ → Type 0
 SpellsRest config groups funcs numbers passive =
     let types = (space_of groups).types in

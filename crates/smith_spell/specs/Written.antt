@@ -1,4 +1,4 @@
--- What writing adds behind the bytes that stand.
+-- The bytes that a writing call adds.
 use Rattle.std.specs.Prelude.{◌≡◌, ℕ, ◌<◌, ◌≤◌, List, ◌++◌, Some, length, take, slice_get, slice_index_or}
 use Rattle.std.specs.List.{list_any}
 use Rattle.smith_bytes.specs.Draws.{big_endian, digit_count}
@@ -9,13 +9,13 @@ use Rattle.smith_spell.specs.Family.{IsMemberType}
 use Rattle.smith_spell.specs.FuncTypes.{func_types}
 use Rattle.smith_spell.specs.declared.sub_types.Before.{Before}
 
--- behind the old bytes stands a piece for which this holds
+-- the new bytes are the old ones followed by a piece with this property
 pub record Writes (Spells : List ℕ → Type 0) (old new : List ℕ) : Type 0 where
   pub piece : List ℕ
   pub spelled : Spells piece
   pub whole : new ≡ old ++ piece
 
--- a number in as many base-256 digits as the greatest number has, the highest first
+-- a number in as many base-256 digits as the maximum has, most significant first
 pub record SpellsDigits (number most : ℕ) (piece : List ℕ) : Type 0 where
   pub digits : length piece ≡ digit_count most
   pub read : big_endian piece ≡ number
@@ -25,7 +25,7 @@ pub record IsSummary (types : List SubType) (before : Before) : Type 0 where
   pub counted : before.count ≡ length types
   pub open_told : before.has_open ≡ list_any is_open types
 
--- this holds of some types, no more than the limit
+-- this holds of some list of types that is no longer than the limit
 pub record OverSome (limit : ℕ) (Holds : List SubType → Type 0) : Type 0 where
   pub types : List SubType
   pub few : length types ≤ limit
@@ -35,7 +35,7 @@ pub record OverSome (limit : ℕ) (Holds : List SubType → Type 0) : Type 0 whe
 abbrev pub AreMembers : Config → List SubType → Type 0
 AreMembers config types = (index : ℕ) (t : SubType) → slice_get types index ≡ Some t → IsMemberType config (take index types) t
 
--- for each type, how many types before it functions may have
+-- for each type, the number of types before it that functions may have
 pub record ArePlaces (types : List SubType) (places : List ℕ) : Type 0 where
   pub sized : length places ≡ length types
   pub told : (i d : ℕ) → i < length types → slice_index_or places i d ≡ length (func_types (take i types))

@@ -7,8 +7,8 @@ ghost use Rattle.smith_spell.specs.Decided.{AsksForNothing};
 
 use smith_config::Config;
 
-/// Whether `config`, once it is sanitised, asks for nothing beside what is spelled: no minimum, no shape, and not that
-/// everything is exported. Takes no memory, and looks into no shape.
+/// Whether `config`, once sanitised, imposes no minimums, shapes or export-everything. Takes no
+/// memory, and looks into no shape.
 pub(crate) fn asks_for_nothing(config: &Config) -> bool
     ensures { IsTrue result ↔ AsksForNothing (sanitized config.now) }
 {

@@ -19,7 +19,7 @@ use smith_bytes::Error;
 use smith_config::Config;
 use smith_types::{CompositeInnerType, FieldType, FuncType, Items, StorageType, StructType};
 
-/// Writes `storage`, what a field stores.
+/// Writes `storage`, the storage type of a field.
 fn write_storage(
     config: &Config,
     limit: usize,
@@ -40,7 +40,7 @@ fn write_storage(
     }
 }
 
-/// Writes `field`.
+/// Writes `field`: its storage type, then whether it is mutable.
 fn write_field(
     config: &Config,
     limit: usize,
@@ -55,7 +55,7 @@ fn write_field(
     write_bool(field.mutable, bytes)
 }
 
-/// Writes `fields` one behind another.
+/// Writes `fields` one after another.
 fn write_fields(
     config: &Config,
     limit: usize,
@@ -88,7 +88,7 @@ fn write_struct_type(
     write_fields(config, limit, structure.fields.as_slice(), bytes)
 }
 
-/// The greatest number of results of a function type.
+/// Returns the maximum number of results of a function type.
 fn most_results(config: &Config) -> usize
     ensures { result ≡ most_results config.now }
 {
@@ -111,7 +111,7 @@ fn write_func_type(
     write_val_types(config, limit, most, function.results.as_slice(), bytes)
 }
 
-/// Writes the kind of `inner`, then what it is made of.
+/// Writes the kind of `inner`, then its parts.
 pub(crate) fn write_inner(
     config: &Config,
     limit: usize,
@@ -138,7 +138,7 @@ pub(crate) fn write_inner(
     }
 }
 
-/// Writes `inner`, a function type, where there is no other kind.
+/// Writes `inner`, a function type, without a kind. `config` has no garbage collection.
 pub(crate) fn write_plain_function(
     config: &Config,
     limit: usize,

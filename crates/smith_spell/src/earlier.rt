@@ -15,17 +15,17 @@ use smith_types::{
 };
 use std::marker::Model;
 
-/// What is known of types: on this depends which abstract heap types they ground.
+/// Facts about a list of types that decide which abstract heap types they ground.
 #[derive(Clone, Copy)]
 pub(crate) struct Known {
-    /// The number of the types.
+    /// Number of the types.
     pub(crate) count: usize,
     /// Whether one of the types is an unshared struct type whose fields all have defaults.
     pub(crate) has_ground: bool,
 }
 
 impl Known {
-    /// What is known of no types.
+    /// Returns the facts about no types.
     pub(crate) fn none() -> Known
         ensures { IsKnown [] result }
     {
@@ -35,7 +35,7 @@ impl Known {
         }
     }
 
-    /// What is known of the types and of `t`, the type after them.
+    /// Returns the facts about the types of `self` followed by `t`.
     pub(crate) fn with(self, t: &SubType) -> Known
         requires { self.count + 1 < 2 ^ 64 }
         ensures { (types : List Sub) → IsKnown types self → IsRoot t.now → IsKnown (types ++ t.now ∷ []) result }
@@ -69,7 +69,8 @@ impl<'a> Model for Earlier<'a> {
 }
 
 impl<'a> Earlier<'a> {
-    /// The types of `groups`, then those of `group`, of all of which `known` is known.
+    /// Makes the list of the types of `groups`, followed by those of `group`. `known` are the facts
+    /// about all of them.
     pub(crate) fn new(
         groups: &'a [Items<SubType>],
         group: &'a [SubType],
@@ -85,14 +86,15 @@ impl<'a> Earlier<'a> {
         }
     }
 
-    /// The number of the types.
+    /// Returns the number of the types.
     pub(crate) fn count(&self) -> usize
         ensures { result ≡ length self.now }
     {
         self.known.count
     }
 
-    /// Whether one of the types is a struct type that grounds `ty`, a heap type that a type after them may name.
+    /// Whether one of the types is a struct type that grounds `ty`, a heap type that a later type
+    /// may name.
     pub(crate) fn is_grounded(&self, config: &Config, ty: HeapType) -> bool
         requires { IsMemberHeapType config.now self.now ty }
         ensures { IsTrue result ↔ IsGroundedByStructs self.now config.now.custom_descriptors_enabled ty }
@@ -104,7 +106,7 @@ impl<'a> Earlier<'a> {
         }
     }
 
-    /// Whether the type of `index` is a struct type whose fields all have defaults.
+    /// Whether the type with the index `index` is a struct type whose fields all have defaults.
     fn is_ground_at(&self, index: usize) -> bool
         requires { index < length self.now }
         ensures { (t : Sub) → slice_get self.now index ≡ Some t → result ≡ is_ground t }

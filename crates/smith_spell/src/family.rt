@@ -12,8 +12,8 @@ use smith_config::Config;
 use smith_types::{Items, SubType, TypeSpace, are_funcs_valid, type_space_of};
 use std::alloc::Global;
 
-/// The type space of `groups`, where `groups` and `funcs` are in the family of `config`; else none. Memory is taken only where
-/// `groups` may be those of a member and `funcs` are few enough.
+/// Returns the type space of `groups` if `groups` and `funcs` are in the family of `config`, else
+/// none. Takes memory only if `groups` are those of a member, and `funcs` are few enough.
 pub(crate) fn member_space(
     alloc: Global,
     config: &Config,
@@ -56,7 +56,7 @@ fn are_filled(groups: &[Items<SubType>]) -> bool
     groups.iter().all(|group| !group.is_empty())
 }
 
-// Whether each of `groups` is of one type, where that has to be.
+// Whether each of `groups` has one type, as required without garbage collection.
 fn are_sizes_enabled(config: &Config, groups: &[Items<SubType>]) -> bool
     ensures { IsTrue result ↔ (config.now.gc_enabled ≡ false → All (λ (group : List Sub). length group ≡ 1) groups.now) }
 {
@@ -97,8 +97,8 @@ fn are_members(config: &Config, groups: &[Items<SubType>]) -> bool
     true
 }
 
-// What is known of the types of `groups` and of `group`, the group after them, if the types of `group` are members there. `known`
-// is known of the types of `groups`.
+// Returns the facts about the types of `groups` followed by those of `group`, or none if a type of
+// `group` isn't a member there. `known` are the facts about the types of `groups`.
 fn known_after(
     config: &Config,
     groups: &[Items<SubType>],

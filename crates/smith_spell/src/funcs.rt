@@ -24,7 +24,7 @@ fn is_unshared_function(t: &SubType) -> bool
     }
 }
 
-/// For each of `types`, the number of types before it that functions may have.
+/// Returns, for each of `types`, the number of types before it that functions may have.
 fn func_places(alloc: Global, types: &[SubType]) -> Result<Items<usize>, Error>
     ensures places { IfOk result (λ places. ArePlaces types.now places) }
     ensures memory { IfErr result (λ e. e ≡ Memory) }
@@ -40,7 +40,7 @@ fn func_places(alloc: Global, types: &[SubType]) -> Result<Items<usize>, Error>
     Ok(places)
 }
 
-/// Writes `funcs`, each by the place of its type among those that functions may have.
+/// Writes `funcs`, each as the place of its type among those that functions may have.
 pub(crate) fn write_funcs(
     alloc: Global,
     config: &Config,

@@ -12,8 +12,9 @@ use smith_bytes::Error;
 use smith_config::Config;
 use smith_types::{Items, SubType};
 
-/// Writes the size `size` of a group, at most `room`, and before it that no group is cloned, where `stands` says that a group
-/// stands. Writes nothing without garbage collection.
+/// Writes the size `size` of a group, which is at most `room`. If `stands` is set, a group exists
+/// before it, and the size follows a piece that no group is cloned. Writes nothing without garbage
+/// collection.
 fn write_size(
     config: &Config,
     stands: bool,
@@ -33,7 +34,7 @@ fn write_size(
     write_number(size, room, bytes)
 }
 
-/// Writes `group` behind the types of which `before` is the summary, and gives the summary with `group` behind these.
+/// Writes `group` after the types with the summary `before`, and returns the summary of both.
 fn write_group(
     config: &Config,
     before: Before,
@@ -53,7 +54,7 @@ fn write_group(
     write_sub_types(config, before, before.count + group.len(), group, bytes)
 }
 
-/// Writes `groups`, those of a member of the family.
+/// Writes `groups`, the groups of a member of the family.
 pub(crate) fn write_groups(
     config: &Config,
     groups: &[Items<SubType>],

@@ -17,7 +17,7 @@ use smith_draw::{TypeUse, count_types};
 use smith_types::{Items, SubType};
 use std::alloc::Global;
 
-/// Writes that there is no import, where imports might be, then whether the section of imports is written.
+/// Writes that there is no import, if one is possible, then the flag of the section of imports.
 fn write_no_imports(config: &Config, bytes: &mut Items<u8>) -> Result<(), Error>
     ensures writes { OnOk result (Writes (Joined (SpellsNone config.now.max_imports) SpellsAnyByte) bytes.old bytes.new) }
     ensures memory { IfErr result (λ e. e ≡ Memory) }
@@ -26,7 +26,7 @@ fn write_no_imports(config: &Config, bytes: &mut Items<u8>) -> Result<(), Error>
     write_flag(bytes)
 }
 
-/// Whether a module of the types `types` might have a tag.
+/// Whether a module with the types `types` may have a tag.
 fn may_have_tags(config: &Config, types: &[SubType]) -> bool
     ensures { result ≡ (config.now.exceptions_enabled && nat_lt 0 config.now.max_tags && list_any is_tag_type types.now) }
 {
@@ -39,7 +39,7 @@ fn may_have_tags(config: &Config, types: &[SubType]) -> bool
     count_types(TypeUse::Tag, types) > 0
 }
 
-/// Writes that there is no tag, where tags might be.
+/// Writes that there is no tag, if one is possible.
 fn write_no_tag(config: &Config, types: &[SubType], bytes: &mut Items<u8>) -> Result<(), Error>
     ensures writes { OnOk result (Writes (SpellsNoTag config.now types.now) bytes.old bytes.new) }
     ensures memory { IfErr result (λ e. e ≡ Memory) }
@@ -47,7 +47,8 @@ fn write_no_tag(config: &Config, types: &[SubType], bytes: &mut Items<u8>) -> Re
     write_end(may_have_tags(config, types), bytes)
 }
 
-/// Gives bytes that spell `groups` and `funcs`, a member of the family. `types` are the types of `groups`.
+/// Returns bytes that spell `groups` and `funcs`, a member of the family. `types` are the types of
+/// `groups`.
 pub(crate) fn spell_member(
     alloc: Global,
     config: &Config,

@@ -14,7 +14,7 @@ pub(crate) fn write_bool(value: bool, bytes: &mut Items<u8>) -> Result<(), Error
     bytes.push(u8::from(value))
 }
 
-/// Writes that a loop ends, where it `may_go_on`.
+/// Writes that a loop ends, if it `may_go_on`.
 pub(crate) fn write_end(may_go_on: bool, bytes: &mut Items<u8>) -> Result<(), Error>
     ensures writes { OnOk result (Writes (Where may_go_on (SpellsBool false)) bytes.old bytes.new) }
     ensures memory { IfErr result (λ e. e ≡ Memory) }
@@ -25,7 +25,7 @@ pub(crate) fn write_end(may_go_on: bool, bytes: &mut Items<u8>) -> Result<(), Er
     Ok(())
 }
 
-/// Writes the byte that tells a flag, which is off.
+/// Writes the byte of a flag that is off.
 pub(crate) fn write_flag(bytes: &mut Items<u8>) -> Result<(), Error>
     ensures writes { OnOk result (Writes SpellsAnyByte bytes.old bytes.new) }
     ensures memory { IfErr result (λ e. e ≡ Memory) }
@@ -33,7 +33,7 @@ pub(crate) fn write_flag(bytes: &mut Items<u8>) -> Result<(), Error>
     bytes.push(0)
 }
 
-/// Writes `number` in as many base-256 digits as `most` has, the highest first.
+/// Writes `number` in as many base-256 digits as `most` has, most significant first.
 fn write_digits(number: usize, most: usize, bytes: &mut Items<u8>) -> Result<(), Error>
     requires { number ≤ most }
     ensures writes { OnOk result (Writes (SpellsDigits number most) bytes.old bytes.new) }
@@ -46,7 +46,7 @@ fn write_digits(number: usize, most: usize, bytes: &mut Items<u8>) -> Result<(),
     bytes.push((number % 256) as u8)
 }
 
-/// Writes `number`, from 0 to `most`.
+/// Writes `number`, which is at most `most`.
 pub(crate) fn write_number(number: usize, most: usize, bytes: &mut Items<u8>) -> Result<(), Error>
     requires { number ≤ most }
     ensures writes { OnOk result (Writes (SpellsNumber number 0 most) bytes.old bytes.new) }
@@ -55,7 +55,7 @@ pub(crate) fn write_number(number: usize, most: usize, bytes: &mut Items<u8>) ->
     write_digits(number, most, bytes)
 }
 
-/// Writes that the first of `chances` chances is not taken, where `is_asked` is set.
+/// If `is_asked` is set, writes that the first of `chances` chances is not drawn.
 pub(crate) fn write_refusal(
     is_asked: bool,
     chances: usize,

@@ -15,7 +15,7 @@ use smith_config::Config;
 use smith_types::{Items, SubType};
 use std::alloc::Global;
 
-/// The sanitised `config`, where that passes its check, else none.
+/// Returns the sanitised `config` if that passes its check, else none.
 fn passing(alloc: Global, config: &Config) -> Result<Option<Config>, Error>
     ensures found { IfOk result (λ found. MatchOption found (¬ Passes (sanitized config.now)) (λ own. (own ≡ sanitized config.now) × Passes (sanitized config.now))) }
     ensures memory { IfErr result (λ e. e ≡ Memory) }
@@ -29,7 +29,7 @@ fn passing(alloc: Global, config: &Config) -> Result<Option<Config>, Error>
     Ok(Some(own))
 }
 
-/// Gives bytes that spell `groups` and `funcs`, where these are in the family of `config`, else none.
+/// Returns bytes that spell `groups` and `funcs` if these are in the family of `config`, else none.
 fn spell_in_family(
     alloc: Global,
     config: &Config,
@@ -47,19 +47,50 @@ fn spell_in_family(
     Ok(Some(spell_member(alloc, config, groups, space.types(), funcs)?))
 }
 
-/// Spells `groups` and `funcs`: gives bytes from which a module is drawn under `config` whose types stand in the groups `groups`
-/// and whose functions have the type indices `funcs`, whatever follows the bytes.
+/// Spells `groups` and `funcs`: returns bytes from which a module is drawn under `config` that has
+/// the types and groups of `groups`, and functions with the type indices `funcs`, whatever follows
+/// the bytes.
 ///
-/// None is given where no bytes are sure to do so: `config`, as [`Config::sanitize`] leaves it, fails its check, sets a minimum,
-/// holds a shape or has everything exported, or `groups` and `funcs` are outside the family of lists that draws reach. Types of
-/// the family are unshared, have no supertype, and refer only to types before them. Their references are nullable, but where
-/// `config` has references that aren't nullable, and a struct type before the type that holds one is below what it refers to and
-/// has only fields with defaults.
+/// Returns none if no bytes are certain to produce such a module:
 ///
-/// Memory is taken only where `config` and `groups` allow an answer and `funcs` are no more than `config` allows.
+/// - `config`, once sanitised, fails its check, sets a minimum, holds a shape or exports
+///   everything;
+/// - or `groups` and `funcs` are outside the family of lists that draws reach.
 ///
-/// A list that goes on is spelled by 1, and its end by 0 where the list might go on. No group is cloned, no supertype is chosen,
-/// and no import and no tag is asked for.
+/// Types of the family are unshared, have no supertype, and refer only to earlier types. Their
+/// references are nullable, unless `config` enables non-nullable ones and an earlier struct type,
+/// whose fields all have defaults, is below the heap type of the reference.
+///
+/// Takes memory only if `config` and `groups` allow bytes, and `config` allows as many functions as
+/// `funcs`.
+///
+/// A byte 1 continues a list; a byte 0 ends it, if it could continue. The bytes clone no group,
+/// choose no supertype, import nothing and define no tag.
+///
+/// # Errors
+///
+/// `Memory` for lack of memory.
+///
+/// # Examples
+///
+/// Adds bytes to a corpus from which modules with the types `groups` and one function of the first
+/// type are drawn:
+///
+/// ```
+/// use std::alloc::Global;
+/// use wasm_smith::{Config, Error, Items, SubType, spell};
+///
+/// fn add_seed(
+///     alloc: Global,
+///     groups: &[Items<SubType>],
+///     corpus: &mut Vec<Items<u8>>,
+/// ) -> Result<(), Error> {
+///     if let Some(seed) = spell(alloc, &Config::default(), groups, &[0])? {
+///         corpus.push(seed)?;
+///     }
+///     Ok(())
+/// }
+/// ```
 pub fn spell(
     alloc: Global,
     config: &Config,

@@ -12,16 +12,16 @@ use smith_bytes::Error;
 use smith_config::Config;
 use smith_types::{Items, SubType};
 
-/// A summary of the types that stand before others: all that the bytes of the others depend on.
+/// Summary of the types before others, which decides the bytes of the others.
 #[derive(Clone, Copy)]
 pub(crate) struct Before {
-    /// The number of these types.
+    /// Number of these types.
     pub(crate) count: usize,
-    /// Whether some of these types may have subtypes.
+    /// Whether one of these types may have subtypes.
     pub(crate) has_open: bool,
 }
 
-/// The summary `before` with the type `t` added.
+/// Returns the summary `before` with the type `t` added.
 fn with_type(before: Before, t: &SubType) -> Before
     requires { before.count + 1 < 2 ^ 64 }
     ensures counted { result.count ≡ before.count + 1 }
@@ -33,7 +33,7 @@ fn with_type(before: Before, t: &SubType) -> Before
     }
 }
 
-/// Writes `t` behind the types of which `before` is the summary.
+/// Writes `t` after the types with the summary `before`. `t` refers only to types below `limit`.
 fn write_sub_type(
     config: &Config,
     before: Before,
@@ -55,7 +55,8 @@ fn write_sub_type(
     write_inner(config, limit, inner, bytes)
 }
 
-/// Writes `types` behind the types of which `before` is the summary, and gives the summary with `types` behind these.
+/// Writes `types` after the types with the summary `before`, and returns the summary of both.
+/// `types` refer only to types below `limit`.
 pub(crate) fn write_sub_types(
     config: &Config,
     mut before: Before,

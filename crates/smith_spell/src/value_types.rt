@@ -24,7 +24,7 @@ use smith_bytes::Error;
 use smith_config::Config;
 use smith_types::{AbstractHeapType, HeapType, Items, RefType, ValType};
 
-/// The number of classes of value types that `config` enables.
+/// Returns the number of classes of value types that `config` enables.
 fn count_classes(config: &Config) -> usize
     ensures { result ≡ length (enabled (value_classes config.now)) }
 {
@@ -32,7 +32,7 @@ fn count_classes(config: &Config) -> usize
     2 + floats + usize::from(config.simd_enabled) + usize::from(config.reference_types_enabled)
 }
 
-/// The place of the class of `value` among those that `config` enables.
+/// Returns the place of the class of `value` among those that `config` enables.
 fn class_place(config: &Config, value: ValType) -> usize
     ensures { (types : List Sub) → IsMemberValType config.now types value → slice_get (enabled (value_classes config.now)) result ≡ Some (class_of value) }
 {
@@ -46,7 +46,7 @@ fn class_place(config: &Config, value: ValType) -> usize
     }
 }
 
-/// The number of abstract heap types that are drawn under `config`.
+/// Returns the number of abstract heap types that are drawn under `config`.
 fn count_abstract(config: &Config) -> usize
     ensures { result ≡ length (enabled (abstract_heap_types config.now)) }
 {
@@ -54,7 +54,7 @@ fn count_abstract(config: &Config) -> usize
     2 + usize::from(config.exceptions_enabled) + collected
 }
 
-/// The place of `ty` among the abstract heap types that are drawn under `config`.
+/// Returns the place of `ty` among the abstract heap types that are drawn under `config`.
 fn abstract_place(config: &Config, ty: AbstractHeapType) -> usize
     ensures { Contains (enabled (abstract_heap_types config.now)) ty → slice_get (enabled (abstract_heap_types config.now)) result ≡ Some ty }
 {
@@ -75,7 +75,7 @@ fn abstract_place(config: &Config, ty: AbstractHeapType) -> usize
     }
 }
 
-/// Writes that a type is not shared, where it might be.
+/// Writes that a type is not shared, if it could be.
 pub(crate) fn write_unshared(config: &Config, bytes: &mut Items<u8>) -> Result<(), Error>
     ensures writes { OnOk result (Writes (SpellsUnshared config.now) bytes.old bytes.new) }
     ensures memory { IfErr result (λ e. e ≡ Memory) }
@@ -83,7 +83,8 @@ pub(crate) fn write_unshared(config: &Config, bytes: &mut Items<u8>) -> Result<(
     write_refusal(config.shared_everything_threads_enabled, 4, bytes)
 }
 
-/// Writes whether a heap type is concrete, where there is a type below `limit`.
+/// Writes `concrete`, whether a heap type is concrete, if it could be: with garbage collection, and
+/// a type below `limit`.
 fn write_concrete(
     config: &Config,
     limit: usize,
@@ -137,7 +138,8 @@ fn write_heap_type(
     }
 }
 
-/// Writes whether a reference is not nullable, where there are such references. `nullable` says whether it is.
+/// Writes whether a reference is non-nullable, the opposite of `nullable`, if `config` enables such
+/// references.
 fn write_nullable(config: &Config, nullable: bool, bytes: &mut Items<u8>) -> Result<(), Error>
     requires { config.now.non_nullable_enabled ≡ false → IsTrue nullable }
     ensures writes { OnOk result (Writes (SpellsNullable config.now.non_nullable_enabled nullable) bytes.old bytes.new) }

@@ -1,4 +1,4 @@
--- Constant expressions, put together instruction by instruction.
+-- Constant expressions, built instruction by instruction.
 use Rattle.std.proofs.Common.{List, [], ◌∷◌, ◌++◌, refl}
 use Rattle.std.specs.List.{AllZip}
 use Rattle.std.specs.Prelude.{All}
@@ -8,7 +8,7 @@ use Rattle.smith_types.specs.Flags.{IsInstrEnabled}
 use Rattle.smith_types.specs.Subtyping.{IsValBelow}
 use Rattle.smith_types.specs.Expressions.{Context, HasType, IsStackStep, IsConstExpr}
 
--- one instruction takes what is on top and leaves the rest
+-- one instruction takes its operands from the top and leaves the rest
 pub one_step : (context : Context) (instruction : ConstInstr) (operands : List ValType) (result : ValType) (rest taken : List ValType) → HasType context instruction operands result → AllZip (IsValBelow context.types) taken operands
     → IsStackStep context instruction (rest ++ taken) (rest ++ result ∷ [])
 one_step context instruction operands result rest taken typed accepted =
@@ -19,7 +19,7 @@ pub alone : (context : Context) (instruction : ConstInstr) (value wanted : ValTy
 alone context instruction value wanted typed below enabled =
     record { value = value; steps = (value ∷ [], one_step context instruction [] value [] [] typed tt, refl); below = below; enabled = enabled }
 
--- an instruction without operands, and an instruction that takes its value
+-- an instruction without operands, followed by an instruction that takes its value
 pub after_one : (context : Context) (first second : ConstInstr) (taken operand value wanted : ValType) → HasType context first [] taken → HasType context second (operand ∷ []) value → IsValBelow context.types taken operand → IsValBelow context.types value wanted
     → All (IsInstrEnabled context.features context.imported_globals) (first ∷ second ∷ []) → IsConstExpr context wanted (first ∷ second ∷ [])
 after_one context first second taken operand value wanted typed typed' accepted below enabled = record {

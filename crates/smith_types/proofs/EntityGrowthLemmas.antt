@@ -17,7 +17,7 @@ use Rattle.smith_types.specs.Entities.{IsFuncAt, IsFuncValid, IsTagValid, IsTabl
 use Rattle.smith_types.proofs.ListLemmas.{slice_get-grown}
 use Rattle.smith_types.proofs.ValidityLemmas.{IsShareable-grown}
 
--- what refers below an end refers below any later one
+-- a reference to types below one end is valid for any later end
 module _ (features : Features) (end later : ℕ) (within : end ≤ later) where
   pub IsHeapTypeValid-later : (heap : HeapType) → IsHeapTypeValid features end heap → IsHeapTypeValid features later heap
   IsHeapTypeValid-later (Abstract shared ty) h = h
@@ -35,7 +35,7 @@ module _ (features : Features) (end later : ℕ) (within : end ≤ later) where
   IsValTypeValid-later V128 h = h
   IsValTypeValid-later (Ref reference) (on, h) = (on, IsRefTypeValid-later reference h)
 
--- there are as many types as before, or more
+-- at least as many types as before
 pub no_fewer : {A : Type 0} (xs more : List A) → length xs ≤ length (xs ++ more)
 no_fewer xs more = simp length-append (omega arith)
 

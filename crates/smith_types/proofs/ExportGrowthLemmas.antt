@@ -1,4 +1,4 @@
--- What is exported or started stands when index spaces grow.
+-- Exported entities and start functions exist in grown index spaces.
 use Rattle.std.proofs.Common.{◌≡◌, ℕ, List, [], ◌++◌, Some, None, Option, subst, sym}
 use Rattle.std.specs.Prelude.{slice_get}
 use Rattle.std.proofs.lemmas.List.Elements.{All-weaker}
@@ -12,7 +12,7 @@ use Rattle.smith_types.specs.Grown.{Extends, AreSpacesGrown}
 use Rattle.smith_types.proofs.ListLemmas.{slice_get-grown}
 use Rattle.smith_types.proofs.EntityGrowthLemmas.{IsFuncAt-grown}
 
--- what stands in a list stands in a longer one
+-- an item of a list is at the same position of a longer one
 slice_get-extended : {A : Type 0} (old new : List A) (i : ℕ) (x : A) → Extends old new → slice_get old i ≡ Some x → slice_get new i ≡ Some x
 slice_get-extended old new i x longer at = subst (λ xs. slice_get xs i ≡ Some x) (sym longer.parts) (slice_get-grown old longer.more i x at)
 

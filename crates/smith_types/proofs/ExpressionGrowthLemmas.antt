@@ -13,7 +13,7 @@ use Rattle.smith_types.proofs.ListLemmas.{slice_get-grown, AllZip-weaker}
 use Rattle.smith_types.proofs.GrowthLemmas.{IsValBelow-grown}
 use Rattle.smith_types.proofs.EntityGrowthLemmas.{IsHeapTypeValid-later, no_fewer}
 
--- a context with more at the ends of its lists
+-- a context with items appended to its lists
 abbrev pub grown : Context → List SubType → List ℕ → List GlobalType → ℕ → Context
 grown context types funcs globals visible = record {
   features = context.features;
@@ -25,7 +25,7 @@ grown context types funcs globals visible = record {
   visible = visible;
 }
 
--- each grown context is a context with more at the ends of its lists
+-- each grown context is a context with items appended
 pub grown_is : (old new : Context) (h : IsContextGrown old new) → grown old h.types.more h.funcs.more h.globals.more new.visible ≡ new
 grown_is old new h = sym (λ i. record {
   features = h.features i;

@@ -16,7 +16,7 @@ use Rattle.smith_types.proofs.ListLemmas.{slice_get-grown, slice_get-last, slice
 abbrev pub no_family : Family
 no_family = record { count = 0; last = 0; previous = 0 }
 
--- what stands in a list after an item was replaced
+-- the items of a list after one was replaced
 pub slice_get-set : {A : Type 0} (xs : List A) (j : ℕ) (y : A) (i : ℕ) (x : A) → slice_get (set xs j y) i ≡ Some x → ((i ≡ j) × (y ≡ x)) ⊎ ((i ≡ j → ⊥) × (slice_get xs i ≡ Some x))
 slice_get-set [] j y i x at = inr (λ same. cc, at)
 slice_get-set (z ∷ xs) zero y zero x at = inl (refl, same_Some y x at)
@@ -28,7 +28,7 @@ push_turn : (b : Bool) (first : ℕ) (xs ys more : List ℕ) → ys ≡ xs ++ mo
 push_turn true first xs ys more same = ap (λ (l : List ℕ). first ∷ l) same
 push_turn false first xs ys more same = same
 
--- the indices that a test picks, with one type more
+-- the indices of the types that satisfy a test, with one more type
 indices-push : (test : SubType → Bool) (first last : ℕ) (types : List SubType) (t : SubType) → last ≡ first + length types → indices_from test first (types ++ t ∷ []) ≡ indices_from test first types ++ (if test t then last ∷ [] else [])
 indices-push test first last [] t is = let same : last ≡ first = omega (arith, is) in rw same refl
 indices-push test first last (u ∷ types) t is = push_turn (test u) first _ _ _ (indices-push test (first + 1) last types t (omega (arith, is)))
@@ -45,11 +45,11 @@ indices_within test first most (u ∷ types) k i is at = within_turn (test u) fi
 direct_within : (types : List SubType) (s k i : ℕ) → slice_get (direct_subtypes types s) k ≡ Some i → i < length types
 direct_within types s k i at = indices_within (is_directly_below s) 0 (length types) types k i (omega arith) at
 
--- a type that is not directly below another changes nothing for that one
+-- a type that is not directly below another leaves its direct subtypes unchanged
 direct_same : (types : List SubType) (t : SubType) (s : ℕ) → is_directly_below s t ≡ false → direct_subtypes (types ++ t ∷ []) s ≡ direct_subtypes types s
 direct_same types t s off = indices-push (is_directly_below s) 0 (length types) types t (omega arith) ∙ ap (λ (b : Bool). direct_subtypes types s ++ (if b then length types ∷ [] else [])) off ∙ append-nil (direct_subtypes types s)
 
--- a type that is, is the last there
+-- a type that is directly below another becomes the last of its direct subtypes
 direct_more : (types : List SubType) (t : SubType) (s : ℕ) → is_directly_below s t ≡ true → direct_subtypes (types ++ t ∷ []) s ≡ direct_subtypes types s ++ length types ∷ []
 direct_more types t s on = indices-push (is_directly_below s) 0 (length types) types t (omega arith) ∙ ap (λ (b : Bool). direct_subtypes types s ++ (if b then length types ∷ [] else [])) on
 
@@ -59,7 +59,7 @@ below_itself t s up = rw up (eq-eqb s s refl)
 below_other : (t : SubType) (s i : ℕ) → t.supertype ≡ Some s → (i ≡ s → ⊥) → is_directly_below i t ≡ false
 below_other t s i up other = rw up (ne_eqb s i (λ same. other (sym same)))
 
--- a type without a supertype is below none
+-- a type without a supertype changes no family
 pub families_same : (types : List SubType) (t : SubType) (families : List Family) → t.supertype ≡ None → AreFamilies types families → AreFamilies (types ++ t ∷ []) families
 families_same types t families none h =
     let same : (s : ℕ) → direct_subtypes (types ++ t ∷ []) s ≡ direct_subtypes types s = λ s. direct_same types t s (rw none refl) in record {
@@ -89,7 +89,7 @@ families_more types families h = record {
   others = λ s past. let long : length (families ++ no_family ∷ []) ≡ length families + 1 = length-append families (no_family ∷ []) in h.others s (omega (arith, past, long));
 }
 
--- the one before a type that is not added yet may be any
+-- the entry before a type that is not added yet is arbitrary
 families_previous : (types : List SubType) (families : List Family) (n previous : ℕ) (old d : Family) → length types ≤ n → n < length families → old ≡ get_or families n d → AreFamilies types families
     → AreFamilies types (set families n (record { count = old.count; last = old.last; previous = previous }))
 families_previous types families n previous old d past inside read h =
@@ -114,7 +114,7 @@ families_previous types families n previous old d past inside read h =
       others = λ s beyond. h.others s (omega (arith, beyond, long));
     }
 
--- a type joins those directly below its supertype
+-- a type is added to the direct subtypes of its supertype
 families_joined : (types : List SubType) (t : SubType) (families : List Family) (s n : ℕ) (above d : Family) → t.supertype ≡ Some s → n ≡ length types → s < n → n < length families → above ≡ get_or families s d
     → (get_or families n d).previous ≡ above.last → AreFamilies types families → AreFamilies (types ++ t ∷ []) (set families s (record { count = above.count + 1; last = n; previous = above.previous }))
 families_joined types t families s n above d up is less inside read linked h =
@@ -175,7 +175,7 @@ families_joined types t families s n above d up is less inside read linked h =
           same r other ∙ h.others r (omega (arith, past, long));
     }
 
--- both, as code does it
+-- both steps, in the order of the code
 pub families_linked : (types : List SubType) (t : SubType) (families : List Family) (s n : ℕ) (above d old e : Family) → t.supertype ≡ Some s → n ≡ length types → s < n → n < length families → above ≡ get_or families s d → old ≡ get_or families n e → AreFamilies types families
     → AreFamilies (types ++ t ∷ []) (set (set families n (record { count = old.count; last = old.last; previous = above.last })) s (record { count = above.count + 1; last = n; previous = above.previous }))
 families_linked types t families s n above d old e up is less inside read own h =
@@ -185,14 +185,14 @@ families_linked types t families s n above d old e up is less inside read own h 
     let linked : (get_or (set families n now) n d).previous ≡ above.last = ap (λ (f : Family). f.previous) (get_or-set_same families n now d inside) in
     families_joined types t (set families n now) s n above d up is less (omega (arith, inside, long)) kept linked (families_previous types families n above.last old e (omega (arith, is)) inside own h)
 
--- no type has as many direct subtypes as there may be types
+-- the number of direct subtypes of a type fits its counter
 pub family_room : (types : List SubType) (t : SubType) (families : List Family) (s : ℕ) (above d : Family) → MayFollow types t → AreFamilies types families → s < length families → above ≡ get_or families s d → above.count + 1 < 2 ^ 32
 family_room types t families s above d follows h inside read =
     let counted : above.count ≡ length (direct_subtypes types s) = h.count s above (slice_get-get_or families s d inside ∙ ap Some (sym read)) in
     let few : length types + 1 < 2 ^ 32 = follows.room in
     omega (arith, counted, few, length_indices (is_directly_below s) 0 types, count_most (is_directly_below s) types)
 
--- the supertype of a type that is to be added has a smaller index
+-- the supertype of a type to be added has a smaller index
 pub supertype_before : (types : List SubType) (t : SubType) (s : ℕ) → MayFollow types t → t.supertype ≡ Some s → s < length types
 supertype_before types t s follows up =
     let (u, at, alike) = follows.below s up in

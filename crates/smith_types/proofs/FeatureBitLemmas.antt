@@ -1,4 +1,4 @@
--- The bits of the features that are on show these features and no other.
+-- The bits of the enabled features represent exactly these features.
 use Rattle.std.proofs.Common.{◌≡◌, ◌==◌, ◌≢◌, ℕ, ◌+◌, ◌<◌, Bool, true, false, List, [], ◌∷◌, ◌++◌, refl, ap, ◌∙◌, bit_and, arith, eq-eqb, ne_eqb, lit<}
 use Rattle.std.specs.Prelude.{fold, ◌&&◌, take, drop}
 use Rattle.std.proofs.lemmas.Nat.{and_or_self, and_or_apart}
@@ -37,11 +37,11 @@ feature_rows features =
     (features.custom_descriptors, 8388608) ∷
     []
 
--- the bits of the rows that are on, joined with others
+-- the bits of the enabled rows, joined with others
 abbrev pub joined_all : ℕ → List (Bool × ℕ) → ℕ
 joined_all bits rows = fold (λ all row. joined all row.0 row.1) bits rows
 
--- whether no row has one of these bits
+-- whether no row has any of these bits
 abbrev is_apart : ℕ → List (Bool × ℕ) → Bool
 is_apart bits [] = true
 is_apart bits (row ∷ rows) = (bit_and row.1 bits == 0) && is_apart bits rows
@@ -75,7 +75,7 @@ has-joined all bits false some none =
     let other : bit_and all bits ≢ bits = omega arith in
     ne_eqb _ _ other
 
--- a row's bit is there where the row is on
+-- the bit of a row is set if and only if the row is enabled
 has-row : (bits : ℕ) (rows : List (Bool × ℕ)) (k : ℕ) (on : Bool) (bit : ℕ)
     → bits ≡ joined_all 0 (take k rows ++ (on, bit) ∷ drop (k + 1) rows) → 0 < bit
     → is_apart bit (take k rows) ≡ true → is_apart bit (drop (k + 1) rows) ≡ true → has bits bit ≡ on

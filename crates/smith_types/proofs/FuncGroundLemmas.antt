@@ -1,4 +1,4 @@
--- What is kept of functions that ground heap types, as functions are noted.
+-- The record of functions that ground heap types, as functions are noted.
 use Rattle.std.proofs.Common.{◌≡◌, ℕ, zero, suc, ◌<◌, Bool, true, false, List, [], ◌∷◌, ◌++◌, Some, IsTrue, ◌↔◌, get_or, set, length, refl, sym, ◌∙◌, ap, subst, inl, inr, arith}
 use Rattle.std.specs.Prelude.{◌⊎◌, slice_get, replicate, ◌&&◌, ◌||◌, if◌then◌else◌}
 use Rattle.std.proofs.lemmas.Bool.{cases_eq}
@@ -30,7 +30,7 @@ use Rattle.smith_types.proofs.WalkLemmas.{by_cases_from_below, below_from_by_cas
 use Rattle.smith_types.proofs.GroundedLemmas.{created_below, below_created, created_under, under_created}
 use Rattle.smith_types.proofs.MarkLemmas.{said_inside, said_is, said_set, said_beside, said_same}
 
--- a kind more, of three
+-- one more of three kinds
 first_more : (a x y z : Bool) → IsTrue (((true && x) || y) || z) ↔ (IsTrue (((a && x) || y) || z) ⊎ IsTrue x)
 first_more a true y z = (λ e. inr refl, λ h. refl)
 first_more true false y z = (λ e. inl e, λ h. elim h [ inl e ↦ e | inr e ↦ cc ])
@@ -53,7 +53,7 @@ kinds_more (Array a) kinds b = first_more kinds.arrays (is_abstract_below heap.A
 kinds_more (Func f) kinds b = second_more kinds.funcs (is_abstract_below heap.Func b) (kinds.arrays && is_abstract_below heap.Array b) (kinds.structs && is_abstract_below heap.Struct b)
 kinds_more (Struct s) kinds b = third_more kinds.structs (is_abstract_below heap.Struct b) ((kinds.arrays && is_abstract_below heap.Array b) || (kinds.funcs && is_abstract_below heap.Func b))
 
--- a type more, of a sharedness
+-- one more type, of this sharedness
 kinds_noted : (of s : Bool) (inner : CompositeInnerType) (kinds : NotedKinds) (b : AbstractHeapType) → IsTrue (are_below (kinds_of (noted_with of inner kinds) s) b) ↔ (IsTrue (are_below (kinds_of kinds s) b) ⊎ ((of ≡ s) × IsTrue (is_abstract_below (kind_of inner) b)))
 kinds_noted false false inner kinds b =
     let (to, from) = kinds_more inner kinds.plain b in
@@ -64,7 +64,7 @@ kinds_noted true true inner kinds b =
 kinds_noted false true inner kinds b = (λ e. inl e, λ h. elim h [ inl old ↦ old | inr (same, added) ↦ cc ])
 kinds_noted true false inner kinds b = (λ e. inl e, λ h. elim h [ inl old ↦ old | inr (same, added) ↦ cc ])
 
--- what one function more grounds
+-- the heap types that one more function grounds
 module _ (old new : Context) (index : ℕ) (exact : Bool) (added : IsFunctionAdded old new index exact) where
   by_more : (ty : HeapType) → IsGroundedByFuncs new ty → IsGroundedByFuncs old ty ⊎ IsBelow old.types (if exact then Exact index else Concrete index) ty
   by_more ty (function, i, at, below) =
@@ -94,11 +94,11 @@ module _ (old new : Context) (index : ℕ) (exact : Bool) (added : IsFunctionAdd
         (subst (λ (v : ValType). IsValBelow old.types v (reference_to ty)) (sym added.added) (record { heap = below; nullable = λ no. no })),
   )
 
--- what is kept decides what functions ground, as code reads it
+-- the record decides what functions ground, in the form of the code
 pub decided : (grounds : FuncGrounds) (ty : HeapType) (r : Bool) → r ≡ is_noted grounds ty → (context : Context) → AreFuncGrounds context grounds → IsInRange context.types ty → IsTrue r ↔ IsGroundedByFuncs context ty
 decided grounds ty r is context h inside = subst (λ (b : Bool). IsTrue b ↔ IsGroundedByFuncs context ty) (sym is) (h.each ty inside)
 
--- no functions
+-- without functions
 said_none : (flag : Ground → Bool) (x : Ground) (n i : ℕ) → flag x ≡ false → said_at flag (replicate n x) i ≡ false
 said_none flag x zero i off = refl
 said_none flag x (suc n) zero off = off
@@ -122,7 +122,7 @@ none_grounded grounds n marks kinds long context none count = record {
   each = λ ty inside. (λ e. absurd (let no : is_noted grounds ty ≡ false = none_noted grounds n ty marks kinds in cc), λ by. absurd (no_function context ty none by));
 }
 
--- a type above one that functions ground is grounded by them
+-- a supertype of a type that functions ground is grounded by them
 pub func_marks_closed : (context : Context) (grounds : FuncGrounds) → IsOrderly context.types → AreFuncGrounds context grounds → AreClosed context.types grounds.marks.items
 func_marks_closed context grounds orderly h = record {
   up = λ i j below marks.
@@ -138,7 +138,7 @@ func_marks_closed context grounds orderly h = record {
       );
 }
 
--- marks that say the same of what is above are closed as well
+-- marks that agree on `below` are closed as well
 closed_same : (types : List SubType) (old new : List Ground) → ((j : ℕ) → below_at new j ≡ below_at old j) → AreClosed types old → AreClosed types new
 closed_same types old new same h = record { up = λ i j below marks. same j ∙ h.up i j below (sym (same i) ∙ marks) }
 
@@ -154,7 +154,7 @@ or_right : (a b : Bool) → IsTrue b → IsTrue (a || b)
 or_right true b on = refl
 or_right false b on = on
 
--- a type is noted among the marks
+-- a type is noted in the marks
 module _ (types : List SubType) (index : ℕ) (exact : Bool) (old new : List Ground) (mark d : Ground) (inside : index < length old) (read : mark ≡ get_or old index d) where
   own_here : own_at old index ≡ mark.own
   own_here = said_is (λ (ground : Ground). ground.own) old index mark d inside read
@@ -187,7 +187,7 @@ module _ (types : List SubType) (index : ℕ) (exact : Bool) (old new : List Gro
             );
       }
 
--- what is kept after a type is noted, of each heap type
+-- the record after a type is noted, for each heap type
 module _ (types : List SubType) (orderly : IsOrderly types) (index : ℕ) (exact : Bool) (t : SubType) (stands : slice_get types index ≡ Some t) (old new : FuncGrounds) (marks : IsTypeNoted types index exact old.marks.items new.marks.items) (kinds : new.kinds ≡ noted_with (shared t) t.composite_type.inner old.kinds) where
   under_more : (s : Bool) (b : AbstractHeapType) → IsTrue (is_noted new (Abstract s b)) ↔ (IsTrue (is_noted old (Abstract s b)) ⊎ IsBelow types (if exact then Exact index else Concrete index) (Abstract s b))
   under_more s b =
@@ -230,7 +230,7 @@ module _ (types : List SubType) (orderly : IsOrderly types) (index : ℕ) (exact
   noted_more (Concrete j) = above_more j
   noted_more (Exact j) = exact_more j
 
-  -- and so it is what the functions of a context with this one ground
+  -- therefore the record is correct for a context with this function
   pub func_noted : (before after : Context) → before.types ≡ types → IsFunctionAdded before after index exact → AreFuncGrounds before old → AreFuncGrounds after new
   func_noted before after over added h = record {
     long = marks.long ∙ h.long ∙ ap length (sym added.types);
@@ -245,7 +245,7 @@ module _ (types : List SubType) (orderly : IsOrderly types) (index : ℕ) (exact
         );
   }
 
--- a function whose type does not stand grounds nothing that does
+-- a function whose type does not exist grounds no type that exists
 ref_stands : (types : List SubType) (exact : Bool) (index : ℕ) → IsInRange types (if exact then Exact index else Concrete index) → index < length types
 ref_stands types true index inside = inside
 ref_stands types false index inside = inside

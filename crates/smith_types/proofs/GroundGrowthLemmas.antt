@@ -1,4 +1,4 @@
--- What is grounded stays so as types and functions are added.
+-- A grounded heap type stays grounded as types and functions are added.
 use Rattle.std.proofs.Common.{◌≡◌, ℕ, ◌+◌, ◌<◌, Bool, List, ◌++◌, Some, length, refl, sym, ◌∙◌, ap, subst, inl, inr, arith}
 use Rattle.std.specs.Prelude.{slice_get, nat_le, if◌then◌else◌}
 use Rattle.std.proofs.lemmas.Bool.{lt-leb}
@@ -21,7 +21,7 @@ by_structs_grown types more descriptors heap_type (index, g) =
     let (t, at, is) = g.struct in
     (index, record { fields = g.fields; struct = (t, slice_get-grown types more index t at, is); defaults = g.defaults; below = IsBelow-grown types more g.below })
 
--- a context with more types and functions, in which each function pushes what it pushed
+-- a context with more types and functions, in which the reference of each function is unchanged
 module _ (old new : Context) (features : new.features ≡ old.features) (types : Extends old.types new.types) (funcs : Extends old.funcs new.funcs) (same : (function index : ℕ) → function < length old.funcs → function_reference old function index ≡ function_reference new function index) (heap_type : HeapType) where
   structs_grown : IsGroundedByStructs old.types old.features.custom_descriptors heap_type → IsGroundedByStructs new.types new.features.custom_descriptors heap_type
   structs_grown h =

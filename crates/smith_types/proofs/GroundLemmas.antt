@@ -1,4 +1,4 @@
--- What a type space keeps of types that ground others, as types are added.
+-- The marks of grounding struct types in a type space, as types are added.
 use Rattle.std.proofs.Common.{◌≡◌, ℕ, ◌+◌, ◌<◌, Bool, true, false, List, [], ◌∷◌, ◌++◌, Option, Some, None, IsTrue, length, refl, sym, ◌∙◌, ap, subst, inl, inr, arith}
 use Rattle.std.specs.Prelude.{slice_get, if◌then◌else◌}
 use Rattle.std.proofs.lemmas.Bool.{cases_eq, cases_lt}
@@ -19,7 +19,7 @@ use Rattle.smith_types.proofs.SpaceLemmas.{IsOrderly-push}
 use Rattle.smith_types.proofs.WalkLemmas.{Reaches, here, up, by_cases_from_below, path_along}
 use Rattle.smith_types.proofs.MarkLemmas.{said_inside, said_front, said_last, above_other}
 
--- what is reached from a type that stood before is reached as before
+-- a type reached from a type that existed before was reached before
 reaches_front : (types : List SubType) (t : SubType) (i j : ℕ) → IsOrderly types → i < length types → Reaches (types ++ t ∷ []) i j → Reaches types i j
 reaches_front types t i j o inside here = here
 reaches_front types t i j o inside (up {s = s} {t = u} at sup reach) =
@@ -27,13 +27,13 @@ reaches_front types t i j o inside (up {s = s} {t = u} at sup reach) =
     let less : s < i = (o.under i s u old sup).0 in
     up {t = u} old sup (reaches_front types t s j o (omega (arith, less, inside)) reach)
 
--- a type above one that is grounded is grounded
+-- a supertype of a grounded type is grounded
 pub grounds_closed : (types : List SubType) (grounds : List Ground) → AreGrounds types grounds → AreClosed types grounds
 grounds_closed types grounds h = record {
   up = λ i j below marks. let (k, g) = (h.below i).0 marks in (h.below j).1 (k, record { ground = g.ground; at = g.at; is = g.is; below = IsBelow-trans types g.below below });
 }
 
--- which type is marked first
+-- the first type to be marked
 from_if : (b : Bool) (o from : Option ℕ) (s : ℕ) → from ≡ (if b then o else None) → from ≡ Some s → (b ≡ true) × (o ≡ Some s)
 from_if true o from s is some = (refl, sym is ∙ some)
 from_if false o from s is some = absurd (none-some s (sym is ∙ some))
@@ -42,7 +42,7 @@ from_on : (b : Bool) (o from : Option ℕ) → from ≡ (if b then o else None) 
 from_on true o from is on = is
 from_on false o from is on = cc
 
--- one type more, and the marks above it
+-- one more type, and the marks of its supertypes
 module _ (types : List SubType) (t : SubType) (orderly : IsOrderly types) (follows : MayFollow types t) (grounds marked : List Ground) (own : Bool) (from : Option ℕ) (is_own : own ≡ is_ground t) (is_from : from ≡ (if own then t.supertype else None)) (h : AreGrounds types grounds) (marks : AreMarked types from grounds marked) where
   long : length marked ≡ length types
   long = marks.long ∙ h.long
@@ -64,7 +64,7 @@ module _ (types : List SubType) (t : SubType) (orderly : IsOrderly types) (follo
     | inr (is, same) ↦ said_last (λ (ground : Ground). ground.own) marked (record { own = own; below = own }) i (long ∙ sym is) ∙ is_own ∙ ap is_ground same
   ]
 
-  -- a type before the last is marked exactly where it is to be
+  -- a type before the last is marked exactly if it has to be
   front_grounded : (j : ℕ) → IsTrue (below_at marked j) → (i : ℕ) × IsGroundBelow (types ++ t ∷ []) i j
   front_grounded j now = elim ((marks.below j).0 now) [
     | inl before ↦
@@ -94,13 +94,13 @@ module _ (types : List SubType) (t : SubType) (orderly : IsOrderly types) (follo
         front_grounded j (sym (said_front (λ (ground : Ground). ground.below) marked (record { own = own; below = own }) j inside) ∙ now)
   ]
 
-  -- what a type that stood before grounds is marked as before
+  -- a type grounded by a type that existed before is marked as before
   marked_before : (i j : ℕ) (g : IsGroundBelow (types ++ t ∷ []) i j) → slice_get types i ≡ Some g.ground → IsTrue (below_at (marked ++ record { own = own; below = own } ∷ []) j)
   marked_before i j g before =
       let below = below_front i j (slice_get_within types i g.ground before) g.below in
       marked_front j (above_stands types orderly (Concrete i) (Concrete j) below (slice_get_within types i g.ground before)) ((marks.below j).1 (inl ((h.below j).1 (i, record { ground = g.ground; at = before; is = g.is; below = below }))))
 
-  -- what the last type grounds is marked
+  -- a type grounded by the last type is marked
   marked_above : (j : ℕ) → own ≡ true → IsBelow (types ++ t ∷ []) (Concrete (length types)) (Concrete j) → IsTrue (below_at (marked ++ record { own = own; below = own } ∷ []) j)
   marked_above j on below = elim (cases_eq (length types) j) [
     | inl end ↦ marked_last j end on

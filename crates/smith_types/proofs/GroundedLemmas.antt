@@ -1,4 +1,4 @@
--- What is kept of types that ground others says which heap types structs ground.
+-- The marks of a type space decide which heap types structs ground.
 use Rattle.std.proofs.Common.{◌≡◌, ◌↔◌, ℕ, zero, suc, ◌<◌, ◌≤◌, Bool, true, false, List, [], ◌∷◌, Some, IsTrue, get_or, length, refl, sym, ◌∙◌, ap, subst, arith}
 use Rattle.std.specs.Prelude.{slice_get, All, not, ◌&&◌, ◌||◌, if◌then◌else◌}
 use Rattle.std.specs.List.{list_any, AllByRecursion as Each}
@@ -69,7 +69,7 @@ ground_fields (Struct structure) on = (structure.fields, refl, All-from_recursio
 ground_fields (Array element) on = cc
 ground_fields (Func function) on = cc
 
--- a struct type that grounds a heap type, by what is kept of it
+-- a struct type that grounds a heap type, from its mark
 pub grounded_at : (types : List SubType) (descriptors : Bool) (heap_type : HeapType) (i : ℕ) (t : SubType) → slice_get types i ≡ Some t → is_ground t ≡ true → IsBelow types (if descriptors then Exact i else Concrete i) heap_type → IsGroundedBy types descriptors heap_type i
 grounded_at types descriptors heap_type i t at on below =
     let (fields, is, defaults) = ground_fields t.composite_type.inner on in
@@ -80,7 +80,7 @@ grounded_is types descriptors heap_type i h =
     let (t, at, is) = h.struct in
     (t, at, ap is_inner_ground is ∙ defaults_are h.fields (recursion_from_All IsDefaultable (field_values h.fields) h.defaults))
 
--- what creation pushes, exact or not, is below the types above
+-- the reference pushed by a creation, exact or not, is below the supertypes of its type
 pub created_below : (types : List SubType) (descriptors : Bool) (i j : ℕ) → IsBelow types (Concrete i) (Concrete j) → IsBelow types (if descriptors then Exact i else Concrete i) (Concrete j)
 created_below types true i j below = IsBelow-trans types (exact_below types i) below
 created_below types false i j below = below
@@ -97,7 +97,7 @@ pub under_created : (types : List SubType) (descriptors : Bool) (i : ℕ) (s : B
 under_created types true i s b o below = by_cases_from_below types o (Exact i) (Abstract s b) below
 under_created types false i s b o below = by_cases_from_below types o (Concrete i) (Abstract s b) below
 
--- a concrete type is grounded where a struct type below it grounds
+-- a concrete type is grounded if a grounding struct type is below it
 concrete_grounded : (types now : List SubType) (grounds : List Ground) (descriptors : Bool) (j : ℕ) (said : Bool) → types ≡ now → IsOrderly types → AreGrounds types grounds → below_at grounds j ≡ said → IsTrue said ↔ IsGroundedByStructs now descriptors (Concrete j)
 concrete_grounded types now grounds descriptors j said view o h is =
     subst (λ xs. IsTrue said ↔ IsGroundedByStructs xs descriptors (Concrete j)) view (
@@ -109,7 +109,7 @@ concrete_grounded types now grounds descriptors j said view o h is =
           sym is ∙ (h.below j).1 (i, record { ground = u; at = at_u; is = on; below = below_created types descriptors i j o g.below }),
     )
 
--- an exact type is grounded where it is a struct type that grounds, and creation is exact
+-- an exact type is grounded if it is a grounding struct type and creation is exact
 exact_grounded : (types now : List SubType) (grounds : List Ground) (j : ℕ) (said : Bool) → types ≡ now → IsOrderly types → AreGrounds types grounds → own_at grounds j ≡ said → (t : SubType) → slice_get types j ≡ Some t → IsTrue said ↔ IsGroundedByStructs now true (Exact j)
 exact_grounded types now grounds j said view o h is t at =
     let own : said ≡ is_ground t = sym is ∙ h.own j t at in
@@ -125,7 +125,7 @@ exact_grounded types now grounds j said view o h is t at =
 pub exact_ungrounded : (types : List SubType) (j : ℕ) → IsTrue false ↔ IsGroundedByStructs types false (Exact j)
 exact_ungrounded types j = (λ never. cc, λ (i, g). absurd (concrete_not_below_exact types i j g.below))
 
--- an item that a test picks, by its index
+-- an item that satisfies a test, by its index
 any_turn : (p : SubType → Bool) (x : SubType) (xs : List SubType) (b : Bool) → p x ≡ b → ((i : ℕ) × (y : SubType) × (slice_get xs i ≡ Some y) × (p y ≡ true) → (i : ℕ) × (y : SubType) × (slice_get (x ∷ xs) i ≡ Some y) × (p y ≡ true)) → (list_any p xs ≡ true → (i : ℕ) × (y : SubType) × (slice_get xs i ≡ Some y) × (p y ≡ true)) → (b || list_any p xs) ≡ true
     → (i : ℕ) × (y : SubType) × (slice_get (x ∷ xs) i ≡ Some y) × (p y ≡ true)
 any_turn p x xs true is later rest on = (0, x, refl, is)
@@ -157,7 +157,7 @@ struct_of (Struct structure) b on = refl
 struct_of (Array element) b on = cc
 struct_of (Func function) b on = cc
 
--- an abstract type is grounded where it is above structs of its sharedness and one of them grounds
+-- an abstract type is grounded if it is above structs of its sharedness and one of them grounds
 pub abstract_grounded : (types now : List SubType) (kinds : GroundKinds) (descriptors s : Bool) (b : AbstractHeapType) → types ≡ now → IsOrderly types → AreGroundKinds types kinds
     → IsTrue (kind_at kinds s && is_abstract_below heap.Struct b) ↔ IsGroundedByStructs now descriptors (Abstract s b)
 abstract_grounded types now kinds descriptors s b view o h =
@@ -175,7 +175,7 @@ abstract_grounded types now kinds descriptors s b view o h =
           both_are (kind_at kinds s) (is_abstract_below heap.Struct b) (h.each s ∙ at_any (is_ground_of s) types i t at (kind_of_ground s t is shares)) (sym (struct_of t.composite_type.inner b is) ∙ below),
     )
 
--- what is decided of a heap type, read as code reads it
+-- the decision for a heap type, in the form of the code
 pub and_on : (k x r : Bool) → k ≡ true → r ≡ x → r ≡ (k && x)
 and_on k x r on is = rw on is
 
@@ -225,13 +225,13 @@ entry_at types now i t d view inside read =
     let same : length types ≡ length now = ap length view in
     subst (λ xs. slice_get xs i ≡ Some t) view (slice_get-get_or types i d (omega (arith, same, inside)) ∙ ap Some (sym read))
 
--- a struct type whose fields all have defaults grounds what its creation is below
+-- a struct type whose fields all have defaults grounds each supertype of its created reference
 pub grounds_where_below : (types now : List SubType) (descriptors r : Bool) (h : HeapType) (i : ℕ) (t d : SubType) → types ≡ now → i < length now → t ≡ get_or types i d → is_ground t ≡ true
     → IsTrue r ↔ IsBelow now (if descriptors then Exact i else Concrete i) h → IsTrue r ↔ IsGroundedBy now descriptors h i
 grounds_where_below types now descriptors r h i t d view inside read on below =
     (λ holds. grounded_at now descriptors h i t (entry_at types now i t d view inside read) on (below.0 holds), λ g. below.1 g.below)
 
--- any other grounds nothing
+-- any other type grounds nothing
 pub grounds_nothing : (types now : List SubType) (descriptors : Bool) (h : HeapType) (i : ℕ) (t d : SubType) → types ≡ now → i < length now → t ≡ get_or types i d → is_ground t ≡ false
     → IsTrue false ↔ IsGroundedBy now descriptors h i
 grounds_nothing types now descriptors h i t d view inside read off = (
@@ -242,7 +242,7 @@ grounds_nothing types now descriptors h i t d view inside read off = (
       sym off ∙ ap is_ground same ∙ on,
 )
 
--- what none of the types grounds, structs don't ground
+-- a heap type that none of the types grounds is not grounded by structs
 pub grounded_by_none : (types now : List SubType) (descriptors : Bool) (h : HeapType) (count : ℕ) → types ≡ now → length types ≤ count → ((i : ℕ) → i < count → IsGroundedBy now descriptors h i → ⊥)
     → IsTrue false ↔ IsGroundedByStructs now descriptors h
 grounded_by_none types now descriptors h count view all none = (

@@ -1,4 +1,4 @@
--- A group that is being made: types are added to it one at a time, and it ends valid.
+-- A group under construction: types are added one at a time, and the finished group is valid.
 use Rattle.std.proofs.Common.{◌≡◌, ℕ, ◌+◌, ◌<◌, ◌≤◌, false, List, [], ◌∷◌, ◌++◌, Some, length, refl, subst, arith, length-append, inl, inr}
 use Rattle.std.specs.Prelude.{slice_get, slice_index_or}
 use Rattle.std.specs.List.{AllByRecursion as ByRecursion}
@@ -19,7 +19,7 @@ use Rattle.smith_types.proofs.ListLemmas.{slice_get-push}
 use Rattle.smith_types.proofs.SpaceLemmas.{IsOrderly-push, AreConsecutive-push, next_start-push}
 use Rattle.smith_types.proofs.ValidityLemmas.{IsTypeValid-grown, IsGroupValid-grown, ends_within, group_at, before_or_not}
 
--- what is valid against an end is valid against a later one
+-- validity for one end implies validity for a later end
 module _ (features : Features) (end later : ℕ) where
   IsHeapTypeValid-later : end ≤ later → (heap : HeapType) → IsHeapTypeValid features end heap → IsHeapTypeValid features later heap
   IsHeapTypeValid-later le (Abstract shared ty) h = h
@@ -46,7 +46,7 @@ both_each : (P Q : Range ℕ → Type 0) (groups : List (Range ℕ)) → ByRecur
 both_each P Q [] p q = tt
 both_each P Q (g ∷ groups) p q = ((p.0, q.0), both_each P Q groups p.1 q.1)
 
--- each type that stands is valid against the end of the group that is being made
+-- each existing type is valid for the end of the group under construction
 pub AreTypesOpen-at : (features : Features) (end : ℕ) (space : Space) → AreTypesOpen features end space → (i : ℕ) (t : SubType) → slice_get space.types i ≡ Some t → IsTypeValid features space.types end t
 AreTypesOpen-at features end space open_types i t at =
     elim (before_or_not i (next_start space.groups)) [
@@ -96,7 +96,7 @@ AreTypesOpen-push features end types groups t now lt below h =
       ];
     }
 
--- where the types behind the groups are valid so far, they make a group that is valid
+-- if the types after the groups are valid so far, they form a valid group
 pub AreTypesOpen-close : (features : Features) (types : List SubType) (groups : List (Range ℕ)) → AreTypesOpen features (length types) (record { types = types; groups = groups }) → (features.gc ≡ false → length types ≡ next_start groups + 1)
     → AreTypesValid features (record { types = types; groups = groups ++ next_group types groups ∷ [] })
 AreTypesOpen-close features types groups now single =

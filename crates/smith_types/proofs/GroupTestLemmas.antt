@@ -21,7 +21,7 @@ less_or_last (suc j) zero h = absurd (omega arith)
 less_or_last zero (suc i) h = inl (omega arith)
 less_or_last (suc j) (suc i) h = elim (less_or_last j i (omega arith)) [ inl less ↦ inl (omega arith) | inr same ↦ inr (ap suc same) ]
 
--- the members before the next index are valid where the member at this index is too
+-- the members before the next index are valid if those before this index and the member at it are
 pub members_turn : (features : Features) (types : List SubType) (group : Range ℕ) (i : ℕ) (t d : SubType) → i < length types → t ≡ get_or types i d → AreBeforeValid features types group i → IsTypeValid features types group.end t
     → AreBeforeValid features types group (i + 1)
 members_turn features types group i t d inside read before h j u low high at =
@@ -37,7 +37,7 @@ pub member_valid : (features : Features) (types : List SubType) (group : Range �
 member_valid features types group i t d inside read low high valid =
     valid.each i t low high (slice_get-get_or types i d inside ∙ ap Some (sym read))
 
--- consecutive groups each end behind their start, and within the last of them
+-- each of consecutive groups ends after its start, and within the last of them
 pub record IsWithin (count : ℕ) (group : Range ℕ) : Type 0 where
   pub ordered : group.start ≤ group.end
   pub inside : group.end ≤ count

@@ -1,4 +1,4 @@
--- Types that are added to a space group by group.
+-- Types added to a space group by group.
 use Rattle.std.proofs.Common.{◌≡◌, ℕ, suc, ◌+◌, ◌^◌, ◌<◌, List, [], ◌∷◌, ◌++◌, length, take, drop, get_or, refl, sym, ap, subst, ◌∙◌, append-nil, length-append, arith, add-one}
 use Rattle.std.specs.List.{flat_map}
 use Rattle.std.specs.declared.ops.Range.{Range}
@@ -14,7 +14,7 @@ use Rattle.smith_types.specs.declared.composite_type.SubType.{SubType}
 use Rattle.smith_types.proofs.ListLemmas.{slice_get-grown, slice_get-front, slice_get-last}
 use Rattle.smith_types.proofs.GroupGrowthLemmas.{AreTypesOpen-at, AreTypesOpen-start}
 
--- what stands before the end of a list stands there whatever follows
+-- a prefix of types that follow one another does so too
 pub front_follows : (types more : List SubType) → AreFollowing (types ++ more) → AreFollowing types
 front_follows types more h = record {
   under = λ i s t at up.
@@ -27,7 +27,7 @@ joined_again : (xs ys zs : List SubType) → xs ++ (ys ++ zs) ≡ (xs ++ ys) ++ 
 joined_again [] ys zs = refl
 joined_again (x ∷ xs) ys zs = ap (λ (more : List SubType). x ∷ more) (joined_again xs ys zs)
 
--- a type that may not follow those before it
+-- a type that may not follow the types before it
 pub not_following : (types before members : List SubType) (i : ℕ) (t d : SubType) → i < length members → t ≡ get_or members i d → types ≡ before ++ take i members → length before + length members + 1 < 2 ^ 32
     → (MayFollow types t → ⊥) → AreFollowing (before ++ members) → ⊥
 not_following types before members i t d inside read is few refused following =
@@ -51,7 +51,7 @@ not_following types before members i t d inside read is few refused following =
           omega (arith, size, left, right, few);
     })
 
--- with one more group
+-- the space with one more group
 abbrev pub with_group : Space → List SubType → Space
 with_group space group = record { types = space.types ++ group; groups = space.groups ++ next_group (space.types ++ group) space.groups ∷ [] }
 
@@ -76,7 +76,7 @@ space_of_push groups group =
     ranges_push 0 groups group ∙ ap (λ (n : ℕ). ranges_from 0 groups ++ record { start = end_from 0 (ranges_from 0 groups); end = n } ∷ []) end in
     λ i. record { types = flat i; groups = ranges i }
 
--- the types of the groups so far and of the group at hand stand at the front of the types of all groups
+-- the types of the groups so far and of the current group are a prefix of the types of all groups
 pub groups_cut : (groups : List (List SubType)) (i : ℕ) (group d : List SubType) → i < length groups → group ≡ get_or groups i d
     → (space_of groups).types ≡ ((space_of (take i groups)).types ++ group) ++ flat_map (λ (group : List SubType). group) (drop (suc i) groups)
 groups_cut groups i group d inside read =

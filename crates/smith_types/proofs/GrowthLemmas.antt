@@ -47,7 +47,7 @@ module _ (types : List SubType) where
   AreFieldsMatched-refl [] = tt
   AreFieldsMatched-refl (f ∷ fs) = (IsFieldMatch-refl f, AreFieldsMatched-refl fs)
 
-  -- fields match what they match with more behind them
+  -- fields match the same fields when more are appended to them
   pub AreFieldsMatched-longer : (fs gs more : List FieldType) → AreFieldsMatched types fs gs → AreFieldsMatched types (fs ++ more) gs
   AreFieldsMatched-longer fs [] more p = tt
   AreFieldsMatched-longer [] (g ∷ gs) more p = absurd p

@@ -18,12 +18,12 @@ use Rattle.smith_types.specs.declared.composite_type.SubType.{SubType}
 use Rattle.smith_types.specs.declared.composite_type.CompositeInnerType.{CompositeInnerType}
 use Rattle.smith_types.specs.declared.composite_type.CompositeInnerType.TheVariants.{Array, Func, Struct}
 
--- what holds of all parts of each item holds of the parts of all items
+-- a property of all parts of each item holds for the parts of all items
 pub all_of_parts : {A B : Type 0} (P : B → Type 0) (f : A → List B) (items : List A) → Each (λ item. All P (f item)) items → All P (flat_map f items)
 all_of_parts P f [] each = All-nil P
 all_of_parts P f (item ∷ items) each = All-append P (f item) (flat_map f items) each.0 (all_of_parts P f items each.1)
 
--- what holds of two lists joined holds of each
+-- a property of all items of a concatenation holds for the items of both lists
 pub each_apart : {A : Type 0} (P : A → Type 0) (xs ys : List A) → Each P (xs ++ ys) → Each P xs × Each P ys
 each_apart P [] ys each = (tt, each)
 each_apart P (x ∷ xs) ys each = let rest = each_apart P xs ys each.1 in ((each.0, rest.0), rest.1)
@@ -32,7 +32,7 @@ pub all_apart : {A : Type 0} (P : A → Type 0) (xs ys : List A) → All P (xs +
 all_apart P xs ys all =
     let apart = each_apart P xs ys (recursion_from_All P (xs ++ ys) all) in (All-from_recursion P xs apart.0, All-from_recursion P ys apart.1)
 
--- what holds of the parts of all items holds of all parts of each item
+-- a property of the parts of all items holds for all parts of each item
 pub parts_of_all : {A B : Type 0} (P : B → Type 0) (f : A → List B) (items : List A) → All P (flat_map f items) → Each (λ item. All P (f item)) items
 parts_of_all P f [] all = tt
 parts_of_all P f (item ∷ items) all = let apart = all_apart P (f item) (flat_map f items) all in (apart.0, parts_of_all P f items apart.1)
@@ -71,7 +71,7 @@ before_map : {A B : Type 0} (P : B → Type 0) (f : A → B) (items : List A) �
 before_map P f [] each = tt
 before_map P f (item ∷ items) each = (each.0, before_map P f items each.1)
 
--- what holds of the value types of types, of tables and of globals holds of all, and the other way round
+-- a property of the value types of types, tables and globals holds for all of them, and conversely
 module _ (P : ValType → Type 0) (types : List SubType) (spaces : IndexSpaces) where
   of_table : TableType → ValType
   of_table table = Ref table.element_type

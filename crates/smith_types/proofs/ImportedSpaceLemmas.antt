@@ -1,4 +1,4 @@
--- Index spaces that grow by what is imported are those that the imports begin.
+-- Index spaces extended import by import are the index spaces of the imports.
 use Rattle.std.proofs.Common.{◌≡◌, ℕ, List, [], ◌∷◌, ◌++◌, refl, sym, ap, ◌∙◌, append_assoc, append-nil, drop, get_or, length, suc, ◌+◌, ◌<◌, add-one}
 use Rattle.std.proofs.Math.Seq.{drop-cons}
 use Rattle.std.specs.List.{flat_map}
@@ -17,7 +17,7 @@ pub with_entities_append : (spaces : IndexSpaces) (xs ys : List EntityType) → 
 with_entities_append spaces [] ys = refl
 with_entities_append spaces (x ∷ xs) ys = with_entities_append (with_entity spaces x) xs ys
 
--- spaces, with the entities of these behind
+-- the spaces with these entities appended
 abbrev behind : IndexSpaces → List EntityType → IndexSpaces
 behind spaces more = record {
   tags = spaces.tags ++ flat_map tag_of more;

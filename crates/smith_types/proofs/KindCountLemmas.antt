@@ -19,7 +19,7 @@ one_behind true n m l false is same = omega arith
 one_behind false n m l true is same = omega arith
 one_behind false n m l false is same = omega arith
 
--- how many types a test picks with one more type
+-- the number of types that satisfy a test, with one more type
 count_push : (test : SubType → Bool) (types : List SubType) (t : SubType) → count_where test (types ++ t ∷ []) ≡ (if test t then count_where test types + 1 else count_where test types)
 count_push test [] t = refl
 count_push test (u ∷ types) t = one_behind (test u) _ (count_where test types) _ (test t) (count_push test types t) refl
@@ -42,7 +42,7 @@ most_turn : (b : Bool) (n m : ℕ) → n ≤ m → (if b then n + 1 else n) ≤ 
 most_turn true n m le = omega arith
 most_turn false n m le = omega arith
 
--- a test picks no more types than there are
+-- at most all types satisfy a test
 pub count_most : (test : SubType → Bool) (types : List SubType) → count_where test types ≤ length types
 count_most test [] = omega arith
 count_most test (t ∷ types) = most_turn (test t) (count_where test types) (length types) (count_most test types)
@@ -51,7 +51,7 @@ long_turn : (b : Bool) (first n : ℕ) (rest : List ℕ) → length rest ≡ n �
 long_turn true first n rest e = omega arith
 long_turn false first n rest e = e
 
--- as many indices as types that are picked
+-- as many indices as types that satisfy a test
 pub length_indices : (test : SubType → Bool) (first : ℕ) (types : List SubType) → length (indices_from test first types) ≡ count_where test types
 length_indices test first [] = refl
 length_indices test first (t ∷ types) = long_turn (test t) first (count_where test types) (indices_from test (first + 1) types) (length_indices test (first + 1) types)
@@ -67,7 +67,8 @@ later_turn true first zero n m found rest least most at = absurd (omega arith)
 later_turn true first (suc place) n m found rest least most at = at place (omega arith) (omega arith)
 later_turn false first place n m found rest least most at = at place least most
 
--- the type of an index is at a place of those that are picked: no more than `place` are picked before it, and more than `place` up to it
+-- the type at index i has the position `place` among those that satisfy a test: at most `place` of them precede it, and more
+-- than `place` are up to it
 index_found : (test : SubType → Bool) (first : ℕ) (types : List SubType) (i place : ℕ) → i < length types → count_where test (take i types) ≤ place → place < count_where test (take (suc i) types)
     → slice_get (indices_from test first types) place ≡ Some (first + i)
 index_found test first [] i place inside least most = absurd (omega arith)
@@ -80,7 +81,7 @@ pub index_of_kind_found : (types : List SubType) (s : Bool) (kind : AbstractHeap
     → slice_get (indices_of_kind types s kind) place ≡ Some i
 index_of_kind_found types s kind i place inside least most = index_found (is_of_kind s kind) 0 types i place inside least most ∙ ap Some (omega arith)
 
--- the search for a type of a kind begins with all types
+-- the search for a type of a kind starts with all types
 pub search_begins : (types : List SubType) (s : Bool) (kind : AbstractHeapType) (place long : ℕ) → long ≡ length types → place < length (indices_of_kind types s kind)
     → (long - 1 < length types) × (place < count_where (is_of_kind s kind) (take (suc (long - 1)) types))
 search_begins types s kind place long is less =
@@ -89,7 +90,7 @@ search_begins types s kind place long is less =
     let all : take (suc (long - 1)) types ≡ types = take_all (suc (long - 1)) types (omega (arith, is)) in
     (omega (arith, is, picked, most, less), rw all (omega (arith, picked, less)))
 
--- and ends with one
+-- the search ends with one type
 pub search_ends : (types : List SubType) (s : Bool) (kind : AbstractHeapType) (place low high : ℕ) → high ≤ low → low ≤ high → high < length types → count_where (is_of_kind s kind) (take low types) ≤ place → place < count_where (is_of_kind s kind) (take (suc high) types)
     → slice_get (indices_of_kind types s kind) place ≡ Some low
 search_ends types s kind place low high met ordered inside least most =

@@ -1,4 +1,4 @@
--- How long lists are that match.
+-- Lengths of lists that match.
 use Rattle.std.proofs.Common.{◌≡◌, ◌≤◌, List, [], ◌∷◌, length, refl, ap, suc, arith}
 use Rattle.smith_types.specs.declared.value_type.ValType.{ValType}
 use Rattle.smith_types.specs.declared.composite_type.FieldType.{FieldType}

@@ -1,4 +1,4 @@
--- Marks of types and of those above them, as code sets them on the way up.
+-- Marks of types and their supertypes, as the code sets them along the path of supertypes.
 use Rattle.std.proofs.Common.{◌≡◌, ℕ, zero, suc, ◌<◌, Bool, true, List, [], ◌∷◌, ◌++◌, Option, Some, None, IsTrue, get_or, set, length, refl, sym, ◌∙◌, ap, subst, inl, inr, arith}
 use Rattle.std.specs.Prelude.{slice_get}
 use Rattle.std.proofs.lemmas.Bool.{cases_eq}
@@ -14,23 +14,23 @@ use Rattle.smith_types.proofs.GrowthLemmas.{IsBelow-trans}
 use Rattle.smith_types.proofs.PathLemmas.{below_declared}
 use Rattle.smith_types.proofs.WalkLemmas.{Reaches, here, up, by_cases_from_below, path_along}
 
--- what an entry says
+-- the flag of an entry
 said_read : (flag : Ground → Bool) (grounds : List Ground) (i : ℕ) (ground : Ground) → slice_get grounds i ≡ Some ground → said_at flag grounds i ≡ flag ground
 said_read flag [] i ground at = cc
 said_read flag (x ∷ grounds) zero ground at = ap flag (same_Some x ground at)
 said_read flag (x ∷ grounds) (suc i) ground at = said_read flag grounds i ground at
 
--- as code reads it
+-- the flag of an entry, in the form of the code
 pub said_is : (flag : Ground → Bool) (grounds : List Ground) (i : ℕ) (ground d : Ground) → i < length grounds → ground ≡ get_or grounds i d → said_at flag grounds i ≡ flag ground
 said_is flag grounds i ground d inside read = said_read flag grounds i ground (slice_get-get_or grounds i d inside ∙ ap Some (sym read))
 
--- where an entry says yes, there is one
+-- an entry with a set flag exists
 pub said_inside : (flag : Ground → Bool) (grounds : List Ground) (i : ℕ) → said_at flag grounds i ≡ true → i < length grounds
 said_inside flag [] i on = cc
 said_inside flag (x ∷ grounds) zero on = omega arith
 said_inside flag (x ∷ grounds) (suc i) on = let inside : i < length grounds = said_inside flag grounds i on in omega (arith, inside)
 
--- one entry more
+-- one more entry
 pub said_front : (flag : Ground → Bool) (grounds : List Ground) (x : Ground) (i : ℕ) → i < length grounds → said_at flag (grounds ++ x ∷ []) i ≡ said_at flag grounds i
 said_front flag [] x i inside = absurd (omega (arith, inside))
 said_front flag (y ∷ grounds) x zero inside = refl
@@ -42,7 +42,7 @@ said_last flag [] x (suc i) end = absurd (omega (arith, end))
 said_last flag (y ∷ grounds) x zero end = absurd (omega (arith, end))
 said_last flag (y ∷ grounds) x (suc i) end = said_last flag grounds x i (omega (arith, end))
 
--- an entry replaced
+-- a replaced entry
 pub said_set : (flag : Ground → Bool) (grounds : List Ground) (s : ℕ) (x : Ground) → s < length grounds → said_at flag (set grounds s x) s ≡ flag x
 said_set flag [] s x inside = absurd (omega (arith, inside))
 said_set flag (y ∷ grounds) zero x inside = refl
@@ -55,26 +55,26 @@ said_beside flag (y ∷ grounds) zero x (suc i) other = refl
 said_beside flag (y ∷ grounds) (suc s) x zero other = refl
 said_beside flag (y ∷ grounds) (suc s) x (suc i) other = said_beside flag grounds s x i (λ same. other (ap suc same))
 
--- an entry replaced by one that says the same
+-- an entry replaced by one with the same flag
 pub said_same : (flag : Ground → Bool) (grounds : List Ground) (s : ℕ) (x : Ground) (i : ℕ) → s < length grounds → flag x ≡ said_at flag grounds s → said_at flag (set grounds s x) i ≡ said_at flag grounds i
 said_same flag grounds s x i inside is = elim (cases_eq s i) [
   | inl same ↦ subst (λ (m : ℕ). said_at flag (set grounds s x) m ≡ said_at flag grounds m) same (said_set flag grounds s x inside ∙ is)
   | inr other ↦ said_beside flag grounds s x i other
 ]
 
--- what another type is above, its declared supertype is below
+-- if the type at i is not j and reaches j, its declared supertype is below j
 pub above_other : (types : List SubType) (i j : ℕ) (t : SubType) → slice_get types i ≡ Some t → (i ≡ j → ⊥) → Reaches types i j → (s : ℕ) × (t.supertype ≡ Some s) × IsBelow types (Concrete s) (Concrete j)
 above_other types i j t at other here = absurd (other refl)
 above_other types i j t at other (up {s = s} {t = u} at' sup reach) =
     let same : t ≡ u = same_Some t u (sym at ∙ at') in
     (s, ap (λ (x : SubType). x.supertype) same ∙ sup, path_along types reach)
 
--- most that is left of the way up from a type
+-- an upper bound of the remaining steps along the path of supertypes
 abbrev pub steps_left : Option ℕ → ℕ
 steps_left None = 0
 steps_left (Some index) = suc index
 
--- the way up is shorter after a step
+-- a step makes the remaining path shorter
 steps_fewer : (s : ℕ) (above : Option ℕ) → ((r : ℕ) → above ≡ Some r → r < s) → steps_left above < suc s
 steps_fewer s None less = omega arith
 steps_fewer s (Some r) less = let lower : r < s = less r refl in omega (arith, lower)
@@ -82,7 +82,7 @@ steps_fewer s (Some r) less = let lower : r < s = less r refl in omega (arith, l
 pub steps_less : (types : List SubType) (s : ℕ) (u : SubType) (above : Option ℕ) → IsOrderly types → slice_get types s ≡ Some u → above ≡ Some s → steps_left u.supertype < steps_left above
 steps_less types s u above orderly at is = rw is (steps_fewer s u.supertype (λ r up. (orderly.under s r u at up).0))
 
--- marks over orderly types, from a type upward
+-- marks over orderly types, from a type upwards
 module _ (types : List SubType) (orderly : IsOrderly types) (from : Option ℕ) (old : List Ground) where
   -- nothing is marked yet
   pub marking_begins : ((s : ℕ) → from ≡ Some s → (s < length types) × (s < length old)) → IsMarking types from from old old
@@ -96,7 +96,7 @@ module _ (types : List SubType) (orderly : IsOrderly types) (from : Option ℕ) 
     before = λ s j is lower. refl;
   }
 
-  -- a type is marked, and the type above it is next
+  -- a type is marked, and its supertype is next
   pub marking_goes_on : (grounds : List Ground) (s : ℕ) (u : SubType) (x : Ground) → x.own ≡ own_at grounds s → IsTrue x.below → slice_get types s ≡ Some u → IsMarking types from (Some s) old grounds → IsMarking types from u.supertype old (set grounds s x)
   marking_goes_on grounds s u x is_own marks at h =
       let (inside, entry, first) = h.next s refl in
@@ -134,7 +134,7 @@ module _ (types : List SubType) (orderly : IsOrderly types) (from : Option ℕ) 
             beside j (λ same. omega (arith, same, under, less)) ∙ h.before s j refl (omega (arith, under, less));
       }
 
-  -- above a type that was marked before, all is marked
+  -- all supertypes of a type that was marked before are marked
   pub marking_stops : (grounds : List Ground) (s : ℕ) → IsTrue (below_at grounds s) → IsMarking types from (Some s) old grounds → AreClosed types old → AreMarked types from old grounds
   marking_stops grounds s marks h closed = record {
     long = h.long;
@@ -154,7 +154,7 @@ module _ (types : List SubType) (orderly : IsOrderly types) (from : Option ℕ) 
     );
   }
 
-  -- with no type above, all is marked
+  -- without a further supertype, all types are marked
   pub marking_ends : (grounds : List Ground) (above : Option ℕ) → above ≡ None → IsMarking types from above old grounds → AreMarked types from old grounds
   marking_ends grounds above none h = record {
     long = h.long;

@@ -1,4 +1,4 @@
--- What stands below what, a lemma for each row of the rules.
+-- Subtyping, a lemma for each row of the rules.
 use Rattle.std.proofs.Common.{rules, ◌≡◌, ℕ, Bool, List, Some, IsTrue, refl}
 use Rattle.std.specs.Prelude.{slice_get}
 use Rattle.smith_types.specs.declared.value_type.AbstractHeapType.{AbstractHeapType}
@@ -44,21 +44,21 @@ below_abstract types s heap.None heap.Eq below = IsBelow-trans types (one_step t
 below_abstract types s heap.None heap.Any below = IsBelow-trans types (one_step types s heap.None heap.I31 refl) (IsBelow-trans types (one_step types s heap.I31 heap.Eq refl) (one_step types s heap.Eq heap.Any refl))
 below_abstract types s a b below = search rules
 
--- a type is below its declared supertype
+-- a type is a subtype of its declared supertype
 pub below_declared : (types : List SubType) (i j : ℕ) (t : SubType) → slice_get types i ≡ Some t → t.supertype ≡ Some j → IsBelow types (Concrete i) (Concrete j)
 below_declared types i j t at sup = by_step {a = Concrete i} {b = Concrete j} (t, at, sup) itself
 
--- a type is below its kind
+-- a type is a subtype of its kind
 pub below_kind : (types : List SubType) (i : ℕ) (t : SubType) → slice_get types i ≡ Some t → IsBelow types (Concrete i) (Abstract (shared t) (kind t))
 below_kind types i t at = by_step {a = Concrete i} {b = Abstract (shared t) (kind t)} (t, at, refl, refl) itself
 
--- a type, exact or not, is above the bottom of its kind
+-- a type, exact or not, is a supertype of the bottom of its kind
 pub above_bottom : (types : List SubType) (s : Bool) (x : AbstractHeapType) (j : ℕ) (t : SubType) → slice_get types j ≡ Some t → s ≡ shared t → x ≡ bottom t → IsBelow types (Abstract s x) (Concrete j)
 above_bottom types s x j t at shares bottoms = by_step {a = Abstract s x} {b = Concrete j} (t, at, shares, bottoms) itself
 
 pub exact_above_bottom : (types : List SubType) (s : Bool) (x : AbstractHeapType) (j : ℕ) (t : SubType) → slice_get types j ≡ Some t → s ≡ shared t → x ≡ bottom t → IsBelow types (Abstract s x) (Exact j)
 exact_above_bottom types s x j t at shares bottoms = by_step {a = Abstract s x} {b = Exact j} (t, at, shares, bottoms) itself
 
--- an exact type is below its type
+-- an exact type is a subtype of its concrete type
 pub exact_below : (types : List SubType) (i : ℕ) → IsBelow types (Exact i) (Concrete i)
 exact_below types i = by_step {a = Exact i} {b = Concrete i} refl itself

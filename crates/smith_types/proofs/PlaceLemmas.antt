@@ -26,12 +26,12 @@ use Rattle.smith_types.proofs.WalkLemmas.{below_depth, below_level}
 abbrev pub no_place : Place
 no_place = record { start = 0; depth = 0; counts = record { arrays = 0; funcs = 0; structs = 0; shared_arrays = 0; shared_funcs = 0; shared_structs = 0 } }
 
--- a place, read as code reads it
+-- a place, in the form of the code
 pub place_read : (types : List SubType) (table : List ℕ) (places : List Place) (i : ℕ) (place d : Place) → ArePlaces types table places → i < length types → place ≡ get_or places i d → IsPlace types table i place
 place_read types table places i place d known inside read =
     known.each i place (slice_get-get_or places i d (omega (arith, known.long)) ∙ ap Some (sym read))
 
--- the number of types of a kind up to a type, read as code reads it
+-- the number of types of a kind up to a type, in the form of the code
 pub count_read : (types now : List SubType) (table : List ℕ) (places : List Place) (i n : ℕ) (place d : Place) (s : Bool) (kind : AbstractHeapType) → types ≡ now → ArePlaces types table places → i < length now → place ≡ get_or places i d → n ≡ count_at place.counts s kind
     → n ≡ count_where (is_of_kind s kind) (take (suc i) now)
 count_read types now table places i n place d s kind view known inside read is =
@@ -49,7 +49,7 @@ depths_known types table places known = record {
       (known.each i (get_or places i d) (slice_get-get_or places i d within)).depth;
 }
 
--- the entry of a row at the depth of another type is this other type exactly where it is above
+-- the entry of a row at the depth of another type is that type exactly if it is a supertype
 pub row_decides : (types : List SubType) (table : List ℕ) (i j : ℕ) (p q : Place) (found : ℕ) → IsOrderly types → IsPlace types table i p → IsPlace types table j q → q.depth < p.depth → found ≡ get_or table (p.start + (q.depth - 1)) found
     → IsTrue (nat_eq found j) ↔ IsBelow types (Concrete i) (Concrete j)
 row_decides types table i j p q found orderly lower upper less read =
@@ -63,7 +63,7 @@ row_decides types table i j p q found orderly lower upper less read =
       λ below. eq-eqb found j (below_level types orderly i found j q.depth ancestor.above below deep upper.depth),
     )
 
--- no other type that is as deep, or deeper, is above a type
+-- no other type of the same or greater depth is a supertype
 pub none_as_deep_above : (types : List SubType) (table : List ℕ) (i j : ℕ) (p q : Place) → IsOrderly types → IsPlace types table i p → IsPlace types table j q → (i ≡ j → ⊥) → p.depth ≤ q.depth
     → IsTrue (nat_lt q.depth p.depth) ↔ IsBelow types (Concrete i) (Concrete j)
 none_as_deep_above types table i j p q orderly lower upper other more = (
@@ -76,11 +76,11 @@ none_as_deep_above types table i j p q orderly lower upper other more = (
       absurd (other (below_level types orderly i i j q.depth itself below (subst (λ n. HasDepth types i n) same lower.depth) upper.depth)),
 )
 
--- a type is below itself
+-- a type is a subtype of itself
 pub itself_below : (types : List SubType) (i j : ℕ) → i ≡ j → IsTrue true ↔ IsBelow types (Concrete i) (Concrete j)
 itself_below types i j same = (λ yes. subst (λ n. IsBelow types (Concrete i) (Concrete n)) same itself, λ below. refl)
 
--- the ancestor of a depth, read as code reads it
+-- the supertype of a given depth, in the form of the code
 pub ancestor_read : (types now : List SubType) (table : List ℕ) (places : List Place) (i depth : ℕ) (place d : Place) (found : ℕ) → types ≡ now → ArePlaces types table places → i < length now → place ≡ get_or places i d → 0 < depth → ((own : ℕ) → HasDepth now i own → depth ≤ own) → (depth ≡ place.depth → ⊥)
     → (place.start + (depth - 1) < length table) × (found ≡ get_or table (place.start + (depth - 1)) found → IsAncestor now i depth found)
 ancestor_read types now table places i depth place d found view known inside read some within other =
@@ -98,7 +98,7 @@ ancestor_read types now table places i depth place d found view known inside rea
           subst (λ xs. IsAncestor xs i depth found) view (subst (λ n. IsAncestor types i n found) level (subst (λ n. IsAncestor types i (suc (depth - 1)) n) stands ancestor)),
     )
 
--- a type is its own ancestor, of its own depth
+-- a type is its own supertype of its own depth
 pub ancestor_own : (types now : List SubType) (table : List ℕ) (places : List Place) (i depth : ℕ) (place d : Place) → types ≡ now → ArePlaces types table places → i < length now → place ≡ get_or places i d → depth ≡ place.depth → IsAncestor now i depth i
 ancestor_own types now table places i depth place d view known inside read same =
     let row = place_read types table places i place d known (rw view inside) read in
@@ -107,14 +107,14 @@ ancestor_own types now table places i depth place d view known inside read same 
       above = itself;
     }
 
--- an ancestor stays as the list grows
+-- a supertype is unchanged as the list grows
 IsAncestor-grown : (types more : List SubType) (i depth ancestor : ℕ) → IsAncestor types i depth ancestor → IsAncestor (types ++ more) i depth ancestor
 IsAncestor-grown types more i depth ancestor h = record {
   depth_is = HasDepth-grown types more h.depth_is;
   above = IsBelow-grown types more h.above;
 }
 
--- a place stays as the list and the table grow
+-- a place is unchanged as the list and the table grow
 IsPlace-grown : (types more : List SubType) (table longer : List ℕ) (i : ℕ) (place : Place) → i < length types → IsLonger table longer → IsPlace types table i place → IsPlace (types ++ more) longer i place
 IsPlace-grown types more table longer i place inside behind h =
     let within : place.start + place.depth ≤ length table + 1 = h.within in record {
@@ -126,7 +126,7 @@ IsPlace-grown types more table longer i place inside behind h =
           subst (λ n. IsAncestor (types ++ more) i (suc k) n) (sym read) (IsAncestor-grown types more i (suc k) (slice_index table (place.start + k)) (h.row k small));
     }
 
--- the places stay as the table grows
+-- the places are unchanged as the table grows
 pub ArePlaces-longer : (types : List SubType) (table longer : List ℕ) (places : List Place) → IsLonger table longer → ArePlaces types table places → ArePlaces types longer places
 ArePlaces-longer types table longer places behind before = record {
   long = before.long;
@@ -158,7 +158,7 @@ ArePlaces-push types t table longer places place before behind last = record {
 all_taken : (types : List SubType) (t : SubType) → take (suc (length types)) (types ++ t ∷ []) ≡ types ++ t ∷ []
 all_taken types t = take_all (suc (length types)) (types ++ t ∷ []) (simp length-append (omega arith))
 
--- the counts up to the last place, read as code reads it
+-- the counts up to the last place, in the form of the code
 pub last_counts-last : (counts : KindCounts) (places : List Place) (d : Place) → 1 ≤ length places → (get_or places (length places - 1) d).counts ≡ last_counts_from counts places
 last_counts-last counts [] d some = absurd (omega arith)
 last_counts-last counts (p ∷ []) d some = refl
@@ -177,13 +177,13 @@ counts_known types table (p ∷ places) known =
     let all : take (suc last) types ≡ types = take_all (suc last) types (omega (arith, end)) in
     subst (λ c. AreCounts types c) (last_counts-last no_place.counts (p ∷ places) p (omega arith)) (rw all at place.counts)
 
--- how many types of a kind there are, read as code reads it
+-- the number of types of a kind, in the form of the code
 pub count_of_all : (types now : List SubType) (table : List ℕ) (places : List Place) (s : Bool) (kind : AbstractHeapType) (n : ℕ) → types ≡ now → ArePlaces types table places → n ≡ count_at (last_counts places) s kind → n ≡ length (indices_of_kind now s kind)
 count_of_all types now table places s kind n view known is =
     subst (λ xs. n ≡ length (indices_of_kind xs s kind)) view
     (is ∙ (counts_known types table places known).each s kind ∙ sym (length_indices (is_of_kind s kind) 0 types))
 
--- the counts with a type more
+-- the counts with one more type
 pub counts_more : (types : List SubType) (table : List ℕ) (places : List Place) (t : SubType) → ArePlaces types table places → AreCounts (types ++ t ∷ []) (counts_with (shared t) t.composite_type.inner (last_counts places))
 counts_more types table places t known = AreCounts-push types t (last_counts places) (counts_known types table places known)
 
@@ -195,7 +195,7 @@ counts_room types table places t known follows s kind =
     let few : length types + 1 < 2 ^ 32 = follows.room in
     omega (arith, is, most, few)
 
--- the place of the supertype of a type that is to be added
+-- the place of the supertype of a type to be added
 pub record IsStanding (types : List SubType) (table : List ℕ) (i : ℕ) (place : Place) : Type 0 where
   pub inside : i < length types
   pub known : IsPlace types table i place
@@ -211,7 +211,7 @@ place_above types table places t s orderly known follows up =
     let least : (get_or places s (no_place)).depth ≤ s + 1 = HasDepth-le types orderly place.depth in
     record { inside = inside; known = place; shallow = omega (arith, few, inside, least) }
 
--- the row of a type that is added below a supertype: that of the supertype, and the supertype
+-- the row of a type added below a supertype: the row of the supertype, then the supertype
 pub place_below : (types : List SubType) (t : SubType) (table ended : List ℕ) (s start : ℕ) (above : Place) (counts : KindCounts) → AreCounts (types ++ t ∷ []) counts → IsPlace types table s above → t.supertype ≡ Some s → IsRowAtEnd table above ended start
     → IsPlace (types ++ t ∷ []) (ended ++ s ∷ []) (length types) (record { start = start; depth = above.depth + 1; counts = counts })
 place_below types t table ended s start above counts count known up row =
@@ -240,7 +240,7 @@ place_below types t table ended s start above counts count known up row =
       ];
     }
 
--- a type that is added without a supertype has no row
+-- a type added without a supertype has an empty row
 pub place_alone : (types : List SubType) (t : SubType) (table : List ℕ) (counts : KindCounts) → AreCounts (types ++ t ∷ []) counts → t.supertype ≡ None → IsPlace (types ++ t ∷ []) table (length types) (record { start = 0; depth = 1; counts = counts })
 place_alone types t table counts count none = record {
   depth = root {t = t} (slice_get-last types t) none;

@@ -1,4 +1,4 @@
--- Heap types that stand, since one below or above them does.
+-- Heap types that exist because a subtype or supertype does.
 use Rattle.std.proofs.Common.{ℕ, ◌<◌, List, length, sym, subst, arith}
 use Rattle.std.proofs.lemmas.Option.{slice_get_within}
 use Rattle.smith_types.specs.declared.value_type.HeapType.{HeapType}
@@ -16,7 +16,7 @@ step_stands types (Concrete i) (Exact j) step h = absurd step
 step_stands types (Exact i) (Abstract r b) step h = absurd step
 step_stands types (Exact i) (Exact j) step h = absurd step
 
--- a heap type below one that stands
+-- a subtype of an existing heap type exists
 pub below_stands : (types : List SubType) (a b : HeapType) → IsBelow types a b → IsInRange types b → IsInRange types a
 below_stands types a b itself h = h
 below_stands types a c (by_step {b = b} step below) h = step_stands types a b step (below_stands types b c below h)
@@ -30,7 +30,7 @@ step_up_stands types orderly (Exact i) (Concrete j) same h = subst (λ (n : ℕ)
 step_up_stands types orderly (Concrete i) (Exact j) step h = absurd step
 step_up_stands types orderly (Exact i) (Exact j) step h = absurd step
 
--- a heap type above one that stands
+-- a supertype of an existing heap type exists
 pub above_stands : (types : List SubType) → IsOrderly types → (a b : HeapType) → IsBelow types a b → IsInRange types a → IsInRange types b
 above_stands types orderly a b itself h = h
 above_stands types orderly a c (by_step {b = b} step below) h = above_stands types orderly b c below (step_up_stands types orderly a b step h)

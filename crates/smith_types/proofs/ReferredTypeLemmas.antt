@@ -1,4 +1,4 @@
--- Types that refer to types that stand.
+-- Types that refer only to types that exist.
 use Rattle.std.proofs.Common.{◌≡◌, ◌<◌, List, length, sym, subst, ◌∙◌, arith, get_or}
 use Rattle.std.specs.Prelude.{All}
 use Rattle.std.proofs.lemmas.List.Elements.{All-weaker}
@@ -22,7 +22,7 @@ use Rattle.smith_types.specs.declared.composite_type.SubType.{SubType}
 use Rattle.smith_types.specs.declared.composite_type.CompositeInnerType.{CompositeInnerType}
 use Rattle.smith_types.specs.declared.composite_type.CompositeInnerType.TheVariants.{Array, Func, Struct}
 
--- the types that a composite type refers to stand
+-- the types that a composite type refers to exist
 stored_in_range : (types : List SubType) (storage : StorageType) → IsStored (IsValInRange types) storage → IsStorageInRange types storage
 stored_in_range types I8 h = tt
 stored_in_range types I16 h = tt
@@ -35,7 +35,7 @@ inner_in_range types (Struct structure) h =
     All-weaker (λ (field : FieldType). IsStored (IsValInRange types) field.element_type) (IsFieldInRange types) (λ field. stored_in_range types field.element_type) structure.fields
     (held_from_values (IsValInRange types) (Struct structure) h)
 
--- types whose values refer to types that stand do so themselves
+-- types whose value types refer only to existing types do so themselves
 pub all_in_range : (types : List SubType) → All (λ (t : SubType). All (IsValInRange types) (values_of t.composite_type.inner)) types → AreInRange types
 all_in_range types all = record {
   each = λ i t at.
@@ -56,7 +56,7 @@ value_in_range features types F32 h = tt
 value_in_range features types F64 h = tt
 value_in_range features types V128 h = tt
 
--- the types of a valid space refer to types that stand
+-- the types of a valid space refer only to existing types
 pub valid_in_range : (features : Features) (space : Space) → AreTypesValid features space → All (λ (t : SubType). All (IsValInRange space.types) (values_of t.composite_type.inner)) space.types
 valid_in_range features space valid i d inside =
     let t = get_or space.types i d in

@@ -1,4 +1,4 @@
--- What holds of a result whose test said which it is.
+-- Properties of a result after a test of its variant.
 use Rattle.std.proofs.Common.{◌≡◌, true, false, Result, Ok, Err}
 use Rattle.std.specs.Prelude.{is_err, OnOk, OnErr}
 

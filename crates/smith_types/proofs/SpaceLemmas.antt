@@ -1,4 +1,4 @@
--- What holds of a type space holds with one more type or group.
+-- The properties of a type space are preserved by one more type or group.
 use Rattle.std.proofs.Common.{◌≡◌, ℕ, suc, ◌+◌, ◌-◌, ◌^◌, ◌<◌, ◌≤◌, List, [], ◌∷◌, ◌++◌, Some, get_or, length, refl, sym, ◌∙◌, subst, inl, inr, arith, ap}
 use Rattle.std.specs.Prelude.{Bool, true, false, not, ◌&&◌, nat_lt, if◌then◌else◌, slice_get}
 use Rattle.std.specs.declared.ops.Range.{Range}
@@ -9,7 +9,7 @@ use Rattle.smith_types.specs.Types.{IsAlike, IsOrderly, end_from, next_start, ne
 use Rattle.smith_types.specs.Space.{IsSound, MayFollow, HasDepth, root, deeper, extensible_from}
 use Rattle.smith_types.proofs.ListLemmas.{slice_get-grown, slice_get-push}
 
--- what stands below the end of a list stood there before an item was added
+-- an item below the end of a list was there before another was appended
 slice_get-shrunk : {A : Type 0} (xs : List A) (y : A) (i : ℕ) (x : A) → i < length xs → slice_get (xs ++ y ∷ []) i ≡ Some x → slice_get xs i ≡ Some x
 slice_get-shrunk xs y i x inside at = elim (slice_get-push xs y i x at) [ inl old ↦ old | inr (is, same) ↦ absurd (omega arith) ]
 
@@ -31,12 +31,12 @@ IsOrderly-push types t orderly below = record {
   ];
 }
 
--- a depth stays as the list grows
+-- a depth is unchanged as the list grows
 pub HasDepth-grown : (types more : List SubType) {i d : ℕ} → HasDepth types i d → HasDepth (types ++ more) i d
 HasDepth-grown types more (root {i = i} {t = t} at none) = root (slice_get-grown types more i t at) none
 HasDepth-grown types more (deeper {i = i} {t = t} at up above) = deeper (slice_get-grown types more i t at) up (HasDepth-grown types more above)
 
--- a type has one depth
+-- the depth of a type is unique
 pub depth_alone : (types : List SubType) {i d e : ℕ} → HasDepth types i d → HasDepth types i e → d ≡ e
 depth_alone types (root {i = i} {t = t} at none) (root {t = u} at' none') = refl
 depth_alone types (root {i = i} {t = t} at none) (deeper {s = s} {t = u} at' up above) =
@@ -48,12 +48,12 @@ depth_alone types (deeper {i = i} {s = s} {t = t} at up above) (deeper {s = r} {
     let one : s ≡ r = same_Some s r (sym up ∙ ap (λ (t : SubType). t.supertype) same ∙ up') in
     ap suc (depth_alone types above (subst (λ (n : ℕ). HasDepth types n e) (sym one) above'))
 
--- a type is itself on its way up
+-- a depth is at least 1
 pub depth_some : (types : List SubType) {i d : ℕ} → HasDepth types i d → 1 ≤ d
 depth_some types (root at none) = omega arith
 depth_some types (deeper at up above) = omega arith
 
--- a type's depth is at most the number of types up to it
+-- the depth of a type is at most the number of types up to it
 pub HasDepth-le : (types : List SubType) → IsOrderly types → {i d : ℕ} → HasDepth types i d → d ≤ i + 1
 HasDepth-le types orderly (root at none) = omega arith
 HasDepth-le types orderly (deeper {i = i} {s = s} {t = t} at up above) =
@@ -69,7 +69,7 @@ pub AreConsecutive-push : (start : ℕ) (groups : List (Range ℕ)) (group : Ran
 AreConsecutive-push start [] group c begins ends = (begins, omega arith, tt)
 AreConsecutive-push start (g ∷ groups) group (p, q, r) begins ends = (p, q, AreConsecutive-push g.end groups group r begins ends)
 
--- where the next group begins after one more group
+-- the start of the next group after one more group
 pub next_start-push : (types : List SubType) (groups : List (Range ℕ)) → next_start (groups ++ next_group types groups ∷ []) ≡ length types
 next_start-push types groups = end_from-push 0 groups (next_group types groups)
 
@@ -81,7 +81,7 @@ IsSound-type types groups t sound follows = record {
   few = simp length-append (let r : length types + 1 < 2 ^ 32 = follows.room in omega arith);
 }
 
--- with one more group that ends where the types end, the groups cover them
+-- with one more group that ends where the types end, the groups cover the types
 pub AreCovered-group : (types : List SubType) (groups : List (Range ℕ)) → IsSound (record { types = types; groups = groups }) → AreCovered types (groups ++ next_group types groups ∷ [])
 AreCovered-group types groups sound = record {
   consecutive = AreConsecutive-push 0 groups (next_group types groups) sound.consecutive refl sound.within;
@@ -96,7 +96,7 @@ IsSound-group types groups sound = record {
   few = sound.few;
 }
 
--- the end of the last group, read as code reads it
+-- the end of the last group, in the form of the code
 pub end_from-last : (start : ℕ) (groups : List (Range ℕ)) → 1 ≤ length groups → (get_or groups (length groups - 1) (record { start = 0; end = 0 })).end ≡ end_from start groups
 end_from-last start [] some = absurd (omega arith)
 end_from-last start (g ∷ []) some = refl
@@ -108,7 +108,7 @@ added_behind : (b : Bool) (i : ℕ) (xs ys more : List ℕ) → ys ≡ xs ++ mor
 added_behind true i xs ys more e = ap (λ (l : List ℕ). i ∷ l) e
 added_behind false i xs ys more e = e
 
--- the indices of the types that may have subtypes, with one type more
+-- the indices of the types that may have subtypes, with one more type
 pub extensible-push : (first last : ℕ) (types : List SubType) (t : SubType) (depths : List ℕ) (d : ℕ) → length depths ≡ length types → last ≡ first + length types
     → extensible_from first (types ++ t ∷ []) (depths ++ d ∷ []) ≡ extensible_from first types depths ++ (if not t.is_final && nat_lt d 60 then last ∷ [] else [])
 extensible-push first last [] t [] d long is = let same : last ≡ first = omega arith in rw same refl

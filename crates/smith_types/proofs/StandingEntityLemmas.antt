@@ -1,4 +1,4 @@
--- Entities by their places.
+-- Entities by their positions.
 use Rattle.std.proofs.Common.{zero, suc, ◌≡◌, ℕ, ◌<◌, List, [], ◌∷◌, Some, length, refl, arith}
 use Rattle.std.specs.Prelude.{slice_get}
 use Rattle.std.proofs.lemmas.Option.{slice_get_within}
@@ -15,7 +15,7 @@ item_at [] index inside = absurd (omega arith)
 item_at (item ∷ items) zero inside = (item, refl)
 item_at (item ∷ items) (suc index) inside = item_at items index (omega arith)
 
--- an entity stands at each place of its list, and nowhere else
+-- each position of an index space below its length has an entity, and no other does
 pub entity_there : (spaces : IndexSpaces) (kind : ExportKind) (index : ℕ) → index < count_at spaces kind → (ty : EntityType) × IsEntityAt spaces kind index ty
 entity_there spaces kind.Func index inside = let (item, at) = item_at spaces.funcs index inside in (entity.Func item, (item, at, refl))
 entity_there spaces kind.Table index inside = let (item, at) = item_at spaces.tables index inside in (entity.Table item, (item, at, refl))

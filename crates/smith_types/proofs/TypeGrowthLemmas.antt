@@ -1,4 +1,4 @@
--- Valid types stay valid when whole groups are added behind them.
+-- Valid types stay valid when whole groups are appended.
 use Rattle.std.proofs.Common.{◌≡◌, ℕ, ◌≤◌, List, [], ◌∷◌, ◌++◌, length, subst, sym, ◌∙◌, refl, arith}
 use Rattle.std.specs.Prelude.{slice_index_or, All}
 use Rattle.std.proofs.lemmas.List.Elements.{All-append, All-from_recursion}
@@ -11,14 +11,14 @@ use Rattle.smith_types.specs.declared.composite_type.SubType.{SubType}
 use Rattle.smith_types.proofs.ListLemmas.{slice_get-front}
 use Rattle.smith_types.proofs.ValidityLemmas.{IsTypeValid-grown, ends_within}
 
--- a group that stands stays valid
+-- an existing group stays valid
 pub IsGroupValid-more : (features : Features) (types more : List SubType) (group : Range ℕ) → group.end ≤ length types → IsGroupValid features types group → IsGroupValid features (types ++ more) group
 IsGroupValid-more features types more group inside h = record {
   members = λ i t low high at. IsTypeValid-grown features types more group.end t (h.members i t low high (slice_get-front types more i t (omega (arith, high, inside)) at));
   single = h.single;
 }
 
--- where groups end that have more behind them
+-- the end of groups with others appended
 end_from-append : (start : ℕ) (groups further : List (Range ℕ)) → end_from start (groups ++ further) ≡ end_from (end_from start groups) further
 end_from-append start [] further = refl
 end_from-append start (group ∷ groups) further = end_from-append group.end groups further

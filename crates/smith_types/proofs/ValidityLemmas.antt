@@ -1,4 +1,4 @@
--- What is valid stays valid when types are added, and one more group of one type is valid where its type is.
+-- Valid types stay valid when types are added, and one more group of one valid type is valid.
 use Rattle.std.proofs.Common.{◌≡◌, ◌⊎◌, ℕ, zero, suc, ◌+◌, ◌<◌, ◌≤◌, List, [], ◌∷◌, ◌++◌, Some, length, refl, sym, subst, arith, length-append, inl, inr}
 use Rattle.std.specs.Prelude.{slice_get, slice_index_or, All}
 use Rattle.std.specs.List.{AllByRecursion as ByRecursion}
@@ -98,7 +98,7 @@ before_or_not a zero = inr (omega arith)
 before_or_not zero (suc b) = inl (omega arith)
 before_or_not (suc a) (suc b) = elim (before_or_not a b) [ inl lt ↦ inl (omega arith) | inr le ↦ inr (omega arith) ]
 
--- what holds of each of consecutive groups holds of the group that an index is in
+-- a property of each of consecutive groups holds for the group that contains an index
 pub group_at : (P : Range ℕ → Type 0) (start : ℕ) (groups : List (Range ℕ)) (i : ℕ) → AreConsecutive start groups → ByRecursion P groups → start ≤ i → i < end_from start groups → (group : Range ℕ) × P group × (group.start ≤ i) × (i < group.end)
 group_at P start [] i c each low high = absurd (omega arith)
 group_at P start (group ∷ groups) i (begins, ordered, rest) (h, more) low high =
@@ -107,7 +107,7 @@ group_at P start (group ∷ groups) i (begins, ordered, rest) (h, more) low high
       | inr behind ↦ group_at P group.end groups i rest more behind high
     ]
 
--- each type is valid against the end of its group
+-- each type is valid for the end of its group
 pub AreTypesValid-at : (features : Features) (space : Space) → AreTypesValid features space → (i : ℕ) (t : SubType) → slice_get space.types i ≡ Some t → (end : ℕ) × IsTypeValid features space.types end t
 AreTypesValid-at features space valid i t at =
     let inside : i < length space.types = slice_get_within space.types i t at in

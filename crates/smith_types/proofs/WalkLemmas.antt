@@ -1,4 +1,4 @@
--- Subtyping of heap types by cases, as the test goes about it, and why it is the closure of the steps.
+-- Subtyping of heap types by cases, as in the test, and its equivalence with the closure of the steps.
 use Rattle.std.proofs.Common.{rules, ◌≡◌, ◌<◌, ◌≤◌, ℕ, Bool, List, Some, None, IsTrue, ◌↔◌, get_or, length, refl, sym, ◌∙◌, ap, subst, arith}
 use Rattle.std.specs.Prelude.{slice_get}
 use Rattle.std.proofs.lemmas.Option.{same_Some, none-some, slice_get_within, slice_get-get_or, slice_get_read}
@@ -15,20 +15,20 @@ use Rattle.smith_types.proofs.GrowthLemmas.{IsBelow-trans}
 use Rattle.smith_types.proofs.SpaceLemmas.{depth_alone}
 use Rattle.smith_types.proofs.PathLemmas.{below_abstract, below_declared, below_kind, above_bottom, exact_above_bottom, exact_below}
 
--- a type is reached from another by going from type to declared supertype
+-- a type is reached from another along declared supertypes
 pub data Reaches (types : List SubType) : ℕ → ℕ → Type 0 where
   here : {i : ℕ} → Reaches types i i
   up : {i s j : ℕ} {t : SubType} → slice_get types i ≡ Some t → t.supertype ≡ Some s → Reaches types s j → Reaches types i j
 
--- the type of an index is below an abstract type
+-- the type at an index is a subtype of an abstract type
 abbrev pub IsUnder : List SubType → ℕ → Bool → AbstractHeapType → Type 0
 IsUnder types i r b = (t : SubType) × (slice_get types i ≡ Some t) × (shared t ≡ r) × IsTrue (is_abstract_below (kind t) b)
 
--- an abstract type is the bottom of the type of an index
+-- an abstract type is the bottom of the type at an index
 abbrev pub IsBottomAt : List SubType → Bool → AbstractHeapType → ℕ → Type 0
 IsBottomAt types s a j = (t : SubType) × (slice_get types j ≡ Some t) × (s ≡ shared t) × (a ≡ bottom t)
 
--- one heap type is below another, by cases
+-- one heap type is a subtype of another, by cases
 abbrev pub IsBelowByCases : List SubType → HeapType → HeapType → Type 0
 IsBelowByCases types (Abstract s a) (Abstract r b) = (s ≡ r) × IsTrue (is_abstract_below a b)
 IsBelowByCases types (Abstract s a) (Concrete j) = IsBottomAt types s a j
@@ -59,7 +59,7 @@ kind_not_bottom x y same = search rules
 bottoms_of_kind : (x y : CompositeInnerType) → kind_of x ≡ kind_of y → bottom_of x ≡ bottom_of y
 bottoms_of_kind x y same = search rules
 
--- what is reached from a type stands, and is like it
+-- a type reached from another exists and has the same kind and sharedness
 pub alike_along : (types : List SubType) → IsOrderly types → (i j : ℕ) (t : SubType) → Reaches types i j → slice_get types i ≡ Some t → (u : SubType) × (slice_get types j ≡ Some u) × (kind t ≡ kind u) × (shared t ≡ shared u)
 alike_along types orderly i j t here at = (t, at, refl, refl)
 alike_along types orderly i j t (up {s = s} {t = v} at' sup reach) at =
@@ -71,13 +71,13 @@ alike_along types orderly i j t (up {s = s} {t = v} at' sup reach) at =
     let (u, at_end, kinds, shares) = alike_along types orderly s j _ reach stands in
     (u, at_end, ap kind same ∙ like.kind ∙ kinds, ap shared same ∙ like.shared ∙ shares)
 
--- a bottom below a type is the bottom of what that type reaches
+-- the bottom of a type is the bottom of each type that it reaches
 bottom_along : (types : List SubType) → IsOrderly types → (s : Bool) (x : AbstractHeapType) (j k : ℕ) → IsBottomAt types s x j → Reaches types j k → IsBottomAt types s x k
 bottom_along types orderly s x j k (t, at, shares, bottoms) reach =
     let (u, at_end, kinds, alike) = alike_along types orderly j k t reach at in
     (u, at_end, shares ∙ alike, bottoms ∙ bottoms_of_kind t.composite_type.inner u.composite_type.inner kinds)
 
--- a bottom below a type is below what that type is under
+-- the bottom of a type is a subtype of the abstract supertypes of that type
 bottom_under : (types : List SubType) (s q : Bool) (x z : AbstractHeapType) (j : ℕ) → IsBottomAt types s x j → IsUnder types j q z → (s ≡ q) × IsTrue (is_abstract_below x z)
 bottom_under types s q x z j (t, at, shares, bottoms) (u, at', alike, below) =
     let same : t ≡ u = same_Some t u (sym at ∙ at') in (
@@ -86,19 +86,19 @@ bottom_under types s q x z j (t, at, shares, bottoms) (u, at', alike, below) =
           (bottom_below_kind u.composite_type.inner z below),
     )
 
--- a type is under what its declared supertype is under
+-- an abstract supertype of a declared supertype is one of the type itself
 under_above : (types : List SubType) → IsOrderly types → (i j : ℕ) (q : Bool) (z : AbstractHeapType) (t : SubType) → slice_get types i ≡ Some t → t.supertype ≡ Some j → IsUnder types j q z → IsUnder types i q z
 under_above types orderly i j q z t at sup (u, at', shares, below) =
     let like = (orderly.under i j t at sup).1 u at' in
     (t, at, like.shared ∙ shares, subst (λ y. IsTrue (is_abstract_below y z)) (sym like.kind) below)
 
--- a heap type is below itself
+-- a heap type is a subtype of itself
 by_cases_itself : (types : List SubType) (a : HeapType) → IsBelowByCases types a a
 by_cases_itself types (Abstract s a) = (refl, below_itself a)
 by_cases_itself types (Concrete i) = here
 by_cases_itself types (Exact i) = refl
 
--- a step can be put in front
+-- a step can be prepended
 by_cases_step : (types : List SubType) → IsOrderly types → (a b c : HeapType) → IsStep types a b → IsBelowByCases types b c → IsBelowByCases types a c
 by_cases_step types o (Abstract s x) (Abstract r y) (Abstract q z) (p, step) (p', below) = (p ∙ p', below_by_step x y z step below)
 by_cases_step types o (Abstract s x) (Abstract r y) (Concrete k) (p, step) (u, at, p', bottoms) =
@@ -146,18 +146,18 @@ below_from_by_cases types (Exact i) (Abstract r b) under = IsBelow-trans types (
 below_from_by_cases types (Exact i) (Concrete j) reach = IsBelow-trans types (exact_below types i) (path_along types reach)
 below_from_by_cases types (Exact i) (Exact j) same = subst (λ n. IsBelow types (Exact i) (Exact n)) same itself
 
--- what decides the cases decides the closure
+-- a decision of the cases decides the closure
 pub decides_below : (types : List SubType) → IsOrderly types → (a b : HeapType) (r : Bool) → IsTrue r ↔ IsBelowByCases types a b → IsTrue r ↔ IsBelow types a b
 decides_below types o a b r decides = (λ yes. below_from_by_cases types a b (decides.0 yes), λ below. decides.1 (by_cases_from_below types o a b below))
 
--- a test of the cases of two heap types, read in code, decides the closure
+-- a test of the cases of two heap types, in the form of the code, decides the closure
 pub decides_at : (types : List SubType) → IsOrderly types → (a b x y : HeapType) → a ≡ x → b ≡ y → IsInRange types a → IsInRange types b → (r : Bool) → (IsInRange types x → IsInRange types y → IsTrue r ↔ IsBelowByCases types x y) → IsTrue r ↔ IsBelow types a b
 decides_at types o a b x y is_x is_y in_a in_b r decides =
     let cases = decides (subst (IsInRange types) is_x in_a) (subst (IsInRange types) is_y in_b) in
     subst (λ v. IsTrue r ↔ IsBelow types v b) (sym is_x)
     (subst (λ v. IsTrue r ↔ IsBelow types x v) (sym is_y) (decides_below types o x y r cases))
 
--- what is decided of the type that code reads at an index
+-- a decision about the type that the code reads at an index
 pub bottom_read : (types : List SubType) (s : Bool) (x : AbstractHeapType) (j : ℕ) (t : SubType) (r : Bool) → j < length types → t ≡ get_or types j t → IsTrue r ↔ ((s ≡ shared t) × (x ≡ bottom t)) → IsTrue r ↔ IsBottomAt types s x j
 bottom_read types s x j t r inside read decides =
     let stands = slice_get_read types (length types) j t refl inside read in (
@@ -176,7 +176,7 @@ under_read types i q z t r inside read decides =
           decides.1 (ap shared same ∙ shares, subst (λ y. IsTrue (is_abstract_below y z)) (sym (ap kind same)) below),
     )
 
--- going on from a type to another by declared supertypes is subtyping of the two
+-- reaching one type from another along declared supertypes is subtyping of the two
 pub reaches_read : (types : List SubType) → IsOrderly types → (i j : ℕ) (r : Bool) → IsTrue r ↔ IsBelow types (Concrete i) (Concrete j) → IsTrue r ↔ Reaches types i j
 reaches_read types o i j r decides = (λ yes. by_cases_from_below types o (Concrete i) (Concrete j) (decides.0 yes), λ reach. decides.1 (path_along types reach))
 
@@ -192,7 +192,7 @@ reaches_alone types i j t at none other (up {s = s'} {t = t'} at' sup' reach) =
     let same : t ≡ t' = same_Some t t' (sym at ∙ at') in
     none-some s' (sym none ∙ ap (λ x. x.supertype) same ∙ sup')
 
--- what is reached from a type is no deeper
+-- a type reached from another is at most as deep
 reaches_depth : (types : List SubType) (i j d e : ℕ) → Reaches types i j → HasDepth types i d → HasDepth types j e → e ≤ d
 reaches_depth types i j d e here deep end =
     let same : d ≡ e = depth_alone types deep end in
@@ -206,7 +206,7 @@ reaches_depth types i j d e (up {s = s} {t = t} at sup reach) (deeper {s = r} {d
     let less : e ≤ f = reaches_depth types s j f e reach (subst (λ n. HasDepth types n f) one above) end in
     omega (arith, less)
 
--- what is reached from a declared supertype is less deep
+-- a type reached from a declared supertype is less deep
 reaches_less : (types : List SubType) (i s j d e : ℕ) (t : SubType) → slice_get types i ≡ Some t → t.supertype ≡ Some s → Reaches types s j → HasDepth types i d → HasDepth types j e → e < d
 reaches_less types i s j d e t at sup reach (root {t = u} at' none) end =
     let same : t ≡ u = same_Some t u (sym at ∙ at') in
@@ -217,7 +217,7 @@ reaches_less types i s j d e t at sup reach (deeper {s = r} {d = f} {t = u} at' 
     let less : e ≤ f = reaches_depth types s j f e reach (subst (λ n. HasDepth types n f) one above) end in
     omega (arith, less)
 
--- from a type one type of a depth is reached
+-- at most one type of a given depth is reached from a type
 reaches_level : (types : List SubType) (i j k d : ℕ) → Reaches types i j → Reaches types i k → HasDepth types j d → HasDepth types k d → j ≡ k
 reaches_level types i j k d here here deep end = refl
 reaches_level types i j k d here (up {s = s} {t = t} at sup reach) deep end =
@@ -231,20 +231,20 @@ reaches_level types i j k d (up {s = s} {t = t} at sup reach) (up {s = s'} {t = 
     let to : s' ≡ s = same_Some s' s (sym sup' ∙ sym (ap (λ x. x.supertype) same) ∙ sup) in
     reaches_level types s j k d reach (subst (λ n. Reaches types n k) to on) deep end
 
--- a type is no deeper than one that is below it
+-- a type is at most as deep as its subtypes
 pub below_depth : (types : List SubType) → IsOrderly types → (i j d e : ℕ) → IsBelow types (Concrete i) (Concrete j) → HasDepth types i d → HasDepth types j e → e ≤ d
 below_depth types o i j d e below deep end = reaches_depth types i j d e (by_cases_from_below types o (Concrete i) (Concrete j) below) deep end
 
--- a type is below one type of a depth
+-- a type has at most one supertype of a given depth
 pub below_level : (types : List SubType) → IsOrderly types → (i j k d : ℕ) → IsBelow types (Concrete i) (Concrete j) → IsBelow types (Concrete i) (Concrete k) → HasDepth types j d → HasDepth types k d → j ≡ k
 below_level types o i j k d below on deep end =
     reaches_level types i j k d (by_cases_from_below types o (Concrete i) (Concrete j) below) (by_cases_from_below types o (Concrete i) (Concrete k) on) deep end
 
--- what another type is above, its declared supertype is below
+-- the declared supertype of a type is below each other supertype of it
 pub below_above : (types : List SubType) → IsOrderly types → (i s j : ℕ) (t : SubType) → slice_get types i ≡ Some t → t.supertype ≡ Some s → (i ≡ j → ⊥) → IsBelow types (Concrete i) (Concrete j) → IsBelow types (Concrete s) (Concrete j)
 below_above types o i s j t at sup other below = path_along types (reaches_above types i s j t at sup other (by_cases_from_below types o (Concrete i) (Concrete j) below))
 
--- a type without supertype is below no other
+-- a type without a declared supertype is a subtype of no other type
 pub below_alone : (types : List SubType) → IsOrderly types → (i j : ℕ) (d : SubType) → i < length types → (get_or types i d).supertype ≡ None → (i ≡ j → ⊥) → IsBelow types (Concrete i) (Concrete j) → ⊥
 below_alone types o i j d inside none other below =
     reaches_alone types i j (get_or types i d) (slice_get-get_or types i d inside) none other (by_cases_from_below types o (Concrete i) (Concrete j) below)
@@ -255,7 +255,7 @@ IsOverExact (Abstract s a) = (x : CompositeInnerType) → a ≡ bottom_of x → 
 IsOverExact (Concrete i) = Unit {0}
 IsOverExact (Exact i) = ⊥
 
--- no step leads back under an exact type
+-- no step leads back below an exact type
 over_step : (types : List SubType) (a b : HeapType) → IsStep types a b → IsOverExact a → IsOverExact b
 over_step types (Abstract s a) (Abstract r b) (p, step) over = λ x same. no_step_to_bottom x a (subst (λ y. IsTrue (is_abstract_step a y)) same step)
 over_step types (Abstract s a) (Concrete j) step over = tt

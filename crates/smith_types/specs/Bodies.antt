@@ -1,5 +1,5 @@
--- Bodies of functions: the section Validation, Functions, of the WebAssembly Core Specification 3.0. Where raw bytes may stand,
--- how many locals there may be, and what counts fuel are rules of this project.
+-- Bodies of functions: the section Validation, Functions, of the WebAssembly Core Specification 3.0. The conditions on raw
+-- bytes, on the number of locals, and on the fuel global are rules of this project.
 use Rattle.std.specs.Prelude.{◌≡◌, ℕ, ◌≤◌, true, false, IsTrue, Bool, List, Some, length, slice_get, All}
 use Rattle.smith_types.specs.Features.{Features}
 use Rattle.smith_types.specs.ValidTypes.{IsValTypeValid}
@@ -9,18 +9,19 @@ use Rattle.smith_types.specs.declared.code.Code.{Code}
 use Rattle.smith_types.specs.declared.code.Instructions.{Instructions}
 use Rattle.smith_types.specs.declared.code.Instructions.TheVariants.{Unreachable, Arbitrary}
 
--- `unreachable` is valid for every type (Validation, Instructions); raw bytes stand only where they may (own rule)
+-- `unreachable` is valid for every type (Validation, Instructions); raw bytes are valid only if `raw` is true (own rule)
 abbrev pub AreInstructionsValid : Bool → Instructions → Type 0
 AreInstructionsValid raw Unreachable = Unit {0}
 AreInstructionsValid raw (Arbitrary bytes) = IsTrue raw
 
--- a body over a number of types: locals of valid types (Validation, Functions), at most a hundred of them (own rule)
+-- a body in a module with this number of types: its locals have valid types (Validation, Functions), and there are at most
+-- 100 of them (own rule)
 pub record IsBodyValid (features : Features) (types : ℕ) (raw : Bool) (body : Code) : Type 0 where
   pub few : length body.locals ≤ 100
   pub locals : All (IsValTypeValid features types) body.locals
   pub instructions : AreInstructionsValid raw body.instructions
 
--- a global that counts fuel: a mutable i32 that is not shared (own rule), defined behind the imported ones
+-- a global that counts fuel: a mutable, unshared i32 (own rule), defined rather than imported
 pub record IsFuel (globals : List GlobalType) (imported index : ℕ) : Type 0 where
   pub defined : imported ≤ index
   pub stands : slice_get globals index ≡ Some (record { val_type = I32; mutable = true; shared = false })

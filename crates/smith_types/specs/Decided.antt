@@ -1,4 +1,5 @@
--- Facts of a whole by its parts, as decisions meet them: proofs turn each into the definition of validity that it stands for.
+-- Properties of a whole stated part by part, as the decision procedures establish them. Proofs derive the definitions of
+-- validity from them.
 use Rattle.std.specs.Prelude.{◌≡◌, ◌<◌, ◌≤◌, ℕ, List, [], Some, All, length, slice_get}
 use Rattle.std.specs.declared.ops.Range.{Range}
 use Rattle.smith_types.specs.Features.{Features}
@@ -20,29 +21,29 @@ use Rattle.smith_types.specs.declared.entity_type.ExportKind.TheVariants as kind
 use Rattle.smith_types.specs.declared.entity_type.GlobalType.{GlobalType}
 use Rattle.smith_types.specs.declared.entity_type.TableType.{TableType}
 
--- the value that is stored, if it is not packed, has a property
+-- a stored value type has the property; packed types always do
 abbrev pub IsStored : (ValType → Type 0) → StorageType → Type 0
 IsStored P I8 = Unit {0}
 IsStored P I16 = Unit {0}
 IsStored P (Val value) = P value
 
--- each value type of a composite type has a property
+-- each value type of a composite type has the property
 abbrev pub AreHeld : (ValType → Type 0) → CompositeInnerType → Type 0
 AreHeld P (Array array) = IsStored P array.0.element_type
 AreHeld P (Func function) = All P function.params × All P function.results
 AreHeld P (Struct structure) = All (λ (field : FieldType). IsStored P field.element_type) structure.fields
 
--- each value type that types, tables and globals name has a property
+-- each value type in types, tables and globals has the property
 pub record AreNamed (P : ValType → Type 0) (listed : List SubType) (spaces : IndexSpaces) : Type 0 where
   pub of_types : All (λ (t : SubType). All P (values_of t.composite_type.inner)) listed
   pub of_tables : All (λ (table : TableType). P (Ref table.element_type)) spaces.tables
   pub of_globals : All (λ (global : GlobalType). P global.val_type) spaces.globals
 
--- each type refers to types that stand
+-- each type refers only to types that exist
 pub record AreInRange (types : List SubType) : Type 0 where
   pub each : (i : ℕ) (t : SubType) → slice_get types i ≡ Some t → IsInnerInRange types t.composite_type.inner
 
--- each type of a group is valid
+-- each type of the group is valid
 pub record AreMembersValid (features : Features) (types : List SubType) (group : Range ℕ) : Type 0 where
   pub each : (i : ℕ) (t : SubType) → group.start ≤ i → i < group.end → slice_get types i ≡ Some t → IsTypeValid features types group.end t
 
@@ -67,7 +68,7 @@ pub record AreListsValid (features : Features) (types : List SubType) (spaces : 
   pub of_memories : All (IsMemoryValid features) spaces.memories
   pub of_globals : All (IsGlobalValid features types) spaces.globals
 
--- how many entities of a kind stand
+-- the number of entities of a kind
 abbrev pub count_at : IndexSpaces → ExportKind → ℕ
 count_at spaces kind.Func = length spaces.funcs
 count_at spaces kind.Table = length spaces.tables
@@ -75,6 +76,6 @@ count_at spaces kind.Memory = length spaces.memories
 count_at spaces kind.Global = length spaces.globals
 count_at spaces kind.Tag = length spaces.tags
 
--- what is exported stands
+-- each exported entity exists
 pub record AreExportsFound (spaces : IndexSpaces) (exported : List (List ℕ × ExportKind × ℕ)) : Type 0 where
   pub each : AreExportsStanding spaces exported

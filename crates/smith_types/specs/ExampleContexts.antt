@@ -1,4 +1,4 @@
--- Contexts that the examples speak of.
+-- Contexts used by the examples.
 use Rattle.std.specs.Prelude.{ℕ, List, [], ◌∷◌}
 use Rattle.smith_types.specs.declared.value_type.AbstractHeapType.TheVariants as heap
 use Rattle.smith_types.specs.declared.value_type.ValType.TheVariants.{I32, I64, Ref}
@@ -10,15 +10,15 @@ use Rattle.smith_types.specs.Expressions.{Context}
 use Rattle.smith_types.specs.ExampleTypes.{final_type, plain_func, struct, constant, variable, not_null, plain}
 use Rattle.smith_types.specs.ExampleEntities.{constant_global, variable_global}
 
--- a function type, a struct of one packed field, an array of numbers, a struct whose field may not be null, an array of such
--- references, and a struct of a packed field and a number
+-- a function type, a struct with one packed field, an array of numbers, a struct with a non-nullable field, an array of such
+-- references, and a struct with a packed field and a number
 abbrev pub context_types : List SubType
 context_types =
     final_type plain_func ∷ final_type (struct (constant I8 ∷ [])) ∷ final_type (Array (record { 0 = variable (Val I32) }))
     ∷ final_type (struct (constant (Val (Ref (not_null (plain heap.Func)))) ∷ [])) ∷ final_type (Array (record { 0 = constant (Val (Ref (not_null (plain heap.Func)))) }))
     ∷ final_type (struct (constant I16 ∷ variable (Val I64) ∷ [])) ∷ []
 
--- an imported function and a defined one; two imported globals, of which one is mutable, and a defined one
+-- an imported and a defined function; two imported globals, one of them mutable, and a defined one
 abbrev pub context_with : Features → ℕ → Context
 context_with features visible = record {
   features = features;

@@ -1,4 +1,4 @@
--- Entities that the examples speak of.
+-- Entities used by the examples.
 use Rattle.std.specs.Prelude.{ℕ, ◌^◌, true, false, List, [], ◌∷◌, Option, None}
 use Rattle.smith_types.specs.declared.value_type.RefType.{RefType}
 use Rattle.smith_types.specs.declared.value_type.ValType.{ValType}
@@ -13,23 +13,23 @@ use Rattle.smith_types.specs.declared.imports.ImportItem.{ImportItem}
 use Rattle.smith_types.specs.Flags.{funcref}
 use Rattle.smith_types.specs.Imports.{IndexSpaces, import_of}
 
--- a memory with 32-bit addresses, not shared, of a number of pages of 64 KiB
+-- an unshared memory with 32-bit addresses and pages of 64 KiB
 abbrev pub memory : ℕ → Option ℕ → MemoryType
 memory minimum maximum = record { minimum = minimum; maximum = maximum; memory64 = false; shared = false; page_size_log2 = None }
 
--- a memory of as many bytes as have 64-bit addresses
+-- a memory that covers all 64-bit addresses
 abbrev pub all_addresses : MemoryType
 all_addresses = record (memory (2 ^ 48) None) { memory64 = true }
 
--- a table with 32-bit addresses, not shared, of a number of these references
+-- an unshared table with 32-bit addresses
 abbrev pub table : RefType → ℕ → Option ℕ → TableType
 table element minimum maximum = record { element_type = element; minimum = minimum; maximum = maximum; table64 = false; shared = false }
 
--- a global that is immutable and not shared
+-- an immutable, unshared global
 abbrev pub constant_global : ValType → GlobalType
 constant_global value = record { val_type = value; mutable = false; shared = false }
 
--- a global that is mutable and not shared
+-- a mutable, unshared global
 abbrev pub variable_global : ValType → GlobalType
 variable_global value = record { val_type = value; mutable = true; shared = false }
 
@@ -43,11 +43,11 @@ one_of_each = record {
   globals = constant_global I32 ∷ [];
 }
 
--- an import of a group, which has this name
+-- an import of a group, with this name
 abbrev pub item : List ℕ → EntityType → ImportItem
 item name entity_type = record { name = name; entity_type = entity_type }
 
--- imports of two functions, and of one entity of each other kind
+-- imports of two functions and of one entity of each other kind
 abbrev pub mixed_imports : List Import
 mixed_imports =
     import_of [] [] (entity.Func 3) ∷ import_of [] [] (entity.Tag 2) ∷ import_of [] [] (entity.Memory (memory 1 None)) ∷ import_of [] [] (entity.Func 1)

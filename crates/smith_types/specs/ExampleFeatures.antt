@@ -1,8 +1,8 @@
--- Features that the examples speak of.
+-- Features used by the examples.
 use Rattle.std.specs.Prelude.{true, false}
 use Rattle.smith_types.specs.Features.{Features, every_feature}
 
--- all features but exact references
+-- all features except exact references
 abbrev pub usual_features : Features
 usual_features = record every_feature { custom_descriptors = false }
 
@@ -10,7 +10,7 @@ usual_features = record every_feature { custom_descriptors = false }
 abbrev pub without_gc : Features
 without_gc = record usual_features { gc = false }
 
--- no feature at all
+-- no features
 abbrev pub no_features : Features
 no_features = record {
   mutable_global = false;

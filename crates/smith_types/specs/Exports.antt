@@ -12,7 +12,7 @@ use Rattle.smith_types.specs.declared.entity_type.GlobalType.{GlobalType}
 use Rattle.smith_types.specs.declared.entity_type.MemoryType.{MemoryType}
 use Rattle.smith_types.specs.declared.entity_type.TableType.{TableType}
 
--- the type of the entity of a kind and an index, where it stands (Validation, Exports)
+-- the type of the entity with this kind and index, if it exists (Validation, Exports)
 abbrev pub IsEntityAt : IndexSpaces → ExportKind → ℕ → EntityType → Type 0
 IsEntityAt spaces kind.Func index ty = (func : ℕ) × (slice_get spaces.funcs index ≡ Some func) × (ty ≡ entity.Func func)
 IsEntityAt spaces kind.Table index ty = (table : TableType) × (slice_get spaces.tables index ≡ Some table) × (ty ≡ entity.Table table)
@@ -20,20 +20,20 @@ IsEntityAt spaces kind.Memory index ty = (memory : MemoryType) × (slice_get spa
 IsEntityAt spaces kind.Global index ty = (global : GlobalType) × (slice_get spaces.globals index ≡ Some global) × (ty ≡ entity.Global global)
 IsEntityAt spaces kind.Tag index ty = (tag : ℕ) × (slice_get spaces.tags index ≡ Some tag) × (ty ≡ entity.Tag tag)
 
--- no item of a list stands at two places
+-- no item occurs at two positions of the list
 pub record AreDistinct {A : Type 0} (items : List A) : Type 0 where
   pub once : (i j : ℕ) (item : A) → slice_get items i ≡ Some item → slice_get items j ≡ Some item → i ≡ j
 
--- each export is of an entity that stands (Validation, Exports)
+-- each export refers to an entity that exists (Validation, Exports)
 abbrev pub AreExportsStanding : IndexSpaces → List (List ℕ × ExportKind × ℕ) → Type 0
 AreExportsStanding spaces exports = All (λ (one : List ℕ × ExportKind × ℕ). (ty : EntityType) × IsEntityAt spaces one.1 one.2 ty) exports
 
--- each export is of an entity that stands, and no name is used twice (Validation, Modules)
+-- each export refers to an entity that exists, and names are distinct (Validation, Modules)
 pub record AreExportsValid (spaces : IndexSpaces) (exports : List (List ℕ × ExportKind × ℕ)) : Type 0 where
   pub stand : AreExportsStanding spaces exports
   pub distinct : AreDistinct (map (λ (one : List ℕ × ExportKind × ℕ). one.0) exports)
 
--- the start function takes and gives nothing (Validation, Start Function)
+-- the start function has no parameters and no results (Validation, Start Function)
 abbrev pub IsStartValid : List SubType → List ℕ → Option ℕ → Type 0
 IsStartValid types funcs None = Unit {0}
 IsStartValid types funcs (Some function) =

@@ -1,23 +1,24 @@
--- The types that are declared directly below a type, and what a type space keeps of them.
+-- The direct subtypes of a type, and how a type space represents them.
 use Rattle.std.specs.Prelude.{◌≡◌, ℕ, suc, ◌<◌, ◌≤◌, Bool, false, ◌==◌, Option, Some, None, List, [], length, slice_get}
 use Rattle.smith_types.specs.declared.composite_type.SubType.{SubType}
 use Rattle.smith_types.specs.declared.family.Family.{Family}
 use Rattle.smith_types.specs.KindCounts.{indices_from}
 
--- there is an index, and it is the given index
+-- the option holds this index
 abbrev pub is_index : ℕ → Option ℕ → Bool
 is_index index None = false
 is_index index (Some other) = other == index
 
--- a type is declared directly below the type of an index (Structure, Recursive Types)
+-- a type declares the type at this index as its supertype (Structure, Recursive Types)
 abbrev pub is_directly_below : ℕ → SubType → Bool
 is_directly_below index t = is_index index t.supertype
 
--- the indices, in order, of the types that are declared directly below the type of an index
+-- the indices, in order, of the types that declare the type at this index as their supertype
 abbrev pub direct_subtypes : List SubType → ℕ → List ℕ
 direct_subtypes types index = indices_from (is_directly_below index) 0 types
 
--- the direct subtypes of each type that has some: their number, the last of them, and before each other one the one before it
+-- the families of types: the number of direct subtypes, the last of them, and for each direct subtype the one before it;
+-- types without a family have no direct subtypes
 pub record AreFamilies (types : List SubType) (families : List Family) : Type 0 where
   pub count : (s : ℕ) (family : Family) → slice_get families s ≡ Some family → family.count ≡ length (direct_subtypes types s)
   pub last : (s k : ℕ) (family : Family) → slice_get families s ≡ Some family → suc k ≡ length (direct_subtypes types s) → slice_get (direct_subtypes types s) k ≡ Some family.last

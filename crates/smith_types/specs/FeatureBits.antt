@@ -36,11 +36,11 @@ feature_table =
     (codes "CUSTOM_DESCRIPTORS", 8388608) ∷
     []
 
--- whether the wanted bits are all among these
+-- whether all wanted bits are set
 abbrev pub has : ℕ → ℕ → Bool
 has bits wanted = bit_and bits wanted == wanted
 
--- bits joined with others where these are wanted
+-- the bits, joined with others if wanted
 unfoldable pub joined : ℕ → Bool → ℕ → ℕ
 joined bits wanted others = if wanted then bit_or bits others else bits
 

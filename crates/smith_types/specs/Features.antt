@@ -1,7 +1,7 @@
--- The features of WebAssembly that a module may use.
+-- The WebAssembly features that a module may use.
 use Rattle.std.specs.Prelude.{Bool, true}
 
--- which features are on, each named as its flag
+-- the enabled features, each named after its flag
 pub record Features : Type 0 where
   pub mutable_global : Bool
   pub wasm1 : Bool
@@ -28,7 +28,7 @@ pub record Features : Type 0 where
   pub multibyte_array_access : Bool
   pub custom_descriptors : Bool
 
--- every feature there is
+-- all features
 abbrev pub every_feature : Features
 every_feature = record {
   mutable_global = true;

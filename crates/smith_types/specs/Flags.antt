@@ -1,5 +1,5 @@
--- The features that each construct needs. That a module may use a construct only where its feature is on is a rule of this
--- project; the standard has one language.
+-- The features that each construct requires. That a module may use a construct only if its feature is enabled is a rule of
+-- this project; the standard defines one language.
 use Rattle.std.specs.Prelude.{◌≡◌, ℕ, ◌<◌, ◌≤◌, true, false, IsTrue, IsSome, length}
 use Rattle.smith_types.specs.Features.{Features}
 use Rattle.smith_types.specs.declared.value_type.AbstractHeapType.{AbstractHeapType}
@@ -23,40 +23,40 @@ IsAbstractEnabled features abstract.Exn = IsTrue features.exceptions
 IsAbstractEnabled features abstract.NoExn = IsTrue features.exceptions × IsTrue features.gc
 IsAbstractEnabled features _ = IsTrue features.gc
 
--- a heap type: shared, concrete and exact ones have features of their own (own rule)
+-- a heap type: shared, concrete and exact types require features of their own (own rule)
 abbrev pub IsHeapTypeEnabled : Features → HeapType → Type 0
 IsHeapTypeEnabled features (Abstract shared ty) = IsAbstractEnabled features ty × (IsTrue shared → IsTrue features.shared_everything_threads)
 IsHeapTypeEnabled features (Concrete index) = IsTrue features.gc
 IsHeapTypeEnabled features (Exact index) = IsTrue features.custom_descriptors
 
--- a composite type: arrays and structs, and functions of several results (own rule)
+-- a composite type: arrays, structs and functions with several results require features (own rule)
 abbrev pub IsInnerEnabled : Features → CompositeInnerType → Type 0
 IsInnerEnabled features (Array array) = IsTrue features.gc
 IsInnerEnabled features (Func function) = 1 < length function.results → IsTrue features.multi_value
 IsInnerEnabled features (Struct structure) = IsTrue features.gc
 
--- a subtype: not final, with a supertype, or shared (own rule)
+-- a subtype: types that are not final, have a supertype or are shared require features (own rule)
 pub record IsSubTypeEnabled (features : Features) (t : SubType) : Type 0 where
   pub inner : IsInnerEnabled features t.composite_type.inner
   pub not_final : t.is_final ≡ false → IsTrue features.gc
   pub supertype : IsSome t.supertype → IsTrue features.gc
   pub shared : IsTrue t.composite_type.shared → IsTrue features.shared_everything_threads
 
--- the reference type of tables before there were others: nullable, of functions that are not shared
+-- the only element type of tables if reference types are disabled: nullable, to unshared functions
 abbrev pub funcref : RefType
 funcref = record { nullable = true; heap_type = Abstract false abstract.Func }
 
--- the element type of a table or a segment: other than funcref only with reference types (own rule)
+-- the element type of a table or a segment: anything but funcref requires reference types (own rule)
 abbrev pub IsElementEnabled : Features → RefType → Type 0
 IsElementEnabled features element = (element ≡ funcref → ⊥) → IsTrue features.reference_types
 
--- a group of imports: compact ones need their feature (own rule)
+-- a group of imports: compact groups require their feature (own rule)
 abbrev pub IsImportsEnabled : Features → Imports → Type 0
 IsImportsEnabled features (Single imported) = Unit {0}
 IsImportsEnabled features (Compact1 imported_module items) = IsTrue features.compact_imports
 IsImportsEnabled features (Compact2 imported_module entity_type names) = IsTrue features.compact_imports
 
--- an instruction of a constant expression, by how many globals are imported (own rule)
+-- an instruction of a constant expression, given the number of imported globals (own rule)
 abbrev pub IsInstrEnabled : Features → ℕ → ConstInstr → Type 0
 IsInstrEnabled features imported (instr.I32Const value) = Unit {0}
 IsInstrEnabled features imported (instr.I64Const value) = Unit {0}

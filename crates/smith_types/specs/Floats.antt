@@ -1,16 +1,16 @@
--- Types that hold no floats. Rules of this project.
+-- Types without floats. Rules of this project.
 use Rattle.std.specs.Prelude.{All}
 use Rattle.smith_types.specs.declared.value_type.ValType.{ValType}
 use Rattle.smith_types.specs.declared.value_type.ValType.TheVariants.{F32, F64}
 use Rattle.smith_types.specs.declared.composite_type.SubType.{SubType}
 use Rattle.smith_types.specs.ValidTypes.{values_of}
 
--- a value type that is not a float
+-- a value type other than a float
 abbrev pub IsNoFloat : ValType → Type 0
 IsNoFloat F32 = ⊥
 IsNoFloat F64 = ⊥
 IsNoFloat _ = Unit {0}
 
--- a type whose parameters, results and fields are no floats
+-- a type without floats among its parameters, results and fields
 abbrev pub HasNoFloat : SubType → Type 0
 HasNoFloat t = All IsNoFloat (values_of t.composite_type.inner)

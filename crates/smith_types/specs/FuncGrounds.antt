@@ -1,4 +1,4 @@
--- What is kept of functions, to find at once what they ground.
+-- The record of noted functions that decides which heap types they ground.
 use Rattle.std.specs.Prelude.{◌≡◌, ◌↔◌, ℕ, ◌<◌, ◌⊎◌, Bool, true, false, ◌&&◌, ◌||◌, IsTrue, List, [], ◌∷◌, ◌++◌, length, Some, if◌then◌else◌}
 use Rattle.smith_types.specs.Subtyping.{is_abstract_below, IsInRange}
 use Rattle.smith_types.specs.Expressions.{Context, reference_to, function_reference}
@@ -16,46 +16,46 @@ use Rattle.smith_types.specs.declared.noted_kinds.Kinds.{Kinds}
 use Rattle.smith_types.specs.declared.noted_kinds.NotedKinds.{NotedKinds}
 use Rattle.smith_types.specs.declared.func_grounds.FuncGrounds.{FuncGrounds}
 
--- whether one of some kinds is below an abstract heap type
+-- whether one of the kinds is a subtype of an abstract heap type
 abbrev pub are_below : Kinds → AbstractHeapType → Bool
 are_below kinds b = ((kinds.arrays && is_abstract_below heap.Array b) || (kinds.funcs && is_abstract_below heap.Func b)) || (kinds.structs && is_abstract_below heap.Struct b)
 
--- some kinds, and that of a composite type
+-- the kinds with that of a composite type added
 abbrev pub kinds_with : CompositeInnerType → Kinds → Kinds
 kinds_with (Array a) kinds = record kinds { arrays = true }
 kinds_with (Func f) kinds = record kinds { funcs = true }
 kinds_with (Struct s) kinds = record kinds { structs = true }
 
--- the kinds of a sharedness
+-- the kinds with this sharedness
 abbrev pub kinds_of : NotedKinds → Bool → Kinds
 kinds_of kinds false = kinds.plain
 kinds_of kinds true = kinds.shared
 
--- the kinds of both, with that of a type of a sharedness
+-- the kinds with that of a composite type of this sharedness added
 abbrev pub noted_with : Bool → CompositeInnerType → NotedKinds → NotedKinds
 noted_with false inner kinds = record kinds { plain = kinds_with inner kinds.plain }
 noted_with true inner kinds = record kinds { shared = kinds_with inner kinds.shared }
 
--- whether a heap type is grounded, by what is kept
+-- whether the record says that a heap type is grounded
 abbrev pub is_noted : FuncGrounds → HeapType → Bool
 is_noted grounds (Abstract s b) = are_below (kinds_of grounds.kinds s) b
 is_noted grounds (Concrete j) = below_at grounds.marks.items j
 is_noted grounds (Exact j) = own_at grounds.marks.items j
 
--- what is kept is what the functions of a context ground
+-- the record is correct for the functions of a context
 pub record AreFuncGrounds (context : Context) (grounds : FuncGrounds) : Type 0 where
   pub long : length grounds.marks.items ≡ length context.types
   pub each : (ty : HeapType) → IsInRange context.types ty → IsTrue (is_noted grounds ty) ↔ IsGroundedByFuncs context ty
 
--- a context has a function more, whose type has this index, and a reference to it is exact or not; the other functions push what
--- they pushed
+-- a context with one more function, whose type has this index and whose reference is exact or not; the references of the
+-- other functions are unchanged
 pub record IsFunctionAdded (old new : Context) (index : ℕ) (exact : Bool) : Type 0 where
   pub types : new.types ≡ old.types
   pub funcs : new.funcs ≡ old.funcs ++ index ∷ []
   pub same : (function i : ℕ) → function < length old.funcs → function_reference new function i ≡ function_reference old function i
   pub added : function_reference new (length old.funcs) index ≡ reference_to (if exact then Exact index else Concrete index)
 
--- a type and those above it are marked, and its own entry where the reference is exact
+-- a type and its supertypes are marked, and its own entry is set if the reference is exact
 pub record IsTypeNoted (types : List SubType) (index : ℕ) (exact : Bool) (old new : List Ground) : Type 0 where
   pub long : length new ≡ length old
   pub own : (j : ℕ) → IsTrue (own_at new j) ↔ (IsTrue (own_at old j) ⊎ (IsTrue exact × (index ≡ j)))

@@ -1,5 +1,5 @@
--- Heap types below which a reference that is not null can be had at once. A rule of this project, over the typing of constant
--- expressions.
+-- Heap types with a subtype of which a non-null reference is available without operands. A rule of this project, over the
+-- typing of constant expressions.
 use Rattle.std.specs.Prelude.{◌≡◌, ℕ, ◌⊎◌, Bool, true, List, slice_get, Some, All, if◌then◌else◌}
 use Rattle.std.specs.List.{list_all}
 use Rattle.smith_types.specs.Subtyping.{IsBelow, IsValBelow}
@@ -11,8 +11,8 @@ use Rattle.smith_types.specs.declared.value_type.ValType.TheVariants.{Ref}
 use Rattle.smith_types.specs.declared.composite_type.FieldType.{FieldType}
 use Rattle.smith_types.specs.declared.composite_type.SubType.{SubType}
 
--- the type of this index is a struct type whose fields all have defaults, and the reference that its creation pushes, an exact
--- one with custom descriptors, is below a heap type
+-- the type at this index is a struct type whose fields all have defaults, and creating one pushes a reference below the heap
+-- type; with custom descriptors that reference is exact
 pub record IsGroundedBy (types : List SubType) (descriptors : Bool) (heap_type : HeapType) (index : ℕ) : Type 0 where
   pub fields : List FieldType
   pub struct : IsStructAt types index fields
@@ -23,12 +23,12 @@ pub record IsGroundedBy (types : List SubType) (descriptors : Bool) (heap_type :
 abbrev pub IsGroundedByStructs : List SubType → Bool → HeapType → Type 0
 IsGroundedByStructs types descriptors heap_type = (index : ℕ) × IsGroundedBy types descriptors heap_type index
 
--- a function grounds a heap type: the reference that names it is below
+-- a function grounds a heap type: its reference is below the heap type
 abbrev pub IsGroundedByFuncs : Context → HeapType → Type 0
 IsGroundedByFuncs context heap_type =
     (function : ℕ) × (index : ℕ) × (slice_get context.funcs function ≡ Some index) × IsValBelow context.types (function_reference context function index) (reference_to heap_type)
 
--- a heap type is grounded: a reference below it that is not null is had without operands, from a struct type or a function
+-- a heap type is grounded: a struct type or a function provides a non-null reference below it without operands
 abbrev pub IsGrounded : Context → HeapType → Type 0
 IsGrounded context heap_type = IsGroundedByStructs context.types context.features.custom_descriptors heap_type ⊎ IsGroundedByFuncs context heap_type
 
@@ -37,6 +37,6 @@ abbrev pub is_defaultable : ValType → Bool
 is_defaultable (Ref reference) = reference.nullable
 is_defaultable _ = true
 
--- whether the fields all have defaults
+-- whether all fields have defaults
 abbrev pub are_defaultable : List FieldType → Bool
 are_defaultable fields = list_all (λ (field : FieldType). is_defaultable (unpacked field.element_type)) fields

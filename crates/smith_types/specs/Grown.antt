@@ -1,4 +1,4 @@
--- What grows while a module is put together: lists at their ends, and with them what is told by their indices.
+-- Growth of a module under construction: lists grow at their ends, so indices keep their meaning.
 use Rattle.std.specs.Prelude.{◌≡◌, ℕ, ◌≤◌, List, ◌++◌, length, All}
 use Rattle.std.specs.declared.ops.Range.{Range}
 use Rattle.smith_types.specs.Features.{Features}
@@ -8,12 +8,12 @@ use Rattle.smith_types.specs.Imports.{IndexSpaces}
 use Rattle.smith_types.specs.Expressions.{Context}
 use Rattle.smith_types.specs.declared.composite_type.SubType.{SubType}
 
--- a list is another with more behind it, or without
+-- new is old with a possibly empty list appended
 pub record Extends {A : Type 0} (old new : List A) : Type 0 where
   pub more : List A
   pub parts : new ≡ old ++ more
 
--- a context with more types, functions and globals at their ends, the same features and imports, and as much visible or more
+-- a context with types, functions and globals appended, the same features and imports, and at least as many visible globals
 pub record IsContextGrown (old new : Context) : Type 0 where
   pub features : new.features ≡ old.features
   pub types : Extends old.types new.types
@@ -23,7 +23,7 @@ pub record IsContextGrown (old new : Context) : Type 0 where
   pub imported_globals : new.imported_globals ≡ old.imported_globals
   pub visible : old.visible ≤ new.visible
 
--- a context in which all functions are imported, with more types and imported functions at their ends, and the same features
+-- a context in which all functions are imported, with types and imported functions appended, and the same features
 pub record AreImportsGrown (old new : Context) : Type 0 where
   pub features : new.features ≡ old.features
   pub types : Extends old.types new.types
@@ -31,7 +31,7 @@ pub record AreImportsGrown (old new : Context) : Type 0 where
   pub imported : old.imported_funcs ≡ length old.funcs
   pub still_imported : new.imported_funcs ≡ length new.funcs
 
--- index spaces with more of each kind at their ends
+-- index spaces with entities of each kind appended
 pub record AreSpacesGrown (old new : IndexSpaces) : Type 0 where
   pub tags : Extends old.tags new.tags
   pub funcs : Extends old.funcs new.funcs
@@ -39,7 +39,7 @@ pub record AreSpacesGrown (old new : IndexSpaces) : Type 0 where
   pub memories : Extends old.memories new.memories
   pub globals : Extends old.globals new.globals
 
--- more types behind these, in valid groups that cover them
+-- types appended after these, in valid groups that cover them
 pub record AreGroupsAdded (features : Features) (types more : List SubType) (groups : List (Range ℕ)) : Type 0 where
   pub orderly : IsOrderly (types ++ more)
   pub consecutive : AreConsecutive (length types) groups

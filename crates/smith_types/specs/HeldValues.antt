@@ -1,4 +1,4 @@
--- The value types that types, tables and globals name.
+-- The value types in types, tables and globals.
 use Rattle.std.specs.Prelude.{List, ◌++◌, map}
 use Rattle.std.specs.List.{flat_map}
 use Rattle.smith_types.specs.ValidTypes.{values_of}
@@ -9,7 +9,7 @@ use Rattle.smith_types.specs.declared.composite_type.SubType.{SubType}
 use Rattle.smith_types.specs.declared.entity_type.GlobalType.{GlobalType}
 use Rattle.smith_types.specs.declared.entity_type.TableType.{TableType}
 
--- the value types that types, tables and globals name, in this order
+-- the value types in types, tables and globals, in this order
 abbrev pub values_in : List SubType → IndexSpaces → List ValType
 values_in types spaces =
     flat_map (λ (t : SubType). values_of t.composite_type.inner) types

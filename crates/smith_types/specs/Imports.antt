@@ -1,5 +1,5 @@
--- Imports one by one, and the index spaces that they begin: the sections Structure, Imports, and Validation, Imports, of the
--- WebAssembly Core Specification 3.0. Groups of imports are those of the compact imports proposal.
+-- Imports one by one, and the index spaces that start with them: the sections Structure, Imports, and Validation, Imports,
+-- of the WebAssembly Core Specification 3.0. Groups of imports are those of the compact imports proposal.
 use Rattle.std.specs.Prelude.{◌≡◌, ℕ, ◌<◌, List, [], ◌∷◌, ◌++◌, map, length}
 use Rattle.std.specs.List.{flat_map}
 use Rattle.smith_types.specs.Features.{Features}
@@ -14,7 +14,7 @@ use Rattle.smith_types.specs.declared.imports.ImportItem.{ImportItem}
 use Rattle.smith_types.specs.declared.imports.Imports.{Imports}
 use Rattle.smith_types.specs.declared.imports.Imports.TheVariants.{Single, Compact1, Compact2}
 
--- one import of a group
+-- an import with these names and this type
 abbrev pub import_of : List ℕ → List ℕ → EntityType → Import
 import_of from name entity_type = record { «module» = from; name = name; entity_type = entity_type }
 
@@ -28,7 +28,7 @@ imports_of (Compact2 from entity_type names) = map (λ name. import_of from name
 abbrev pub flattened : List Imports → List Import
 flattened groups = flat_map imports_of groups
 
--- the tags, functions, tables, memories and globals among imported entities, each kind in order (Validation, Modules)
+-- the tag, function, table, memory or global of an imported entity, if it is of that kind (Validation, Modules)
 abbrev pub tag_of : EntityType → List ℕ
 tag_of (entity.Tag index) = index ∷ []
 tag_of _ = []
@@ -49,11 +49,11 @@ abbrev pub global_of : EntityType → List GlobalType
 global_of (entity.Global global) = global ∷ []
 global_of _ = []
 
--- what is imported of one kind, in order
+-- the imported entities of one kind, in order
 abbrev pub imported : {A : Type 0} → (EntityType → List A) → List Import → List A
 imported of_kind imports = flat_map (λ (one : Import). of_kind one.entity_type) imports
 
--- the index spaces but that of types (Structure, Indices); tags and functions are given by the indices of their types
+-- the index spaces except that of types (Structure, Indices); tags and functions are given by the indices of their types
 pub record IndexSpaces : Type 0 where
   pub tags : List ℕ
   pub funcs : List ℕ
@@ -61,7 +61,7 @@ pub record IndexSpaces : Type 0 where
   pub memories : List MemoryType
   pub globals : List GlobalType
 
--- the index spaces that imports begin (Validation, Modules)
+-- the index spaces of the imports alone (Validation, Modules)
 abbrev pub imported_spaces : List Import → IndexSpaces
 imported_spaces imports = record {
   tags = imported tag_of imports;
@@ -71,13 +71,13 @@ imported_spaces imports = record {
   globals = imported global_of imports;
 }
 
--- an index space: what is imported, and behind it a number of items that are defined (Structure, Indices)
+-- an index space: the imported items, then `count` defined items (Structure, Indices)
 pub record Defines {A : Type 0} (imports : List A) (count : ℕ) (space : List A) : Type 0 where
   pub defined : List A
   pub count_is : length defined ≡ count
   pub parts : space ≡ imports ++ defined
 
--- a group of a module is not empty, and has its feature (own rules)
+-- a group of a module is not empty, and is enabled (own rules)
 pub record IsImportsValid (features : Features) (group : Imports) : Type 0 where
   pub filled : 0 < length (imports_of group)
   pub enabled : IsImportsEnabled features group

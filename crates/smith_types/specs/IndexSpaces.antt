@@ -1,4 +1,4 @@
--- Index spaces of the code, which grow by one entity after another.
+-- The index spaces of the code, which grow by one entity at a time.
 use Rattle.std.specs.Prelude.{List, [], ◌∷◌, ◌++◌, map}
 use Rattle.smith_types.specs.Imports.{IndexSpaces as Given}
 use Rattle.smith_types.specs.declared.index_spaces.IndexSpaces.{IndexSpaces}
@@ -8,11 +8,11 @@ use Rattle.smith_types.specs.declared.imports.Imports.TheVariants.{Single, Compa
 use Rattle.smith_types.specs.declared.entity_type.EntityType.{EntityType}
 use Rattle.smith_types.specs.declared.entity_type.EntityType.TheVariants as entity
 
--- the lists of index spaces
+-- the lists of the index spaces
 abbrev pub spaces_in : IndexSpaces → Given
 spaces_in spaces = record { tags = spaces.tags; funcs = spaces.funcs; tables = spaces.tables; memories = spaces.memories; globals = spaces.globals }
 
--- with one more entity
+-- the index spaces with one more entity
 abbrev pub with_entity : Given → EntityType → Given
 with_entity spaces (entity.Tag index) = record spaces { tags = spaces.tags ++ index ∷ [] }
 with_entity spaces (entity.Func index) = record spaces { funcs = spaces.funcs ++ index ∷ [] }
@@ -20,7 +20,7 @@ with_entity spaces (entity.Table table) = record spaces { tables = spaces.tables
 with_entity spaces (entity.Memory memory) = record spaces { memories = spaces.memories ++ memory ∷ [] }
 with_entity spaces (entity.Global global) = record spaces { globals = spaces.globals ++ global ∷ [] }
 
--- with several more
+-- the index spaces with several more entities
 abbrev pub with_entities : Given → List EntityType → Given
 with_entities spaces [] = spaces
 with_entities spaces (one ∷ more) = with_entities (with_entity spaces one) more

@@ -1,4 +1,4 @@
--- Kinds of instructions, sets of them as bits, and their names.
+-- Kinds of instructions, their sets as bits, and their names.
 use Rattle.std.specs.Prelude.{Bool, ◌-◌, if◌then◌else◌, ◌≡◌, ℕ, ◌+◌, ◌^◌, List, [], ◌∷◌, take, codes, bit_or, fold, map, Result, Ok, Err, slice_get, Some}
 use Rattle.std.specs.List.{AllZip}
 use Rattle.smith_types.specs.Parts.{parts_of}
@@ -21,7 +21,7 @@ use Rattle.smith_types.specs.declared.instruction_kind.InstructionKind.TheVarian
 use Rattle.smith_types.specs.declared.instruction_kind.InstructionKinds.{InstructionKinds}
 use Rattle.smith_types.specs.declared.instruction_kind.UnknownKind.{UnknownKind}
 
--- the bits of a kind: a bit of its own, and with floats that of the kind without
+-- the bits of a kind: its own bit, and for a kind with floats also that of the kind without
 abbrev pub kind_bits : InstructionKind → ℕ
 kind_bits NumericInt = 2 ^ 0
 kind_bits Numeric = 2 ^ 1 + 2 ^ 0
@@ -36,7 +36,7 @@ kind_bits Memory = 2 ^ 9 + 2 ^ 8
 kind_bits Control = 2 ^ 10
 kind_bits Aggregate = 2 ^ 11
 
--- the bits that concern floats: those which Numeric, Vector and Memory have and their kinds without floats don't
+-- the bits that concern floats: those that Numeric, Vector and Memory have and their counterparts without floats lack
 abbrev pub float_bits : ℕ
 float_bits = 2 ^ 1 + 2 ^ 3 + 2 ^ 9
 
@@ -44,14 +44,14 @@ float_bits = 2 ^ 1 + 2 ^ 3 + 2 ^ 9
 abbrev pub kinds_bits : InstructionKinds → ℕ
 kinds_bits kinds = kinds.0
 
--- every kind, and none
+-- the set of all kinds, and the empty set
 abbrev pub every_kind : InstructionKinds
 every_kind = record { 0 = 2 ^ 12 - 1 }
 
 abbrev pub no_kind : InstructionKinds
 no_kind = record { 0 = 0 }
 
--- a set, with a kind where it is wanted
+-- the set, with a kind added if it is wanted
 unfoldable pub with_kind : InstructionKinds → Bool → InstructionKind → InstructionKinds
 with_kind kinds wanted kind = record { 0 = if wanted then bit_or kinds.0 (kind_bits kind) else kinds.0 }
 
@@ -91,16 +91,16 @@ kind_table =
     (codes "AGGREGATE", 2048) ∷
     []
 
--- a text is the name of a kind, in letters of either case
+-- the text is the name of the kind, ignoring case
 abbrev pub IsNamed : List ℕ → InstructionKind → Type 0
 IsNamed text kind = map to_ascii_lowercase text ≡ kind_name kind
 
--- the kind that a text names, or that it names none
+-- the result of parsing a kind: the kind named by the text, or an error if it names none
 abbrev pub IsReadKind : List ℕ → Result InstructionKind UnknownKind → Type 0
 IsReadKind text (Ok kind) = IsNamed text kind
 IsReadKind text (Err e) = ((kind : InstructionKind) → ¬ IsNamed text kind) × (e.part ≡ 0)
 
--- the part at a place names no kind, and each part before it names one
+-- the part at this position names no kind, and each part before it names one
 pub record IsFirstUnknown (parts : List (List ℕ)) (place : ℕ) : Type 0 where
   pub text : List ℕ
   pub there : slice_get parts place ≡ Some text
@@ -108,7 +108,7 @@ pub record IsFirstUnknown (parts : List (List ℕ)) (place : ℕ) : Type 0 where
   pub kinds : List InstructionKind
   pub before : AllZip IsNamed (take place parts) kinds
 
--- the set of the kinds that the parts of a text name, or the place of the first part that names none
+-- the result of parsing a set: the kinds named by the parts of the text, or the position of the first part that names none
 abbrev pub AreReadKinds : List ℕ → Result InstructionKinds UnknownKind → Type 0
 AreReadKinds text (Ok all) = (kinds : List InstructionKind) × AllZip IsNamed (parts_of text) kinds × (kinds_bits all ≡ union_of kinds)
 AreReadKinds text (Err e) = IsFirstUnknown (parts_of text) e.part

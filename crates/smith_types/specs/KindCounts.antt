@@ -1,4 +1,4 @@
--- The types of a kind and a sharedness among the types of a space.
+-- The types of a kind and sharedness in a list of types.
 use Rattle.std.specs.Prelude.{◌≡◌, ℕ, ◌+◌, Bool, true, false, not, List, [], ◌∷◌, if◌then◌else◌}
 use Rattle.smith_types.specs.declared.value_type.AbstractHeapType.{AbstractHeapType}
 use Rattle.smith_types.specs.declared.value_type.AbstractHeapType.TheVariants as heap
@@ -8,7 +8,7 @@ use Rattle.smith_types.specs.declared.composite_type.SubType.{SubType}
 use Rattle.smith_types.specs.declared.kind_counts.KindCounts.{KindCounts}
 use Rattle.smith_types.specs.Kinds.{shared}
 
--- a composite type is of a kind, and its sharedness, the third argument, is the first
+-- whether a composite type with the sharedness of the third argument has this kind and the sharedness of the first
 abbrev pub is_inner_of_kind : Bool → AbstractHeapType → Bool → CompositeInnerType → Bool
 is_inner_of_kind false heap.Array is_shared (Array a) = not is_shared
 is_inner_of_kind true heap.Array is_shared (Array a) = is_shared
@@ -18,25 +18,25 @@ is_inner_of_kind false heap.Struct is_shared (Struct s) = not is_shared
 is_inner_of_kind true heap.Struct is_shared (Struct s) = is_shared
 is_inner_of_kind _ _ is_shared _ = false
 
--- a type is of a kind, and of a sharedness
+-- whether a type has this kind and sharedness
 abbrev pub is_of_kind : Bool → AbstractHeapType → SubType → Bool
 is_of_kind is_shared kind t = is_inner_of_kind is_shared kind (shared t) t.composite_type.inner
 
--- the indices of the types that a test picks, in order; the first type has the index `first`
+-- the indices of the types that satisfy a test, in order; the first type has the index `first`
 abbrev pub indices_from : (SubType → Bool) → ℕ → List SubType → List ℕ
 indices_from test first [] = []
 indices_from test first (t ∷ types) = if test t then first ∷ indices_from test (first + 1) types else indices_from test (first + 1) types
 
--- the indices, in order, of the types of a kind and a sharedness
+-- the indices of the types of a kind and sharedness, in order
 abbrev pub indices_of_kind : List SubType → Bool → AbstractHeapType → List ℕ
 indices_of_kind types is_shared kind = indices_from (is_of_kind is_shared kind) 0 types
 
--- how many types a test picks
+-- the number of types that satisfy a test
 abbrev pub count_where : (SubType → Bool) → List SubType → ℕ
 count_where test [] = 0
 count_where test (t ∷ types) = if test t then count_where test types + 1 else count_where test types
 
--- the count of a kind and a sharedness
+-- the count of a kind and sharedness
 abbrev pub count_at : KindCounts → Bool → AbstractHeapType → ℕ
 count_at counts false heap.Array = counts.arrays
 count_at counts true heap.Array = counts.shared_arrays
@@ -55,6 +55,6 @@ counts_with true (Func f) counts = record counts { shared_funcs = counts.shared_
 counts_with false (Struct s) counts = record counts { structs = counts.structs + 1 }
 counts_with true (Struct s) counts = record counts { shared_structs = counts.shared_structs + 1 }
 
--- these are the counts of each kind and sharedness among these types
+-- the counts of each kind and sharedness are those of these types
 pub record AreCounts (types : List SubType) (counts : KindCounts) : Type 0 where
   pub each : (is_shared : Bool) (kind : AbstractHeapType) → count_at counts is_shared kind ≡ count_where (is_of_kind is_shared kind) types

@@ -1,4 +1,4 @@
--- Laws of subtyping and matching, and of validity as lists grow.
+-- Laws of subtyping, of matching, and of validity under growth.
 use Rattle.std.specs.Prelude.{ℕ, List, ◌++◌, Option}
 use Rattle.std.specs.declared.ops.Range.{Range}
 use Rattle.smith_types.specs.declared.value_type.HeapType.{HeapType}
@@ -27,23 +27,23 @@ use Rattle.smith_types.specs.declared.const_instr.ConstInstr.{ConstInstr}
 use Rattle.smith_types.specs.declared.segments.DataSegment.{DataSegment}
 use Rattle.smith_types.specs.declared.segments.ElementSegment.{ElementSegment}
 
--- each type is below itself
+-- subtyping is reflexive
 pub record SubtypingIsReflexive : Type 0 where
   pub heap : (types : List SubType) (a : HeapType) → IsBelow types a a
   pub reference : (types : List SubType) (a : RefType) → IsRefBelow types a a
   pub value : (types : List SubType) (a : ValType) → IsValBelow types a a
 
--- what is below a type is below whatever that type is below
+-- subtyping is transitive
 pub record SubtypingIsTransitive : Type 0 where
   pub heap : (types : List SubType) (a b c : HeapType) → IsBelow types a b → IsBelow types b c → IsBelow types a c
   pub reference : (types : List SubType) (a b c : RefType) → IsRefBelow types a b → IsRefBelow types b c → IsRefBelow types a c
   pub value : (types : List SubType) (a b c : ValType) → IsValBelow types a b → IsValBelow types b c → IsValBelow types a c
 
--- no concrete type is below an exact one, not even below its own
+-- no concrete type is a subtype of an exact type, not even of its own
 abbrev pub ConcreteIsNeverBelowExact : Type 0
 ConcreteIsNeverBelowExact = (types : List SubType) (i j : ℕ) → ¬ IsBelow types (Concrete i) (Exact j)
 
--- what is below a type stays below it when more types are added at the end
+-- subtyping is preserved when types are appended
 pub record SubtypingSurvivesGrowth : Type 0 where
   pub heap : (types more : List SubType) (a b : HeapType) → IsBelow types a b → IsBelow (types ++ more) a b
   pub reference : (types more : List SubType) (a b : RefType) → IsRefBelow types a b → IsRefBelow (types ++ more) a b
@@ -53,16 +53,16 @@ pub record SubtypingSurvivesGrowth : Type 0 where
 abbrev pub MatchingIsReflexive : Type 0
 MatchingIsReflexive = (types : List SubType) (a : CompositeType) → IsCompositeMatch types a a
 
--- what matches goes on matching when more types are added at the end
+-- matching is preserved when types are appended
 abbrev pub MatchingSurvivesGrowth : Type 0
 MatchingSurvivesGrowth = (types more : List SubType) (a b : CompositeType) → IsCompositeMatch types a b → IsCompositeMatch (types ++ more) a b
 
--- valid types stay valid when whole groups are added behind them
+-- valid types stay valid when whole valid groups are appended
 abbrev pub ValidTypesSurviveGrowth : Type 0
 ValidTypesSurviveGrowth = (features : Features) (types more : List SubType) (groups further : List (Range ℕ)) → AreTypesValid features (record { types = types; groups = groups })
     → AreGroupsAdded features types more further → AreTypesValid features (record { types = types ++ more; groups = groups ++ further })
 
--- valid entities stay valid when more types are added at the end
+-- valid entities stay valid when types are appended
 pub record ValidEntitiesSurviveGrowth : Type 0 where
   pub table : (features : Features) (types more : List SubType) (ty : TableType) → IsTableValid features types ty → IsTableValid features (types ++ more) ty
   pub global : (features : Features) (types more : List SubType) (ty : GlobalType) → IsGlobalValid features types ty → IsGlobalValid features (types ++ more) ty
@@ -70,24 +70,24 @@ pub record ValidEntitiesSurviveGrowth : Type 0 where
   pub func : (types more : List SubType) (index : ℕ) → IsFuncValid types index → IsFuncValid (types ++ more) index
   pub all : (features : Features) (types more : List SubType) (spaces : IndexSpaces) → AreEntitiesValid features types spaces → AreEntitiesValid features (types ++ more) spaces
 
--- what is typed and valid in a context is so in a grown one
+-- typing and validity of constant expressions are preserved in a grown context
 pub record ValidExpressionsSurviveGrowth : Type 0 where
   pub typed : (old new : Context) (instruction : ConstInstr) (operands : List ValType) (result : ValType) → IsContextGrown old new → HasType old instruction operands result → HasType new instruction operands result
   pub step : (old new : Context) (instruction : ConstInstr) (before after : List ValType) → IsContextGrown old new → IsStackStep old instruction before after → IsStackStep new instruction before after
   pub steps : (old new : Context) (instructions : List ConstInstr) (before after : List ValType) → IsContextGrown old new → AreStackSteps old instructions before after → AreStackSteps new instructions before after
   pub expression : (old new : Context) (wanted : ValType) (instructions : List ConstInstr) → IsContextGrown old new → IsConstExpr old wanted instructions → IsConstExpr new wanted instructions
 
--- what is grounded in a context is so in a grown one, and where more functions are imported
+-- a grounded heap type stays grounded in a grown context, and when more functions are imported
 pub record GroundedSurvivesGrowth : Type 0 where
   pub context : (old new : Context) (heap_type : HeapType) → IsContextGrown old new → IsGrounded old heap_type → IsGrounded new heap_type
   pub imports : (old new : Context) (heap_type : HeapType) → AreImportsGrown old new → IsGrounded old heap_type → IsGrounded new heap_type
 
--- a valid segment is valid in a grown context, with more tables or memories
+-- a valid segment stays valid in a grown context with more tables or memories
 pub record ValidSegmentsSurviveGrowth : Type 0 where
   pub element : (old new : Context) (tables more : List TableType) (segment : ElementSegment) → IsContextGrown old new → IsElementValid old tables segment → IsElementValid new (tables ++ more) segment
   pub bytes : (old new : Context) (memories more : List MemoryType) (segment : DataSegment) → IsContextGrown old new → IsDataValid old memories segment → IsDataValid new (memories ++ more) segment
 
--- what is exported or started stands in grown index spaces
+-- exported entities and start functions stay valid in grown index spaces
 pub record ValidExportsSurviveGrowth : Type 0 where
   pub entity : (old new : IndexSpaces) (kind : ExportKind) (index : ℕ) (ty : EntityType) → AreSpacesGrown old new → IsEntityAt old kind index ty → IsEntityAt new kind index ty
   pub exports : (old new : IndexSpaces) (exports : List (List ℕ × ExportKind × ℕ)) → AreSpacesGrown old new → AreExportsValid old exports → AreExportsValid new exports

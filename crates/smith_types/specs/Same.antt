@@ -1,5 +1,4 @@
--- What `==` of plain data says: yes exactly for equal contents. These are proofs; they stand here since the laws of the
--- trait `Exact` cite them.
+-- The `==` of plain data decides equality. These proofs are here because the laws of the trait `Exact` cite them.
 use Rattle.std.proofs.Common.{rules, ◌≡◌, ℕ, Bool, List, Some, ap, refl}
 use Rattle.std.specs.Bool.{Decides}
 use Rattle.std.specs.Option.{option_eq}
@@ -58,7 +57,7 @@ use Rattle.smith_types.specs.contracts.composite_type.CompositeInnerTypePartialE
 use Rattle.smith_types.specs.contracts.composite_type.CompositeTypePartialEq.TheImpl.{ghosts as composite_same}
 use Rattle.smith_types.specs.contracts.composite_type.SubTypePartialEq.TheImpl.{ghosts as sub_same}
 
--- element by element, where `==` of elements is exact
+-- lists are equal element by element if `==` of elements is exact
 pub exact_items : {A : Type 0} {E : A → A → Bool} → ((a b : A) → Decides (E a b) (a ≡ b)) → (xs ys : List A) → Decides (pointwise E xs ys) (xs ≡ ys)
 exact_items exact xs ys = slice_eq-Decides exact xs ys _ refl
 

@@ -1,5 +1,5 @@
--- Element and data segments: the section Validation, Modules, of the WebAssembly Core Specification 3.0. References are below
--- others with the own rules of `Subtyping`.
+-- Element and data segments: the section Validation, Modules, of the WebAssembly Core Specification 3.0. Subtyping of
+-- references includes the own rules of `Subtyping`.
 use Rattle.std.specs.Prelude.{◌≡◌, ℕ, ◌+◌, ◌*◌, ◌^◌, ◌≤◌, Bool, true, false, IsTrue, List, Option, Some, None, length, slice_get, unwrap_or, All}
 use Rattle.std.specs.Int.{cast_unsigned, w32, w64}
 use Rattle.smith_types.specs.Flags.{IsElementEnabled}
@@ -28,27 +28,27 @@ abbrev pub address_type : Bool → ValType
 address_type true = I64
 address_type false = I32
 
--- an offset into what has these addresses: a constant of their type, or a visible global of it (Validation,
+-- an offset for addresses of this width: a constant of the address type, or a visible global of that type (Validation,
 -- Element Segments and Data Segments)
 abbrev pub IsOffsetValid : Context → Bool → Offset → Type 0
 IsOffsetValid context wide (Const32 value) = wide ≡ false
 IsOffsetValid context wide (Const64 value) = wide ≡ true
 IsOffsetValid context wide (Global index) = IsVisible context index (address_type wide)
 
--- a function whose reference is below the type of the items
+-- a function whose reference is a subtype of the item type
 abbrev pub IsItem : Context → RefType → ℕ → Type 0
 IsItem context ty function = (index : ℕ) × (slice_get context.funcs function ≡ Some index) × IsValBelow context.types (function_reference context function index) (Ref ty)
 
--- each item has the segment's type; items as expressions need reference types (own rule)
+-- each item has the type of the segment; expressions as items require reference types (own rule)
 abbrev pub AreItemsValid : Context → RefType → Elements → Type 0
 AreItemsValid context ty (Functions functions) = All (IsItem context ty) functions
 AreItemsValid context ty (Expressions expressions) = IsTrue context.features.reference_types × All (IsConstExpr context (Ref ty)) expressions
 
--- the table that an active segment is copied into: the first where none is named (Binary Format, Element Section)
+-- the table of an active segment: the first if none is given (Binary Format, Element Section)
 abbrev pub table_index : Option ℕ → ℕ
 table_index table = unwrap_or table 0
 
--- the segment's type is below that of the table's elements, and the offset is of its addresses (Validation, Element
+-- the item type is a subtype of the table's element type, and the offset fits the table's addresses (Validation, Element
 -- Segments)
 pub record IsActiveElement (context : Context) (tables : List TableType) (ty : RefType) (index : ℕ) (offset : Offset) : Type 0 where
   pub table : TableType
@@ -56,8 +56,8 @@ pub record IsActiveElement (context : Context) (tables : List TableType) (ty : R
   pub below : IsRefBelow context.types ty table.element_type
   pub offset_valid : IsOffsetValid context table.table64 offset
 
--- what is copied is copied into a table that takes it, the first where none is named; each other form needs bulk memory (own
--- rule)
+-- an active segment is copied into a table that accepts it, the first if none is given; the other forms require bulk memory
+-- (own rule)
 abbrev pub IsElementKindValid : Context → List TableType → RefType → ElementKind → Type 0
 IsElementKindValid context tables ty element.Passive = IsTrue context.features.bulk_memory
 IsElementKindValid context tables ty element.Declared = IsTrue context.features.bulk_memory
@@ -71,7 +71,7 @@ pub record IsElementValid (context : Context) (tables : List TableType) (segment
   pub items : AreItemsValid context segment.ty segment.items
   pub kind : IsElementKindValid context tables segment.ty segment.kind
 
--- what a data segment is copied into stands (Validation, Data Segments); passive ones need bulk memory (own rule)
+-- the memory of an active data segment exists (Validation, Data Segments); passive segments require bulk memory (own rule)
 abbrev pub IsDataKindValid : Context → List MemoryType → DataSegmentKind → Type 0
 IsDataKindValid context memories data_kind.Passive = IsTrue context.features.bulk_memory
 IsDataKindValid context memories (data_kind.Active index offset) =
@@ -81,34 +81,34 @@ IsDataKindValid context memories (data_kind.Active index offset) =
 abbrev pub IsDataValid : Context → List MemoryType → DataSegment → Type 0
 IsDataValid context memories segment = IsDataKindValid context memories segment.kind
 
--- how many items a segment has
+-- the number of items of a segment
 abbrev pub item_count : Elements → ℕ
 item_count (Functions functions) = length functions
 item_count (Expressions expressions) = length expressions
 
--- a constant offset, read without sign, from which a number of items ends within another (Execution, Instantiation)
+-- a constant offset, read as unsigned, after which `count` items end within `most` (Execution, Instantiation)
 abbrev pub IsOffsetInside : Offset → ℕ → ℕ → Type 0
 IsOffsetInside (Const32 value) count most = cast_unsigned w32 value + count ≤ most
 IsOffsetInside (Const64 value) count most = cast_unsigned w64 value + count ≤ most
 IsOffsetInside (Global index) count most = ⊥
 
--- the items that are copied, counted by their number, end within the least elements of their table
+-- the copied items end within the minimum number of elements of their table
 abbrev pub AreElementsInside : List TableType → ElementKind → ℕ → Type 0
 AreElementsInside tables element.Passive count = Unit {0}
 AreElementsInside tables element.Declared count = Unit {0}
 AreElementsInside tables (element.Active index offset) count =
     (table : TableType) × (slice_get tables (table_index index) ≡ Some table) × IsOffsetInside offset count table.minimum
 
--- the bytes that are copied, counted by their number, end within the least bytes of their memory
+-- the copied bytes end within the minimum number of bytes of their memory
 abbrev pub AreBytesInside : List MemoryType → DataSegmentKind → ℕ → Type 0
 AreBytesInside memories data_kind.Passive count = Unit {0}
 AreBytesInside memories (data_kind.Active index offset) count =
     (memory : MemoryType) × (slice_get memories index ≡ Some memory) × IsOffsetInside offset count (memory.minimum * 2 ^ page_log2 memory.page_size_log2)
 
--- an element segment that is copied lies within the least elements of its table (own rule: so that it does not trap)
+-- an active element segment lies within the minimum size of its table (own rule: so that it does not trap)
 abbrev pub IsElementInside : List TableType → ElementSegment → Type 0
 IsElementInside tables segment = AreElementsInside tables segment.kind (item_count segment.items)
 
--- a data segment that is copied lies within the least bytes of its memory (own rule: so that it does not trap)
+-- an active data segment lies within the minimum size of its memory (own rule: so that it does not trap)
 abbrev pub IsDataInside : List MemoryType → DataSegment → Type 0
 IsDataInside memories segment = AreBytesInside memories segment.kind (length segment.init)

@@ -1,4 +1,4 @@
--- The sizes of the entities that a module imports and exports.
+-- The sizes of the imported and exported entities of a module.
 use Rattle.std.specs.Prelude.{ℕ, ◌+◌, ◌<◌, List, length, slice_get}
 use Rattle.std.specs.Option.{option_map, unwrap_or}
 use Rattle.smith_types.specs.declared.composite_type.CompositeInnerType.{CompositeInnerType}
@@ -7,17 +7,18 @@ use Rattle.smith_types.specs.declared.composite_type.SubType.{SubType}
 use Rattle.smith_types.specs.declared.entity_type.EntityType.{EntityType}
 use Rattle.smith_types.specs.declared.entity_type.EntityType.TheVariants.{Func}
 
--- how many values a type takes and gives, if it is a function type
+-- the number of parameters and results of a function type, and 0 for other types
 abbrev pub value_count : CompositeInnerType → ℕ
 value_count (inner.Func f) = length f.params + length f.results
 value_count _ = 0
 
--- the size of an entity, to which a type size adds up: 1, and of a function also what its type takes and gives (own rule)
+-- the size of an entity, counted towards the type size: 1, plus the number of parameters and results for a function (own
+-- rule)
 abbrev pub size_in : List SubType → EntityType → ℕ
 size_in types (Func i) = 1 + unwrap_or (option_map (λ t. value_count t.composite_type.inner) (slice_get types i)) 0
 size_in types _ = 1
 
--- the type of a function is there
+-- the type of a function exists
 abbrev pub IsTyped : List SubType → EntityType → Type 0
 IsTyped types (Func i) = i < length types
 IsTyped types _ = Unit {0}

@@ -1,6 +1,6 @@
 -- Subtyping of heap, reference and value types. Sections are those of the WebAssembly Core Specification 3.0. Rules of this
--- project: equal groups are different types, so that fewer types are below one another than in the standard; sharedness; exact
--- types.
+-- project: types of equal groups are different, so fewer types are subtypes of one another than in the standard; sharedness;
+-- exact types.
 use Rattle.std.specs.Prelude.{◌≡◌, ◌<◌, Bool, true, false, IsTrue, List, length, Some, slice_get}
 use Rattle.smith_types.specs.declared.value_type.AbstractHeapType.{AbstractHeapType}
 use Rattle.smith_types.specs.declared.value_type.AbstractHeapType.TheVariants.{Func, Extern, Any, None, NoExtern, NoFunc, Eq, Struct, Array, I31, Exn, NoExn}
@@ -12,7 +12,7 @@ use Rattle.smith_types.specs.declared.value_type.ValType.TheVariants.{I32, I64, 
 use Rattle.smith_types.specs.declared.composite_type.SubType.{SubType}
 use Rattle.smith_types.specs.Kinds.{kind, bottom, shared}
 
--- one abstract heap type stands directly below another (Validation, Matching, Heap Types)
+-- one abstract heap type is directly below another (Validation, Matching, Heap Types)
 abbrev pub is_abstract_step : AbstractHeapType → AbstractHeapType → Bool
 is_abstract_step Eq Any = true
 is_abstract_step I31 Eq = true
@@ -26,9 +26,9 @@ is_abstract_step NoExtern Extern = true
 is_abstract_step NoExn Exn = true
 is_abstract_step _ _ = false
 
--- one heap type stands directly below another (Validation, Matching, Heap Types): among abstract types by the table;
--- a type below its declared supertype and below its kind, and above the bottom of its kind; own rules: only where they are
--- alike in sharedness, and an exact type below its type and above nothing but the bottom of its kind
+-- one heap type is directly below another (Validation, Matching, Heap Types): abstract types by the table; a type below its
+-- declared supertype and its kind, and above the bottom of its kind; own rules: both are shared or neither is; an exact type
+-- is below its concrete type, and above nothing but the bottom of its kind
 abbrev pub IsStep : List SubType → HeapType → HeapType → Type 0
 IsStep types (Abstract s a) (Abstract r b) = (s ≡ r) × IsTrue (is_abstract_step a b)
 IsStep types (Abstract s a) (Concrete j) = (t : SubType) × (slice_get types j ≡ Some t) × (s ≡ shared t) × (a ≡ bottom t)
@@ -40,19 +40,19 @@ IsStep types (Exact i) (Abstract r b) = ⊥
 IsStep types (Exact i) (Concrete j) = i ≡ j
 IsStep types (Exact i) (Exact j) = ⊥
 
--- one heap type is below another: the reflexive transitive closure of the direct steps (Validation, Matching, Heap Types; own
--- rules as in `IsStep`, and equal groups apart)
+-- one heap type is a subtype of another: the reflexive transitive closure of the direct steps (Validation, Matching, Heap
+-- Types; own rules as in `IsStep`, and types of equal groups are different)
 pub data IsBelow (types : List SubType) : HeapType → HeapType → Type 0 where
   itself : {a : HeapType} → IsBelow types a a
   by_step : {a b c : HeapType} → IsStep types a b → IsBelow types b c → IsBelow types a c
 
--- one reference type is below another (Validation, Matching, Reference Types; heap types as in `IsBelow`)
+-- one reference type is a subtype of another (Validation, Matching, Reference Types; heap types as in `IsBelow`)
 pub record IsRefBelow (types : List SubType) (a b : RefType) : Type 0 where
   pub heap : IsBelow types a.heap_type b.heap_type
   pub nullable : IsTrue a.nullable → IsTrue b.nullable
 
--- one value type is below another: numbers and vectors below themselves alone (Validation, Matching, Value Types; references as
--- in `IsRefBelow`)
+-- one value type is a subtype of another: number and vector types only of themselves (Validation, Matching, Value Types;
+-- references as in `IsRefBelow`)
 abbrev pub IsValBelow : List SubType → ValType → ValType → Type 0
 IsValBelow types I32 I32 = Unit {0}
 IsValBelow types I64 I64 = Unit {0}
@@ -62,18 +62,18 @@ IsValBelow types V128 V128 = Unit {0}
 IsValBelow types (Ref a) (Ref b) = IsRefBelow types a b
 IsValBelow types _ _ = ⊥
 
--- the type that a heap type names stands
+-- the type that a heap type refers to exists
 abbrev pub IsInRange : List SubType → HeapType → Type 0
 IsInRange types (Abstract s a) = Unit {0}
 IsInRange types (Concrete i) = i < length types
 IsInRange types (Exact i) = i < length types
 
--- the type that a value type refers to stands
+-- the type that a value type refers to exists
 abbrev pub IsValInRange : List SubType → ValType → Type 0
 IsValInRange types (Ref r) = IsInRange types r.heap_type
 IsValInRange types _ = Unit {0}
 
--- whether one abstract heap type is below another: the closure of the table of steps, as a table
+-- whether one abstract heap type is a subtype of another: the closure of the steps, as a table
 abbrev pub is_abstract_below : AbstractHeapType → AbstractHeapType → Bool
 is_abstract_below Func Func = true
 is_abstract_below Extern Extern = true

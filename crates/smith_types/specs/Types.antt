@@ -4,30 +4,31 @@ use Rattle.std.specs.declared.ops.Range.{Range}
 use Rattle.smith_types.specs.declared.composite_type.SubType.{SubType}
 use Rattle.smith_types.specs.Kinds.{kind, shared}
 
--- two types have one kind, and are shared both or neither (sharedness: own rule)
+-- two types have the same kind and sharedness (sharedness: own rule)
 pub record IsAlike (t u : SubType) : Type 0 where
   pub kind : kind t ≡ kind u
   pub shared : shared t ≡ shared u
 
--- each declared supertype stands before its subtype and is like it (Validation, Recursive Types; sharedness: own rule)
+-- each declared supertype precedes its subtype and has the same kind and sharedness (Validation, Recursive Types;
+-- sharedness: own rule)
 pub record IsOrderly (types : List SubType) : Type 0 where
   pub under : (i s : ℕ) (t : SubType) → slice_get types i ≡ Some t → t.supertype ≡ Some s → (s < i) × ((u : SubType) → slice_get types s ≡ Some u → IsAlike t u)
 
--- where the last of these groups ends, or `start` where there is no group
+-- the end of the last of these groups, or `start` if there is none
 abbrev pub end_from : ℕ → List (Range ℕ) → ℕ
 end_from start [] = start
 end_from start (group ∷ groups) = end_from group.end groups
 
--- where the group after these begins
+-- the start of the group after these
 abbrev pub next_start : List (Range ℕ) → ℕ
 next_start groups = end_from 0 groups
 
--- each group begins where the group before it ended, and the first at `start`; a group may be empty
+-- each group starts where the group before it ends, the first at `start`; groups may be empty
 abbrev pub AreConsecutive : ℕ → List (Range ℕ) → Type 0
 AreConsecutive start [] = Unit {0}
 AreConsecutive start (group ∷ groups) = (group.start ≡ start) × (start ≤ group.end) × AreConsecutive group.end groups
 
--- the group of the types that stand behind these groups
+-- the group of the types after these groups
 abbrev pub next_group : List SubType → List (Range ℕ) → Range ℕ
 next_group types groups = record { start = next_start groups; end = length types }
 

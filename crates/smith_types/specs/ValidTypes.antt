@@ -1,5 +1,5 @@
--- Valid types. Type validation, in the section Validation, Types, of the WebAssembly Core Specification 3.0; which
--- feature a construct needs, and what sharedness asks, are rules of this project. Types match with the own rules of `Subtyping`.
+-- Valid types. Type validation, in the section Validation, Types, of the WebAssembly Core Specification 3.0. The conditions
+-- on features and sharedness are rules of this project. Matching includes the own rules of `Subtyping`.
 use Rattle.std.specs.Prelude.{◌≡◌, ℕ, ◌+◌, ◌<◌, ◌≤◌, false, IsTrue, List, [], ◌∷◌, ◌++◌, slice_get, Some, All}
 use Rattle.std.specs.List.{flat_map}
 use Rattle.std.specs.declared.ops.Range.{Range}
@@ -21,13 +21,13 @@ use Rattle.smith_types.specs.declared.composite_type.CompositeInnerType.{Composi
 use Rattle.smith_types.specs.declared.composite_type.CompositeInnerType.TheVariants.{Array, Func, Struct}
 use Rattle.smith_types.specs.declared.composite_type.SubType.{SubType}
 
--- a heap type, which refers to a type below `end` (Validation, Heap Types)
+-- a heap type, which may refer to types below `end` (Validation, Heap Types)
 abbrev pub IsHeapTypeValid : Features → ℕ → HeapType → Type 0
 IsHeapTypeValid features end (Abstract shared ty) = IsHeapTypeEnabled features (Abstract shared ty)
 IsHeapTypeValid features end (Concrete index) = IsHeapTypeEnabled features (Concrete index) × (index < end)
 IsHeapTypeValid features end (Exact index) = IsHeapTypeEnabled features (Exact index) × (index < end)
 
--- a reference type whose heap type is valid (Validation, Reference Types); one that is not nullable needs its feature (own rule)
+-- a reference type with a valid heap type (Validation, Reference Types); a non-nullable one requires its feature (own rule)
 pub record IsRefTypeValid (features : Features) (end : ℕ) (reference : RefType) : Type 0 where
   pub heap_type : IsHeapTypeValid features end reference.heap_type
   pub nullable : reference.nullable ≡ false → IsTrue features.function_references
@@ -41,13 +41,13 @@ IsValTypeValid features end F64 = Unit {0}
 IsValTypeValid features end V128 = IsTrue features.simd
 IsValTypeValid features end (Ref reference) = IsTrue features.reference_types × IsRefTypeValid features end reference
 
--- the value type that a field holds, if it is not packed
+-- the value type that a field stores, unless it is packed
 abbrev pub values_of_storage : StorageType → List ValType
 values_of_storage I8 = []
 values_of_storage I16 = []
 values_of_storage (Val value) = value ∷ []
 
--- the value types that a composite type holds
+-- the value types in a composite type
 abbrev pub values_of : CompositeInnerType → List ValType
 values_of (Array array) = values_of_storage array.0.element_type
 values_of (Func function) = function.params ++ function.results
@@ -59,12 +59,12 @@ IsHeapTypeShared types (Abstract shared ty) = IsTrue shared
 IsHeapTypeShared types (Concrete index) = (t : SubType) × (slice_get types index ≡ Some t) × IsTrue t.composite_type.shared
 IsHeapTypeShared types (Exact index) = (t : SubType) × (slice_get types index ≡ Some t) × IsTrue t.composite_type.shared
 
--- a value type may stand in a shared type: a number, a vector or a shared reference (own rule)
+-- a value type that may occur in a shared type: a number, a vector or a shared reference (own rule)
 abbrev pub IsShareable : List SubType → ValType → Type 0
 IsShareable types (Ref reference) = IsHeapTypeShared types reference.heap_type
 IsShareable types _ = Unit {0}
 
--- a function type, of values that are valid (Validation, Composite Types), and enabled (own rule)
+-- a function type over valid value types (Validation, Composite Types), which is enabled (own rule)
 pub record IsFuncTypeValid (features : Features) (end : ℕ) (function : FuncType) : Type 0 where
   pub results : IsInnerEnabled features (Func function)
   pub params_valid : All (IsValTypeValid features end) function.params
@@ -75,20 +75,21 @@ pub record IsSupertypeValid (types : List SubType) (t supertype : SubType) : Typ
   pub not_final : supertype.is_final ≡ false
   pub matched : IsCompositeMatch types t.composite_type supertype.composite_type
 
--- a type of a group that ends at `end` (Validation, Recursive Types), which is enabled, and where it is shared holds what may
--- stand there (own rules)
+-- a type of a group that ends at `end` (Validation, Recursive Types), which is enabled, and if shared holds only values that
+-- may be shared (own rules)
 pub record IsTypeValid (features : Features) (types : List SubType) (end : ℕ) (t : SubType) : Type 0 where
   pub enabled : IsSubTypeEnabled features t
   pub values : All (IsValTypeValid features end) (values_of t.composite_type.inner)
   pub declared : (s : ℕ) → t.supertype ≡ Some s → (u : SubType) × (slice_get types s ≡ Some u) × IsSupertypeValid types t u
   pub shareable : IsTrue t.composite_type.shared → All (IsShareable types) (values_of t.composite_type.inner)
 
--- each type of a group is valid (Validation, Recursive Types); without garbage collection a group is one type (own rule)
+-- each type of a group is valid (Validation, Recursive Types); without garbage collection, a group has exactly one type (own
+-- rule)
 pub record IsGroupValid (features : Features) (types : List SubType) (group : Range ℕ) : Type 0 where
   pub members : (i : ℕ) (t : SubType) → group.start ≤ i → i < group.end → slice_get types i ≡ Some t → IsTypeValid features types group.end t
   pub single : features.gc ≡ false → group.end ≡ group.start + 1
 
--- valid types, in groups that follow one another and cover them, each supertype before its subtypes (Validation, Modules)
+-- valid types in consecutive groups that cover them, each supertype before its subtypes (Validation, Modules)
 pub record AreTypesValid (features : Features) (space : Space) : Type 0 where
   pub covered : AreCovered space.types space.groups
   pub orderly : IsOrderly space.types

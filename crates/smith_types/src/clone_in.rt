@@ -7,17 +7,17 @@ use crate::list::{Items, Name};
 use smith_bytes::Error;
 use std::alloc::Global;
 
-/// A type whose values can be copied into fresh memory. Generic code has the trait as a bound; the method `clone` of each type
-/// calls [`CloneIn::clone_in`].
+/// A type whose values can be copied into newly allocated memory. Generic code uses this trait as a
+/// bound; the method `clone` of each type calls [`CloneIn::clone_in`].
 pub trait CloneIn: Sized + Drop {
-    /// Copies the value into fresh memory of `alloc`.
+    /// Copies the value into memory from `alloc`.
     fn clone_in(&self, alloc: Global) -> Result<Self, Error>
         ensures ok { IfOk result (λ copy. copy ≡ self.now) }
         ensures memory { IfErr result (λ e. e ≡ Error.Memory) };
 }
 
 impl<T: Copy> Items<T> {
-    /// Copies the list, whose elements are plain values, into fresh memory of `alloc`.
+    /// Copies the list into memory from `alloc`. Its elements are `Copy`.
     pub fn copy_in(&self, alloc: Global) -> Result<Items<T>, Error>
         ensures ok { IfOk result (λ copy. copy ≡ self.now) }
         ensures memory { IfErr result (λ e. e ≡ Error.Memory) }
@@ -137,7 +137,7 @@ impl CloneIn for Imports {
 }
 
 impl<T: CloneIn> Items<T> {
-    /// Copies the list into fresh memory of `alloc`.
+    /// Copies the list into memory from `alloc`.
     pub fn clone(&self, alloc: Global) -> Result<Self, Error>
         ensures ok { IfOk result (λ copy. copy ≡ self.now) }
         ensures memory { IfErr result (λ e. e ≡ Error.Memory) }
@@ -147,7 +147,7 @@ impl<T: CloneIn> Items<T> {
 }
 
 impl Name {
-    /// Copies the name into fresh memory of `alloc`.
+    /// Copies the name into memory from `alloc`.
     pub fn clone(&self, alloc: Global) -> Result<Self, Error>
         ensures ok { IfOk result (λ copy. copy ≡ self.now) }
         ensures memory { IfErr result (λ e. e ≡ Error.Memory) }
@@ -157,7 +157,7 @@ impl Name {
 }
 
 impl StructType {
-    /// Copies the struct type into fresh memory of `alloc`.
+    /// Copies the struct type into memory from `alloc`.
     pub fn clone(&self, alloc: Global) -> Result<Self, Error>
         ensures ok { IfOk result (λ copy. copy ≡ self.now) }
         ensures memory { IfErr result (λ e. e ≡ Error.Memory) }
@@ -167,7 +167,7 @@ impl StructType {
 }
 
 impl FuncType {
-    /// Copies the function type into fresh memory of `alloc`.
+    /// Copies the function type into memory from `alloc`.
     pub fn clone(&self, alloc: Global) -> Result<Self, Error>
         ensures ok { IfOk result (λ copy. copy ≡ self.now) }
         ensures memory { IfErr result (λ e. e ≡ Error.Memory) }
@@ -177,7 +177,7 @@ impl FuncType {
 }
 
 impl CompositeInnerType {
-    /// Copies the composite type into fresh memory of `alloc`.
+    /// Copies the composite type into memory from `alloc`.
     pub fn clone(&self, alloc: Global) -> Result<Self, Error>
         ensures ok { IfOk result (λ copy. copy ≡ self.now) }
         ensures memory { IfErr result (λ e. e ≡ Error.Memory) }
@@ -187,7 +187,7 @@ impl CompositeInnerType {
 }
 
 impl CompositeType {
-    /// Copies the composite type into fresh memory of `alloc`.
+    /// Copies the composite type into memory from `alloc`.
     pub fn clone(&self, alloc: Global) -> Result<Self, Error>
         ensures ok { IfOk result (λ copy. copy ≡ self.now) }
         ensures memory { IfErr result (λ e. e ≡ Error.Memory) }
@@ -197,7 +197,7 @@ impl CompositeType {
 }
 
 impl SubType {
-    /// Copies the subtype into fresh memory of `alloc`.
+    /// Copies the subtype into memory from `alloc`.
     pub fn clone(&self, alloc: Global) -> Result<Self, Error>
         ensures ok { IfOk result (λ copy. copy ≡ self.now) }
         ensures memory { IfErr result (λ e. e ≡ Error.Memory) }
@@ -207,7 +207,7 @@ impl SubType {
 }
 
 impl Import {
-    /// Copies the import into fresh memory of `alloc`.
+    /// Copies the import into memory from `alloc`.
     pub fn clone(&self, alloc: Global) -> Result<Self, Error>
         ensures ok { IfOk result (λ copy. copy ≡ self.now) }
         ensures memory { IfErr result (λ e. e ≡ Error.Memory) }
@@ -217,7 +217,7 @@ impl Import {
 }
 
 impl ImportItem {
-    /// Copies the import into fresh memory of `alloc`.
+    /// Copies the import into memory from `alloc`.
     pub fn clone(&self, alloc: Global) -> Result<Self, Error>
         ensures ok { IfOk result (λ copy. copy ≡ self.now) }
         ensures memory { IfErr result (λ e. e ≡ Error.Memory) }
@@ -227,7 +227,7 @@ impl ImportItem {
 }
 
 impl Imports {
-    /// Copies the group of imports into fresh memory of `alloc`.
+    /// Copies the group of imports into memory from `alloc`.
     pub fn clone(&self, alloc: Global) -> Result<Self, Error>
         ensures ok { IfOk result (λ copy. copy ≡ self.now) }
         ensures memory { IfErr result (λ e. e ≡ Error.Memory) }

@@ -4,7 +4,8 @@ ghost use Rattle.smith_types.specs.Kinds.{kind_of, bottom_of};
 use crate::list::Items;
 use crate::value_type::{AbstractHeapType, ValType};
 
-/// What a field stores: a packed integer or a value. The standard's section Structure, Composite Types.
+/// The type that a field stores: a packed integer or a value type. See the standard, section
+/// Structure, Composite Types.
 #[derive(Clone, Copy, Debug, PartialEq)]
 pub enum StorageType {
     /// A packed integer of 8 bits.
@@ -15,27 +16,28 @@ pub enum StorageType {
     Val(ValType),
 }
 
-/// A field of a struct, or the element of an array. The standard's section Structure, Composite Types.
+/// A field of a struct, or the element of an array. See the standard, section Structure, Composite
+/// Types.
 #[derive(Clone, Copy, Debug, PartialEq)]
 pub struct FieldType {
     /// The type that the field stores.
     pub element_type: StorageType,
-    /// Whether the field may be set.
+    /// Whether the field is mutable.
     pub mutable: bool,
 }
 
-/// An array type, by the type of each element. The standard's section Structure, Composite Types.
+/// An array type, given by its element. See the standard, section Structure, Composite Types.
 #[derive(Clone, Copy, Debug, PartialEq)]
 pub struct ArrayType(pub FieldType);
 
-/// A struct type. The standard's section Structure, Composite Types.
+/// A struct type. See the standard, section Structure, Composite Types.
 #[derive(Debug, Drop, PartialEq)]
 pub struct StructType {
-    /// The fields, in the order of their indices.
+    /// The fields, in index order.
     pub fields: Items<FieldType>,
 }
 
-/// A function type. The standard's section Structure, Composite Types.
+/// A function type. See the standard, section Structure, Composite Types.
 #[derive(Debug, Drop, PartialEq)]
 pub struct FuncType {
     /// The types of the parameters, in order.
@@ -44,7 +46,7 @@ pub struct FuncType {
     pub results: Items<ValType>,
 }
 
-/// A composite type without its sharedness. The standard's section Structure, Composite Types.
+/// A composite type without its sharedness. See the standard, section Structure, Composite Types.
 #[derive(Debug, Drop, PartialEq)]
 pub enum CompositeInnerType {
     /// An array type.
@@ -56,8 +58,9 @@ pub enum CompositeInnerType {
 }
 
 impl CompositeInnerType {
-    /// The abstract heap type above every composite type of the same kind: Validation, Matching, Heap Types. That types compare
-    /// only where they are alike in sharedness is a rule of this project.
+    /// Returns the abstract heap type that is a supertype of every composite type of this kind
+    /// (Validation, Matching, Heap Types). Both are shared or neither is, by a rule of this
+    /// project.
     pub fn kind(&self) -> AbstractHeapType
         ensures { result ≡ kind_of self.now }
     {
@@ -68,8 +71,9 @@ impl CompositeInnerType {
         }
     }
 
-    /// The abstract heap type below every composite type of the same kind: Validation, Matching, Heap Types, over types alike in
-    /// sharedness as in [`CompositeInnerType::kind`].
+    /// Returns the abstract heap type that is a subtype of every composite type of this kind
+    /// (Validation, Matching, Heap Types). Both are shared or neither is, by a rule of this
+    /// project.
     pub fn bottom(&self) -> AbstractHeapType
         ensures { result ≡ bottom_of self.now }
     {
@@ -80,22 +84,22 @@ impl CompositeInnerType {
     }
 }
 
-/// A composite type. The standard's section Structure, Composite Types; sharedness is that of the
+/// A composite type. See the standard, section Structure, Composite Types, and for sharedness the
 /// shared-everything-threads proposal.
 #[derive(Debug, Drop, PartialEq)]
 pub struct CompositeType {
     /// The array, function or struct type.
     pub inner: CompositeInnerType,
-    /// Whether values of the type may be shared among threads.
+    /// Whether values of the type may be shared between threads.
     pub shared: bool,
 }
 
-/// A type of a recursive group. The standard's section Structure, Recursive Types.
+/// A type of a recursive group. See the standard, section Structure, Recursive Types.
 #[derive(Debug, Drop, PartialEq)]
 pub struct SubType {
-    /// Whether the type has no subtypes.
+    /// Whether the type can have no subtypes.
     pub is_final: bool,
-    /// The index of the declared supertype, or None where the type declares no supertype.
+    /// The index of the declared supertype, or `None` if the type declares none.
     pub supertype: Option<u32>,
     /// The structure of the type.
     pub composite_type: CompositeType,

@@ -1,18 +1,18 @@
 use crate::value_type::HeapType;
 
-/// An instruction of a constant expression: the standard's section Validation, Constant Expressions. Globals, functions and types
-/// are given by their indices.
+/// An instruction of a constant expression. See the standard, section Validation, Constant
+/// Expressions. Globals, functions and types are given by their indices.
 #[derive(Clone, Copy, Debug, PartialEq)]
 pub enum ConstInstr {
-    /// `i32.const`, with the value.
+    /// `i32.const` with the value.
     I32Const(i32),
-    /// `i64.const`, with the value.
+    /// `i64.const` with the value.
     I64Const(i64),
-    /// `f32.const`, with the bits of the value.
+    /// `f32.const` with the bits of the value.
     F32Const(u32),
-    /// `f64.const`, with the bits of the value.
+    /// `f64.const` with the bits of the value.
     F64Const(u64),
-    /// `v128.const`, with the bits of the value.
+    /// `v128.const` with the bits of the value.
     V128Const(i128),
     /// `global.get` of a global.
     GlobalGet(u32),

@@ -1,62 +1,64 @@
 use crate::value_type::{RefType, ValType};
 
-/// A table type: the standard's section Structure, Table Types. Limits are in elements.
+/// A table type, with limits in elements. See the standard, section Structure, Table Types.
 #[derive(Clone, Copy, Debug, PartialEq)]
 pub struct TableType {
     /// The type of each element.
     pub element_type: RefType,
-    /// The least number of elements.
+    /// The minimum number of elements.
     pub minimum: u64,
-    /// The greatest number of elements, or None where the type states no maximum.
+    /// The maximum number of elements, or `None` if the type states no maximum.
     pub maximum: Option<u64>,
     /// Whether indices are 64 bits wide.
     pub table64: bool,
-    /// Whether the table may be shared among threads.
+    /// Whether the table may be shared between threads.
     pub shared: bool,
 }
 
-/// A memory type: the standard's section Structure, Memory Types. Limits are in pages.
+/// A memory type, with limits in pages. See the standard, section Structure, Memory Types.
 #[derive(Clone, Copy, Debug, PartialEq)]
 pub struct MemoryType {
-    /// The least number of pages.
+    /// The minimum number of pages.
     pub minimum: u64,
-    /// The greatest number of pages, or None where the type states no maximum.
+    /// The maximum number of pages, or `None` if the type states no maximum.
     pub maximum: Option<u64>,
     /// Whether addresses are 64 bits wide.
     pub memory64: bool,
-    /// Whether the memory may be shared among threads.
+    /// Whether the memory may be shared between threads.
     pub shared: bool,
-    /// The binary logarithm of the bytes of a page, or None where the type states no page size: a page has 64 KiB then.
+    /// The binary logarithm of the page size in bytes, or `None` for the default page size of 64
+    /// KiB.
     pub page_size_log2: Option<u32>,
 }
 
-/// A global type: the standard's section Structure, Global Types.
+/// A global type. See the standard, section Structure, Global Types.
 #[derive(Clone, Copy, Debug, PartialEq)]
 pub struct GlobalType {
     /// The type of the value.
     pub val_type: ValType,
-    /// Whether the value may be set.
+    /// Whether the global is mutable.
     pub mutable: bool,
-    /// Whether the global may be shared among threads.
+    /// Whether the global may be shared between threads.
     pub shared: bool,
 }
 
-/// The type of an entity that is imported or exported: the standard's section Structure, External Types.
+/// The type of an imported or exported entity. See the standard, section Structure, External Types.
 #[derive(Clone, Copy, Debug, PartialEq)]
 pub enum EntityType {
-    /// A global of a global type.
+    /// A global with its type.
     Global(GlobalType),
-    /// A table of a table type.
+    /// A table with its type.
     Table(TableType),
-    /// A memory of a memory type.
+    /// A memory with its type.
     Memory(MemoryType),
-    /// A tag of the function type of an index.
+    /// A tag, given by the index of its function type.
     Tag(u32),
-    /// A function of the function type of an index.
+    /// A function, given by the index of its function type.
     Func(u32),
 }
 
-/// The index space that an export names an entity of: the standard's section Structure, Exports.
+/// The kind of an exported entity: the index space that an export refers to. See the standard,
+/// section Structure, Exports.
 #[derive(Clone, Copy, Debug, PartialEq)]
 pub enum ExportKind {
     /// The index space of functions.

@@ -36,9 +36,9 @@ use crate::imports::{Import, ImportItem, Imports};
 use crate::list::{Items, Name};
 use crate::value_type::{AbstractHeapType, HeapType, RefType, ValType};
 
-/// A type whose `==` says yes exactly for equal contents.
+/// A type whose `==` returns `true` exactly for equal contents.
 pub trait Exact: PartialEq {
-    /// The proof that `==` does so.
+    /// The proof that `==` decides equality.
     ghost exact: { (a b : Self) → Decides (Self.eq a b) (a ≡ b) };
 }
 
@@ -146,7 +146,7 @@ impl Exact for (Name, ExportKind, u32) {
     ghost exact = { exact_export };
 }
 
-/// Whether `a` and `b` have equal contents.
+/// Returns whether `a` and `b` have equal contents.
 pub fn is_same<T: Exact>(a: &T, b: &T) -> bool
     ensures { IsTrue result ↔ (a.now ≡ b.now) }
 {

@@ -6,18 +6,20 @@ ghost use Rattle.smith_types.specs.Families.{AreFamilies};
 use crate::composite_type::SubType;
 use smith_bytes::Error;
 
-// The direct subtypes of a type, from the last to the first: each has the one before it.
+// The direct subtypes of a type, as a list that is linked from the last to the first.
 #[derive(Clone, Copy)]
 pub(crate) struct Family {
-    // The number of types that are declared directly below the type.
+    // The number of types that declare this type as their supertype.
     pub(crate) count: u32,
-    // The index of the last of these, where there is one.
+    // The index of the last direct subtype. Meaningless if there is none.
     pub(crate) last: u32,
-    // The index of the one before the type itself among the direct subtypes of its supertype, where there is one.
+    // The index of the direct subtype before this type, among those of its own supertype.
+    // Meaningless if there is none.
     pub(crate) previous: u32,
 }
 
-// Makes room among `families` for the type `added`, the next one after `types`, where it has a supertype.
+// Extends `families` up to the type `added`, the next one after `types`, if `added` has a
+// supertype.
 pub(crate) fn extend_families(
     types: &[SubType],
     added: &SubType,
@@ -41,7 +43,8 @@ pub(crate) fn extend_families(
     Ok(())
 }
 
-// Adds the type `added`, the next one after `types`, to the direct subtypes of its supertype, where it has one.
+// Adds the type `added`, the next one after `types`, to the direct subtypes of its supertype, if it
+// has one.
 pub(crate) fn join_family(types: &[SubType], added: &SubType, families: &mut Vec<Family>)
     requires orderly { IsOrderly types.now }
     requires follows { MayFollow types.now added.now }

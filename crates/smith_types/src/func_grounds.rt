@@ -14,19 +14,21 @@ use crate::value_type::HeapType;
 use smith_bytes::Error;
 use std::alloc::Global;
 
-/// What functions ground, kept as they are noted one by one: whether they ground a heap type is then found at once, however many they are.
+/// The heap types that functions ground, updated as functions are noted. A query takes constant
+/// time.
 ///
-/// A function grounds each heap type above the reference that names it. With custom descriptors that reference is exact, unless the
-/// function is imported.
+/// A function grounds each heap type that is a supertype of its reference. With custom descriptors
+/// this reference is exact, unless the function is imported.
 #[derive(Drop)]
 pub struct FuncGrounds {
-    // Of each type: whether it is the type of a function whose reference is exact, and whether it is or is above that of any.
+    // For each type: whether it is the type of a function whose reference is exact, and whether it
+    // is the type of a function or a supertype of one.
     marks: Vec<Ground>,
     kinds: NotedKinds,
 }
 
 impl FuncGrounds {
-    /// Begins without functions, over `types` types, with memory of `alloc` for a mark of each.
+    /// Starts without functions, over `types` types. Allocates a mark for each type from `alloc`.
     pub fn none(alloc: Global, types: usize) -> Result<FuncGrounds, Error>
         ensures none { (context : Context) → context.funcs ≡ [] → length context.types ≡ types → IfOk result (AreFuncGrounds context) }
         ensures memory { IfErr result (λ e. e ≡ Error.Memory) }
@@ -41,8 +43,11 @@ impl FuncGrounds {
         })
     }
 
-    /// Notes a function whose type has the index `index` in `types`, and a reference to which is exact where `exact` is set. A type
-    /// that doesn't exist is left out, since it grounds nothing that does. All notes together take a step for each type and each function.
+    /// Notes a function whose type has the index `index` in `types`, and whose reference is exact
+    /// if `exact` is `true`.
+    ///
+    /// An index without a type is ignored, since such a function grounds no type that exists. All
+    /// calls together take time linear in the number of types and functions.
     pub fn note(&mut self, types: &TypeSpace, index: u32, exact: bool)
         ensures { (before after : Context) → before.types ≡ types.now.types → IsFunctionAdded before after index exact → AreFuncGrounds before self.old → AreFuncGrounds after self.new }
     {
@@ -57,7 +62,7 @@ impl FuncGrounds {
         self.kinds = self.kinds.with(ty);
     }
 
-    /// Whether one of the functions grounds the heap type `ty`.
+    /// Returns whether one of the functions grounds the heap type `ty`.
     pub fn are_grounding(&self, ty: HeapType) -> bool
         ensures { (context : Context) → AreFuncGrounds context self.now → IsInRange context.types ty → IsTrue result ↔ IsGroundedByFuncs context ty }
     {
@@ -75,7 +80,7 @@ impl FuncGrounds {
     }
 }
 
-// Notes a function of the type `index` among `marks`.
+// Notes a function of the type `index` in `marks`.
 fn note_type(types: &[SubType], index: u32, exact: bool, marks: &mut Vec<Ground>)
     requires orderly { IsOrderly types.now }
     requires stands { index < length types.now }
@@ -86,7 +91,7 @@ fn note_type(types: &[SubType], index: u32, exact: bool, marks: &mut Vec<Ground>
     mark_above(types, Some(index), marks);
 }
 
-// The mark `mark`, where `exact` is set with an exact reference.
+// Returns `mark`, with the exact reference added if `exact` is `true`.
 fn with_exact(mark: Ground, exact: bool) -> Ground
     ensures { result ≡ record { own = mark.own || exact; below = mark.below } }
 {

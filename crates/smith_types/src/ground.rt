@@ -8,16 +8,18 @@ ghost use Rattle.smith_types.specs.Grounds.{is_ground, kind_at, kinds_with, AreG
 use crate::composite_type::{CompositeInnerType, FieldType, StorageType, SubType};
 use crate::value_type::ValType;
 
-// What a type space keeps of a type: whether a reference below it that isn't null can be made of a struct without operands.
+// The mark of a type in a type space: whether creating some struct without operands pushes a
+// reference below the type.
 #[derive(Clone, Copy)]
 pub(crate) struct Ground {
     // Whether the type is a struct type whose fields all have defaults.
     pub(crate) own: bool,
-    // Whether the type or one below it is.
+    // Whether the type or one of its subtypes is.
     pub(crate) below: bool,
 }
 
-// Whether there is a struct type whose fields all have defaults, among those that aren't shared and those that are.
+// Whether any type is a struct type whose fields all have defaults, among unshared types (`plain`)
+// and among shared types.
 #[derive(Clone, Copy)]
 pub(crate) struct GroundKinds {
     pub(crate) plain: bool,
@@ -25,7 +27,8 @@ pub(crate) struct GroundKinds {
 }
 
 impl GroundKinds {
-    // What there is with a type too that is such a struct type if `ground` is set, and shared if `shared` is.
+    // Returns the kinds with a further type. `ground` says whether the type is such a struct type,
+    // and `shared` whether it is shared.
     pub(crate) fn with(self, ground: bool, shared: bool) -> GroundKinds
         ensures { result ≡ kinds_with ground shared self }
     {
@@ -35,7 +38,7 @@ impl GroundKinds {
         }
     }
 
-    // Whether there is one of the sharedness `shared`.
+    // Returns whether there is such a struct type with this sharedness.
     pub(crate) fn has(self, shared: bool) -> bool
         ensures { result ≡ kind_at self shared }
     {
@@ -43,7 +46,7 @@ impl GroundKinds {
     }
 }
 
-// What there is among no types.
+// Returns the kinds without any types.
 pub(crate) fn no_grounds() -> GroundKinds
     ensures { result ≡ record { plain = false; shared = false } }
 {
@@ -53,7 +56,8 @@ pub(crate) fn no_grounds() -> GroundKinds
     }
 }
 
-// Adds to `grounds`, which has room, and to `kinds` what the type `added`, the next one after `types`, grounds, where `kept` is set.
+// Updates `grounds` and `kinds` with the type `added`, the next one after `types`, if `kept` is
+// `true`. Requires room in `grounds`.
 pub(crate) fn note_ground(
     kept: bool,
     types: &[SubType],
@@ -77,8 +81,8 @@ pub(crate) fn note_ground(
     *kinds = kinds.with(own, added.composite_type.shared);
 }
 
-// Adds to `grounds`, which has room, an entry for the type `added`, the next one after `types`, and marks the types above it where
-// `own` says that `added` grounds.
+// Appends an entry for the type `added`, the next one after `types`, to `grounds`, and marks its
+// supertypes if `own` is `true`. Requires room in `grounds`.
 fn join_grounds(types: &[SubType], added: &SubType, own: bool, grounds: &mut Vec<Ground>)
     requires orderly { IsOrderly types.now }
     requires follows { MayFollow types.now added.now }
@@ -91,15 +95,15 @@ fn join_grounds(types: &[SubType], added: &SubType, own: bool, grounds: &mut Vec
     grounds.push_reserved(Ground { own, below: own });
 }
 
-// The supertype of `ty`, where `wanted` is true.
+// Returns the supertype of `ty` if `wanted` is `true`.
 fn supertype_if(wanted: bool, ty: &SubType) -> Option<u32>
     ensures { result ≡ (if wanted then ty.now.supertype else None) }
 {
     if wanted { ty.supertype } else { None }
 }
 
-// Marks the type of the index `from`, where there is one, and each type above it. A type that is marked has all above it marked, so
-// that each is marked once.
+// Marks the type `from`, if there is one, and all its supertypes. Stops at a marked type, since its
+// supertypes are marked already.
 pub(crate) fn mark_above(types: &[SubType], from: Option<u32>, grounds: &mut Vec<Ground>)
     requires orderly { IsOrderly types.now }
     requires stands { (s : ℕ) → from ≡ Some s → (s < length types.now) × (s < vec_len grounds.old) }
@@ -121,7 +125,7 @@ pub(crate) fn mark_above(types: &[SubType], from: Option<u32>, grounds: &mut Vec
     }
 }
 
-// Whether `ty` is a struct type whose fields all have defaults.
+// Returns whether `ty` is a struct type whose fields all have defaults.
 pub(crate) fn is_ground(ty: &SubType) -> bool
     ensures { result ≡ is_ground ty.now }
 {
@@ -131,7 +135,7 @@ pub(crate) fn is_ground(ty: &SubType) -> bool
     }
 }
 
-/// Whether all of `fields` have a default value: Structure, Types, Defaultable.
+/// Returns whether all `fields` have a default value (Validation, Value Types, Defaultable).
 pub fn are_defaultable(fields: &[FieldType]) -> bool
     ensures { result ≡ are_defaultable fields.now }
 {
@@ -140,7 +144,8 @@ pub fn are_defaultable(fields: &[FieldType]) -> bool
         .all(|field| is_defaultable(unpacked(field.element_type)))
 }
 
-/// Whether `value` has a default value: all but references that aren't nullable have.
+/// Returns whether `value` has a default value. All value types have one except non-nullable
+/// references.
 pub fn is_defaultable(value: ValType) -> bool
     ensures { result ≡ is_defaultable value }
 {
@@ -150,7 +155,8 @@ pub fn is_defaultable(value: ValType) -> bool
     }
 }
 
-/// The type of the value that a field takes which stores `stored`: a packed integer is unpacked.
+/// Returns the type of the values written to a field that stores `stored`. A packed integer is
+/// unpacked to `i32`.
 pub fn unpacked(stored: StorageType) -> ValType
     ensures { result ≡ unpacked stored }
 {

@@ -9,10 +9,12 @@ use crate::type_space::TypeSpace;
 use smith_bytes::Error;
 use std::alloc::Global;
 
-/// Makes the type space of `groups`, or gives None where a declared supertype doesn't stand before its subtype, or is of another
-/// kind or sharedness: Validation, Recursive Types. That sharedness agrees is a rule of this project.
+/// Creates the type space of `groups`. Requires `groups` to have fewer than 2^32 - 1 types in
+/// total.
 ///
-/// All `groups` together have fewer than 2^32 - 1 types.
+/// Returns `None` if a declared supertype does not precede its subtype, or differs from it in kind
+/// or sharedness (Validation, Recursive Types). The condition on sharedness is a rule of this
+/// project.
 pub fn type_space_of(alloc: Global, groups: &[Items<SubType>]) -> Result<Option<TypeSpace>, Error>
     requires few { length (space_of groups.now).types + 1 < 2 ^ 32 }
     ensures found { IfOk result (λ found. MatchOption found (¬ AreFollowing (space_of groups.now).types) (λ space. space ≡ space_of groups.now)) }
@@ -29,7 +31,8 @@ pub fn type_space_of(alloc: Global, groups: &[Items<SubType>]) -> Result<Option<
     Ok(Some(space))
 }
 
-// Adds `members` to `space`, as long as each may follow the types before it, and says whether all may.
+// Adds `members` to `space` up to the first that may not follow the types before it. Returns
+// whether all were added.
 fn push_members(alloc: Global, space: &mut TypeSpace, members: &[SubType]) -> Result<bool, Error>
     requires few { length space.old.types + length members.now + 1 < 2 ^ 32 }
     ensures added { IfOk result (λ all. MatchBool all (space.new ≡ record space.old { types = space.old.types ++ members.now }) (¬ AreFollowing (space.old.types ++ members.now))) }

@@ -15,14 +15,15 @@ use crate::index_spaces::IndexSpaces;
 use crate::predicate::{Predicate, all_hold};
 use crate::value_type::ValType;
 
-/// Whether every value type that the composite type `inner` holds has the property that `predicate` decides.
+/// Returns whether every value type in the composite type `inner` satisfies `predicate`.
 pub fn all_values_hold<P: Predicate<ValType>>(predicate: &P, inner: &CompositeInnerType) -> bool
     ensures { IsTrue result ↔ All (P.meaning predicate.now) (values_of inner.now) }
 {
     are_held(predicate, inner)
 }
 
-/// Whether every value type that `types`, and the tables and globals of `spaces`, name has the property that `predicate` decides.
+/// Returns whether every value type in `types`, and in the tables and globals of `spaces`,
+/// satisfies `predicate`.
 pub fn all_named_values_hold<P: Predicate<ValType>>(
     predicate: &P,
     types: &[SubType],

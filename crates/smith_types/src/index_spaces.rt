@@ -10,8 +10,8 @@ use crate::list::{Items, Name};
 use smith_bytes::Error;
 use std::alloc::Global;
 
-/// The index spaces of a module but that of types: Structure, Indices. Tags and functions are given by the indices of their
-/// types.
+/// The index spaces of a module except that of types (Structure, Indices). Tags and functions are
+/// given by the indices of their types.
 #[derive(Drop)]
 pub struct IndexSpaces {
     /// The index of the type of each tag.
@@ -27,7 +27,7 @@ pub struct IndexSpaces {
 }
 
 impl IndexSpaces {
-    /// Makes index spaces without entities, which take no memory of `alloc` until an entity is added.
+    /// Creates empty index spaces. Allocates from `alloc` only once entities are added.
     pub fn new(alloc: Global) -> IndexSpaces
         ensures { spaces_in result ≡ record { tags = []; funcs = []; tables = []; memories = []; globals = [] } }
     {
@@ -40,7 +40,7 @@ impl IndexSpaces {
         }
     }
 
-    /// Adds the entity `entity` last in the space of its kind.
+    /// Appends `entity` to the index space of its kind.
     pub fn push(&mut self, entity: EntityType) -> Result<(), Error>
         ensures ok { OnOk result (spaces_in self.new ≡ with_entity (spaces_in self.old) entity) }
         ensures memory { IfErr result (λ e. e ≡ Error.Memory) }
@@ -55,7 +55,7 @@ impl IndexSpaces {
     }
 }
 
-// Adds the entities of `group`: an empty group adds none.
+// Appends the entities of `group`, of which there may be none.
 fn push_group(spaces: &mut IndexSpaces, group: &Imports) -> Result<(), Error>
     ensures ok { OnOk result (spaces_in spaces.new ≡ with_entities (spaces_in spaces.old) (entities_of group.now)) }
     ensures memory { IfErr result (λ e. e ≡ Error.Memory) }
@@ -95,7 +95,8 @@ fn push_names(
     Ok(())
 }
 
-/// Makes the index spaces that `imports` begin: each import in turn stands last in the space of its kind. Validation, Modules.
+/// Creates the index spaces of the given imports. Each import in turn is appended to the index
+/// space of its kind (Validation, Modules).
 #[tactic(auto, using(crate::proofs::ImportedSpaceLemmas::imported_is_grown))]
 pub fn imported_spaces_of(alloc: Global, imports: &[Imports]) -> Result<IndexSpaces, Error>
     ensures ok { IfOk result (λ spaces. spaces_in spaces ≡ imported_spaces (flattened imports.now)) }

@@ -18,17 +18,17 @@ use bitflags::{Flag, Flags, bitflag_items};
 use std::str::FromStr;
 use thiserror::Error;
 
-/// A kind of instructions, as the WebAssembly Core Specification groups them. Three kinds stand
-/// twice: without what concerns floats, and whole.
+/// A kind of instructions, as grouped in the WebAssembly Core Specification. Three kinds exist
+/// twice: complete, and without floats.
 ///
-/// As text a kind has a name such as `numeric_non_float`, in letters of either case.
+/// As text, a kind is a name such as `numeric_non_float`. Case is ignored.
 #[derive(Clone, Copy, Debug, PartialEq, Eq)]
 pub enum InstructionKind {
-    /// Numeric instructions that concern no floats.
+    /// Numeric instructions without floats.
     NumericInt,
     /// Numeric instructions.
     Numeric,
-    /// Vector instructions that concern no floats.
+    /// Vector instructions without floats.
     VectorInt,
     /// Vector instructions.
     Vector,
@@ -40,7 +40,7 @@ pub enum InstructionKind {
     Variable,
     /// Table instructions.
     Table,
-    /// Memory instructions that concern no floats.
+    /// Memory instructions without floats.
     MemoryInt,
     /// Memory instructions.
     Memory,
@@ -50,21 +50,22 @@ pub enum InstructionKind {
     Aggregate,
 }
 
-/// Why a text is no kind of instructions, or no set of kinds: a part of the text between commas names no kind.
+/// The error of parsing a kind or a set of kinds: a part of the text between commas is no name of a
+/// kind.
 #[derive(Clone, Copy, Debug, PartialEq, Eq, Error)]
 #[error("part {part} names no kind of instructions")]
 pub struct UnknownKind {
-    /// The place of the first such part, from 0.
+    /// The position of the first such part, starting at 0.
     pub part: usize,
 }
 
-/// A set of kinds of instructions. A kind with floats holds the kind without.
+/// A set of kinds of instructions. A kind with floats includes the kind without floats.
 ///
-/// As text the names of the kinds stand in a row, with commas between them.
+/// As text, a set is the names of its kinds separated by commas.
 #[derive(Clone, Copy, Debug, PartialEq, Eq)]
 pub struct InstructionKinds(u16);
 
-// What the kinds with floats have, and the same kinds without floats don't.
+// The bits that the kinds with floats have and their counterparts without floats lack.
 const FLOATS: InstructionKinds = InstructionKinds(2 + 8 + 512);
 
 const KINDS: [InstructionKind; 12] = [
@@ -83,7 +84,7 @@ const KINDS: [InstructionKind; 12] = [
 ];
 
 impl InstructionKind {
-    // The set of the kind alone.
+    // Returns the set of this kind alone.
     fn set(self) -> InstructionKinds
         ensures { kinds_bits result ≡ kind_bits self }
     {
@@ -190,7 +191,7 @@ impl Flags for InstructionKinds {
 }
 
 impl InstructionKinds {
-    /// Makes the set of the kinds `kinds`.
+    /// Creates the set of the given kinds.
     #[tactic(auto, unfolding(crate::specs::Instructions::with_kind))]
     pub fn new(kinds: &[InstructionKind]) -> InstructionKinds
         ensures { kinds_bits result ≡ union_of kinds.now }
@@ -202,7 +203,7 @@ impl InstructionKinds {
         all
     }
 
-    /// The set of every kind.
+    /// Returns the set of all kinds.
     #[tactic(auto, unfolding(bitflags::proofs::OnLiterals::bitflags_on_literals))]
     pub fn all() -> InstructionKinds
         ensures { result ≡ every_kind }
@@ -210,28 +211,28 @@ impl InstructionKinds {
         Flags::all()
     }
 
-    /// The empty set.
+    /// Returns the empty set.
     pub fn none() -> InstructionKinds
         ensures { result ≡ no_kind }
     {
         Flags::empty()
     }
 
-    /// Whether every bit of `kind` is in the set.
+    /// Returns whether the set has every bit of `kind`.
     pub fn contains(&self, kind: InstructionKind) -> bool
         ensures { IsTrue result ↔ (bit_and (kinds_bits self.now) (kind_bits kind) ≡ kind_bits kind) }
     {
         Flags::contains(self, kind.set())
     }
 
-    /// The set without what concerns floats.
+    /// Returns the set without the bits that concern floats.
     pub fn without_floats(&self) -> InstructionKinds
         ensures { kinds_bits result ≡ without 16 (kinds_bits self.now) float_bits }
     {
         self.difference(FLOATS)
     }
 
-    /// The set, with `kind` added where `wanted` is true.
+    /// Returns the set with `kind` added if `wanted` is `true`.
     #[tactic(auto, unfolding(crate::specs::Instructions::with_kind))]
     pub fn with(self, wanted: bool, kind: InstructionKind) -> InstructionKinds
         ensures { result ≡ with_kind self wanted kind }

@@ -5,7 +5,7 @@ ghost use Rattle.smith_types.specs.KindCounts.{count_at, counts_with};
 use crate::composite_type::{CompositeInnerType, CompositeType};
 use crate::value_type::AbstractHeapType;
 
-// The number of types of each kind and sharedness among some types.
+// The number of types of each kind and sharedness in a list of types.
 #[derive(Clone, Copy)]
 pub(crate) struct KindCounts {
     pub(crate) arrays: u32,
@@ -16,7 +16,7 @@ pub(crate) struct KindCounts {
     pub(crate) shared_structs: u32,
 }
 
-// The counts of no types.
+// Returns the counts of an empty list.
 pub(crate) fn no_counts() -> KindCounts
     ensures { result ≡ record { arrays = 0; funcs = 0; structs = 0; shared_arrays = 0; shared_funcs = 0; shared_structs = 0 } }
 {
@@ -31,7 +31,8 @@ pub(crate) fn no_counts() -> KindCounts
 }
 
 impl KindCounts {
-    // The counts with one more type, of the composite type `ty`. No count is at its limit.
+    // Returns the counts with a further composite type `ty`. Requires that no count is at its
+    // limit.
     pub(crate) fn with(self, ty: &CompositeType) -> KindCounts
         requires room { (is_shared : Bool) (kind : AbstractHeapType) → count_at self is_shared kind + 1 < 2 ^ 32 }
         ensures { result ≡ counts_with ty.now.shared ty.now.inner self }
@@ -64,7 +65,8 @@ impl KindCounts {
         }
     }
 
-    // The number of types of the kind `kind`, shared or not as `shared` says; 0 for a kind that no composite type has.
+    // Returns the number of types of the kind `kind` with the sharedness `shared`. Returns 0 for a
+    // kind that no composite type has.
     pub(crate) fn count(self, shared: bool, kind: AbstractHeapType) -> u32
         ensures { result ≡ count_at self shared kind }
     {

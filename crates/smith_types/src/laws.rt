@@ -13,22 +13,23 @@ ghost use Rattle.smith_types.specs.Laws.{
   ValidExportsSurviveGrowth,
 };
 
-/// States that each type is below itself.
+/// States that each type is a subtype of itself.
 pub fn subtyping_is_reflexive()
     ensures { SubtypingIsReflexive }
 {}
 
-/// States that a type below a second type is below each type that the second is below.
+/// States that subtyping is transitive.
 pub fn subtyping_is_transitive()
     ensures { SubtypingIsTransitive }
 {}
 
-/// States that no concrete type is below an exact type, not even below the exact type of the same index.
+/// States that no concrete type is a subtype of an exact type, not even of the exact type with the
+/// same index.
 pub fn concrete_is_never_below_exact()
     ensures { ConcreteIsNeverBelowExact }
 {}
 
-/// States that a type below another stays so when more types are added.
+/// States that a subtype stays a subtype when more types are added.
 pub fn subtyping_survives_growth()
     ensures { SubtypingSurvivesGrowth }
 {}
@@ -38,7 +39,7 @@ pub fn matching_is_reflexive()
     ensures { MatchingIsReflexive }
 {}
 
-/// States that a composite type that matches another goes on doing so when more types are added.
+/// States that a composite type that matches another still does when more types are added.
 pub fn matching_survives_growth()
     ensures { MatchingSurvivesGrowth }
 {}
@@ -53,19 +54,20 @@ pub fn valid_entities_survive_growth()
     ensures { ValidEntitiesSurviveGrowth }
 {}
 
-/// States that a valid constant expression stays valid when types, functions and globals are added, and when more globals are
-/// visible.
+/// States that a valid constant expression stays valid when types, functions and globals are added,
+/// and when more globals are visible.
 pub fn valid_expressions_survive_growth()
     ensures { ValidExpressionsSurviveGrowth }
 {}
 
-/// States that a grounded heap type stays grounded when types and functions are added: defined functions, or imported ones as long
-/// as none is defined.
+/// States that a grounded heap type stays grounded when types and defined functions are added, or,
+/// while all functions are imported, when types and imported functions are added.
 pub fn grounded_survives_growth()
     ensures { GroundedSurvivesGrowth }
 {}
 
-/// States that a valid segment stays valid when types, functions, globals, tables and memories are added.
+/// States that a valid segment stays valid when types, functions, globals, tables and memories are
+/// added.
 pub fn valid_segments_survive_growth()
     ensures { ValidSegmentsSurviveGrowth }
 {}

@@ -1,5 +1,6 @@
-//! Types of WebAssembly modules as plain data, the type space, and the subtype test. The standard is
-//! the WebAssembly Core Specification 3.0.
+//! The types of WebAssembly modules as plain data, the type space, and the subtype test. The
+//! standard is the WebAssembly Core Specification 3.0. Sections in parentheses are sections of the
+//! standard.
 #![tactic(auto)]
 
 mod clone_in;
@@ -18,7 +19,7 @@ mod imports;
 mod index_spaces;
 mod instruction_kind;
 mod kind_counts;
-/// Laws: functions that do nothing, whose clauses say what holds.
+/// Laws: functions with empty bodies whose clauses state theorems.
 pub mod laws;
 mod list;
 mod matching;

@@ -22,7 +22,7 @@ use std::marker::Model;
 use std::ops::{DerefSlice, Index};
 use std::slice::Iter;
 
-/// A list in plain data, which contracts see as the list itself.
+/// A list in plain data. Contracts see the list itself.
 #[derive(Drop)]
 pub struct Items<T> {
     items: Vec<T>,
@@ -35,7 +35,7 @@ impl<T> Model for Items<T> {
 }
 
 impl<T> Items<T> {
-    /// Makes an empty list, which takes no memory of `alloc` until an element is added.
+    /// Creates an empty list. Allocates from `alloc` only once elements are added.
     pub fn new(alloc: Global) -> Self
         ensures { result ≡ [] }
     {
@@ -44,7 +44,7 @@ impl<T> Items<T> {
         }
     }
 
-    /// Makes an empty list with room for `capacity` elements, in memory of `alloc`.
+    /// Creates an empty list with room for `capacity` elements, allocated from `alloc`.
     pub fn with_capacity(alloc: Global, capacity: usize) -> Result<Self, Error>
         ensures ok { IfOk result (λ items. items ≡ []) }
         ensures memory { IfErr result (λ e. e ≡ Error.Memory) }
@@ -54,14 +54,14 @@ impl<T> Items<T> {
         })
     }
 
-    /// Makes the list of the elements of `items`. Takes no memory.
+    /// Creates a list of the elements of `items`. Does not allocate.
     pub fn from_vec(items: Vec<T>) -> Self
         ensures { result ≡ items.items }
     {
         Items { items }
     }
 
-    /// Gives the elements back. Takes no memory.
+    /// Returns the elements as a `Vec`. Does not allocate.
     pub fn into_vec(self) -> Vec<T>
         ensures { result.items ≡ self }
     {
@@ -69,21 +69,21 @@ impl<T> Items<T> {
         items
     }
 
-    /// Lends the elements, in order.
+    /// Returns the elements as a slice.
     pub fn as_slice(&self) -> &[T]
         ensures { result.now ≡ self.now }
     {
         self.items.as_slice()
     }
 
-    /// The number of elements.
+    /// Returns the number of elements.
     pub fn len(&self) -> usize
         ensures { result ≡ length self.now }
     {
         self.items.len()
     }
 
-    /// Whether the list has no element.
+    /// Returns whether the list is empty.
     pub fn is_empty(&self) -> bool
         ensures { IsTrue result ↔ (length self.now ≡ 0) }
     {
@@ -92,7 +92,7 @@ impl<T> Items<T> {
 }
 
 impl<T: Copy> Items<T> {
-    /// Makes the list of the elements of `items`, in fresh memory of `alloc`.
+    /// Creates a list of copies of the elements of `items`, allocated from `alloc`.
     pub fn from_slice(alloc: Global, items: &[T]) -> Result<Self, Error>
         ensures ok { IfOk result (λ made. made ≡ items.now) }
         ensures memory { IfErr result (λ e. e ≡ Error.Memory) }
@@ -101,7 +101,7 @@ impl<T: Copy> Items<T> {
     }
 }
 
-/// Shows the elements as a slice, so that its methods can be called on the list.
+/// Dereferences to a slice, so that the methods of slices can be called on the list.
 impl<T> DerefSlice for Items<T> {
     type Elem = T;
 
@@ -114,7 +114,7 @@ impl<T> DerefSlice for Items<T> {
     }
 }
 
-/// Lends the element at an index, which is below the number of elements.
+/// Returns the element at an index. Requires the index to be less than the number of elements.
 impl<T> Index<usize> for Items<T> {
     ghost use Rattle.std.specs.Prelude.{◌<◌, slice_index_or};
 
@@ -149,7 +149,7 @@ impl<'a, T> IntoIterator for &'a Items<T> {
 }
 
 impl<T: Drop> Items<T> {
-    /// Adds `item` at the end of the list.
+    /// Appends `item` to the list.
     pub fn push(&mut self, item: T) -> Result<(), Error>
         ensures ok { OnOk result (self.new ≡ self.old ++ item ∷ []) }
         ensures err { OnErr result (self.new ≡ self.old) }
@@ -159,7 +159,7 @@ impl<T: Drop> Items<T> {
     }
 }
 
-/// A text in plain data, which contracts see as its bytes.
+/// A text in plain data. Contracts see its bytes.
 #[derive(Drop)]
 pub struct Name {
     text: String,
@@ -172,14 +172,14 @@ impl Model for Name {
 }
 
 impl Name {
-    /// Makes the name that is `text`. Takes no memory.
+    /// Creates the name `text`. Does not allocate.
     pub fn from_string(text: String) -> Self
         ensures { result ≡ string_bytes text }
     {
         Name { text }
     }
 
-    /// Makes the name that is `text`, in fresh memory of `alloc`.
+    /// Creates the name `text` by a copy allocated from `alloc`.
     pub fn from_text(alloc: Global, text: &str) -> Result<Self, Error>
         ensures ok { IfOk result (λ name. name ≡ text.now) }
         ensures memory { IfErr result (λ e. e ≡ Error.Memory) }
@@ -187,7 +187,7 @@ impl Name {
         Ok(Name::from_string(String::from_str(alloc, text)?))
     }
 
-    /// Gives the text of the name back. Takes no memory.
+    /// Returns the text as a `String`. Does not allocate.
     pub fn into_string(self) -> String
         ensures { string_bytes result ≡ self }
     {
@@ -195,21 +195,21 @@ impl Name {
         text
     }
 
-    /// Lends the text of the name.
+    /// Returns the text as a string slice.
     pub fn as_str(&self) -> &str
         ensures { result.now ≡ self.now }
     {
         self.text.as_str()
     }
 
-    /// The number of bytes of the name.
+    /// Returns the number of bytes of the name.
     pub fn len(&self) -> usize
         ensures { result ≡ length self.now }
     {
         self.text.len()
     }
 
-    /// Whether the name has no byte.
+    /// Returns whether the name is empty.
     pub fn is_empty(&self) -> bool
         ensures { IsTrue result ↔ (length self.now ≡ 0) }
     {
@@ -243,7 +243,7 @@ impl PartialEq for Name {
     }
 }
 
-/// Prints as the list itself.
+/// Formats the list as its elements.
 impl<T: fmt::Debug> fmt::Debug for Items<T> {
     fn fmt<W: fmt::Write>(&self, f: &mut fmt::Formatter<W>) -> fmt::Result {
         self.items.fmt(f)
@@ -261,7 +261,7 @@ impl fmt::Display for Name {
     }
 }
 
-/// Prints as the text itself.
+/// Formats the name as its text.
 impl fmt::Debug for Name {
     fn fmt<W: fmt::Write>(&self, f: &mut fmt::Formatter<W>) -> fmt::Result {
         self.text.fmt(f)

@@ -19,7 +19,8 @@ use crate::subtyping::val_type_is_below;
 use crate::type_space::TypeSpace;
 use crate::value_type::ValType;
 
-// Whether the composite type `a` matches `b`, over heap types as in `TypeSpace::heap_type_is_sub_type`.
+// Returns whether the composite type `a` matches `b`. Heap types are compared as in
+// `TypeSpace::heap_type_is_sub_type`.
 pub(crate) fn composite_type_is_match(
     space: &TypeSpace,
     a: &CompositeType,
@@ -66,7 +67,8 @@ fn func_type_is_match(space: &TypeSpace, a: &FuncType, b: &FuncType) -> bool
         && are_below(space, a.results.as_slice(), b.results.as_slice())
 }
 
-// Whether `a` has as many value types as `b`, each below that of `b` at the same place.
+// Returns whether `a` and `b` have the same length and each type of `a` is a subtype of that of `b`
+// at the same position.
 fn are_below(space: &TypeSpace, a: &[ValType], b: &[ValType]) -> bool
     requires lower { All (IsValInRange space.now.types) a.now }
     requires upper { All (IsValInRange space.now.types) b.now }
@@ -83,7 +85,8 @@ fn are_below(space: &TypeSpace, a: &[ValType], b: &[ValType]) -> bool
     true
 }
 
-// Whether `a` has as many fields as `b` or more, and each field of `b` is matched by that of `a` at the same place.
+// Returns whether `a` has at least as many fields as `b`, and each field of `b` is matched by that
+// of `a` at the same position.
 fn fields_are_matched(space: &TypeSpace, a: &[FieldType], b: &[FieldType]) -> bool
     requires lower { All (IsFieldInRange space.now.types) a.now }
     requires upper { All (IsFieldInRange space.now.types) b.now }

@@ -5,7 +5,7 @@ use crate::composite_type::{CompositeInnerType, SubType};
 use crate::subtyping::abstract_type_is_below;
 use crate::value_type::AbstractHeapType;
 
-// Which kinds of composite types there are among some types.
+// The kinds of composite types in a list of types.
 #[derive(Clone, Copy)]
 pub(crate) struct Kinds {
     pub(crate) arrays: bool,
@@ -13,14 +13,14 @@ pub(crate) struct Kinds {
     pub(crate) structs: bool,
 }
 
-// Which kinds there are among types that aren't shared, and among those that are.
+// The kinds among the unshared types (`plain`) and among the shared types.
 #[derive(Clone, Copy)]
 pub(crate) struct NotedKinds {
     pub(crate) plain: Kinds,
     pub(crate) shared: Kinds,
 }
 
-// The kinds among no types.
+// Returns the kinds of an empty list.
 pub(crate) fn no_kinds() -> NotedKinds
     ensures { result ≡ record {
       plain = record { arrays = false; funcs = false; structs = false };
@@ -39,7 +39,7 @@ pub(crate) fn no_kinds() -> NotedKinds
 }
 
 impl Kinds {
-    // The kinds with that of `inner` too.
+    // Returns the kinds with that of `inner` added.
     fn with(self, inner: &CompositeInnerType) -> Kinds
         ensures { result ≡ kinds_with inner.now self }
     {
@@ -59,7 +59,7 @@ impl Kinds {
         }
     }
 
-    // Whether one of the kinds is below the abstract heap type `ty`.
+    // Returns whether one of the kinds is a subtype of the abstract heap type `ty`.
     fn are_below(self, ty: AbstractHeapType) -> bool
         ensures { result ≡ are_below self ty }
     {
@@ -70,7 +70,7 @@ impl Kinds {
 }
 
 impl NotedKinds {
-    // The kinds with that of the type `ty` too.
+    // Returns the kinds with that of the type `ty` added.
     pub(crate) fn with(self, ty: &SubType) -> NotedKinds
         ensures { result ≡ noted_with ty.now.composite_type.shared ty.now.composite_type.inner self }
     {
@@ -87,7 +87,8 @@ impl NotedKinds {
         }
     }
 
-    // Whether one of the kinds, of the sharedness `shared`, is below the abstract heap type `ty`.
+    // Returns whether one of the kinds with the sharedness `shared` is a subtype of the abstract
+    // heap type `ty`.
     pub(crate) fn are_below(self, shared: bool, ty: AbstractHeapType) -> bool
         ensures { result ≡ are_below (kinds_of self shared) ty }
     {

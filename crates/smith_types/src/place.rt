@@ -7,22 +7,23 @@ use crate::composite_type::SubType;
 use crate::kind_counts::{KindCounts, no_counts};
 use smith_bytes::Error;
 
-// What a type space keeps of a type: its row in the table of rows, its depth, and the counts up to it.
+// The entry of a type in a type space: its row in the table of rows, its depth, and the counts up
+// to it.
 //
-// The row of a type has its declared supertypes, near and far, by depth: at k the one of the depth k + 1. A type without a
-// supertype has an empty row.
+// The row of a type lists its declared supertypes, direct and indirect, by depth: entry k has depth
+// k + 1. The row of a type without a supertype is empty.
 #[derive(Clone, Copy)]
 pub(crate) struct Place {
     // The index in the table at which the row starts.
     pub(crate) start: usize,
-    // The number of types on the way up, the type itself included: the length of the row and 1.
+    // The depth of the type: 1 more than the length of the row.
     pub(crate) depth: u32,
-    // The number of types of each kind among the types up to this one, itself included.
+    // The number of types of each kind among the types up to and including this one.
     pub(crate) counts: KindCounts,
 }
 
-// Makes `table` end with the row of the type `added`, the next one after `types`, and returns its place. After want of memory
-// `table` may be longer.
+// Makes `table` end with the row of the type `added`, the next one after `types`, and returns its
+// place. On an error `table` may be longer than before.
 pub(crate) fn push_row(
     types: &[SubType],
     places: &[Place],
@@ -56,7 +57,7 @@ pub(crate) fn push_row(
     }
 }
 
-// The number of types of each kind among the types of all `places`.
+// Returns the counts of all types of `places`.
 pub(crate) fn last_counts(places: &[Place]) -> KindCounts
     ensures { result ≡ last_counts places.now }
 {
@@ -66,8 +67,8 @@ pub(crate) fn last_counts(places: &[Place]) -> KindCounts
     }
 }
 
-// Makes `table` end with the row of `above`, by a copy unless it does already, and returns the index at which that row starts. After
-// want of memory `table` may be longer.
+// Makes `table` end with the row of `above` and returns the index at which that row starts. Copies
+// the row unless it is at the end already. On an error `table` may be longer than before.
 fn end_with_row(table: &mut Vec<u32>, above: Place) -> Result<usize, Error>
     requires some { 0 < above.depth }
     requires within { above.start + above.depth ≤ length table.old.items + 1 }

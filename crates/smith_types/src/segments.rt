@@ -2,7 +2,8 @@ use crate::const_instr::ConstInstr;
 use crate::list::Items;
 use crate::value_type::RefType;
 
-/// A list of references to initialise tables with. The standard's section Structure, Element Segments.
+/// A list of references that initialises tables. See the standard, section Structure, Element
+/// Segments.
 #[derive(Debug, Drop)]
 pub struct ElementSegment {
     /// The mode of the segment.
@@ -13,27 +14,28 @@ pub struct ElementSegment {
     pub items: Elements,
 }
 
-/// What becomes of an element segment when the module is instantiated.
+/// The mode of an element segment: what happens to it at instantiation.
 #[derive(Clone, Copy, Debug)]
 pub enum ElementKind {
-    /// The segment is kept for instructions that name it.
+    /// Keeps the segment for instructions that refer to it.
     Passive,
-    /// The segment only declares functions, which its items name.
+    /// Declares the functions that occur in the items, and nothing else.
     Declared,
-    /// The items are copied into the table `table`, or the first table where `table` is None, from the element `offset` on.
+    /// Copies the items into the table `table`, or into the first table if `table` is `None`,
+    /// starting at the element `offset`.
     Active { table: Option<u32>, offset: Offset },
 }
 
-/// The items of an element segment: indices of functions, or constant expressions.
+/// The items of an element segment: function indices or constant expressions.
 #[derive(Debug, Drop)]
 pub enum Elements {
-    /// References to functions, by their indices.
+    /// References to functions, given by their indices.
     Functions(Items<u32>),
-    /// References as constant expressions.
+    /// Constant expressions whose values are references.
     Expressions(Items<Items<ConstInstr>>),
 }
 
-/// Bytes to initialise memories with. The standard's section Structure, Data Segments.
+/// A list of bytes that initialises memories. See the standard, section Structure, Data Segments.
 #[derive(Debug, Drop)]
 pub struct DataSegment {
     /// The mode of the segment.
@@ -42,22 +44,23 @@ pub struct DataSegment {
     pub init: Items<u8>,
 }
 
-/// What becomes of a data segment when the module is instantiated.
+/// The mode of a data segment: what happens to it at instantiation.
 #[derive(Clone, Copy, Debug)]
 pub enum DataSegmentKind {
-    /// The segment is kept for instructions that name it.
+    /// Keeps the segment for instructions that refer to it.
     Passive,
-    /// The bytes are copied into the memory `memory_index`, from the byte `offset` on.
+    /// Copies the bytes into the memory `memory_index`, starting at the byte `offset`.
     Active { memory_index: u32, offset: Offset },
 }
 
-/// The place where an active segment begins, in elements of a table or bytes of a memory. Constants are read without sign.
+/// The offset of an active segment, in elements of a table or bytes of a memory. Constants are read
+/// as unsigned.
 #[derive(Clone, Copy, Debug)]
 pub enum Offset {
-    /// A constant of 32 bits.
+    /// A 32-bit constant.
     Const32(i32),
-    /// A constant of 64 bits.
+    /// A 64-bit constant.
     Const64(i64),
-    /// The value of the global of an index.
+    /// The value of a global, given by its index.
     Global(u32),
 }

@@ -9,7 +9,8 @@ use crate::index_spaces::IndexSpaces;
 use crate::list::Name;
 use crate::predicate::{Predicate, all_hold};
 
-/// Whether each of `exports`, given by name, kind and index, is of an entity that stands in `spaces`: Validation, Exports.
+/// Returns whether each of `exports`, given by name, kind and index, refers to an entity of
+/// `spaces` (Validation, Exports).
 pub fn are_exports_standing(spaces: &IndexSpaces, exports: &[(Name, ExportKind, u32)]) -> bool
     ensures { IsTrue result ↔ AreExportsFound (spaces_in spaces.now) exports.now }
 {

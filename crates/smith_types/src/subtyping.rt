@@ -14,7 +14,8 @@ use crate::composite_type::SubType;
 use crate::type_space::TypeSpace;
 use crate::value_type::{AbstractHeapType, HeapType, RefType, ValType};
 
-// Whether the value type `a` is below `b`, over heap types as in `TypeSpace::heap_type_is_sub_type`.
+// Returns whether the value type `a` is a subtype of `b`. Heap types are compared as in
+// `TypeSpace::heap_type_is_sub_type`.
 pub(crate) fn val_type_is_below(space: &TypeSpace, a: ValType, b: ValType) -> bool
     requires lower { IsValInRange space.now.types a }
     requires upper { IsValInRange space.now.types b }
@@ -33,7 +34,8 @@ pub(crate) fn val_type_is_below(space: &TypeSpace, a: ValType, b: ValType) -> bo
     }
 }
 
-// Whether the reference type `a` is below `b`, over heap types as in `TypeSpace::heap_type_is_sub_type`.
+// Returns whether the reference type `a` is a subtype of `b`. Heap types are compared as in
+// `TypeSpace::heap_type_is_sub_type`.
 pub(crate) fn ref_type_is_below(space: &TypeSpace, a: RefType, b: RefType) -> bool
     requires lower { IsInRange space.now.types a.heap_type }
     requires upper { IsInRange space.now.types b.heap_type }
@@ -42,7 +44,7 @@ pub(crate) fn ref_type_is_below(space: &TypeSpace, a: RefType, b: RefType) -> bo
     (!a.nullable || b.nullable) && heap_type_is_below(space, a.heap_type, b.heap_type)
 }
 
-// Whether the heap type `a` is below `b`.
+// Returns whether the heap type `a` is a subtype of `b`.
 pub(crate) fn heap_type_is_below(space: &TypeSpace, a: HeapType, b: HeapType) -> bool
     requires lower { IsInRange space.now.types a }
     requires upper { IsInRange space.now.types b }
@@ -71,7 +73,8 @@ pub(crate) fn heap_type_is_below(space: &TypeSpace, a: HeapType, b: HeapType) ->
     }
 }
 
-// Whether the type `ty` is below the abstract type `upper`, which is shared or not as `is_shared` says.
+// Returns whether the type `ty` is a subtype of the abstract type `upper`, which is shared if
+// `is_shared` is `true`.
 fn is_under(ty: &SubType, is_shared: bool, upper: AbstractHeapType) -> bool
     ensures { IsTrue result ↔ ((shared ty.now ≡ is_shared) × IsTrue (is_abstract_below (kind ty.now) upper)) }
 {
@@ -79,14 +82,16 @@ fn is_under(ty: &SubType, is_shared: bool, upper: AbstractHeapType) -> bool
         && abstract_type_is_below(ty.composite_type.inner.kind(), upper)
 }
 
-// Whether the abstract type `lower`, shared or not as `is_shared` says, is the bottom of the kind of `ty`.
+// Returns whether the abstract type `lower`, which is shared if `is_shared` is `true`, is the
+// bottom of the kind of `ty`.
 fn is_bottom_of(ty: &SubType, is_shared: bool, lower: AbstractHeapType) -> bool
     ensures { IsTrue result ↔ ((is_shared ≡ shared ty.now) × (lower ≡ bottom ty.now)) }
 {
     is_shared == ty.composite_type.shared && lower == ty.composite_type.inner.bottom()
 }
 
-// Whether the abstract type `a` is below `b`, where both are shared or neither.
+// Returns whether the abstract type `a` is a subtype of `b`. Requires that both are shared or
+// neither is.
 pub(crate) fn abstract_type_is_below(a: AbstractHeapType, b: AbstractHeapType) -> bool
     ensures { result ≡ is_abstract_below a b }
 {

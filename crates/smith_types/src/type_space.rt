@@ -53,26 +53,28 @@ use std::fmt;
 use std::marker::Model;
 use std::ops::Range;
 
-// The depth from which on a type is left out of those that may have subtypes.
+// The least depth at which a type no longer counts as extensible.
 const DEPTH_LIMIT: u32 = 60;
 
-// The number of types that the lists first have room for.
+// The minimum number of types for which the lists reserve room.
 const LEAST_ROOM: usize = 4;
 
-/// The types of a module in the order of their indices, and the recursive groups that they were added in.
-/// Types are only added: the type of an index stays the same.
+/// The types of a module in index order, and their recursive groups.
+///
+/// Types are only ever added, so the type at an index never changes.
 #[derive(Drop)]
 pub struct TypeSpace {
     types: Vec<SubType>,
     places: Vec<Place>,
-    // The table of the rows of all places. It may have entries that no place uses: those of a type that was refused.
+    // The table of the rows of all places. Entries left by a type whose addition failed are not
+    // used.
     rows: Vec<u32>,
-    // The families of the first types: at least up to the last type that has a supertype.
+    // The families of the first types, at least up to the last type with a supertype.
     families: Vec<Family>,
     extensible: Vec<u32>,
-    // Whether what the types ground is kept.
+    // Whether `grounds` and `ground_kinds` are kept up to date.
     keeps_grounds: bool,
-    // What the types ground, where it is kept.
+    // The mark of each type, if `keeps_grounds` is set.
     grounds: Vec<Ground>,
     ground_kinds: GroundKinds,
     groups: Vec<Range<usize>>,
@@ -98,7 +100,7 @@ impl Model for TypeSpace {
         × AreBeside a.types a.places };
 }
 
-/// Prints the types and the groups.
+/// Formats the types and the groups.
 impl fmt::Debug for TypeSpace {
     fn fmt<W: fmt::Write>(&self, f: &mut fmt::Formatter<W>) -> fmt::Result {
         f.debug_struct("TypeSpace")
@@ -114,7 +116,8 @@ impl TypeSpace {
     ghost use Rattle.smith_types.specs.Types.{next_group, AreCovered};
     ghost use Rattle.smith_types.specs.Sizes.{size_in, IsTyped};
 
-    /// Makes a space without types and groups, which takes no memory of `alloc` until a type or a group is added.
+    /// Creates a space without types and groups. Allocates from `alloc` only once types or groups
+    /// are added.
     pub fn new(alloc: Global) -> TypeSpace
         ensures { result ≡ record { types = []; groups = [] } }
     {
@@ -131,7 +134,8 @@ impl TypeSpace {
         }
     }
 
-    /// Makes a space without types and groups, with room in memory of `alloc` for `types` types, each in a group of its own.
+    /// Creates a space without types and groups, with room for `types` types, each in its own
+    /// group, allocated from `alloc`.
     pub fn with_capacity(alloc: Global, types: usize) -> Result<TypeSpace, Error>
         ensures ok { IfOk result (λ space. space ≡ record { types = []; groups = [] }) }
         ensures memory { IfErr result (λ e. e ≡ Error.Memory) }
@@ -150,16 +154,17 @@ impl TypeSpace {
         })
     }
 
-    /// Stops keeping what the types ground, which takes a look at the fields of each struct type that is added.
+    /// Stops recording which heap types the struct types ground. Recording reads the fields of each
+    /// struct type that is added.
     ///
-    /// [`TypeSpace::is_grounded_by_structs`] then looks for a type that grounds among all of them.
+    /// [`TypeSpace::is_grounded_by_structs`] then searches all types instead.
     pub fn keep_no_grounds(&mut self)
         ensures { self.new ≡ self.old }
     {
         self.keeps_grounds = false;
     }
 
-    /// The types, in the order of their indices.
+    /// Returns the types, in index order.
     pub fn types(&self) -> &[SubType]
         ensures value { result.now ≡ self.now.types }
         ensures sound { IsSound self.now }
@@ -167,16 +172,16 @@ impl TypeSpace {
         self.types.as_slice()
     }
 
-    /// The groups so far, each as the range of the indices of its types. Types behind the last group belong to no group until
-    /// [`TypeSpace::push_group`].
+    /// Returns the groups so far, each as the range of the indices of its types. Types after the
+    /// last group belong to no group until [`TypeSpace::push_group`].
     pub fn rec_groups(&self) -> &[Range<usize>]
         ensures { result.now ≡ self.now.groups }
     {
         self.groups.as_slice()
     }
 
-    /// The depth of the type of the index `index`, which stands: the number of types on the way up by declared supertypes, the
-    /// type itself included.
+    /// Returns the depth of the type `index`: the number of types on the path along declared
+    /// supertypes, including the type itself. Requires the type to exist.
     pub fn depth(&self, index: u32) -> u32
         requires { index < length self.now.types }
         ensures { HasDepth self.now.types index result }
@@ -184,10 +189,11 @@ impl TypeSpace {
         self.places[index as usize].depth
     }
 
-    /// Returns the index of the type of the depth `depth` on the way up by declared supertypes from the type of the index `index`.
+    /// Returns the supertype of depth `depth` of the type `index`, declared directly or indirectly.
+    /// Returns `index` itself if `depth` is its own depth.
     ///
-    /// Where `depth` is 1, that type has no supertype; where `depth` is the depth of the type of the index `index`, it is this type
-    /// itself. The type of the index `index` exists, and `depth` is from 1 to its depth, as [`TypeSpace::depth`] returns it.
+    /// Requires the type `index` to exist, and `depth` to be between 1 and the depth of that type,
+    /// as returned by [`TypeSpace::depth`]. A type of depth 1 has no supertype.
     pub fn ancestor(&self, index: u32, depth: u32) -> u32
         requires stands { index < length self.now.types }
         requires some { 0 < depth }
@@ -202,17 +208,18 @@ impl TypeSpace {
         self.rows[place.start + (depth as usize - 1)]
     }
 
-    /// Returns the number of types of the kind `kind` that are shared, or that are not, as `shared` says.
+    /// Returns the number of types of the kind `kind` with the sharedness `shared`.
     ///
-    /// The kinds of types are `Array`, `Func` and `Struct`; of any other abstract heap type there are none.
+    /// The kinds of types are `Array`, `Func` and `Struct`. Returns 0 for any other abstract heap
+    /// type.
     pub fn count_of_kind(&self, shared: bool, kind: AbstractHeapType) -> u32
         ensures { result ≡ length (indices_of_kind self.now.types shared kind) }
     {
         last_counts(self.places.as_slice()).count(shared, kind)
     }
 
-    /// Returns the index of the type at the place `place`, from 0, among the types that [`TypeSpace::count_of_kind`] counts, in the
-    /// order of their indices. The place is below their number.
+    /// Returns the index of the type at position `place`, from 0, among those counted by
+    /// [`TypeSpace::count_of_kind`], in index order. Requires `place` to be less than that count.
     pub fn index_of_kind(&self, shared: bool, kind: AbstractHeapType, place: u32) -> u32
         requires { place < length (indices_of_kind self.now.types shared kind) }
         ensures { slice_get (indices_of_kind self.now.types shared kind) place ≡ Some result }
@@ -230,7 +237,8 @@ impl TypeSpace {
         low as u32
     }
 
-    /// Returns the number of types that are declared directly below the type of the index `index`: 0 where no type has this index.
+    /// Returns the number of types that declare the type `index` as their supertype. Returns 0 if
+    /// the type `index` does not exist.
     pub fn count_of_direct_subtypes(&self, index: u32) -> u32
         ensures { result ≡ length (direct_subtypes self.now.types index) }
     {
@@ -240,8 +248,11 @@ impl TypeSpace {
         }
     }
 
-    /// Returns the index of the type at the place `place`, from 0, among the types that [`TypeSpace::count_of_direct_subtypes`] counts,
-    /// in the order of their indices. The place is below their number. Takes a step for each of them after that place.
+    /// Returns the index of the type at position `place`, from 0, among those counted by
+    /// [`TypeSpace::count_of_direct_subtypes`], in index order. Requires `place` to be less than
+    /// that count.
+    ///
+    /// Takes a step for each direct subtype after the result.
     pub fn direct_subtype(&self, index: u32, place: u32) -> u32
         requires { place < length (direct_subtypes self.now.types index) }
         ensures { slice_get (direct_subtypes self.now.types index) place ≡ Some result }
@@ -256,8 +267,9 @@ impl TypeSpace {
         found
     }
 
-    /// Whether creation of a struct whose fields all have defaults pushes a reference below the heap type `ty`, where with
-    /// `descriptors` creation pushes exact references. The type that `ty` names exists.
+    /// Returns whether a struct type whose fields all have defaults grounds the heap type `ty`:
+    /// creating such a struct pushes a reference below `ty`. With `descriptors` that reference is
+    /// exact. Requires the type named by `ty`, if any, to exist.
     pub fn is_grounded_by_structs(&self, ty: HeapType, descriptors: bool) -> bool
         requires { IsInRange self.now.types ty }
         ensures { IsTrue result ↔ IsGroundedByStructs self.now.types descriptors ty }
@@ -275,7 +287,7 @@ impl TypeSpace {
         }
     }
 
-    // Looks for a type that grounds the heap type `ty`.
+    // Searches all types for one that grounds the heap type `ty`.
     fn finds_ground(&self, ty: HeapType, descriptors: bool) -> bool
         requires { IsInRange self.now.types ty }
         ensures { IsTrue result ↔ IsGroundedByStructs self.now.types descriptors ty }
@@ -289,7 +301,7 @@ impl TypeSpace {
         false
     }
 
-    // Whether the type of the index `index`, which exists, grounds the heap type `ty`.
+    // Returns whether the type `index` grounds the heap type `ty`. Requires the type to exist.
     fn is_grounded_by(&self, index: usize, ty: HeapType, descriptors: bool) -> bool
         requires stands { index < length self.now.types }
         requires range { IsInRange self.now.types ty }
@@ -305,7 +317,8 @@ impl TypeSpace {
         self.heap_type_is_sub_type(HeapType::Concrete(index), ty)
     }
 
-    // Whether the type `from` is the type `to`, or `to` is on the way up from `from`: then `to` is in the row of `from` at its depth.
+    // Returns whether `to` is `from` or a declared supertype of it, direct or indirect: then the
+    // row of `from` has `to` at the depth of `to`.
     pub(crate) fn reaches(&self, from: u32, to: u32) -> bool
         requires lower { from < length self.now.types }
         requires upper { to < length self.now.types }
@@ -319,8 +332,9 @@ impl TypeSpace {
         upper.depth < lower.depth && self.rows[lower.start + (upper.depth as usize - 1)] == to
     }
 
-    /// The indices of the types that may have drawn subtypes, in order: of the types that are not final, and of a depth below 60.
-    /// The depth is a rule of this project: [`TypeSpace::push_type`] takes deeper types too.
+    /// Returns the indices of the extensible types, in order: the types that may get drawn
+    /// subtypes. A type is extensible if it is not final and its depth is less than 60. The bound
+    /// is a rule of this project, and [`TypeSpace::push_type`] accepts deeper types.
     pub fn extensible(&self) -> &[u32]
         ensures value { AreExtensible self.now.types result.now }
         ensures sound { IsSound self.now }
@@ -328,18 +342,24 @@ impl TypeSpace {
         self.extensible.as_slice()
     }
 
-    /// Whether [`TypeSpace::push_type`] may add the type `added`: a supertype that `added` declares stands and is of the kind and
-    /// sharedness of `added`, and an index is left.
+    /// Returns whether [`TypeSpace::push_type`] may add the type `added`: its declared supertype,
+    /// if any, exists and has the same kind and sharedness, and an index is available.
     pub fn may_follow(&self, added: &SubType) -> bool
         ensures { IsTrue result ↔ MayFollow self.now.types added.now }
     {
         self.types.len() < u32::MAX as usize && is_supertype_at(self.types.as_slice(), added)
     }
 
-    /// Adds the type `added` last and returns its index. The type belongs to no group until [`TypeSpace::push_group`].
+    /// Adds the type `added` after the others and returns its index. The type belongs to no group
+    /// until [`TypeSpace::push_group`].
     ///
-    /// A supertype that `added` declares stands and is of the kind and sharedness of `added`, and an index is left, as
-    /// [`TypeSpace::may_follow`] tells. After want of memory the space is unchanged, and `added` is gone.
+    /// Requires [`TypeSpace::may_follow`] to hold for `added`: its declared supertype, if any,
+    /// exists and has the same kind and sharedness, and an index is available.
+    ///
+    /// # Errors
+    ///
+    /// Returns [`Error::Memory`] if an allocation fails. The space is then unchanged, and `added`
+    /// is dropped.
     pub fn push_type(&mut self, added: SubType) -> Result<u32, Error>
         requires { MayFollow self.old.types added }
         ensures ok { OnOk result (self.new ≡ record self.old { types = self.old.types ++ added ∷ [] }) }
@@ -374,7 +394,8 @@ impl TypeSpace {
         Ok(index)
     }
 
-    /// Makes room for `additional` more types, so that adding that number moves no type. No type is added.
+    /// Reserves room for at least `additional` more types, so that adding them does not move the
+    /// types. Adds no type.
     pub fn reserve(&mut self, additional: usize) -> Result<(), Error>
         ensures value { self.new ≡ self.old }
         ensures memory { IfErr result (λ e. e ≡ Error.Memory) }
@@ -387,7 +408,7 @@ impl TypeSpace {
         Ok(())
     }
 
-    /// Adds a group, maybe empty, of the types behind the last group.
+    /// Adds a group of the types after the last group, of which there may be none.
     pub fn push_group(&mut self) -> Result<(), Error>
         ensures ok { OnOk result (self.new ≡ record self.old {
           groups = self.old.groups ++ next_group self.old.types self.old.groups ∷ [];
@@ -401,10 +422,12 @@ impl TypeSpace {
         Ok(self.groups.push(start..end)?)
     }
 
-    /// Whether the heap type `a` is below `b`: Validation, Matching, Heap Types. The types that `a` and `b` name stand.
+    /// Returns whether the heap type `a` is a subtype of `b` (Validation, Matching, Heap Types).
+    /// Requires the types named by `a` and `b` to exist.
     ///
-    /// Rules of this project: equal groups are different types; abstract types compare only where they are alike in sharedness,
-    /// as do a concrete and an abstract type; an exact type stands below its own type.
+    /// Rules of this project: types of equal groups are different; two abstract types, or a
+    /// concrete and an abstract type, are related only if both are shared or neither is; an exact
+    /// type is a subtype of its concrete type.
     pub fn heap_type_is_sub_type(&self, a: HeapType, b: HeapType) -> bool
         requires lower { IsInRange self.now.types a }
         requires upper { IsInRange self.now.types b }
@@ -413,8 +436,9 @@ impl TypeSpace {
         heap_type_is_below(self, a, b)
     }
 
-    /// Whether the reference type `a` is below `b`: Validation, Matching, Reference Types, over heap types as in
-    /// [`TypeSpace::heap_type_is_sub_type`]. The types that `a` and `b` refer to stand.
+    /// Returns whether the reference type `a` is a subtype of `b` (Validation, Matching, Reference
+    /// Types). Heap types are compared as in [`TypeSpace::heap_type_is_sub_type`]. Requires the
+    /// types named by `a` and `b` to exist.
     pub fn ref_type_is_sub_type(&self, a: RefType, b: RefType) -> bool
         requires lower { IsInRange self.now.types a.heap_type }
         requires upper { IsInRange self.now.types b.heap_type }
@@ -423,8 +447,9 @@ impl TypeSpace {
         ref_type_is_below(self, a, b)
     }
 
-    /// Whether the value type `a` is below `b`: Validation, Matching, Value Types, over heap types as in
-    /// [`TypeSpace::heap_type_is_sub_type`]. The types that `a` and `b` refer to stand.
+    /// Returns whether the value type `a` is a subtype of `b` (Validation, Matching, Value Types).
+    /// Heap types are compared as in [`TypeSpace::heap_type_is_sub_type`]. Requires the types named
+    /// by `a` and `b` to exist.
     pub fn val_type_is_sub_type(&self, a: ValType, b: ValType) -> bool
         requires lower { IsValInRange self.now.types a }
         requires upper { IsValInRange self.now.types b }
@@ -433,8 +458,9 @@ impl TypeSpace {
         val_type_is_below(self, a, b)
     }
 
-    /// Whether the composite type `a` matches `b`: Validation, Matching, Composite Types, over heap types as in
-    /// [`TypeSpace::heap_type_is_sub_type`]. The types that `a` and `b` refer to stand.
+    /// Returns whether the composite type `a` matches `b` (Validation, Matching, Composite Types).
+    /// Heap types are compared as in [`TypeSpace::heap_type_is_sub_type`]. Requires the types named
+    /// by `a` and `b` to exist.
     pub fn composite_type_matches(&self, a: &CompositeType, b: &CompositeType) -> bool
         requires lower { IsInnerInRange self.now.types a.now.inner }
         requires upper { IsInnerInRange self.now.types b.now.inner }
@@ -443,8 +469,9 @@ impl TypeSpace {
         composite_type_is_match(self, a, b)
     }
 
-    /// The size of `entity`, which counts towards the type size of a module: 1, and for a function the number of its parameters
-    /// and results more. The type of a function stands, and the size is below 2^32.
+    /// Returns the size of `entity`, which counts towards the type size of a module. The size is 1,
+    /// plus the number of parameters and results for a function. Requires the type of a function to
+    /// exist, and the size to be less than 2^32.
     pub fn size_of(&self, entity: &EntityType) -> u32
         requires typed { IsTyped self.now.types entity.now }
         requires fits { size_in self.now.types entity.now < 2 ^ 32 }
@@ -457,7 +484,7 @@ impl TypeSpace {
     }
 }
 
-// Makes room for one more type in each of `types` and `places`, where there is none.
+// Reserves room for one more type in `types` and `places` if they are full.
 fn make_room(types: &mut Vec<SubType>, places: &mut Vec<Place>) -> Result<(), Error>
     requires { AreBeside types.old places.old }
     ensures beside { AreBeside types.new places.new }
@@ -472,7 +499,7 @@ fn make_room(types: &mut Vec<SubType>, places: &mut Vec<Place>) -> Result<(), Er
     Ok(())
 }
 
-// Makes room for at least `additional` more types in each of `types` and `places`, which grow together.
+// Reserves room for at least `additional` more types in `types` and `places`, which grow together.
 fn grow(additional: usize, types: &mut Vec<SubType>, places: &mut Vec<Place>) -> Result<(), Error>
     requires { AreBeside types.old places.old }
     ensures beside { AreBeside types.new places.new }
@@ -486,7 +513,7 @@ fn grow(additional: usize, types: &mut Vec<SubType>, places: &mut Vec<Place>) ->
     Ok(types.reserve_exact(more)?)
 }
 
-// Makes room for `additional` more entries in `grounds`, where `kept` is set.
+// Reserves room for `additional` more entries in `grounds` if `kept` is `true`.
 fn make_ground_room(kept: bool, additional: usize, grounds: &mut Vec<Ground>) -> Result<(), Error>
     ensures grounds { grounds.new.items ≡ grounds.old.items }
     ensures room { kept ≡ true → OnOk result (vec_len grounds.new + additional ≤ vec_capacity grounds.new) }
@@ -498,9 +525,11 @@ fn make_ground_room(kept: bool, additional: usize, grounds: &mut Vec<Ground>) ->
     Ok(())
 }
 
-// Makes the place of the type `added`, the next one after `types`, with its row in `rows` and room in `families`, which are first made for
-// `room` types, and adds its index to `extensible` where it may have subtypes. After want of memory `extensible` is unchanged, and
-// `rows` and `families` may be longer.
+// Creates the place of the type `added`, the next one after `types`. Adds its row to `rows`,
+// extends `families` up to it, and adds its index to `extensible` if it may have subtypes. The
+// first allocation of `rows` and `families` is for `room` types.
+//
+// On an error `extensible` is unchanged, and `rows` and `families` may be longer than before.
 fn make_place(
     types: &[SubType],
     added: &SubType,
@@ -531,8 +560,8 @@ fn make_place(
     Ok(place)
 }
 
-// Makes room for `count` entries in each of `rows` and `families` that has none yet, where the type `added` has a supertype: a space
-// without supertypes takes no memory for them.
+// Reserves room for `count` entries in `rows` and `families` if they have none and the type `added`
+// has a supertype. A space without supertypes allocates nothing for them.
 fn reserve_rows(
     added: &SubType,
     count: usize,
@@ -555,14 +584,14 @@ fn reserve_rows(
     Ok(())
 }
 
-// Whether the type `ty`, of depth `depth`, may have subtypes.
+// Returns whether the type `ty` of depth `depth` may have subtypes.
 fn may_have_subtypes(ty: &SubType, depth: u32) -> bool
     ensures { result ≡ (not ty.now.is_final && nat_lt depth 60) }
 {
     !ty.is_final && depth < DEPTH_LIMIT
 }
 
-// Adds `index` to `indices` where `wanted` is true.
+// Appends `index` to `indices` if `wanted` is `true`.
 fn push_where(wanted: bool, indices: &mut Vec<u32>, index: u32) -> Result<(), Error>
     ensures ok { OnOk result (indices.new.items ≡ indices.old.items ++ (if wanted then index ∷ [] else [])) }
     ensures err { OnErr result (indices.new.items ≡ indices.old.items) }
@@ -574,7 +603,7 @@ fn push_where(wanted: bool, indices: &mut Vec<u32>, index: u32) -> Result<(), Er
     Ok(())
 }
 
-// The size of a function of the type `ty`, below 2^32.
+// Returns the size of a function of type `ty`. Requires the size to be less than 2^32.
 fn size_of_function(ty: &SubType) -> u32
     requires { 1 + value_count ty.now.composite_type.inner < 2 ^ 32 }
     ensures { result ≡ 1 + value_count ty.now.composite_type.inner }
@@ -585,7 +614,7 @@ fn size_of_function(ty: &SubType) -> u32
     }
 }
 
-// The index at which the group behind `groups` begins.
+// Returns the index at which the group after `groups` starts.
 pub(crate) fn start_after(groups: &[Range<usize>]) -> usize
     ensures { result ≡ next_start groups.now }
 {
@@ -595,7 +624,8 @@ pub(crate) fn start_after(groups: &[Range<usize>]) -> usize
     }
 }
 
-// Whether a supertype that `added` declares stands and is like `added`.
+// Returns whether the declared supertype of `added`, if any, exists and has the same kind and
+// sharedness.
 fn is_supertype_at(types: &[SubType], added: &SubType) -> bool
     ensures { IsTrue result ↔ ((s : ℕ) → added.now.supertype ≡ Some s →
         (u : SubType) × (slice_get types.now s ≡ Some u) × IsAlike added.now u) }
@@ -609,7 +639,7 @@ fn is_supertype_at(types: &[SubType], added: &SubType) -> bool
     }
 }
 
-// Whether `a` and `b` are of the same kind, and both shared or neither.
+// Returns whether `a` and `b` have the same kind and sharedness.
 fn is_alike(a: &SubType, b: &SubType) -> bool
     ensures { IsTrue result ↔ IsAlike a.now b.now }
 {

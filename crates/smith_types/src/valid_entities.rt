@@ -26,8 +26,9 @@ use crate::predicate::{Predicate, all_hold};
 use crate::valid_values::{ShareableValue, is_ref_type_valid, is_val_type_valid};
 use crate::value_type::{AbstractHeapType, HeapType, RefType, ValType};
 
-/// Whether every entity of `spaces` is valid over `types` with `features`: Validation, External Types. Features, sharedness,
-/// stated page sizes and tags without results are rules of this project.
+/// Returns whether every entity of `spaces` is valid for `types` and `features` (Validation,
+/// External Types). The conditions on features, sharedness, explicit page sizes and results of tags
+/// are rules of this project.
 pub fn are_entities_valid(features: WasmFeatures, types: &[SubType], spaces: &IndexSpaces) -> bool
     ensures { IsTrue result ↔ AreEntitiesValid (features_in features) types.now (spaces_in spaces.now) }
 {
@@ -44,8 +45,9 @@ fn are_lists_valid(features: WasmFeatures, types: &[SubType], spaces: &IndexSpac
         && are_globals_valid(features, types, spaces.globals.as_slice())
 }
 
-/// Whether `features` are enough for the numbers of `spaces`, a rule of this project: a tag needs exceptions, a second table
-/// reference types, a second memory multi-memory.
+/// Returns whether `features` permit the numbers of entities in `spaces`. By rules of this project,
+/// tags require exceptions, a second table requires reference types, and a second memory requires
+/// multi-memory.
 pub fn are_counts_enabled(features: WasmFeatures, spaces: &IndexSpaces) -> bool
     ensures { IsTrue result ↔ AreCountsEnabled (features_in features) (spaces_in spaces.now) }
 {
@@ -54,23 +56,24 @@ pub fn are_counts_enabled(features: WasmFeatures, spaces: &IndexSpaces) -> bool
         && (spaces.memories.len() <= 1 || features.contains(WasmFeatures::MULTI_MEMORY))
 }
 
-/// Whether each of `tags`, given by the index of its type among `types`, is valid: Validation, Tag Types. That tags have no
-/// results is a rule of this project.
+/// Returns whether each of `tags`, given by its type index in `types`, is valid (Validation, Tag
+/// Types). That tags have no results is a rule of this project.
 pub fn are_tags_valid(types: &[SubType], tags: &[u32]) -> bool
     ensures { IsTrue result ↔ AreTagsValid types.now tags.now }
 {
     all_hold(&ValidTag { types }, tags)
 }
 
-/// Whether each of `funcs`, given by the index of its type among `types`, is valid: Validation, Functions.
+/// Returns whether each of `funcs`, given by its type index in `types`, is valid (Validation,
+/// Functions).
 pub fn are_funcs_valid(types: &[SubType], funcs: &[u32]) -> bool
     ensures { IsTrue result ↔ AreFuncsValid types.now funcs.now }
 {
     all_hold(&ValidFunc { types }, funcs)
 }
 
-/// Whether each of `tables` is valid over `types` with `features`: Validation, Table Types. Features and sharedness are rules of
-/// this project.
+/// Returns whether each of `tables` is valid for `types` and `features` (Validation, Table Types).
+/// The conditions on features and sharedness are rules of this project.
 pub fn are_tables_valid(features: WasmFeatures, types: &[SubType], tables: &[TableType]) -> bool
     ensures { IsTrue result ↔ All (IsTableValid (features_in features) types.now) tables.now }
 {
@@ -79,8 +82,8 @@ pub fn are_tables_valid(features: WasmFeatures, types: &[SubType], tables: &[Tab
         .all(|table| is_table_valid(features, types, *table))
 }
 
-/// Whether each of `memories` is valid with `features`: Validation, Memory Types. Features, sharedness and stated page sizes are
-/// rules of this project.
+/// Returns whether each of `memories` is valid for `features` (Validation, Memory Types). The
+/// conditions on features, sharedness and explicit page sizes are rules of this project.
 pub fn are_memories_valid(features: WasmFeatures, memories: &[MemoryType]) -> bool
     ensures { IsTrue result ↔ All (IsMemoryValid (features_in features)) memories.now }
 {
@@ -89,8 +92,8 @@ pub fn are_memories_valid(features: WasmFeatures, memories: &[MemoryType]) -> bo
         .all(|memory| is_memory_valid(features, *memory))
 }
 
-/// Whether each of `globals` is valid over `types` with `features`: Validation, Global Types. Features and sharedness are rules
-/// of this project.
+/// Returns whether each of `globals` is valid for `types` and `features` (Validation, Global
+/// Types). The conditions on features and sharedness are rules of this project.
 pub fn are_globals_valid(features: WasmFeatures, types: &[SubType], globals: &[GlobalType]) -> bool
     ensures { IsTrue result ↔ All (IsGlobalValid (features_in features) types.now) globals.now }
 {
@@ -99,7 +102,8 @@ pub fn are_globals_valid(features: WasmFeatures, types: &[SubType], globals: &[G
         .all(|global| is_global_valid(features, types, *global))
 }
 
-/// Whether `minimum` is at most a stated `maximum`, and neither is above `most`: Validation, Limits.
+/// Returns whether `minimum` is at most `maximum`, if there is one, and neither exceeds `most`
+/// (Validation, Limits).
 pub fn are_limits_valid(most: u64, minimum: u64, maximum: Option<u64>) -> bool
     ensures { IsTrue result ↔ AreLimitsValid most minimum maximum }
 {
@@ -110,7 +114,8 @@ pub fn are_limits_valid(most: u64, minimum: u64, maximum: Option<u64>) -> bool
         }
 }
 
-/// The greatest number of elements of a table, whose indices are 64 bits wide where `table64` is true: Validation, Table Types.
+/// Returns the maximum number of elements of a table (Validation, Table Types). Its indices have 64
+/// bits if `table64` is `true`.
 pub fn most_elements_of(table64: bool) -> u64
     ensures { result ≡ most_elements table64 }
 {
@@ -153,7 +158,7 @@ fn is_global_valid(features: WasmFeatures, types: &[SubType], global: GlobalType
         && (!global.shared || may_be_shared(features, types, global.val_type))
 }
 
-// Whether a shared table or global may hold the value type `value`.
+// Returns whether a shared table or global may hold the value type `value`.
 fn may_be_shared(features: WasmFeatures, types: &[SubType], value: ValType) -> bool
     ensures { IsTrue result ↔ (IsTrue (features_in features).shared_everything_threads × IsShareable types.now value) }
 {

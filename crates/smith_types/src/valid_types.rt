@@ -22,8 +22,9 @@ use crate::type_space::{TypeSpace, start_after};
 use crate::valid_values::{ShareableValue, StandingValue, ValidValue};
 use std::ops::Range;
 
-/// Whether the types of `space` are valid with `features`, in groups that cover them: Validation, Types, and Validation, Modules.
-/// Features and sharedness are rules of this project; subtypes match over heap types as in [`TypeSpace::heap_type_is_sub_type`].
+/// Returns whether the types of `space` are valid for `features`, in groups that cover them
+/// (Validation, Types, and Validation, Modules). The conditions on features and sharedness are
+/// rules of this project. Heap types are compared as in [`TypeSpace::heap_type_is_sub_type`].
 pub fn are_types_valid(features: WasmFeatures, space: &TypeSpace) -> bool
     ensures { IsTrue result ↔ AreTypesValid (features_in features) space.now }
 {
@@ -38,7 +39,7 @@ pub fn are_types_valid(features: WasmFeatures, space: &TypeSpace) -> bool
     are_groups_valid(features, space, groups)
 }
 
-// Whether each of `types` refers to types that stand.
+// Returns whether `types` refer only to types that exist.
 fn are_in_range(types: &[SubType]) -> bool
     ensures { IsTrue result ↔ All (λ (t : SubType). All (IsValInRange types.now) (values_of t.composite_type.inner)) types.now }
 {
@@ -82,7 +83,7 @@ fn are_members_valid(features: WasmFeatures, space: &TypeSpace, group: &Range<us
     true
 }
 
-// Whether `group` is one type, as it has to be without garbage collection.
+// Returns whether `group` has exactly one type, as required without garbage collection.
 fn is_size_enabled(features: WasmFeatures, group: &Range<usize>) -> bool
     requires ordered { group.now.start ≤ group.now.end }
     ensures { IsTrue result ↔ ((features_in features).gc ≡ false → group.now.end ≡ group.now.start + 1) }
@@ -90,7 +91,7 @@ fn is_size_enabled(features: WasmFeatures, group: &Range<usize>) -> bool
     features.contains(WasmFeatures::GC) || group.end - group.start == 1
 }
 
-// Whether the type `ty` is valid in a group that ends at `end`.
+// Returns whether the type `ty` is valid in a group that ends at `end`.
 fn is_type_valid(features: WasmFeatures, space: &TypeSpace, end: usize, ty: &SubType) -> bool
     requires in_range { AreInRange space.now.types }
     requires stands { IsInnerInRange space.now.types ty.now.composite_type.inner }
@@ -129,7 +130,8 @@ fn is_inner_enabled(features: WasmFeatures, inner: &CompositeInnerType) -> bool
     }
 }
 
-// Whether a supertype that `ty` declares stands, is not final and is matched.
+// Returns whether the declared supertype of `ty`, if any, exists, is not final, and is matched by
+// `ty`.
 fn is_supertype_valid(space: &TypeSpace, ty: &SubType) -> bool
     requires in_range { AreInRange space.now.types }
     requires stands { IsInnerInRange space.now.types ty.now.composite_type.inner }

@@ -16,13 +16,13 @@ use crate::features::WasmFeatures;
 use crate::predicate::Predicate;
 use crate::value_type::{AbstractHeapType, HeapType, RefType, ValType};
 
-/// The test whether a value type is valid with `features` where the types below the index `end` may be named: Validation, Value
-/// Types. Features are rules of this project.
+/// Tests whether a value type is valid for `features` if it may refer to types below the index
+/// `end` (Validation, Value Types). The conditions on features are rules of this project.
 #[derive(Clone, Copy)]
 pub struct ValidValue {
-    /// The features that are on.
+    /// The enabled features.
     pub features: WasmFeatures,
-    /// The index below which types may be named.
+    /// The index below which types may be referred to.
     pub end: usize,
 }
 
@@ -34,7 +34,8 @@ impl Predicate<ValType> for ValidValue {
     }
 }
 
-/// The test whether a value type may stand in a shared type, a rule of this project: numbers, vectors and shared references may.
+/// Tests whether a value type may occur in a shared type. By a rule of this project, numbers,
+/// vectors and shared references may.
 #[derive(Clone, Copy)]
 pub struct ShareableValue<'a> {
     /// The types of the module.
@@ -52,7 +53,7 @@ impl<'a> Predicate<ValType> for ShareableValue<'a> {
     }
 }
 
-/// The test whether a value type refers to no type, or to a type that stands.
+/// Tests whether a value type refers to no type, or to a type that exists.
 #[derive(Clone, Copy)]
 pub struct StandingValue<'a> {
     /// The types of the module.
@@ -74,8 +75,8 @@ impl<'a> Predicate<ValType> for StandingValue<'a> {
     }
 }
 
-/// Whether the value type `value` is valid with `features` where the types below the index `end` may be named: Validation, Value
-/// Types. Features are rules of this project.
+/// Returns whether the value type `value` is valid for `features` if it may refer to types below
+/// the index `end` (Validation, Value Types). The conditions on features are rules of this project.
 pub fn is_val_type_valid(features: WasmFeatures, end: usize, value: ValType) -> bool
     ensures { IsTrue result ↔ IsValTypeValid (features_in features) end value }
 {
@@ -89,8 +90,9 @@ pub fn is_val_type_valid(features: WasmFeatures, end: usize, value: ValType) -> 
     }
 }
 
-/// Whether the reference type `reference` is valid with `features` where the types below the index `end` may be named:
-/// Validation, Reference Types. Features are rules of this project.
+/// Returns whether the reference type `reference` is valid for `features` if it may refer to types
+/// below the index `end` (Validation, Reference Types). The conditions on features are rules of
+/// this project.
 pub fn is_ref_type_valid(features: WasmFeatures, end: usize, reference: RefType) -> bool
     ensures { IsTrue result ↔ IsRefTypeValid (features_in features) end reference }
 {

@@ -1,66 +1,67 @@
-/// An abstract heap type, without sharedness: the standard's section Structure, Heap Types.
+/// An abstract heap type without its sharedness. See the standard, section Structure, Heap Types.
 #[derive(Clone, Copy, Debug, PartialEq)]
 pub enum AbstractHeapType {
-    /// `func`, above every function type.
+    /// `func`, the common supertype of all function types.
     Func,
-    /// `extern`, the external references.
+    /// `extern`, the type of external references.
     Extern,
-    /// `any`, above `eq`.
+    /// `any`, the supertype of `eq`.
     Any,
-    /// `none`, below `i31` and every struct and array type.
+    /// `none`, the common subtype of `i31` and of all struct and array types.
     None,
-    /// `noextern`, below `extern`.
+    /// `noextern`, the subtype of `extern`.
     NoExtern,
-    /// `nofunc`, below every function type.
+    /// `nofunc`, the common subtype of all function types.
     NoFunc,
-    /// `eq`, above `i31`, `struct` and `array`.
+    /// `eq`, the common supertype of `i31`, `struct` and `array`.
     Eq,
-    /// `struct`, above every struct type.
+    /// `struct`, the common supertype of all struct types.
     Struct,
-    /// `array`, above every array type.
+    /// `array`, the common supertype of all array types.
     Array,
-    /// `i31`, the unboxed integers of 31 bits.
+    /// `i31`, the type of unboxed 31-bit integers.
     I31,
-    /// `exn`, the exceptions.
+    /// `exn`, the type of exceptions.
     Exn,
-    /// `noexn`, below `exn`.
+    /// `noexn`, the subtype of `exn`.
     NoExn,
 }
 
-/// What a reference refers to: the standard's section Structure, Heap Types. Exact types are those of the custom
-/// descriptors proposal, shared types those of the shared-everything-threads proposal.
+/// The type of the object that a reference refers to. See the standard, section Structure, Heap
+/// Types, for exact types the custom descriptors proposal, and for shared types the
+/// shared-everything-threads proposal.
 #[derive(Clone, Copy, Debug, PartialEq)]
 pub enum HeapType {
-    /// The abstract type `ty`, shared among threads or not.
+    /// The abstract type `ty`, which may be shared between threads if `shared` is `true`.
     Abstract { shared: bool, ty: AbstractHeapType },
-    /// The type of an index, and the types below.
+    /// The type with an index, or any of its subtypes.
     Concrete(u32),
-    /// The type of an index alone.
+    /// Exactly the type with an index.
     Exact(u32),
 }
 
-/// A reference type: the standard's section Structure, Reference Types.
+/// A reference type. See the standard, section Structure, Reference Types.
 #[derive(Clone, Copy, Debug, PartialEq)]
 pub struct RefType {
     /// Whether the reference may be null.
     pub nullable: bool,
-    /// The heap type of what the reference refers to.
+    /// The heap type that the reference refers to.
     pub heap_type: HeapType,
 }
 
-/// A value type: the standard's section Structure, Value Types.
+/// A value type. See the standard, section Structure, Value Types.
 #[derive(Clone, Copy, Debug, PartialEq)]
 pub enum ValType {
-    /// Integers of 32 bits.
+    /// 32-bit integers.
     I32,
-    /// Integers of 64 bits.
+    /// 64-bit integers.
     I64,
-    /// Floats of 32 bits.
+    /// 32-bit floats.
     F32,
-    /// Floats of 64 bits.
+    /// 64-bit floats.
     F64,
-    /// Vectors of 128 bits.
+    /// 128-bit vectors.
     V128,
-    /// References of a reference type.
+    /// References, given by their type.
     Ref(RefType),
 }

@@ -1,4 +1,4 @@
--- What stands once imports are added that no shape fixes.
+-- The state after imports are added that no shape fixes.
 use Rattle.std.proofs.Common.{◌≡◌, Bool, false, List, [], length, inl, inr, refl, sym, ap, subst, arith}
 use Rattle.std.specs.Prelude.{All, IsSome, Option, Some, None, is_some}
 use Rattle.smith_bytes.specs.declared.error.Count.TheVariants as counts
@@ -28,7 +28,7 @@ use Rattle.smith_definitions.proofs.DefinedMoreLemmas.{none_float}
 use Rattle.wasm_smith.proofs.FreelyImportedLemmas.{freely_stands}
 use Rattle.wasm_smith.proofs.GrantedLaterLemmas.{types_later}
 
--- no shape is there where the test for one says so
+-- there is no shape if the test for one is false
 pub none_there : (given : Option Shape) → false ≡ is_some given → given ≡ None
 none_there None h = refl
 none_there (Some shape) h = absurd cc
@@ -38,7 +38,7 @@ free_of : (config : Config) → config.available_imports ≡ None → config.mod
 free_of config free none (inl given) = let gone = subst (λ (one : Option Shape). IsSome one) free given in absurd cc
 free_of config free none (inr given) = let gone = subst (λ (one : Option Shape). IsSome one) none given in absurd cc
 
--- all is behind nothing
+-- every list extends the empty list
 from_none : {A : Type 0} (none all : List A) → none ≡ [] → Extends none all
 from_none none all empty = record { more = all; parts = rw empty refl }
 
@@ -52,7 +52,7 @@ grown_from_none none all empty = record {
 }
 
 module _ (config : Config) (drawn : Drawn) (passes : Passes config) (sanitized : IsSanitized config) (old : AreTypesDrawn config drawn) (free : config.available_imports ≡ None) (none : config.module_shape ≡ None) where
-  -- imports may be drawn over the types that stand
+  -- imports may be drawn over the existing types
   pub may_import : MayImport config drawn.types
   may_import = record {
     passes = passes;
@@ -67,7 +67,7 @@ module _ (config : Config) (drawn : Drawn) (passes : Passes config) (sanitized :
     grown : AreSpacesGrown (spaces_in drawn.imported.spaces) (spaces_in made.spaces)
     grown = grown_from_none (spaces_in drawn.imported.spaces) (spaces_in made.spaces) (old.free (free_of config free none)).imports.spaces
 
-    -- what is grounded stays so with the imports, of which all functions are
+    -- grounded references stay grounded with the imports, among which all functions are
     grounded_later : HoldsGrounded config (drawn_next config drawn) (spaces_in drawn.imported.spaces) → HoldsGrounded config (drawn_next config (record drawn { imported = made })) (spaces_in made.spaces)
     grounded_later held =
         let alone = old.free (free_of config free none) in
@@ -94,7 +94,7 @@ module _ (config : Config) (drawn : Drawn) (passes : Passes config) (sanitized :
               (subst (λ (each : IndexSpaces). All (HasGroundedValue config (import_scope config drawn.types.types each)) each.globals) (sym so_far.counts.spaces) so_far.fit.grounded_globals);
         }
 
-    -- what stands may be drawn over with the imports
+    -- more may be drawn over the parts with the imports
     pub imports_drawn : AreImportsDrawn config (record drawn { imported = made })
     imports_drawn =
         let alone = old.free (free_of config free none) in
@@ -115,7 +115,7 @@ module _ (config : Config) (drawn : Drawn) (passes : Passes config) (sanitized :
           };
         }
 
-    -- and comes behind what stood
+    -- and the imports follow the parts before
     pub imports_beyond : IsBeyond config (begun_of drawn) (begun_of (record drawn { imported = made }))
     imports_beyond = record {
       types = all_kept drawn.types.types;

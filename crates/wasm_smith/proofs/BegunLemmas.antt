@@ -1,4 +1,5 @@
--- What a module begins with: what a shape imports is valid and not too much, and what is made of an answer is answered.
+-- The first parts of a module: imports of a shape are valid and within the bounds, and results of
+-- answers.
 use Rattle.std.proofs.Common.{◌≡◌, ◌⊎◌, ℕ, ◌+◌, ◌<◌, ◌≤◌, ◌^◌, Bool, true, false, List, [], ◌∷◌, ◌++◌, length, inl, inr, refl, sym, ap, subst, arith, lt-ltb, length-append, append-nil}
 use Rattle.std.specs.Prelude.{All, IsTrue, IfSome, Option, Some, None, Result, Err, IsErrAnd}
 use Rattle.std.specs.List.{Contains}
@@ -30,7 +31,7 @@ use Rattle.smith_definitions.specs.Required.{AddsLimitsOf, MayDefineMore}
 use Rattle.smith_definitions.specs.RequiredExports.{Answers, then_with}
 use Rattle.smith_definitions.proofs.RequiredExportsLoop.{refused_by}
 
--- of one kind there are no more than all imports
+-- there are no more of one kind than imports
 none_more : {A : Type 0} (of_kind : EntityType → List A) → ((one : EntityType) → length (of_kind one) ≤ 1) → (imports : List Import) → length (imported of_kind imports) ≤ length imports
 none_more of_kind one [] = omega arith
 none_more of_kind one (first ∷ more) =
@@ -59,7 +60,7 @@ one_global : (one : EntityType) → length (global_of one) ≤ 1
 one_global (entity.Global global) = omega arith
 one_global _ = omega arith
 
--- imports leave room for as many more
+-- imports leave room for a number of further ones
 pub imported_room : (imports : List Import) (more : ℕ) → length imports + more < 2 ^ 32 → HasRoom (imported_spaces imports) more
 imported_room imports more few =
     let tags = none_more tag_of one_tag imports in
@@ -75,7 +76,7 @@ imported_room imports more few =
       globals = omega (arith, few, globals);
     }
 
--- nothing is defined behind what is imported
+-- nothing is defined after the imports
 defines_none : {A : Type 0} (xs : List A) → Defines xs 0 xs
 defines_none xs = record { defined = []; count_is = refl; parts = sym (append-nil xs) }
 
@@ -94,7 +95,7 @@ stands_alone config space spaces types entities counts = record {
   each_global = λ place index initial at. absurd cc;
 }
 
--- the exports of a module shape may be defined behind its imports
+-- the exports of a module shape may be defined after its imports
 pub may_begin : (config : Config) (shape : Shape) → IsSanitized config → IsShapeValid ModuleShape config shape → AreEntitiesValid (features_of config) (shape_types shape) (imported_spaces (shape_imports shape))
     → MayDefineMore config (space_of shape.groups) (imported_spaces (shape_imports shape)) nothing_defined (length shape.exports)
 may_begin config shape sanitized valid entities = record {
@@ -105,7 +106,7 @@ may_begin config shape sanitized valid entities = record {
   room = imported_room (shape_imports shape) (length shape.exports) (omega (arith, valid.short.imports, valid.short.exports));
 }
 
--- what a module shape brings of a kind is what it imports and exports of it
+-- a module shape adds as many of a kind as it imports and exports
 pub brought_so : (count : Count) (shape : Shape) → (count ≡ counts.Types → ⊥) → (count ≡ counts.Imports → ⊥) → count_in (imported_spaces (shape_imports shape)) count + exported_of count shape ≡ brought_by_module count shape
 brought_so counts.Types shape types imports = absurd (types refl)
 brought_so counts.Imports shape types imports = absurd (imports refl)
@@ -127,7 +128,7 @@ of_one {A = A} before more all h =
       | inr one ↦ one
     ]) all h
 
--- the tables, memories and globals that a module shape brings are its own
+-- the tables, memories and globals that a module shape adds are its own
 pub tables_of_shape : (shape : Shape) (spaces : IndexSpaces) → AddsLimitsOf shape (imported_spaces (shape_imports shape)) spaces → All (Contains (shape_spaces shape).tables) spaces.tables
 tables_of_shape shape spaces added = of_one (imported_spaces (shape_imports shape)).tables shape.tables spaces.tables added.tables
 
@@ -137,7 +138,7 @@ memories_of_shape shape spaces added = of_one (imported_spaces (shape_imports sh
 pub globals_of_shape : (shape : Shape) (spaces : IndexSpaces) → AddsLimitsOf shape (imported_spaces (shape_imports shape)) spaces → All (Contains (shape_spaces shape).globals) spaces.globals
 globals_of_shape shape spaces added = of_one (imported_spaces (shape_imports shape)).globals shape.globals spaces.globals added.globals
 
--- what is made of a refusal is that refusal
+-- the result of a refusal is that refusal
 pub refused_with : {X Y A B : Type 0} (f : A → B) (of_part : X → A × List ℕ) (of_whole : Y → B × List ℕ) (e : Error) (part : Result (A × List ℕ) Error) (result : Result Y Error) → Answers of_part (Err e) part → IsErrAnd result (λ y. y ≡ e) → Answers of_whole result (then_with f part)
 refused_with f of_part of_whole e part result given passed = refused_by of_part of_whole e part (then_with f part) result given (λ one is. ap (then_with f) is) passed
 
@@ -145,7 +146,7 @@ several_by : (on : Bool) (most n : ℕ) → (on ≡ false → most ≤ 1) → n 
 several_by true most n one within several = refl
 several_by false most n one within several = absurd (omega (arith, one refl))
 
--- where there are no more tables and memories than may be, several stand only where that is enabled
+-- if there are no more tables and memories than allowed, there are several only if that is enabled
 pub taken_enabled : (config : Config) (spaces : IndexSpaces) → IsSanitized config → AreNumbersWithin config spaces → (0 < length spaces.tags → IsTrue config.exceptions_enabled) → AreCountsEnabled (features_of config) spaces
 taken_enabled config spaces sanitized within tags = record {
   tags = tags;
@@ -153,11 +154,11 @@ taken_enabled config spaces sanitized within tags = record {
   several_memories = λ some. lt-ltb 1 config.max_memories (omega (arith, within.memories, some));
 }
 
--- of the tables, of the memories, and of the globals, that a shape offers
+-- items taken from the offered ones are among the offered and the defined ones
 pub offered_all : {A : Type 0} (offered defined taken : List A) → All (Contains offered) taken → All (Contains (offered ++ defined)) taken
 offered_all offered defined taken h = All-weaker (Contains offered) (Contains (offered ++ defined)) (λ x one. Contains-append_left offered defined x one) taken h
 
--- a module shape is used where it is given, available imports where there is none
+-- a module shape is used if there is one, available imports if there is none
 pub module_used : (config : Config) (shape : Shape) → config.module_shape ≡ Some shape → AreShapesValid config → IsShapeValid ModuleShape config shape
 module_used config shape given valid =
     let used : shape_for config ModuleShape ≡ Some shape = rw given refl in

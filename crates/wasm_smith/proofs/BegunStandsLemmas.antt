@@ -1,4 +1,5 @@
--- What stands once a module has begun with its shapes is valid, and no more than these and the configuration allow.
+-- The parts of a module after it begins with its shapes are valid, and no more than these and the
+-- configuration allow.
 use Rattle.std.proofs.Common.{◌≡◌, ◌∙◌, ℕ, ◌≤◌, List, [], length, inl, inr, refl, sym, ap, subst, arith}
 use Rattle.std.specs.Prelude.{All, IfSome, IsSome, Option, Some, None}
 use Rattle.std.specs.List.{Contains}
@@ -23,7 +24,7 @@ use Rattle.smith_definitions.specs.Bounds.{brought, brought_by_module, brought_b
 use Rattle.wasm_smith.specs.declared.build.drawn.Drawn.{Drawn}
 use Rattle.wasm_smith.proofs.BegunLemmas.{stands_alone}
 
--- what a module shape brings, beside which no other shape counts
+-- a module shape, with which no other shape counts, adds these
 module_brings : (config : Config) (shape : Shape) (count : Count) → config.module_shape ≡ Some shape → brought config count ≡ brought_by_module count shape
 module_brings config shape count given = rw given (omega arith)
 
@@ -54,7 +55,7 @@ module _ (config : Config) (shape : Shape) (drawn : Drawn) where
     within = omega (arith, begun.type_size);
   }
 
--- of each kind as many stand as may
+-- of each kind there are no more than allowed
 pub taken_most : (config : Config) (imports : List Import) (spaces : IndexSpaces) → AreNumbersWithin config (imported_spaces imports) → spaces ≡ imported_spaces imports → (count : Count) → IsOfEntities count → count_in spaces count ≤ maximum_of config count
 taken_most config imports spaces within are counts.Tags is = rw are within.tags
 taken_most config imports spaces within are counts.Funcs is = rw are within.funcs
@@ -98,7 +99,7 @@ nothing_in counts.Memories is = refl
 nothing_in counts.Globals is = refl
 nothing_in _ is = absurd is
 
--- nothing stands
+-- nothing exists yet
 freely : (config : Config) (drawn : Drawn) → config.module_shape ≡ None → config.available_imports ≡ None → HasNothing drawn → StandsSoFar config drawn
 freely config drawn none free begun =
     let groups : drawn.imported.groups ≡ [] = ap (λ (b : Begun). b.groups) begun.begun in
@@ -126,6 +127,6 @@ begun_by config bytes drawn None None none free begun = freely config drawn none
   | inr of_module ↦ let none_given = subst (λ (one : Option Shape). IsSome one) none of_module in absurd cc
 ]))
 
--- whatever shapes a module has begun with, what stands is valid and not too much
+-- whichever shapes a module begins with, its parts are valid and within the bounds
 pub begun_stands : (config : Config) (bytes : List ℕ) (drawn : Drawn) → IsBegun config bytes drawn → StandsSoFar config drawn
 begun_stands config bytes drawn begun = begun_by config bytes drawn config.module_shape config.available_imports refl refl begun

@@ -1,4 +1,4 @@
--- What a module begins with, with types drawn behind those of its shapes, may be drawn over.
+-- More may be drawn over the first parts of a module, with types drawn after those of its shapes.
 use Rattle.std.proofs.Common.{rules, ◌≡◌, ℕ, ◌≤◌, max, List, [], length, inl, inr, refl, sym, ap, subst, arith, false}
 use Rattle.std.specs.Prelude.{All, IfSome, OnOk, Option, Some, None, Result, Ok, Err}
 use Rattle.std.specs.List.{Contains}
@@ -39,7 +39,7 @@ use Rattle.wasm_smith.proofs.GrownSizeLemmas.{stands_typed}
 use Rattle.wasm_smith.proofs.GrantedLaterLemmas.{elements_later, globals_later}
 use Rattle.wasm_smith.proofs.LackingLemmas.{shape_grounded}
 
--- what is known of the types, the tables and the exports that a module begins with
+-- properties of the types, the tables and the exports that a module begins with
 record MayBegin (config : Config) (drawn : Drawn) : Type 0 where
   few_values : All (HasFewValues most_listed) drawn.types.types
   grounded : (HoldsNonNullable config → ⊥) → HoldsGrounded config (drawn_next config drawn) (spaces_in drawn.imported.spaces)
@@ -51,7 +51,7 @@ no_exports spaces = record {
   distinct = record { once = λ i j item one other. absurd cc };
 }
 
--- of a shape's types, tables and globals
+-- for a shape's types, tables and globals
 of_shape : (config : Config) (functions : Context) (shape : Shape) (types : Space) (spaces : IndexSpaces) → types ≡ space_of shape.groups → All (Contains (shape_spaces shape).tables) spaces.tables → All (Contains (shape_spaces shape).globals) spaces.globals
     → HoldsGrounded config (over functions (shape_types shape)) (shape_spaces shape) → HoldsGrounded config (over functions types.types) spaces
 of_shape config functions shape types spaces same tables globals h =
@@ -106,7 +106,7 @@ begun_by config bytes drawn (Some shape) available given also valid begun = by_m
 begun_by config bytes drawn None (Some shape) none given valid begun = by_imports config shape bytes drawn none given valid (subst (λ (one : Option Shape). IfSome one (λ each. IsBegunByImports config each bytes drawn)) given begun.by_imports)
 begun_by config bytes drawn None None none free valid begun = freely config drawn (begun.freely (none_fixes config none free))
 
--- types behind those that a module begins with: what drawing them keeps
+-- types after those that a module begins with: the properties that drawing them keeps
 pub record AreTypesBehind (config : Config) (functions : Context) (old new : Space) : Type 0 where
   valid : AreTypesValid (features_of config) new
   longer : Extends old.types new.types
@@ -117,7 +117,7 @@ pub record AreTypesBehind (config : Config) (functions : Context) (old new : Spa
   grounded : ¬ HoldsUngroundedField config (over functions old.types) → ¬ HoldsUngroundedField config (over functions new.types)
   granted : AreTypesGranted config (over functions old.types) → AreTypesGranted config (over functions new.types)
 
--- what is grounded stays so as types are added, and so are these
+-- grounded references stay grounded as types are added, and so are these
 grounded_later : (config : Config) (functions : Context) (old new : Space) (spaces : IndexSpaces) → AreTypesBehind config functions old new → HoldsGrounded config (over functions old.types) spaces → HoldsGrounded config (over functions new.types) spaces
 grounded_later config functions old new spaces more h =
     let before = over functions old.types in
@@ -138,7 +138,7 @@ grounded_later config functions old new spaces more h =
       globals = globals_later config before later (ungrounded_before config before later growth) spaces.globals h.globals;
     }
 
--- what a module has begun with may be drawn over once such types stand behind it
+-- more may be drawn over the first parts of a module after such types are added
 types_drawn : (config : Config) (bytes : List ℕ) (drawn : Drawn) (types : Space) → AreShapesValid config → IsBegun config bytes drawn → AreTypesBehind config (drawn_next config drawn) drawn.types types → AreTypesDrawn config (record drawn { types = types })
 types_drawn config bytes drawn types valid begun more =
     let may = begun_by config bytes drawn config.module_shape config.available_imports refl refl valid begun in
@@ -162,7 +162,7 @@ types_drawn config bytes drawn types valid begun more =
 stays_within : (most old new : ℕ) → (old ≤ most → new ≤ most) → (most ≤ old → new ≡ old) → new ≤ max most old
 stays_within most old new few full = grind arith
 
--- what drawing types says of them, where it ends well
+-- properties of drawn types, if drawing succeeds
 module _ {X : Type 0} (config : Config) (functions : Context) (old new : Space) where
   pub types_behind : (result : Result X Error) → OnOk result (AreTypesValid (features_of config) new) → OnOk result (Extends old.types new.types)
       → (length old.types ≤ config.max_types → OnOk result (length new.types ≤ config.max_types)) → (config.max_types ≤ length old.types → OnOk result (new ≡ old)) → OnOk result (config.min_types ≤ length new.types)
@@ -174,7 +174,7 @@ module _ {X : Type 0} (config : Config) (functions : Context) (old new : Space) 
       record { valid = valid; longer = longer; most = stays_within config.max_types (length old.types) (length new.types) most same; least = least; floats = floats; few_values = few_values; grounded = grounded; granted = granted }
   types_behind (Err e) valid longer most full least floats few_values grounded granted = tt
 
--- then what a module has begun with may be drawn over
+-- then more may be drawn over the first parts of a module
 pub drawn_behind : {X : Type 0} (config : Config) (bytes : List ℕ) (drawn : Drawn) (types : Space) (result : Result X Error) → AreShapesValid config → IsBegun config bytes drawn → OnOk result (AreTypesBehind config (drawn_next config drawn) drawn.types types)
     → OnOk result (AreTypesDrawn config (record drawn { types = types }))
 drawn_behind config bytes drawn types (Ok made) valid begun more = types_drawn config bytes drawn types valid begun more

@@ -1,4 +1,4 @@
--- Shapes that may be handed in bring few items of each kind.
+-- Accepted shapes add few items of each kind.
 use Rattle.std.proofs.Common.{ℕ, ◌+◌, ◌-◌, ◌≤◌, ◌^◌, List, [], ◌∷◌, length, arith}
 use Rattle.std.specs.Prelude.{IfSome, Option, Some, None, sum_by}
 use Rattle.std.proofs.lemmas.List.Sums.{sum_by-cons}
@@ -69,17 +69,17 @@ few_given : (Holds : Shape → Type 0) (of_shape : Shape → ℕ) (most : ℕ) �
 few_given Holds of_shape most few (Some shape) h = few shape h
 few_given Holds of_shape most few None h = omega arith
 
--- beside a module shape no other brings any
+-- with a module shape no other adds any
 few_in_use : (config : Config) (count : Count) (available exports shaped : Option Shape) → let used = in_use (record { available_imports = available; exports = exports; module_shape = shaped }) in
     IfSome used.module_shape (IsShapeValid which.ModuleShape config) → IfSome used.available_imports (IsShapeValid which.AvailableImports config)
     → where_given (brought_by_module count) used.module_shape + where_given (brought_by_imports count) used.available_imports ≤ 2 ^ 30
 few_in_use config count available exports (Some shape) own offered = let few = few_by_module count shape own.short in omega (arith, few)
 few_in_use config count available exports None own offered = let few = few_given (IsShapeValid which.AvailableImports config) (brought_by_imports count) (2 ^ 30) (λ shape valid. few_by_imports count shape valid.short) available offered in omega (arith, few)
 
--- what shapes bring past a maximum is few
+-- shapes may have few items past a maximum
 pub few_brought : (config : Config) → AreShapesValid config → (count : Count) → brought config count ≤ 2 ^ 30
 few_brought config valid count = few_in_use config count config.available_imports config.exports config.module_shape (valid which.ModuleShape) (valid which.AvailableImports)
 
--- and so is what they add to it
+-- and add few to it
 pub few_added : (config : Config) → AreShapesValid config → (count : Count) → added config count ≤ 2 ^ 29
 few_added config valid count = few_given (IsShapeValid which.Exports config) (exported_of count) (2 ^ 29) (λ shape short. few_exported count shape short.short) (shape_for config which.Exports) (valid which.Exports)

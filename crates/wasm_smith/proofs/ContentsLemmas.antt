@@ -1,4 +1,5 @@
--- What exports, segments, a start function and interesting values ask of types, imports and definitions.
+-- The requirements of exports, segments, a start function and interesting values on types, imports
+-- and definitions.
 use Rattle.std.proofs.Common.{◌≡◌, ℕ, ◌^◌, ◌<◌, ◌≤◌, false, length, Option, Some, None, arith, inl, inr}
 use Rattle.std.specs.Prelude.{◌⊎◌, All, IfSome, IsTrue}
 use Rattle.std.proofs.lemmas.List.Elements.{All-weaker}
@@ -22,18 +23,18 @@ use Rattle.smith_definitions.proofs.StandsBehindLemmas.{defined_end}
 use Rattle.smith_contents.specs.DrawnElements.{MayDrawElements}
 use Rattle.smith_contents.specs.Exported.{MayExport, MayExportFreely, MayDrawExports}
 
--- what is defined tells what is imported
+-- definitions determine the imports
 pub imports_told : {config : Config} {drawn : Drawn} → AreExportsDrawn config drawn → TellsImported (imported_in drawn.imported) (spaces_in drawn.imported.spaces) drawn.definitions
 imports_told h = record { funcs = omega (arith, defined_end h.whole.stands.funcs); globals = defined_end h.whole.stands.globals }
 
--- a page has 64 KiB at most
+-- a page has at most 64 KiB
 page_small : (features : Features) (stated : Option ℕ) → IfSome stated (λ log2. ((log2 ≡ 0) ⊎ (log2 ≡ 16)) × IsTrue features.custom_page_sizes) → page_log2 stated ≤ 16
 page_small features None h = omega arith
 page_small features (Some log2) (inl byte, on) = omega (arith, byte)
 page_small features (Some log2) (inr whole, on) = omega (arith, whole)
 
 module _ {config : Config} {space : Space} {spaces : IndexSpaces} {imports_size : ℕ} (may : MayHoldContents config space spaces imports_size) where
-  -- interesting values ask so
+  -- as interesting values require
   pub pages_small : All (λ (memory : MemoryType). page_log2 memory.page_size_log2 ≤ 16) spaces.memories
   pages_small = All-weaker (IsMemoryValid (features_of config)) (λ (memory : MemoryType). page_log2 memory.page_size_log2 ≤ 16) (λ memory valid. page_small (features_of config) memory.page_size_log2 valid.page_size) spaces.memories may.entities.memories
 
@@ -56,7 +57,7 @@ module _ {config : Config} {space : Space} {spaces : IndexSpaces} {imports_size 
   may_draw_exports free = record { not_fixed = free; items = may_export; within = may.within; freely = may_export_freely free }
 
   module _ {num_funcs num_globals : ℕ} {over : Spaces} (seen : AreSpacesOver space spaces num_funcs num_globals over) where
-    -- all that a segment may refer to is valid
+    -- everything that a segment may refer to is valid
     pub spaces_valid : num_globals ≤ length spaces.globals → AreSpacesValid config over
     spaces_valid count = record {
       types = rw seen.types may.types;
@@ -76,7 +77,7 @@ module _ {config : Config} {space : Space} {spaces : IndexSpaces} {imports_size 
       few_tables = rw seen.tables may.few.tables;
     }
 
-    -- data segments ask so
+    -- as data segments require
     pub memories_valid : All (IsMemoryValid (features_of config)) over.entities.memories.now
     memories_valid = rw seen.memories may.entities.memories
 

@@ -1,4 +1,4 @@
--- A module with one more global, which counts fuel, is valid where it was.
+-- A valid module stays valid with one more global, which counts fuel.
 use Rattle.std.proofs.Common.{rules, arith, ◌≡◌, ℕ, ◌+◌, ◌≤◌, Bool, true, false, ℤ, List, [], ◌∷◌, ◌++◌, Some, length, inl, inr, refl, sym, subst, ap, ◌∙◌}
 use Rattle.std.specs.Prelude.{slice_get, if◌then◌else◌, Result, Ok, Err}
 use Rattle.smith_bytes.specs.declared.error.Error.{Error}
@@ -29,7 +29,7 @@ use Rattle.wasm_smith.specs.Termination.{counter, AddsFuel, AnswersFuel}
 use Rattle.smith_definitions.proofs.ExtensionLemmas.{all_kept}
 use Rattle.smith_definitions.proofs.InitialLemmas.{IsTableInitialised-grown}
 
--- a constant number gives a number
+-- a constant number leaves a number
 pub number_given : (context : Context) (value : ℤ) → IsConstExpr context I32 (I32Const value ∷ [])
 number_given context value = alone context (I32Const value) I32 I32 (refl, refl) tt
     (All-cons (IsInstrEnabled context.features context.imported_globals) (I32Const value) [] tt (All-nil (IsInstrEnabled context.features context.imported_globals)))
@@ -42,7 +42,7 @@ counted fuel index m = record m {
   fuel_globals = m.fuel_globals ++ index ∷ [];
 }
 
--- with no more than was there, a list is what it was
+-- a list with nothing added is the same
 no_more : {A : Type 0} (xs : List A) → xs ++ [] ≡ xs
 no_more xs = search rules
 
@@ -50,7 +50,7 @@ module _ (fuel : ℕ) (old : Parts) (valid : IsValid old) where
   abbrev new : Parts
   new = counted fuel (length old.globals) old
 
-  -- a context of old grows into that of new, where as much is visible or more
+  -- a context of the old module grows into one of the new, if at least as much is visible
   context_grown : (visible wider : ℕ) → visible ≤ wider → IsContextGrown (seeing (module_context old) visible) (seeing (module_context new) wider)
   context_grown visible wider more = record {
     features = refl;
@@ -72,7 +72,7 @@ module _ (fuel : ℕ) (old : Parts) (valid : IsValid old) where
         initialised = IsConstExpr-grown (global_context old index) (global_context new index) (context_grown seen seen (omega arith)) h.global.val_type initial h.initialised;
       }
 
-  -- as many globals stand as are imported and defined
+  -- there are as many globals as are imported and defined
   all_globals : length old.globals ≡ length (module_imports old).globals + length old.defined_globals
   all_globals =
       let spaces = valid.spaces.globals in
@@ -173,7 +173,7 @@ module _ (fuel : ℕ) (old : Parts) (valid : IsValid old) where
 pub adds_valid : (fuel index : ℕ) (old new : Parts) → AddsFuel fuel index old new → IsValid old → IsValid new
 adds_valid fuel index old after adds valid = subst IsValid (sym adds.added) (subst (λ n. IsValid (counted fuel n old)) (sym adds.last) (counted_valid fuel old valid))
 
--- what was refused is as it was
+-- a valid module stays valid, whatever the answer
 pub answered_valid : (fuel : ℕ) (old new : Parts) (result : Result ℕ Error) → AnswersFuel fuel old new result → IsValid old → IsValid new
 answered_valid fuel old after (Ok index) (no_bytes, adds) valid = adds_valid fuel index old after adds valid
 answered_valid fuel old after (Err error) (reason, kept) valid = subst IsValid (sym kept) valid

@@ -1,4 +1,4 @@
--- A module that is put together of drawn parts has no more than it may, and as much as is asked for.
+-- A module made of drawn parts keeps its bounds and meets its minimums.
 use Rattle.std.proofs.Common.{◌≡◌, ℕ, ◌+◌, ◌≤◌, Bool, List, Option, Some, None, inl, inr, refl, arith, max}
 use Rattle.std.specs.Prelude.{is_some, ◌||◌, sum_by, if◌then◌else◌}
 use Rattle.smith_bytes.specs.declared.error.Count.{Count}
@@ -35,11 +35,11 @@ same_sizes : (m : Parts) (exports : List Export) → sum_by (λ (one : Export). 
 same_sizes m exports = λ i. sum_by (λ (one : Export). same_size m one.1 one.2 i + 1) exports
 
 module _ (config : Config) (m : Parts) where
-  -- the size of exports is counted as one that is drawn, or as none
+  -- the size of exports is counted if they are drawn, and is 0 otherwise
   exports_counted : exports_size config m ≡ (if is_some config.module_shape || is_some config.exports then 0 else exported_size m.types (module_spaces m) m.exports)
   exports_counted = λ i. if is_some config.module_shape || is_some config.exports then 0 else same_sizes m m.exports i
 
--- the type size of exports that were made, in either case
+-- the type size of exports in both cases
 sized_so : (config : Config) (types : List SubType) (spaces : IndexSpaces) (size : ℕ) (made : Exports) (of_module exports : Option Shape) → config.module_shape ≡ of_module → config.exports ≡ exports → AreExportsMade config types spaces size made
     → made.type_size ≡ size + (if is_some of_module || is_some exports then 0 else exported_size types spaces made.exports)
 sized_so config types spaces size made (Some shape) exports given also h = let fixed = h.fixed_size (inr (rw given refl)) in omega (arith, fixed)

@@ -1,4 +1,4 @@
--- A module that is put together of drawn parts is valid.
+-- A module made of drawn parts is valid.
 use Rattle.std.proofs.Common.{◌≡◌, ℕ, Bool, List, Some, length, arith}
 use Rattle.std.specs.Prelude.{slice_get, Option}
 use Rattle.std.proofs.lemmas.List.Elements.{All-nil}

@@ -1,4 +1,4 @@
--- A module that is put together of drawn parts keeps what is promised of it.
+-- A module made of drawn parts keeps its promises.
 use Rattle.std.proofs.Common.{refl, Bool}
 use Rattle.smith_config.specs.declared.config.Config.{Config}
 use Rattle.wasm_smith.specs.Build.{parts_of}

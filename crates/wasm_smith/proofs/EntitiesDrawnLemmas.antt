@@ -1,4 +1,5 @@
--- What stands once entities are defined behind imports may be drawn over, and is refused only as a module may be.
+-- More may be drawn over the parts after entities are defined after imports, and defining is
+-- refused only as a module may be.
 use Rattle.std.proofs.Common.{◌≡◌, ◌≤◌, ◌^◌, ℕ, [], inl, inr, refl, subst, sym, arith}
 use Rattle.std.specs.Prelude.{false, All, Result, Ok, Err, OnOk}
 use Rattle.smith_bytes.specs.declared.error.Count.{Count}
@@ -33,7 +34,7 @@ use Rattle.wasm_smith.proofs.GrantedLaterLemmas.{elements_later, globals_later, 
 use Rattle.wasm_smith.proofs.NonNullableLemmas.{holds_or_not}
 use Rattle.wasm_smith.proofs.StandsDefinedLemmas.{stands_defined}
 
--- the indices of all entities that stand have 32 bits, also with as many more as a shape may list
+-- the indices of all existing entities have 32 bits, even with as many more as a shape may list
 pub room_so_far : (config : Config) (drawn : Drawn) (more : ℕ) → Passes config → AreShapesValid config → StandsSoFar config drawn → more ≤ 2 ^ 29 → HasRoom (spaces_in drawn.imported.spaces) more
 room_so_far config drawn more passes valid now few = record {
   tags = omega (arith, few, now.most counts.Tags tt, passes.few counts.Tags, few_brought config valid counts.Tags);
@@ -43,7 +44,7 @@ room_so_far config drawn more passes valid now few = record {
   globals = omega (arith, few, now.most counts.Globals tt, passes.few counts.Globals, few_brought config valid counts.Globals);
 }
 
--- entities may be defined behind imports
+-- entities may be defined after imports
 pub may_define_drawn : (config : Config) (drawn : Drawn) → Passes config → IsSanitized config → AreShapesValid config → AreImportsDrawn config drawn → MayDefine config drawn.types (spaces_in drawn.imported.spaces) drawn.definitions
 may_define_drawn config drawn passes sanitized valid so_far =
     let now : StandsSoFar config drawn = so_far.may.so_far in
@@ -57,7 +58,7 @@ at_least config before spaces filled counts.Memories is = filled.memories.enough
 at_least config before spaces filled counts.Globals is = filled.globals.enough
 at_least config before spaces filled _ is = absurd is
 
--- what is grounded stays so once entities are defined
+-- grounded references stay grounded after entities are defined
 grounded_later : (config : Config) (drawn : Drawn) (spaces : Held) (defined : Definitions) → StandsSoFar config drawn → AreDefinedMore config drawn.types (spaces_in drawn.imported.spaces) drawn.definitions (spaces_in spaces) defined
     → HoldsGrounded config (drawn_next config drawn) (spaces_in drawn.imported.spaces) → HoldsGrounded config (drawn_beside config drawn.types.types (spaces_in spaces) defined) (spaces_in spaces)
 grounded_later config drawn spaces defined now made old =
@@ -81,7 +82,7 @@ grounded_later config drawn spaces defined now made old =
       globals = all_behind (HasGroundedValue config later) (globals_later config before later was drawn.imported.spaces.globals old.globals) made.grounded_globals;
     }
 
--- what stands once they are defined
+-- the state after they are defined
 pub entities_drawn : {X : Type 0} (r : Result X Error) (config : Config) (drawn : Drawn) (spaces : Held) (defined : Definitions) → AreImportsDrawn config drawn
     → OnOk r (AreDefinedMore config drawn.types (spaces_in drawn.imported.spaces) drawn.definitions (spaces_in spaces) defined)
     → (config.allow_floats ≡ false → All HasNoFloat drawn.types.types → HaveNoFloats (spaces_in drawn.imported.spaces) drawn.definitions → OnOk r (HaveNoFloats (spaces_in spaces) defined))
@@ -102,7 +103,8 @@ entities_drawn (Ok x) config drawn spaces defined so_far made floats =
     }
 entities_drawn (Err e) config drawn spaces defined so_far made floats = tt
 
--- where no field is ungrounded unless a shape holds a reference that may not be null, definitions are refused as a module may be
+-- if no field is ungrounded, unless a shape holds a non-nullable reference, definitions are refused
+-- as a module may be
 pub defined_refuse : (config : Config) (context : Context) (e : Error) → ((HoldsNonNullable config → ⊥) → HoldsUngroundedField config context → ⊥) → MayRefuseDefined config context e → MayRefuse config e
 defined_refuse config context e grounded (inl refused) = refused
 defined_refuse config context e grounded (inr (inl memory)) = subst (MayRefuse config) (sym memory) tt

@@ -1,4 +1,4 @@
--- Exports that stand still do once index spaces grow, and are the same as those of a shape.
+-- Existing exports stay valid as index spaces grow, and stay the same as those of a shape.
 use Rattle.std.specs.Prelude.{List}
 use Rattle.std.specs.List.{AllZip}
 use Rattle.smith_types.specs.Exports.{AreExportsValid}
@@ -9,11 +9,11 @@ use Rattle.smith_types.proofs.ExportGrowthLemmas.{AreExportsValid-grown, IsEntit
 use Rattle.smith_types.proofs.ListLemmas.{AllZip-weaker}
 use Rattle.smith_definitions.specs.ShapesKept.{Export, IsSameExport}
 
--- exports that are valid stay so
+-- valid exports stay valid
 pub exports_grown : (old new : IndexSpaces) (exports : List Export) → AreSpacesGrown old new → AreExportsValid old exports → AreExportsValid new exports
 exports_grown old new exports longer h = AreExportsValid-grown old new longer exports h
 
--- an export that is the same as another stays so
+-- an export that is the same as another stays the same
 pub same_export_grown : (IsSame : EntityType → EntityType → Type 0) (ours longer theirs : IndexSpaces) (one other : Export) → AreSpacesGrown ours longer → IsSameExport IsSame ours theirs one other → IsSameExport IsSame longer theirs one other
 same_export_grown IsSame ours longer theirs one other grown h = record {
   name = h.name;

@@ -1,4 +1,5 @@
--- What stands once imports are drawn, where no shape fixes them, is valid and no more than the configuration allows.
+-- The parts after imports are drawn, if no shape fixes them, are valid and no more than the
+-- configuration allows.
 use Rattle.std.proofs.Common.{◌≡◌, Bool, inr, subst, sym, arith}
 use Rattle.std.specs.Prelude.{All, None}
 use Rattle.std.proofs.lemmas.List.Elements.{All-weaker}
@@ -17,7 +18,7 @@ use Rattle.wasm_smith.proofs.BegunStandsLemmas.{taken_most}
 numbers_of : {config : Config} {spaces : IndexSpaces} → AreSpacesWithin config spaces → AreNumbersWithin config spaces
 numbers_of within = record { tags = within.tags; funcs = within.funcs; tables = within.tables; memories = within.memories; globals = within.globals }
 
--- where nothing is defined yet, drawn imports take the place of none
+-- drawn imports replace none, if nothing is defined yet
 pub freely_stands : (config : Config) (distinct : Bool) (drawn : Drawn) (made : Imported) → config.module_shape ≡ None → config.available_imports ≡ None → IsSanitized config → StandsSoFar config drawn → drawn.definitions ≡ nothing_defined
     → IsImported config drawn.types.types distinct made → StandsSoFar config (record drawn { imported = made })
 freely_stands config distinct drawn made none free sanitized now nothing so_far =

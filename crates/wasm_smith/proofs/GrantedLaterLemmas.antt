@@ -1,4 +1,5 @@
--- What is granted in one context is so in another where no reference is ungrounded that was not.
+-- References granted in one context are granted in another, if it has no ungrounded reference that
+-- the first did not have.
 use Rattle.std.proofs.Common.{List}
 use Rattle.std.specs.Prelude.{All}
 use Rattle.std.proofs.lemmas.List.Elements.{All-weaker}

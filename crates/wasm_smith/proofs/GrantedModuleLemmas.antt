@@ -1,4 +1,4 @@
--- A module holds no reference that may not be null and is not grounded where the parts that were drawn hold none.
+-- A module holds no ungrounded non-nullable reference if the drawn parts hold none.
 use Rattle.std.proofs.Common.{ℕ, subst}
 use Rattle.std.specs.Prelude.{All}
 use Rattle.std.specs.List.{flat_map}
@@ -35,7 +35,7 @@ module _ (config : Config) (drawn : Drawn) (whole : StandsWhole config drawn) wh
   abbrev context : Context
   context = module_context m
 
-  -- what isn't defined is imported, and globals ground nothing
+  -- entities that are not defined are imported, and globals ground nothing
   was_ungrounded : (value : ValType) → IsUngrounded config context value → IsUngrounded config before value
   was_ungrounded (vals.Ref reference) (not_null, none) = (
     not_null,

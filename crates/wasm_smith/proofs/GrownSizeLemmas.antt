@@ -1,4 +1,5 @@
--- The sizes of imports stay what they are where types are added behind those that stand, and so does what stands over them.
+-- The sizes of imports stay the same as types are added after the existing ones, and so does the
+-- state over them.
 use Rattle.std.proofs.Common.{◌≡◌, ◌∙◌, ℕ, zero, suc, ◌+◌, ◌<◌, ◌≤◌, max, List, [], ◌∷◌, ◌++◌, length, refl, sym, ap, arith}
 use Rattle.std.specs.Prelude.{All, Option, option_map, slice_get, sum_by, unwrap_or, is_some, if◌then◌else◌}
 use Rattle.std.proofs.lemmas.List.Elements.{All-head}
@@ -30,7 +31,7 @@ same_place (x ∷ xs) more (suc i) inside = same_place xs more i (omega (arith, 
 abbrev size_of_found : Option SubType → ℕ
 size_of_found found = 1 + unwrap_or (option_map (λ (t : SubType). value_count t.composite_type.inner) found) 0
 
--- an entity whose type stands keeps its size
+-- an entity whose type exists keeps its size
 pub size_grown : (types more : List SubType) (one : EntityType) → Extends types more → IsTyped types one → size_in more one ≡ size_in types one
 size_grown types more (entity.Func index) longer typed = ap (λ (all : List SubType). size_of_found (slice_get all index)) longer.parts ∙ ap size_of_found (same_place types longer.more index typed)
 size_grown types more (entity.Tag index) longer typed = refl
@@ -38,7 +39,7 @@ size_grown types more (entity.Table table) longer typed = refl
 size_grown types more (entity.Memory memory) longer typed = refl
 size_grown types more (entity.Global global) longer typed = refl
 
--- imports that are valid have types that stand
+-- valid imports have existing types
 typed_by : (types : List SubType) (one : EntityType) → All (IsFuncValid types) (func_of one) → IsTyped types one
 typed_by types (entity.Func index) valid = let (function, (t, at, is)) = All-head (IsFuncValid types) index [] valid in slice_get_within types index t at
 typed_by types (entity.Tag index) valid = tt
@@ -46,7 +47,7 @@ typed_by types (entity.Table table) valid = tt
 typed_by types (entity.Memory memory) valid = tt
 typed_by types (entity.Global global) valid = tt
 
--- so do imports together, whatever is counted for a size
+-- imports together keep any count of their sizes
 sizes_grown : (count : ℕ → ℕ) (types more : List SubType) (imports : List Import) → Extends types more → All (IsFuncValid types) (imported func_of imports)
     → sum_by (λ (one : Import). count (size_in more one.entity_type)) imports ≡ sum_by (λ (one : Import). count (size_in types one.entity_type)) imports
 sizes_grown count types more [] longer valid = refl
@@ -58,14 +59,14 @@ sizes_grown count types more (one ∷ imports) longer valid =
     let old = sum_by-cons (λ (each : Import). count (size_in types each.entity_type)) one imports in
     omega (arith, here, rest, new, old)
 
--- what imports add to the type size stays
+-- the amount that imports add to the type size stays
 pub imports_grown : (config : Config) (types more : List SubType) (imports : List Import) → Extends types more → All (IsFuncValid types) (imported func_of imports) → size_of_imports config more imports ≡ size_of_imports config types imports
 imports_grown config types more imports longer valid =
     let plain = sizes_grown (λ n. n) types more imports longer valid in
     let one_more = sizes_grown (λ n. n + 1) types more imports longer valid in
     λ i. if is_some config.module_shape then 0 else if is_some config.available_imports then plain i else one_more i
 
--- with more types behind them, what stands still does, and is not too much
+-- with more types at the end, the parts stay valid and within the bounds
 pub stands_typed : (config : Config) (drawn : Drawn) (types : Space) → StandsSoFar config drawn → AreTypesValid (features_of config) types → Extends drawn.types.types types.types → length types.types ≤ max config.max_types (length drawn.types.types) → StandsSoFar config (record drawn { types = types })
 stands_typed config drawn types now valid longer few =
     let spaces = spaces_in drawn.imported.spaces in

@@ -1,4 +1,4 @@
--- The shapes that a module begins with are kept by what is drawn behind them, and by the module that shows them.
+-- The shapes that a module begins with are kept by the later draws, and by the finished module.
 use Rattle.std.proofs.Common.{◌≡◌, ◌∙◌, ℕ, suc, Bool, List, [], ◌∷◌, ◌++◌, Option, Some, None, inl, inr, refl, ap, subst, sym}
 use Rattle.std.specs.Prelude.{◌&&◌, IfSome, if◌then◌else◌}
 use Rattle.std.specs.List.{AllZip}
@@ -23,7 +23,7 @@ use Rattle.wasm_smith.specs.declared.build.drawn.Drawn.{Drawn}
 use Rattle.wasm_smith.proofs.ExportsGrownLemmas.{same_exports_grown}
 use Rattle.smith_definitions.proofs.RequiredExportsLoop.{extends_both}
 
--- what a configuration shows of itself in a module
+-- the configuration that a module returns
 abbrev shown : Config → Config
 shown config = record config { available_imports = None }
 
@@ -51,7 +51,8 @@ fitting_shown : (config : Config) (types : List SubType) (taken : List Import) (
 unfolding is_fitting
 fitting_shown config types taken one = rw (most_shown config (count_for one.entity_type), allowed_shown config one.entity_type) refl
 
--- the imports that are taken don't depend on whether a configuration shows them
+-- the imports that are taken do not depend on the available imports of the configuration that a
+-- module returns
 taken_shown : (config : Config) (types : List SubType) (bytes : List ℕ) (place : ℕ) (taken imports : List Import) → taken_from (shown config) types bytes place taken imports ≡ taken_from config types bytes place taken imports
 taken_shown config types bytes place taken [] = refl
 taken_shown config types bytes place taken (one ∷ more) =
@@ -62,14 +63,14 @@ taken_shown config types bytes place taken (one ∷ more) =
 types_beyond : {config : Config} {shape : Shape} {old new : Begun} → IsBeyond config old new → BeginsWithTypes shape old → BeginsWithTypes shape new
 types_beyond beyond h = record { types = extends_both h.types beyond.types; groups = extends_both h.groups beyond.groups }
 
--- what is said of a module shape, which is used where it is given
+-- a fact about a module shape, which is used if there is one
 of_module_shape : (config : Config) (P : Shape → Type 0) (shape : Shape) → config.module_shape ≡ Some shape → IfSome (shapes_of config).module_shape P → P shape
 of_module_shape config P shape given h = rw given at h
 
 to_module_shape : (config : Config) (P : Shape → Type 0) (shape : Shape) → config.module_shape ≡ Some shape → P shape → IfSome (shapes_of config).module_shape P
 to_module_shape config P shape given h = rw given h
 
--- what is said of available imports that are used, and of their shape
+-- a fact about available imports in use, and their shape
 of_available : (config : Config) (P : Shape → Type 0) (shape : Shape) → config.module_shape ≡ None → config.available_imports ≡ Some shape → IfSome (shapes_of config).available_imports P → P shape
 of_available config P shape none given h = rw (none, given) at h
 
@@ -95,7 +96,7 @@ kept_by config bytes old new None (Some shape) none given beyond kept =
     }
 kept_by config bytes old new None None none free beyond kept = record { module_shape = rw none tt; available_imports = rw (none, free) tt }
 
--- what comes behind them leaves the shapes that a module begins with as they are
+-- later parts keep the shapes that a module begins with
 pub kept_beyond : {config : Config} {bytes : List ℕ} {old new : Begun} → IsBeyond config old new → KeepsBegun config bytes old → KeepsBegun config bytes new
 kept_beyond {config = config} {bytes = bytes} {old = old} {new = new} beyond kept = kept_by config bytes old new config.module_shape config.available_imports refl refl beyond kept
 
@@ -121,12 +122,12 @@ shown_by config bytes drawn None (Some shape) none given kept exports =
     }
 shown_by config bytes drawn None None none free kept exports = record { module_shape = rw none tt; available_imports = rw (none, free) tt; exports = exports }
 
--- the exports of a shape for exports are these
+-- these are the exports of a shape for exports
 abbrev AreExportsKept : Config → Drawn → List Export → Type 0
 AreExportsKept config drawn exports =
     IfSome (shapes_of config).exports (λ shape. AllZip (IsSameExport (IsSameType drawn.types.types (shape_types shape)) (spaces_in drawn.imported.spaces) (shape_spaces shape)) exports shape.exports)
 
--- a module that is put together of drawn parts, with the exports that were made, keeps the shapes that are used
+-- a module made of drawn parts, with the exports that were made, keeps the shapes in use
 pub shapes_kept : (config : Config) (bytes : List ℕ) (drawn : Drawn) (made : List Export) → drawn.contents.exports ≡ made → KeepsBegun config bytes (record (begun_of drawn) { exports = made }) → AreExportsKept config drawn made
     → KeepsShapes config bytes (parts_of config drawn)
 shapes_kept config bytes drawn made same kept exports =

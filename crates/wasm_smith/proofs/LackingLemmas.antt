@@ -1,5 +1,6 @@
--- A reference that may not be null stands in the types or the tables of a shape only where it is among the shape's values, so a
--- module begins with one, or is refused for one, only where a shape that is used holds one.
+-- A non-nullable reference occurs in the types or the tables of a shape only if it is among the
+-- shape's values. So a module begins with one, or is refused because of one, only if a shape in use
+-- holds one.
 use Rattle.std.proofs.Common.{◌≡◌, ◌⊎◌, ◌<◌, List, [], inl, inr, refl, sym, subst, arith}
 use Rattle.std.specs.Prelude.{All, IsSomeAnd, Option, Some, None}
 use Rattle.std.specs.List.{Any}
@@ -45,11 +46,11 @@ use Rattle.smith_definitions.specs.Refusals.{Brings, HoldsNonNullable, MayRefuse
 use Rattle.smith_definitions.specs.Required.{MayLackIn, MayRefuseRequired}
 use Rattle.wasm_smith.proofs.NonNullableLemmas.{holds_or_not}
 
--- not a reference that may not be null
+-- not a non-nullable reference
 abbrev MayBeNull : ValType → Type 0
 MayBeNull value = ¬ IsNonNullable value
 
--- where no item has a property each lacks it
+-- if no item has a property, each lacks it
 none_has : {A : Type 0} (P : A → Type 0) (xs : List A) → ¬ Any P xs → All (λ (x : A). ¬ P x) xs
 none_has P xs none = λ k d inside p. let (i, within, at) = Contains-get_or xs k d inside in none (i, _, within, at, p)
 
@@ -69,11 +70,11 @@ no_field inner values (k, value, inside, at, never) =
     (All-map MayBeNull (λ (field : FieldType). unpacked field.element_type) (fields_of inner) (fields_null inner (held_from_values MayBeNull inner values)))
     (k, inside, at) never
 
--- a value that may be null is no such reference, whatever is grounded
+-- a nullable value is granted, whatever is grounded
 granted_null : (config : Config) (context : Context) (value : ValType) → MayBeNull value → IsGranted config context value
 granted_null config context value may lacks = may (ungrounded_not_null config context value lacks)
 
--- no value of types, tables and globals is such a reference in a context, which may have other types
+-- no value of types, tables and globals is ungrounded in a context, which may have other types
 pub record AreValuesGranted (config : Config) (context : Context) (types : List SubType) (spaces : IndexSpaces) : Type 0 where
   pub of_types : All (HasGranted config context) types
   pub elements : All (HasGroundedElements config context) spaces.tables
@@ -83,7 +84,7 @@ module _ (config : Config) (types : List SubType) (spaces : IndexSpaces) (none :
   apart : All (λ (t : SubType). All MayBeNull (values_of t.composite_type.inner)) types × All (λ (table : TableType). MayBeNull (Ref table.element_type)) spaces.tables × All (λ (global : GlobalType). MayBeNull global.val_type) spaces.globals
   apart = all_values_apart MayBeNull types spaces (none_has IsNonNullable (values_in types spaces) none)
 
-  -- where none may not be null, none is such a reference, whatever is grounded
+  -- if no value is a non-nullable reference, none is ungrounded
   granted_values : (context : Context) → AreValuesGranted config context types spaces
   granted_values context =
       let (of_types, of_tables, of_globals) = apart in
@@ -112,19 +113,20 @@ module _ (config : Config) (context : Context) (for_use : Which) (shape : Shape)
   none_held : ¬ Any IsNonNullable (shape_values shape)
   none_held holds = none (for_use, subst (λ (one : Option Shape). IsSomeAnd one (λ each. Any IsNonNullable (shape_values each))) (sym used) holds)
 
-  -- a shape that is used holds no such reference where no shape that is used holds one
+  -- a shape in use holds no such reference if no shape in use holds one
   pub shape_grounded : HoldsGrounded config (over context (shape_types shape)) (shape_spaces shape)
   shape_grounded = grounded_values config (shape_types shape) (shape_spaces shape) none_held context
 
-  -- nor over any types
+  -- nor does it over any types
   pub shape_granted : AreValuesGranted config context (shape_types shape) (shape_spaces shape)
   shape_granted = granted_values config (shape_types shape) (shape_spaces shape) none_held context
 
--- what a module shape is made over
+-- the context in which the exports of a module shape are made
 abbrev beside_shape : Config → Shape → Context
 beside_shape config shape = drawn_beside config (shape_types shape) (imported_spaces (shape_imports shape)) nothing_defined
 
--- where the exports of a module shape may find nothing to choose from, a shape that is used holds such a reference
+-- if the exports of a module shape may have nothing to choose from, a shape in use holds such a
+-- reference
 shape_lacks : (config : Config) (shape : Shape) → config.module_shape ≡ Some shape → MayLackIn config (beside_shape config shape) shape → HoldsNonNullable config
 shape_lacks config shape given (inl value) = (which.ModuleShape, rw given value)
 shape_lacks config shape given (inr field) = elim (holds_or_not config) [
@@ -136,7 +138,7 @@ module_lacks : (config : Config) (shape : Shape) (e : Error) → config.module_s
 module_lacks config shape e given (inl memory) = subst (MayRefuse config) (sym memory) tt
 module_lacks config shape e given (inr (empty, lacks)) = subst (MayRefuse config) (sym empty) (shape_lacks config shape given lacks)
 
--- a module shape brings what it exports
+-- a module shape adds its exports
 module_brings : (config : Config) (shape : Shape) (count : Count) → config.module_shape ≡ Some shape → 0 < brought_by_module count shape → Brings config count
 module_brings config shape count given some = inr (rw given some)
 
@@ -149,7 +151,7 @@ refused_by_module : (config : Config) (e : Error) (of_module : Option Shape) →
 refused_by_module config e (Some shape) given h = module_refused config shape e given h
 refused_by_module config e None given h = absurd h
 
--- what a module begins with is refused where a module may be
+-- the first parts of a module are refused only as a module may be
 pub begun_refused : (config : Config) (e : Error) → MayRefuseBegun config e → MayRefuse config e
 begun_refused config e (inl memory) = subst (MayRefuse config) (sym memory) tt
 begun_refused config e (inr by_module) = refused_by_module config e config.module_shape refl by_module

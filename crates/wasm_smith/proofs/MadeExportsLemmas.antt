@@ -1,4 +1,5 @@
--- What stands once the exports of a module are made: those of a module shape, those of a shape for exports, or free ones.
+-- The state after the exports of a module are made: those of a module shape, those of a shape for
+-- exports, or free ones.
 use Rattle.std.proofs.Common.{◌≡◌, ◌∙◌, ◌⊎◌, ℕ, ◌+◌, ◌<◌, ◌≤◌, ◌^◌, ◌||◌, false, true, List, [], length, inl, inr, refl, subst, sym, ap, arith}
 use Rattle.std.specs.Prelude.{All, IfOk, IfSome, IsSome, IsTrue, Option, Some, None, Result, Ok, Err, is_some, if◌then◌else◌}
 use Rattle.std.proofs.lemmas.List.Elements.{All-contains}
@@ -49,7 +50,7 @@ use Rattle.wasm_smith.proofs.LackingLemmas.{shape_granted}
 use Rattle.wasm_smith.proofs.NonNullableLemmas.{holds_or_not}
 use Rattle.wasm_smith.proofs.StandsWholeLemmas.{either_kept, not_types, stands_required, stands_whole}
 
--- a shape for exports is used where there is no module shape
+-- a shape for exports is used if there is no module shape
 pub exports_used : (config : Config) (shape : Shape) → config.module_shape ≡ None → config.exports ≡ Some shape → AreShapesValid config → IsShapeValid which.Exports config shape
 exports_used config shape none given valid =
     let used : shape_for config which.Exports ≡ Some shape = rw (none, given) refl in
@@ -60,12 +61,12 @@ pub exports_free : (config : Config) → config.module_shape ≡ None → config
 exports_free config none free (inl given) = let never = subst (λ (one : Option Shape). IsSome one) free given in absurd cc
 exports_free config none free (inr given) = let never = subst (λ (one : Option Shape). IsSome one) none given in absurd cc
 
--- what is not there is none
+-- an option without a value is none
 pub none_given : {A : Type 0} (given : Option A) → is_some given ≡ false → given ≡ None
 none_given None off = refl
 none_given (Some one) off = absurd cc
 
--- where no exports are added what stands is whole
+-- if no exports are added, the state is whole
 pub stands_already : (config : Config) (drawn : Drawn) → AreEntitiesDrawn config drawn → AreExportsDrawn config drawn
 stands_already config drawn now = record {
   whole = stands_whole config drawn now.may.so_far;
@@ -77,7 +78,7 @@ stands_already config drawn now = record {
   floats = now.floats;
 }
 
--- contents may be drawn over what stands with exports
+-- contents may be drawn over the parts with exports
 pub may_hold_contents : (config : Config) (drawn : Drawn) → Passes config → IsSanitized config → AreShapesValid config → AreExportsDrawn config drawn → MayHoldContents config drawn.types (spaces_in drawn.imported.spaces) drawn.imported.type_size
 may_hold_contents config drawn passes sanitized valid now =
     let few : (count : Count) → IsOfEntities count → count_in (spaces_in drawn.imported.spaces) count < 2 ^ 32 = λ count is. omega (arith, now.whole.most count is, passes.few count, few_brought config valid count, few_added config valid count) in
@@ -112,7 +113,7 @@ module _ (config : Config) (shape : Shape) (drawn : Drawn) (passes : Passes conf
   room_for : (count : Count) → IsOfEntities count → count_in (spaces_in drawn.imported.spaces) count + length shape.exports < 2 ^ 32
   room_for count is = omega (arith, now.most count is, passes.few count, few_brought config valid count, one.short.exports)
 
-  -- the exports of a shape may be defined behind what stands
+  -- the exports of a shape may be defined after the existing entities
   pub may_require : IsSanitized config → MayDefineMore config drawn.types (spaces_in drawn.imported.spaces) drawn.definitions (length shape.exports)
   may_require sanitized = record {
     sanitized = sanitized;
@@ -122,7 +123,7 @@ module _ (config : Config) (shape : Shape) (drawn : Drawn) (passes : Passes conf
     room = record { tags = room_for counts.Tags tt; funcs = room_for counts.Funcs tt; tables = room_for counts.Tables tt; memories = room_for counts.Memories tt; globals = room_for counts.Globals tt };
   }
 
-  -- and their types behind those that do
+  -- and their types after the existing ones
   pub types_room : length drawn.types.types + length shape.exports < 2 ^ 32
   types_room = omega (arith, now.most_types, passes.few counts.Types, few_brought config valid counts.Types, one.short.exports)
 
@@ -138,7 +139,7 @@ module _ (config : Config) (shape : Shape) (drawn : Drawn) (none : config.module
   lacks_so e (inl memory) = subst (MayRefuse config) (sym memory) tt
   lacks_so e (inr (empty, lacking)) = subst (MayRefuse config) (sym empty) (lacks lacking)
 
-  -- the exports of a shape are refused where a module may be
+  -- the exports of a shape are refused only as a module may be
   pub required_refuses : (e : Error) → MayRefuseRequired config (drawn_next config drawn) shape e → MayRefuse config e
   required_refuses (errors.IncorrectFormat SeveralMemories) (some, few) = (inl (rw (none, given) some), few)
   required_refuses (errors.IncorrectFormat SeveralTables) (some, off) = (inl (rw (none, given) some), off)
@@ -178,7 +179,7 @@ module _ (config : Config) (shape : Shape) (drawn : Drawn) (none : config.module
             (λ global h. All-contains Values (shape_spaces shape).globals global theirs.globals h) limits.globals;
       }
 
--- the exports of a shape are made behind what stands
+-- the exports of a shape are made after the existing entities
 module _ (config : Config) (shape : Shape) (drawn : Drawn) (types : Space) (spaces : Held) (defined : Definitions) (none : config.module_shape ≡ None) (given : config.exports ≡ Some shape) where
   pub required_drawn : AreEntitiesDrawn config drawn → Extends drawn.types.types types.types → length types.types ≤ length drawn.types.types + exported_of counts.Types shape
       → (HoldsUngroundedField config (drawn_beside config types.types (spaces_in spaces) defined) → HoldsUngroundedField config (drawn_next config drawn)) → (All (HasFewValues most_listed) drawn.types.types → All (HasFewValues most_listed) types.types)
@@ -208,7 +209,7 @@ module _ (config : Config) (shape : Shape) (drawn : Drawn) (types : Space) (spac
     exports = λ shaped. let never : false ≡ true = rw none at shaped in absurd cc;
   }
 
--- nothing is added where the exports were made before
+-- nothing is added if the exports were made before
 pub exports_beyond : (config : Config) (drawn : Drawn) (exports : List Export) → (IsTrue (is_some config.module_shape) → exports ≡ drawn.contents.exports) → IsBeyond config (begun_of drawn) (record (begun_of drawn) { exports = exports })
 exports_beyond config drawn exports same =
     let spaces = spaces_in drawn.imported.spaces in
@@ -223,7 +224,7 @@ exports_beyond config drawn exports same =
 pub nothing_beyond : (config : Config) (drawn : Drawn) (exports : List Export) → exports ≡ drawn.contents.exports → IsBeyond config (begun_of drawn) (record (begun_of drawn) { exports = exports })
 nothing_beyond config drawn exports same = exports_beyond config drawn exports (λ shaped. same)
 
--- exports that are drawn change nothing else
+-- drawn exports change nothing else
 pub drawn_beyond : (config : Config) (drawn : Drawn) (made : Result Exports Error) → config.module_shape ≡ None → IfOk made (λ made. IsBeyond config (begun_of drawn) (record (begun_of drawn) { exports = made.exports }))
 drawn_beyond config drawn (Ok made) none = exports_beyond config drawn made.exports (λ shaped. let never = subst (λ (one : Option Shape). IsTrue (is_some one)) none shaped in absurd cc)
 drawn_beyond config drawn (Err e) none = tt

@@ -1,4 +1,5 @@
--- Where nothing stands against a module, only want of memory refuses it; and what the shape that is refused first tells.
+-- If nothing prevents a module, only lack of memory refuses it; and the refusals of the first shape
+-- that fails its check.
 use Rattle.std.proofs.Common.{◌≡◌, ◌<◌, ℕ, refl, sym, arith, inl, inr, subst}
 use Rattle.std.specs.Prelude.{IsSome, IsSomeAnd, IfSome, Option, Some, None}
 use Rattle.smith_bytes.specs.declared.error.Error.{Error}
@@ -26,12 +27,12 @@ given_some : (of_shape : Shape → ℕ) (given : Option Shape) → 0 < where_giv
 given_some of_shape (Some shape) some = refl
 given_some of_shape None some = absurd (omega (arith, some))
 
--- a shape that brings items is there
+-- a shape that adds items exists
 shape_brings : (config : Config) (count : Count) → Brings config count → HasShape config
 shape_brings config count (inl some) = (which.Exports, given_some (exported_of count) (shapes_of config).exports some)
 shape_brings config count (inr some) = (which.ModuleShape, given_some (brought_by_module count) (shapes_of config).module_shape some)
 
--- a shape that may be handed in has no fault
+-- an accepted shape has no fault
 faultless : (config : Config) (for_use : Which) (found : ShapeFault) (given : Option Shape) → IfSome given (λ shape. IsShapeValid for_use config shape) → IsSomeAnd given (λ shape. HasShapeFault for_use config shape found) → ⊥
 faultless config for_use found (Some shape) valid wrong = no_shape_fault for_use config shape valid found wrong
 faultless config for_use found None valid wrong = wrong
@@ -44,7 +45,7 @@ in_shape config reasons.SeveralTables h several = let may = (h.several (shape_br
 in_shape config reasons.Loop h never = never
 in_shape config reasons.RawBody h never = never
 
--- where nothing impossible is asked for, what may refuse is want of memory
+-- if nothing impossible is required, only lack of memory refuses
 pub memory_alone : (config : Config) (e : Error) → AsksNothingImpossible config → MayRefuse config e → e ≡ errors.Memory
 memory_alone config errors.Memory h refused = refl
 memory_alone config (errors.Config fault) h refused = absurd (no_fault config h.may_give.passes fault refused.there)
@@ -63,7 +64,7 @@ refused_by config for_use (errors.IncorrectFormat why) (Some shape) is refused =
 refused_by config for_use errors.EmptyChoose (Some shape) is refused = absurd refused
 refused_by config for_use errors.NotEnoughData (Some shape) is refused = absurd refused
 
--- the refusal of the first shape that may not be handed in is one that may come
+-- the refusal of the first shape that fails its check is possible
 pub first_faulty_refuses : (config : Config) (e : Error) → IsFirstFaulty config e → MayRefuse config e
 first_faulty_refuses config e h = refused_by config h.for_use e (shape_for config h.for_use) refl h.refused
 
@@ -76,6 +77,6 @@ memory_wanted config for_use (errors.IncorrectFormat why) (Some shape) valid ref
 memory_wanted config for_use errors.EmptyChoose (Some shape) valid refused = absurd refused
 memory_wanted config for_use errors.NotEnoughData (Some shape) valid refused = absurd refused
 
--- and it is want of memory where all of them may be
+-- and it is lack of memory if all shapes pass
 pub first_faulty_memory : (config : Config) (e : Error) → AreShapesValid config → IsFirstFaulty config e → e ≡ errors.Memory
 first_faulty_memory config e valid h = memory_wanted config h.for_use e (shape_for config h.for_use) (valid h.for_use) h.refused

@@ -1,4 +1,4 @@
--- A module is without floats where the parts that were drawn are.
+-- A module is without floats if the drawn parts are.
 use Rattle.std.proofs.Common.{ℕ, List, [], ◌∷◌, ◌++◌, map}
 use Rattle.std.specs.Prelude.{All}
 use Rattle.std.specs.List.{flat_map, AllByRecursion as Each}

@@ -17,10 +17,10 @@ none_for config which.ModuleShape none = ap (λ (used : Shapes). used.module_sha
 none_for config which.AvailableImports none = ap (λ (used : Shapes). used.available_imports) (none_in_use config none)
 none_for config which.Exports none = ap (λ (used : Shapes). used.exports) (none_in_use config none)
 
--- so those that are used may be handed in
+-- so those that are used are accepted
 pub no_shapes_valid : (config : Config) → HasNoShapes config → AreShapesValid config
 no_shapes_valid config none for_use = rw (none_for config for_use none) tt
 
--- no shape that is used has a property
+-- no shape in use has any property
 pub none_used : (P : Shape → Type 0) (config : Config) (for_use : Which) → HasNoShapes config → IsSomeAnd (shape_for config for_use) P → ⊥
 none_used P config for_use none h = subst (λ (given : Option Shape). IsSomeAnd given P) (none_for config for_use none) h

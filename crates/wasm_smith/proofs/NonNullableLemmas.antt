@@ -1,4 +1,4 @@
--- Whether a shape that is used holds a reference that may not be null is decided.
+-- Whether a shape in use holds a non-nullable reference is decidable.
 use Rattle.std.proofs.Common.{rules, ◌≡◌, ◌⊎◌, Bool, true, false, not, List, inl, inr, refl}
 use Rattle.std.specs.Prelude.{IsSomeAnd, Option, Some, None}
 use Rattle.std.specs.List.{Any, list_any}
@@ -56,7 +56,7 @@ none_of config offered exported shaped which.AvailableImports h = offered h
 none_of config offered exported shaped which.Exports h = exported h
 none_of config offered exported shaped which.ModuleShape h = shaped h
 
--- a shape that is used holds such a reference, or none does
+-- a shape in use holds such a reference, or none does
 pub holds_or_not : (config : Config) → HoldsNonNullable config ⊎ (HoldsNonNullable config → ⊥)
 holds_or_not config = elim (given_or_not (shape_for config which.AvailableImports)) [
   | inl offered ↦ inl (which.AvailableImports, offered)

@@ -1,4 +1,5 @@
--- The steps of drawing a module, one behind another, give the module that the bytes do, and parts that hold what each step left.
+-- The steps of drawing a module, one after another, produce the module of the bytes, and parts with
+-- the properties of each step.
 use Rattle.std.proofs.Common.{◌≡◌, ◌∙◌, ℕ, ◌<◌, Bool, false, List, length, refl, sym, subst}
 use Rattle.std.specs.Prelude.{IsTrue, Result, Ok, Err, IsErrAnd}
 use Rattle.smith_bytes.specs.declared.error.Error.{Error}
@@ -20,7 +21,7 @@ use Rattle.smith_definitions.specs.InterestingValues.{AreAll, IsInteresting32, I
 use Rattle.wasm_smith.specs.declared.build.contents.Contents.{Contents}
 use Rattle.wasm_smith.specs.declared.build.drawn.Drawn.{Drawn}
 
--- what each step reads, all of them read
+-- the reads of the steps make the read of all of them
 pub module_read : (distinct : Bool) (config : Config) (bytes : List ℕ) (typed imported defined whole : Begun) (flag : Bool) (made : Exports) (contents : Contents) (count : ℕ) (first second third fourth fifth last : List ℕ)
     → begun_typed_at config bytes ≡ Ok (typed, first) → imported_at distinct config typed first ≡ Ok (imported, second) → section_flag_at (length imported.groups) second ≡ (flag, third)
     → defined_at config imported third ≡ Ok (defined, fourth) → exported_at config defined fourth ≡ Ok (whole, fifth) → made ≡ exports_of config whole
@@ -37,7 +38,7 @@ lacks_so view own errors.Memory read whole both h = tt
 lacks_so view own errors.EmptyChoose read whole both h = tt
 lacks_so view own e read whole both h = both h
 
--- where contents are refused, so is the module
+-- if contents are refused, so is the module
 pub module_refused : {X Z : Type 0} (view : X → Parts × List ℕ) (own : Z → Contents × List ℕ) (result : Result X Error) (e : Error) (distinct : Bool) (config : Config) (bytes : List ℕ) (typed imported defined whole : Begun) (flag : Bool) (made : Exports)
     (first second third fourth fifth : List ℕ) → begun_typed_at config bytes ≡ Ok (typed, first) → imported_at distinct config typed first ≡ Ok (imported, second) → section_flag_at (length imported.groups) second ≡ (flag, third)
     → defined_at config imported third ≡ Ok (defined, fourth) → exported_at config defined fourth ≡ Ok (whole, fifth) → made ≡ exports_of config whole
@@ -50,7 +51,7 @@ module_refused view own (Err y) e distinct config bytes typed imported defined w
     subst (λ (one : Error). GivesOrLacks view (Err one) (module_at distinct config bytes)) (sym passed)
     (lacks_so view own e (behind_exports (exports_of config whole)) (module_at distinct config bytes) (λ fails. rw (begins, imports, flags, defines, exports, fails) refl) refused_own)
 
--- what stands whole still does beside contents
+-- a whole state stays whole with contents
 whole_with : {config : Config} {drawn : Drawn} (later : Drawn) → later.types ≡ drawn.types → later.imported ≡ drawn.imported → later.definitions ≡ drawn.definitions → StandsWhole config drawn → StandsWhole config later
 whole_with later types imported definitions h = record {
   groups = rw imported h.groups;
@@ -65,7 +66,7 @@ whole_with later types imported definitions h = record {
   within = rw imported h.within;
 }
 
--- imports stay what they are behind two steps
+-- imports stay the same over two steps
 pub same_imports : {first second third : Imported} → HasSameImports first second → HasSameImports second third → HasSameImports first third
 same_imports one two = record { groups = two.groups ∙ one.groups; count = two.count ∙ one.count; type_size = two.type_size ∙ one.type_size }
 
@@ -75,7 +76,7 @@ free_so same free = record { apart = rw same.groups free.apart; least = rw same.
 written_so : {old new : Imported} (flag : Bool) → HasSameImports old new → (0 < length old.groups → IsTrue flag) → 0 < length new.groups → IsTrue flag
 written_so flag same written some = written (rw same.groups at some)
 
--- the parts of a module, of what stood once exports were made
+-- the parts of a module, from the state after exports were made
 pub drawn_for : {distinct : Bool} {config : Config} {before : Imported} {drawn : Drawn} (contents : Contents) (flag : Bool) (narrow wide : List ℕ) → AreExportsDrawn config drawn
     → ((FixesImports config → ⊥) → AreFreeImports distinct config before) → HasSameImports before drawn.imported → (0 < length before.groups → IsTrue flag)
     → AreContents config drawn.types.types (imported_in drawn.imported) (spaces_in drawn.imported.spaces) drawn.imported.type_size contents → (config.allow_floats ≡ false → HasNoShapes config → HasNoFloatContents contents)

@@ -1,5 +1,6 @@
--- A source that begins with bytes that spell types and functions gives a module with these, and where it goes on with bytes that
--- spell globals and passive data, a module with these alone beside them.
+-- From a source that begins with bytes that spell types and functions, a module with these is
+-- drawn; and if bytes follow that spell globals and passive data, a module with only these in
+-- addition.
 use Rattle.std.proofs.Common.{◌≡◌, ◌∙◌, ℕ, ℤ, Bool, true, false, cond, List, [], ◌∷◌, ◌++◌, length, map, Option, Some, None, refl, sym, ap, subst}
 use Rattle.std.specs.Prelude.{Result, Ok, Err, IfOk, IfErr, MatchResult, IsSome, IsSomeAnd, ⊤, ◌==◌}
 use Rattle.smith_bytes.specs.Draws.{bool_at}
@@ -56,7 +57,7 @@ use Rattle.smith_contents.proofs.PassiveDataLemmas.{data_read}
 use Rattle.smith_contents.proofs.StartLemmas.{start_none}
 use Rattle.smith_definitions.proofs.TypedLemmas.{no_tag_read, funcs_read}
 
--- whether an empty section is written is a byte
+-- whether an empty section is written is one byte
 flag_by : (empty : Bool) (piece after : List ℕ) → Where empty SpellsAnyByte piece → (cond empty (bool_at (piece ++ after)) (true, piece ++ after)).1 ≡ after
 unfolding bool_at
 flag_by true piece after h = rw h.whole refl
@@ -66,11 +67,11 @@ flag_read : (count : ℕ) (piece after : List ℕ) → Where (count == 0) Spells
 unfolding section_flag_at
 flag_read count piece after h = flag_by (count == 0) piece after h
 
--- what is imported where nothing is
+-- the index spaces without imports
 abbrev nothing : IndexSpaces
 nothing = imported_spaces (flattened [])
 
--- the tables, memories and globals that the bytes give behind functions, where nothing is imported
+-- the tables, memories and globals that the bytes after functions produce, without imports
 abbrev behind_funcs_at : Config → List SubType → List ℕ → List ℕ → (IndexSpaces × Definitions) × List ℕ
 behind_funcs_at config types funcs bytes =
     let standing = standing_over types funcs 0 [] in
@@ -90,20 +91,20 @@ definitions_read config types funcs piece after least h =
       funcs_read config types [] funcs h.second after (least counts.Funcs) refl h.is_second,
     ) refl
 
--- what stands once entities are defined over types, where nothing is imported
+-- the state after entities are defined over types, without imports
 abbrev with_entities : List (List SubType) → IndexSpaces × Definitions → Begun
 with_entities groups made = record nothing_begun { types = space_of groups; spaces = made.0; defined = made.1 }
 
--- the module that the bytes behind exports give, with this flag of imports
+-- the module that the bytes after exports produce, with this flag of imports
 abbrev whole_at : Config → Bool → Begun → List ℕ → Result (Parts × List ℕ) Error
 whole_at config flag whole bytes =
     in_full (behind_exports_at config whole.types.types (imported_spaces (flattened whole.groups)) whole.spaces (exports_of config whole) bytes) >>= λ (contents : Contents × List ℕ). Ok (module_of config whole contents.0 flag, contents.1)
 
--- the module that the bytes behind entities give
+-- the module that the bytes after entities produce
 abbrev ending_at : Config → Bool → Begun → List ℕ → Result (Parts × List ℕ) Error
 ending_at config flag begun bytes = exported_at config begun bytes >>= λ (exported : Begun × List ℕ). whole_at config flag exported.0 exported.1
 
--- without shapes a module begins with the types that are drawn
+-- without shapes a module begins with the drawn types
 types_alone : (config : Config) (bytes : List ℕ) → HasNoShapes config → begun_typed_at config bytes ≡ Ok (typed_at config nothing_begun bytes)
 unfolding begun_typed_at begun_at
 types_alone config bytes none = rw (none.module_shape, none.available_imports) refl
@@ -146,7 +147,7 @@ member_read distinct config groups funcs piece after sanitized none least member
       ) refl,
     )
 
--- whatever stands behind them, these are the types and functions of the module
+-- whatever follows, these are the types and functions of the module
 whole_ended : (config : Config) (groups : List (List SubType)) (begun : Begun) (flag : Bool) (contents : Result (Contents × List ℕ) Why) → begun.types ≡ space_of groups
     → IfOk {T = Parts × List ℕ} (in_full contents >>= λ (made : Contents × List ℕ). Ok (module_of config begun made.0 flag, made.1)) (λ drawn. HasMember groups begun.spaces.funcs drawn.0)
 whole_ended config groups begun flag (Ok made) same = record { types = ap (λ (space : Space). space.types) same; groups_are = ap (λ (space : Space). space.groups) same; funcs_are = refl }
@@ -185,7 +186,7 @@ segments_read config types imported spaces passive piece after least tables memo
       data_read config scope spaces.memories (map (λ bytes. passive_data bytes) passive) h.second after (least counts.DataSegments) memories (record { lists = passive; are = refl; spelled = h.is_second }),
     ) refl
 
--- what stands behind the exports
+-- the bytes after the exports
 abbrev SpellsBehindExports : Config → List SubType → List ℕ → List (List ℕ) → List ℕ → Type 0
 SpellsBehindExports config types funcs passive = Joined (Where (length types == 0) SpellsAnyByte) (Joined (SpellsNoStart config types funcs) (SpellsSegments config passive))
 
@@ -207,7 +208,7 @@ contents_read config types imported spaces made passive piece after least export
 abbrev Listing : Type 0
 Listing = List GlobalType × List (List ConstInstr)
 
--- no table and no memory, and globals of these numbers, with these bytes behind them
+-- no table and no memory, globals of these numbers, and these bytes left
 record AreNumbered (numbers : List ℤ) (drawn : (IndexSpaces × Definitions) × List ℕ) (after : List ℕ) : Type 0 where
   tables : drawn.0.0.tables ≡ []
   memories : drawn.0.0.memories ≡ []
@@ -231,7 +232,7 @@ entities_read config types funcs numbers tables memories globals after least no_
       left = ap (λ (read : Listing × List ℕ). read.1) numbered;
     })
 
--- without shapes, where bytes say that there is no export, none stands
+-- without shapes, there is no export if the bytes say so
 no_export_made : (config : Config) (begun : Begun) (piece after : List ℕ) → HasNoShapes config → HasNoMinimums config → config.export_everything ≡ false → SpellsNone config.max_exports piece
     → exported_at config begun (piece ++ after) ≡ Ok (record begun { exports = [] }, after)
 no_export_made config begun piece after none least some h =
@@ -279,7 +280,7 @@ rest_reached distinct config groups funcs numbers passive piece rest after sanit
     let ending : IfOk (ending_at config read.0 begun drawn.1) (λ made. HasRest numbers passive made.0) = rw (numbered.left, made) ended in
     rw read.1 (subst (λ (bytes : List ℕ). let all = behind_funcs_at config types funcs bytes in IfOk (ending_at config read.0 (with_entities groups all.0) all.1) (λ made. HasRest numbers passive made.0)) (sym parts) ending)
 
--- what every module of these bytes has, interesting values aside, the answer has
+-- a property of every module of these bytes, apart from interesting values, is one of the answer
 answered : (Holds : Parts → Type 0) (distinct : Bool) (config : Config) (bytes left : List ℕ) (answer : Result Parts Error) → ((m : Parts) → Holds (as_drawn m) → Holds m) → GivesOrLacks (λ m. (as_drawn m, left)) answer (module_at distinct config bytes)
     → IfErr answer (λ e. e ≡ errors.Memory) → IfOk (module_at distinct config bytes) (λ drawn. Holds drawn.0) → MatchResult answer Holds (λ e. e ≡ errors.Memory)
 answered Holds distinct config bytes left (Ok m) keeps given memory held = keeps m (subst (λ (read : Result (Parts × List ℕ) Error). IfOk read (λ drawn. Holds drawn.0)) given held)
@@ -289,7 +290,7 @@ some_at_all : {A : Type 0} (given : Option A) → IsSome given → IsSomeAnd giv
 some_at_all (Some x) h = tt
 some_at_all None h = cc
 
--- a configuration with which lists can be spelled asks for nothing impossible
+-- a configuration for which lists can be spelled requires nothing impossible
 spellable_asks : (config : Config) (groups : List (List SubType)) (funcs : List ℕ) → IsSpellable config groups funcs → AsksNothingImpossible config
 spellable_asks config groups funcs fit = record {
   may_give = record { passes = fit.passes; shapes_valid = no_shapes_valid config fit.no_shapes };

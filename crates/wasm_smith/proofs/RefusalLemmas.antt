@@ -34,7 +34,7 @@ lack_exports config short = elim (has_shapes config) [
   | inr some ↦ inl some
 ]
 
--- where no shape fixes them, exports are refused where a module may be
+-- if no shape fixes them, exports are refused only as a module may be
 pub exports_refuse : (config : Config) (e : Error) → (FixesExports config → ⊥) → MayRefuseExports config e → MayRefuse config e
 exports_refuse config e free (inl (all, inl memory)) = subst (MayRefuse config) (sym memory) tt
 exports_refuse config e free (inl (all, inr size)) = subst (MayRefuse config) (sym size) (all, free)
@@ -42,18 +42,18 @@ exports_refuse config e free (inr (some, inl memory)) = subst (MayRefuse config)
 exports_refuse config e free (inr (some, inr (unmet, asked, short))) = subst (MayRefuse config) (sym unmet) ((free, some), (asked, lack_exports config short))
 
 module _ (config : Config) (context : Context) (tables : List TableType) where
-  -- element segments are refused where contents may be
+  -- element segments are refused only as contents may be
   pub elements_refuse : (e : Error) → MayRefuseElements config context tables e → MayRefuseContents config context tables e
   elements_refuse e (inl (inl (inl memory))) = subst (MayRefuseContents config context tables) (sym memory) tt
   elements_refuse e (inl (inl (inr (unmet, asked)))) = subst (MayRefuseContents config context tables) (sym unmet) (tt, (asked, tt))
   elements_refuse e (inl (inr (empty, lacking))) = subst (MayRefuseContents config context tables) (sym empty) lacking
   elements_refuse e (inr (unmet, asked, off)) = subst (MayRefuseContents config context tables) (sym unmet) (tt, (asked, off))
 
-  -- no element is ungrounded where each table's elements are grounded
+  -- no element is ungrounded if each table's elements are grounded
   pub none_lacks : All (HasGroundedElements config context) tables → HasUngroundedElements config context tables → ⊥
   none_lacks each (k, table, inside, is, lacks) = each k table inside (rw is lacks)
 
-  -- contents are refused where a module may be
+  -- contents are refused only as a module may be
   pub contents_refuse : {X : Type 0} (r : Result X Error) → (MayLackItem config context tables → HoldsNonNullable config) → IfErr r (MayRefuseContents config context tables) → IfErr r (MayRefuse config)
   contents_refuse (Ok made) lacks h = tt
   contents_refuse (Err errors.EmptyChoose) lacks h = lacks h
@@ -63,14 +63,14 @@ module _ (config : Config) (context : Context) (tables : List TableType) where
   contents_refuse (Err (errors.Config fault)) lacks h = h
   contents_refuse (Err (errors.Shape for_use fault)) lacks h = h
 
--- where there may be nothing to choose from, a shape that is used holds a reference that may not be null
+-- if there may be nothing to choose from, a shape in use holds a non-nullable reference
 pub lacks_so : (config : Config) (context : Context) (spaces : IndexSpaces) → ((HoldsNonNullable config → ⊥) → HoldsGrounded config context spaces) → MayLackItem config context spaces.tables → HoldsNonNullable config
 lacks_so config context spaces grounded lack = elim (holds_or_not config) [
   | inl holds ↦ holds
   | inr none ↦ let all = grounded none in elim lack [ inl field ↦ absurd (all.fields field) | inr table ↦ absurd (none_lacks config context spaces.tables all.elements table) ]
 ]
 
--- without a shape for them, imports are refused where a module may be
+-- without a shape for them, imports are refused only as a module may be
 pub imports_refuse : (config : Config) (e : Error) → (FixesImports config → ⊥) → MayRefuseImports config e → MayRefuse config e
 imports_refuse config e free (inl memory) = subst (MayRefuse config) (sym memory) tt
 imports_refuse config e free (inr (unmet, some, lacks)) = subst (MayRefuse config) (sym unmet) (free, (some, lacks))

@@ -1,4 +1,5 @@
--- What stands once entities are defined behind what stood is valid, and no more than shapes and configuration allow.
+-- The parts after entities are defined after the existing ones are valid, and no more than shapes
+-- and configuration allow.
 use Rattle.std.proofs.Common.{◌≤◌, max, inr, arith}
 use Rattle.smith_bytes.specs.declared.error.Count.{Count}
 use Rattle.smith_bytes.specs.declared.error.Count.TheVariants as counts
@@ -15,7 +16,7 @@ use Rattle.smith_definitions.specs.declared.definitions.Definitions.{Definitions
 use Rattle.wasm_smith.specs.declared.build.drawn.Drawn.{Drawn}
 use Rattle.smith_definitions.proofs.DefinedLemmas.{added_weaker, all_behind}
 
--- of each kind there are as many as may be at most, or as stood before
+-- of each kind there are at most the maximum, or as many as before
 no_more_than : (config : Config) (before spaces : IndexSpaces) → AreFilled config before spaces → (count : Count) → IsOfEntities count → count_in spaces count ≤ max (maximum_of config count) (count_in before count)
 no_more_than config before spaces filled counts.Tags is = filled.tags.within
 no_more_than config before spaces filled counts.Funcs is = filled.funcs.within
@@ -24,7 +25,7 @@ no_more_than config before spaces filled counts.Memories is = filled.memories.wi
 no_more_than config before spaces filled counts.Globals is = filled.globals.within
 no_more_than config before spaces filled _ is = absurd is
 
--- with entities defined behind it, what stands still does, and is not too much
+-- with entities defined at the end, the parts stay valid and within the bounds
 pub stands_defined : (config : Config) (drawn : Drawn) (spaces : Held) (defined : Definitions) → StandsSoFar config drawn → AreDefinedMore config drawn.types (spaces_in drawn.imported.spaces) drawn.definitions (spaces_in spaces) defined
     → StandsSoFar config (record drawn { imported = record drawn.imported { spaces = spaces }; definitions = defined })
 stands_defined config drawn spaces defined now made = record {

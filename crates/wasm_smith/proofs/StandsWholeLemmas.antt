@@ -1,4 +1,5 @@
--- What stands once the exports of a shape are made is valid, and no more than shapes and configuration allow.
+-- The parts after the exports of a shape are made are valid, and no more than shapes and
+-- configuration allow.
 use Rattle.std.proofs.Common.{◌≡◌, ◌∙◌, ◌⊎◌, ◌+◌, ◌≤◌, List, [], ◌++◌, length, inl, inr, refl, sym, arith}
 use Rattle.std.specs.Prelude.{All, Some, None}
 use Rattle.std.specs.List.{Contains}
@@ -24,7 +25,7 @@ use Rattle.smith_definitions.specs.declared.definitions.Definitions.{Definitions
 use Rattle.wasm_smith.specs.declared.build.drawn.Drawn.{Drawn}
 use Rattle.wasm_smith.proofs.GrownSizeLemmas.{imports_grown}
 
--- where no exports of a shape are made what stands is whole
+-- if no exports of a shape are made, the state is whole
 pub stands_whole : (config : Config) (drawn : Drawn) → StandsSoFar config drawn → StandsWhole config drawn
 stands_whole config drawn now = record {
   groups = now.groups;
@@ -39,11 +40,11 @@ stands_whole config drawn now = record {
   within = now.within;
 }
 
--- what the exports of a shape bring is counted
+-- the additions of the exports of a shape are counted
 exports_add : (config : Config) (shape : Shape) (count : Count) → config.module_shape ≡ None → config.exports ≡ Some shape → added config count ≡ exported_of count shape
 exports_add config shape count none given = rw (none, given) refl
 
--- each kind of entities is none of types
+-- no kind of entities is that of types
 pub not_types : (count : Count) → IsOfEntities count → count ≡ counts.Types → ⊥
 not_types counts.Types is same = is
 not_types counts.Tags is same = cc
@@ -53,7 +54,7 @@ not_types counts.Memories is same = cc
 not_types counts.Globals is same = cc
 not_types _ is same = is
 
--- what is of either list is kept where both are
+-- items of either list are kept if those of both are
 pub either_kept : {A : Type 0} (Kept : A → Type 0) (before theirs space : List A) → All Kept before → ((x : A) → Contains theirs x → Kept x) → All (λ x. Contains before x ⊎ Contains theirs x) space → All Kept space
 either_kept {A = A} Kept before theirs space stood shape either =
     All-weaker (λ (x : A). Contains before x ⊎ Contains theirs x) Kept

@@ -1,4 +1,5 @@
--- Types that stand stay where types are drawn behind them, and where there are as many as may be none is drawn.
+-- Existing types stay as types are drawn after them, and if there are as many as allowed, none is
+-- drawn.
 use Rattle.std.proofs.Common.{◌≡◌, ℕ, zero, suc, ◌+◌, ◌≤◌, Bool, true, false, nat_lt, List, [], ◌∷◌, ◌++◌, length, refl, arith}
 use Rattle.std.proofs.lemmas.Bool.{ltb-true}
 use Rattle.smith_bytes.specs.Growth.{goes_at, grow_at}
@@ -14,7 +15,7 @@ use Rattle.smith_definitions.proofs.ExtensionLemmas.{all_kept}
 use Rattle.smith_definitions.proofs.RequiredExportsLoop.{extends_both}
 use Rattle.smith_definitions.proofs.StandsBehindLemmas.{one_more}
 
--- a list that grows extends the one that it was
+-- a list that grows extends the list before
 grow_extends : {A : Type 0} (draw : List A → List ℕ → A × List ℕ) (least most : ℕ) (made : List A) (bytes : List ℕ) → Extends made (grow_at draw least most made bytes).0
 unfolding grow_at
 grow_extends draw least zero made bytes = all_kept made
@@ -24,7 +25,7 @@ grow_extends {A = A} draw least (suc most) made bytes =
     cond_both (λ (r : List A × List ℕ). Extends made r.0) go.0 (grow_at draw least most (made ++ x.0 ∷ []) x.1) (made, go.1)
     (extends_both (one_more made x.0) (grow_extends draw least most (made ++ x.0 ∷ []) x.1)) (all_kept made)
 
--- a space has the types and the groups of another, and maybe more
+-- a space has the types and the groups of another, and maybe more after them
 pub record IsBehind (old new : Space) : Type 0 where
   pub types : Extends old.types new.types
   pub groups : Extends old.groups new.groups
@@ -60,7 +61,7 @@ rec_group_behind config functions allow_empty space bytes =
     (behind_both (clone_behind config allow_empty space wanted.1) (new_group_behind config functions allow_empty clone.1.0 clone.1.1)))
     (new_group_behind config functions allow_empty space wanted.1)
 
--- types and groups that stand stay
+-- existing types and groups stay
 pub types_behind : (config : Config) (functions : Context) (space : Space) (bytes : List ℕ) → IsBehind space (types_at config functions space bytes).0
 unfolding types_at
 types_behind config functions space bytes =
@@ -82,7 +83,7 @@ unfolding more_types_at
 no_more config functions zero space bytes full = refl
 no_more config functions (suc turns) space bytes full = rw (not_less (length space.types) config.max_types (nat_lt (length space.types) config.max_types) refl full) refl
 
--- where there are as many as may be, none is drawn
+-- if there are as many as allowed, none is drawn
 pub types_full : (config : Config) (functions : Context) (space : Space) (bytes : List ℕ) → config.min_types ≤ config.max_types → config.max_types ≤ length space.types → types_at config functions space bytes ≡ (space, bytes)
 unfolding types_at
 types_full config functions space bytes ordered full = rw (no_least config functions config.min_types space bytes (omega (arith, ordered, full))) (no_more config functions (length bytes + 1) space bytes full)

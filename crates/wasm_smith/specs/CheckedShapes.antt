@@ -9,8 +9,8 @@ use Rattle.smith_config.specs.ShapeFaults.{IsRefused}
 use Rattle.smith_config.specs.Shapes.{IsShapeValid}
 use Rattle.smith_definitions.specs.Refusals.{shape_for}
 
--- a shape for a use is refused: for its first fault, or for lack of memory, of which one that is
--- too long takes none
+-- a shape for a use is refused: for its first fault, or for lack of memory, which never refuses one
+-- that is too long
 abbrev pub IsFaultOf : Config → Option Shape → Which → Error → Type 0
 IsFaultOf config given for_use e = IsSomeAnd given (λ shape. IsRefused for_use config shape e)
 

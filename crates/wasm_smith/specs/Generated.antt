@@ -28,7 +28,7 @@ abbrev pub IsFaulted : Config → Error → Type 0
 IsFaulted config (errors.Config fault) = IsFirstFault config fault
 IsFaulted config _ = ⊥
 
--- the answer for a configuration of the caller and the bytes of the source, of which some are left
+-- the answer for a configuration of the caller and the bytes of the source, with the bytes left
 pub record IsGenerated (distinct : Bool) (given : Config) (bytes : List ℕ) (answer : Result Parts Error) (left : List ℕ) : Type 0 where
   -- the module: the one that the configuration and the bytes produce
   pub exact : IsGiven distinct (sanitized given) bytes answer left

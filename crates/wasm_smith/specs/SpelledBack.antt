@@ -9,7 +9,7 @@ use Rattle.wasm_smith.specs.Generated.{IsGenerated}
 use Rattle.wasm_smith.specs.Members.{HasMember}
 use Rattle.smith_definitions.specs.Module.{Parts}
 
--- if spelling returns these bytes for lists of types and functions, a module that is drawn from
+-- if `spell` returns these bytes for lists of types and functions, a module that is drawn from
 -- them, whatever follows, has these lists, unless memory runs out
 abbrev pub SpelledComesBack : Type 0
 SpelledComesBack =

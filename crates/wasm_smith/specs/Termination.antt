@@ -42,6 +42,6 @@ abbrev pub AnswersFuel : ℕ → Parts → Parts → Result ℕ Error → Type 0
 AnswersFuel fuel old new (Ok index) = (HasRawBody old → ⊥) × AddsFuel fuel index old new
 AnswersFuel fuel old new (Err error) = MayAddNone old error × (new ≡ old)
 
--- a valid module is still valid with a counter
+-- a valid module stays valid with a counter
 abbrev pub CountingIsValid : Type 0
 CountingIsValid = (fuel index : ℕ) (old new : Parts) → AddsFuel fuel index old new → IsValid old → IsValid new

@@ -1,6 +1,6 @@
 //! Modules of WebAssembly from bytes. Whatever the bytes, a module is valid by the Core
-//! Specification 3.0, except for raw bodies. Proposals beyond it that the configuration turns on
-//! (by default shared memories and compact imports) follow rules of this project.
+//! Specification 3.0, except for raw bodies. Proposals beyond it that the configuration enables (by
+//! default shared memories and compact imports) follow rules of this project.
 #![tactic(auto)]
 
 mod build;

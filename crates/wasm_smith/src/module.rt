@@ -15,6 +15,26 @@ use std::ops::Range;
 
 /// A module: the types, imports, index spaces, definitions, exports, segments and bodies of the
 /// standard's section Structure, Modules. In each index space imported items come first.
+///
+/// # Examples
+///
+/// Counts the parameters of all functions of a module:
+///
+/// ```
+/// use wasm_smith::{CompositeInnerType, Module};
+///
+/// fn count_parameters(module: &Module) -> usize {
+///     let mut count: usize = 0;
+///     for index in module.funcs() {
+///         if let Some(ty) = module.types().get(*index as usize) {
+///             if let CompositeInnerType::Func(function) = &ty.composite_type.inner {
+///                 count = count.saturating_add(function.params.len());
+///             }
+///         }
+///     }
+///     count
+/// }
+/// ```
 #[derive(Drop)]
 pub struct Module {
     /// The configuration, sanitised, without available imports.
@@ -89,6 +109,22 @@ impl Module {
 
     /// Draws a module as [`Module::new`] does, for the default configuration. Fails only for lack
     /// of memory.
+    ///
+    /// # Examples
+    ///
+    /// Draws two modules, the second from the bytes that the first leaves:
+    ///
+    /// ```
+    /// use std::alloc::Global;
+    /// use wasm_smith::{Error, Module, Unstructured};
+    ///
+    /// fn draw_two(alloc: Global, input: &[u8]) -> Result<(Module, Module), Error> {
+    ///     let mut u = Unstructured::new(input);
+    ///     let first = Module::arbitrary(alloc, &mut u)?;
+    ///     let second = Module::arbitrary(alloc, &mut u)?;
+    ///     Ok((first, second))
+    /// }
+    /// ```
     pub fn arbitrary(alloc: Global, u: &mut Unstructured<'_>) -> Result<Module, Error>
         ensures generated { IsGenerated false default_config u.old result u.new }
         ensures memory { IfErr result (λ e. e ≡ Error.Memory) }
@@ -115,6 +151,21 @@ impl Module {
     /// - `EmptyChoose` if a shape holds a reference type that is not nullable, and no expression
     ///   has it.
     /// - `Memory` for lack of memory.
+    ///
+    /// # Examples
+    ///
+    /// Draws a module with at most two memories:
+    ///
+    /// ```
+    /// use std::alloc::Global;
+    /// use wasm_smith::{Config, Error, Module, Unstructured};
+    ///
+    /// fn draw(alloc: Global, input: &[u8]) -> Result<Module, Error> {
+    ///     let mut config = Config::default();
+    ///     config.max_memories = 2;
+    ///     Module::new(alloc, config, &mut Unstructured::new(input))
+    /// }
+    /// ```
     pub fn new(alloc: Global, config: Config, u: &mut Unstructured<'_>) -> Result<Module, Error>
         ensures { IsGenerated false config u.old result u.new }
     {
@@ -123,6 +174,21 @@ impl Module {
 
     /// Draws a module from the bytes of `u` as [`Module::new`] does. Imports that no shape fixes
     /// follow the rule `behavior`.
+    ///
+    /// # Examples
+    ///
+    /// Draws a module whose imports have distinct pairs of names:
+    ///
+    /// ```
+    /// use std::alloc::Global;
+    /// use wasm_smith::{Config, DuplicateImportsBehavior, Error, Module, Unstructured};
+    ///
+    /// fn draw_distinct(alloc: Global, input: &[u8]) -> Result<Module, Error> {
+    ///     let mut u = Unstructured::new(input);
+    ///     let behavior = DuplicateImportsBehavior::Disallowed;
+    ///     Module::new_internal(alloc, Config::default(), &mut u, behavior)
+    /// }
+    /// ```
     pub fn new_internal(
         alloc: Global,
         mut config: Config,

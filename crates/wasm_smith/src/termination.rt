@@ -97,6 +97,23 @@ impl Module {
     ///
     /// `IncorrectFormat(RawBody)` if a body is raw bytes, before which no check can be placed. The
     /// module is unchanged after any error.
+    ///
+    /// # Examples
+    ///
+    /// Draws a module whose defined functions trap after 1,000 calls in all:
+    ///
+    /// ```
+    /// use std::alloc::Global;
+    /// use wasm_smith::{Error, Module, Unstructured};
+    ///
+    /// fn draw_terminating(alloc: Global, input: &[u8]) -> Result<Module, Error> {
+    ///     let mut module = Module::arbitrary(alloc, &mut Unstructured::new(input))?;
+    ///     if module.globals().len() < u32::MAX as usize {
+    ///         module.ensure_termination(alloc, 1000)?;
+    ///     }
+    ///     Ok(module)
+    /// }
+    /// ```
     pub fn ensure_termination(&mut self, alloc: Global, default_fuel: u32) -> Result<u32, Error>
         requires room { length self.old.globals < 2 ^ 32 - 1 }
         ensures answer { AnswersFuel default_fuel self.old self.new result }

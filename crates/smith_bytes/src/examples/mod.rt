@@ -1,4 +1,5 @@
-// Values that meet the definitions, and values that do not. The clauses are proved; nothing calls these functions.
+// Values that satisfy the definitions, and values that do not. The clauses are proved, and nothing
+// calls these functions.
 
 mod byte_lists;
 mod draws;

@@ -10,7 +10,8 @@ use smith_types::{
     are_memories_valid, are_tables_valid, are_types_valid,
 };
 
-/// Whether `features` are enough for the types of `space` and the entities of `spaces`, in the use `which`.
+/// Returns whether `features` suffice for the types of `space` and the entities of `spaces` in the
+/// use `which`.
 pub(crate) fn are_features_enough(
     which: Which,
     features: WasmFeatures,

@@ -7,7 +7,8 @@ use smith_types::{
     ExportKind, IndexSpaces, Name, TypeSpace, are_exports_standing, are_funcs_valid, are_tags_valid,
 };
 
-/// Whether the functions and tags of `spaces`, and `exports`, refer to existing items of the right kind.
+/// Returns whether the functions and tags of `spaces`, and `exports`, refer to existing items of
+/// the right kind.
 pub(crate) fn are_indices_sound(
     space: &TypeSpace,
     spaces: &IndexSpaces,

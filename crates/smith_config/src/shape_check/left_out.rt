@@ -10,7 +10,8 @@ use smith_types::{
     all_named_values_hold,
 };
 
-/// Whether nothing in `space` and `spaces` is shared except memories, and no reference is exact.
+/// Returns whether nothing in `space` and `spaces` is shared except memories, and no reference is
+/// exact.
 pub(crate) fn is_nothing_left_out(space: &TypeSpace, spaces: &IndexSpaces) -> bool
     ensures { IsTrue result ↔ IsNothingLeftOut space.now.types (spaces_in spaces.now) }
 {
@@ -44,7 +45,7 @@ fn are_globals_unshared(globals: &[GlobalType]) -> bool
     globals.iter().all(|global| !global.shared)
 }
 
-/// Tests whether a shape may name a value type.
+/// Tests whether a value type may occur in a shape.
 #[derive(Clone, Copy)]
 struct Included;
 

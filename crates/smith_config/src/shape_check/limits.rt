@@ -11,11 +11,11 @@ use smith_types::{
     are_memories_valid, most_elements_of,
 };
 
-/// The greatest depth of a type. A type without a supertype has depth 1.
+/// The maximum depth of a type. A type without a supertype has depth 1.
 const MOST_DEEP: u32 = 63;
 
-/// Whether the limits of the tables of `spaces` fit, its memories are valid where every feature is on, and no type of `space` is
-/// too deep.
+/// Returns whether the limits of the tables of `spaces` fit, its memories are valid with every
+/// feature enabled, and no type of `space` is too deep.
 pub(crate) fn are_limits_sound(space: &TypeSpace, spaces: &IndexSpaces) -> bool
     ensures { IsTrue result ↔ AreLimitsSound space.now (spaces_in spaces.now) }
 {

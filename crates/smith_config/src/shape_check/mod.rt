@@ -1,4 +1,5 @@
-//! The check of a shape, one file per fault. The first fault in the order of [`ShapeFault`] is reported.
+//! The check of a shape, one file per fault. It reports the first fault in the order of
+//! [`ShapeFault`].
 
 ghost use Rattle.std.specs.Prelude.{◌≡◌, OnOk, IfOk, IfErr, MatchOption};
 ghost use Rattle.smith_types.specs.IndexSpaces.{spaces_in};
@@ -31,12 +32,16 @@ use std::alloc::Global;
 use types::are_types_sound;
 
 impl Shape {
-    /// Checks the shape for the use `which` under the configuration `config`. The error names `which` and the first fault in the
-    /// order of [`ShapeFault`].
+    /// Checks the shape for the use `which` in the configuration `config`.
     ///
-    /// Takes memory from `alloc`, unless a list of the shape is too long. The time is linear in the shape, except for names,
-    /// which go through a set, and for supertypes, each of which takes a number of steps that grows with the logarithm of the
-    /// depth of its type.
+    /// Allocates from `alloc`, unless a list of the shape is too long. Takes time linear in the
+    /// size of the shape, apart from names, which are looked up in a set, and types with a
+    /// supertype, each of which takes time and memory up to its depth.
+    ///
+    /// # Errors
+    ///
+    /// Returns [`Error::Shape`] with `which` and the first fault in the order of [`ShapeFault`], or
+    /// [`Error::Memory`] if an allocation fails.
     pub fn check(&self, alloc: Global, which: Which, config: &Config) -> Result<(), Error>
         ensures passes { OnOk result (IsShapeValid which config.now self.now) }
         ensures refused { IfErr result (IsRefused which config.now self.now) }
@@ -73,7 +78,8 @@ fn first_fault(
     }
 }
 
-// The first fault of `shape`, which is not too long, over its types `space` and its index spaces `spaces`.
+// Returns the first fault of `shape`, given its types `space` and its index spaces `spaces`.
+// Requires that no list of `shape` is too long.
 fn later_fault(
     alloc: Global,
     shape: &Shape,

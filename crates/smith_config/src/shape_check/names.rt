@@ -7,7 +7,7 @@ use smith_types::{ExportKind, Name};
 use std::alloc::Global;
 use std::collections::HashSet;
 
-/// Whether no two of `exports` have the same name.
+/// Returns whether the names of `exports` are distinct.
 pub(crate) fn are_names_distinct(
     alloc: Global,
     exports: &[(Name, ExportKind, u32)],

@@ -9,7 +9,8 @@ use smith_types::{
     all_named_values_hold,
 };
 
-/// Whether the types of a shape for exports are plain. Other uses take any type.
+/// Returns whether the types of a shape for exports are plain. Shapes for other uses may have any
+/// types.
 pub(crate) fn is_plain_enough(which: Which, space: &TypeSpace, spaces: &IndexSpaces) -> bool
     ensures { IsTrue result ↔ (which ≡ Exports → ArePlain space.now.types (spaces_in spaces.now)) }
 {

@@ -8,11 +8,11 @@ ghost use Rattle.smith_config.specs.Decided.{AreListsShort};
 use crate::Shape;
 use smith_types::{CompositeInnerType, Imports, Items, SubType};
 
-/// The greatest length of a list of a shape.
+/// The maximum length of a list in a shape.
 const MOST: usize = 1 << 29;
 
-/// Whether no list of `shape` is too long, and neither are the types or the imports of all its groups
-/// together. Takes no memory.
+/// Returns whether no list of `shape` is too long, and neither are the types or the imports of all
+/// its groups together. Does not allocate.
 pub(crate) fn is_short(shape: &Shape) -> bool
     ensures { IsTrue result ↔ IsShort shape.now }
 {

@@ -7,7 +7,7 @@ use smith_bytes::Error;
 use smith_types::{IndexSpaces, Items, imported_spaces_of};
 use std::alloc::Global;
 
-/// Makes the index spaces of `shape`: imported items first, then defined ones.
+/// Creates the index spaces of `shape`: imported items first, then defined ones.
 pub(crate) fn index_spaces_of(alloc: Global, shape: &Shape) -> Result<IndexSpaces, Error>
     ensures ok { IfOk result (λ spaces. spaces_in spaces ≡ shape_spaces shape.now) }
     ensures memory { IfErr result (λ e. e ≡ Error.Memory) }

@@ -13,7 +13,8 @@ use smith_types::{
     ValidValue, WasmFeatures, all_named_values_hold, are_types_valid,
 };
 
-/// Whether the types of `space`, and the entities of `spaces` that refer to types, are valid with every feature on.
+/// Returns whether the types of `space`, and the entities of `spaces` that refer to types, are
+/// valid with every feature enabled.
 pub(crate) fn are_types_sound(space: &TypeSpace, spaces: &IndexSpaces) -> bool
     ensures { IsTrue result ↔ AreTypesSound space.now (spaces_in spaces.now) }
 {
@@ -53,7 +54,7 @@ fn may_globals_be_shared(types: &[SubType], globals: &[GlobalType]) -> bool
         .all(|global| may_hold(types, global.shared, global.val_type))
 }
 
-// Whether an entity that is shared as `is_shared` says may hold the value type `value`.
+// Returns whether an entity may hold the value type `value`, given whether the entity is shared.
 fn may_hold(types: &[SubType], is_shared: bool, value: ValType) -> bool
     ensures { IsTrue result ↔ (IsTrue is_shared → IsShareable types.now value) }
 {

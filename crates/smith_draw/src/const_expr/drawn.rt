@@ -23,7 +23,7 @@ use smith_bytes::{Error, Unstructured};
 use smith_types::{ConstInstr, Items, ValType};
 use std::alloc::Global;
 
-/// Draws an expression of the type `wanted`, with all of the configured fuel.
+/// Draws an expression of the type `wanted` with all of the configured fuel.
 pub(super) fn draw_whole_expression(
     alloc: Global,
     scope: &Scope<'_>,
@@ -48,8 +48,8 @@ pub(super) fn draw_whole_expression(
     Ok(drawn)
 }
 
-/// Draws a value of the type `wanted` and writes its instructions at the end of `out`. What is still to be done is a list of tasks, of
-/// which the last is the next.
+/// Draws a value of the type `wanted` and appends its instructions to `out`. The remaining work is
+/// a list of tasks, of which the last is the next.
 fn draw_expression(
     alloc: Global,
     scope: &Scope<'_>,
@@ -76,8 +76,8 @@ fn draw_expression(
     Ok(())
 }
 
-/// Carries out `task` and adds to `tasks` what it leaves to do: at most the operands of one instruction and the instruction itself, for
-/// which it spends fuel.
+/// Carries out `task` and adds the resulting tasks to `tasks`: at most the operands of one
+/// instruction, and the instruction itself, for which it spends fuel.
 fn carry_out(
     alloc: Global,
     scope: &Scope<'_>,
@@ -111,8 +111,9 @@ fn carry_out(
     }
 }
 
-/// Chooses what gives a value of the type `wanted`, and spends fuel. An extended constant and an instruction without operands are
-/// written at the end of `out`. Of any other choice the operands and the instruction are added to `tasks`.
+/// Chooses how to produce a value of the type `wanted`, and spends fuel. Appends an extended
+/// constant or an instruction without operands to `out`. For any other choice, adds the operands
+/// and the instruction to `tasks`.
 fn draw_choice(
     alloc: Global,
     scope: &Scope<'_>,
@@ -143,7 +144,7 @@ fn draw_choice(
     push_node(&node, tasks)
 }
 
-/// Draws a length of at most `fuel`, and takes the length from `fuel`.
+/// Draws a length that is at most `fuel`, and subtracts it from `fuel`.
 fn draw_length(
     fuel: &mut u32,
     out: &mut Items<ConstInstr>,

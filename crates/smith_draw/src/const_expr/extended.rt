@@ -20,7 +20,7 @@ pub(super) enum Operator {
     Mul,
 }
 
-/// The instruction of `operator`: of i64 where `wide` is set, else of i32.
+/// Returns the instruction of `operator`, for i64 if `wide` is `true`, otherwise for i32.
 fn operation(wide: bool, operator: Operator) -> ConstInstr
     ensures { result ≡ operation wide operator }
 {
@@ -45,7 +45,7 @@ fn operator_of(number: u8) -> Option<Operator>
     }
 }
 
-/// Draws the operator before `count` instructions, or none where a constant stands there.
+/// Draws the operator to put before `count` instructions, or `None` to put a constant there.
 #[tactic(auto, unfolding(crate::specs::Constants::operator_at))]
 fn draw_operator(count: usize, u: &mut Unstructured<'_>) -> Option<Operator>
     ensures draws { AlwaysDraws (operator_at count u.old) result u.old u.new }
@@ -57,7 +57,7 @@ fn draw_operator(count: usize, u: &mut Unstructured<'_>) -> Option<Operator>
     operator_of(u.int_in_range(0..=3))
 }
 
-/// Draws the instructions of an extended constant of the type `wanted`, the last instruction first.
+/// Draws the instructions of an extended constant of the type `wanted`, from the last to the first.
 #[tactic(auto, unfolding(crate::specs::Constants::extended_at))]
 fn draw_extended(
     alloc: Global,
@@ -90,7 +90,7 @@ fn draw_extended(
     Ok(drawn)
 }
 
-/// Draws an extended constant of the type `wanted` behind the instructions of `out`.
+/// Draws an extended constant of the type `wanted` and appends its instructions to `out`.
 pub(super) fn draw_extended_constant(
     alloc: Global,
     wanted: ValType,

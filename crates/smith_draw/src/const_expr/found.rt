@@ -17,7 +17,7 @@ use smith_bytes::{Error, Unstructured};
 use smith_types::ValType;
 use std::alloc::Global;
 
-/// Counts what is offered where a value of the type `wanted` is drawn.
+/// Counts the choices offered for a value of the type `wanted`.
 fn count_offers(scope: &Scope<'_>, kept: Option<&KeptOffer>, wanted: ValType, fuel: u32) -> usize
     requires scope { IsScope (context_of scope.now) }
     requires upper { IsValInRange (context_of scope.now).types wanted }
@@ -30,7 +30,8 @@ fn count_offers(scope: &Scope<'_>, kept: Option<&KeptOffer>, wanted: ValType, fu
     }
 }
 
-/// Chooses among what is offered where a value of the type `wanted` is drawn. What the globals and functions offer is kept in `kept`.
+/// Chooses how to produce a value of the type `wanted`. Records in `kept` which globals and
+/// functions are offered.
 pub(super) fn choose_offer(
     alloc: Global,
     scope: &Scope<'_>,
@@ -53,8 +54,8 @@ pub(super) fn choose_offer(
     choose_among(scope, kept.covering(scope, place), wanted, fuel, u)
 }
 
-/// Chooses among what is offered where a value of the type `wanted` is drawn. What the globals and functions offer is read from
-/// `kept`, where that is given.
+/// Chooses how to produce a value of the type `wanted`. Reads from `kept`, if given, which globals
+/// and functions are offered.
 fn choose_among(
     scope: &Scope<'_>,
     kept: Option<&KeptOffer>,

@@ -14,30 +14,33 @@ use smith_bytes::Error;
 use smith_types::{Items, ValType, is_same};
 use std::alloc::Global;
 
-/// With fewer globals and functions than this nothing is kept: a list would cost more than a look at each of them.
+/// With fewer globals and functions than this nothing is recorded: a list would cost more than
+/// reading them again.
 const FEW: usize = 32;
 
-/// The globals and functions that are offered for each type that was wanted, where they're kept: many draws then look at a global or a
-/// function once for each of these types. Nothing is kept, and no memory taken, where there are few globals and functions.
+/// The globals and functions offered for each wanted type, recorded so that repeated draws read
+/// each global and function only once per type.
+///
+/// If there are few globals and functions, nothing is recorded or allocated.
 #[derive(Drop)]
 pub struct KeptOffers {
     kept: Vec<KeptOffer>,
 }
 
-/// The globals and functions that are offered where a value of one type is drawn, of those that were looked at.
+/// The globals and functions offered for values of one type, among those read so far.
 #[derive(Drop)]
 pub(super) struct KeptOffer {
     wanted: ValType,
-    // How many globals were looked at, from the first on, and those that are offered.
+    // The number of globals read so far, from the first, and those that are offered.
     globals_seen: usize,
     globals: Items<u32>,
-    // The same of functions.
+    // The same for functions.
     funcs_seen: usize,
     funcs: Items<u32>,
 }
 
 impl KeptOffers {
-    /// Begins with nothing kept. Takes no memory.
+    /// Creates an empty record. Does not allocate.
     pub fn new(alloc: Global) -> KeptOffers
         ensures { (context : Context) → AreKeptOffers context result }
     {
@@ -46,8 +49,8 @@ impl KeptOffers {
         }
     }
 
-    /// Looks at the globals and functions of `scope` that weren't looked at for a value of the type `wanted`, and returns the place of
-    /// what is kept of it, if anything.
+    /// Reads the globals and functions of `scope` that have not been read for the type `wanted`.
+    /// Returns the position of the entry for `wanted`, if there is one.
     pub(super) fn look(
         &mut self,
         alloc: Global,
@@ -70,7 +73,7 @@ impl KeptOffers {
         Ok(Some(place))
     }
 
-    /// Returns the place of what is kept for a value of the type `wanted`, and begins to keep it where there is none.
+    /// Returns the position of the entry for the type `wanted`, and adds one if there is none.
     fn place_of(&mut self, alloc: Global, wanted: ValType) -> Result<usize, Error>
         ensures kept { (context : Context) → IsValInRange context.types wanted → AreKeptOffers context self.old → OnOk result (AreKeptOffers context self.new) }
         ensures place { IfOk result (λ place. IsKeptAt self.new.kept.items place wanted) }
@@ -84,7 +87,7 @@ impl KeptOffers {
         Ok(place)
     }
 
-    /// What is kept at `place`, if it covers the globals and functions of `scope`.
+    /// Returns the entry at `place` if it covers the globals and functions of `scope`.
     pub(super) fn covering(&self, scope: &Scope<'_>, place: Option<usize>) -> Option<&KeptOffer>
         requires { AreKeptOffers (context_of scope.now) self.now }
         ensures { (wanted : Wanted) → IfSome place (λ at. IsKeptAt self.now.kept.items at wanted) → IfSome result (λ offer. IsWhole (context_of scope.now) wanted offer.now) }
@@ -99,7 +102,7 @@ impl KeptOffers {
     }
 }
 
-/// Returns the place of what `kept` has for a value of the type `wanted`, if anything.
+/// Returns the position of the entry for the type `wanted` in `kept`, if there is one.
 fn find(kept: &[KeptOffer], wanted: ValType) -> Option<usize>
     ensures { IfSome result (λ place. IsKeptAt kept.now place wanted) }
 {
@@ -111,7 +114,7 @@ fn find(kept: &[KeptOffer], wanted: ValType) -> Option<usize>
     None
 }
 
-/// Adds `index` to `indices` where it is `offered`.
+/// Appends `index` to `indices` if `offered` is `true`.
 fn push_if(offered: bool, index: u32, indices: &mut Items<u32>) -> Result<(), Error>
     ensures ok { OnOk result (indices.new ≡ indices.old ++ offered_if offered index) }
     ensures memory { IfErr result (λ e. e ≡ Error.Memory) }
@@ -123,7 +126,7 @@ fn push_if(offered: bool, index: u32, indices: &mut Items<u32>) -> Result<(), Er
 }
 
 impl KeptOffer {
-    /// Begins with no global and no function looked at.
+    /// Creates an entry for the type `wanted`, with no global and no function read.
     fn new(alloc: Global, wanted: ValType) -> KeptOffer
         ensures kept { (context : Context) → IsValInRange context.types wanted → IsKeptOffer context result }
         ensures wanted { result.wanted ≡ wanted }
@@ -137,14 +140,14 @@ impl KeptOffer {
         }
     }
 
-    /// Whether this is kept for a value of the type `wanted`.
+    /// Returns whether this is the entry for the type `wanted`.
     fn is_for(&self, wanted: ValType) -> bool
         ensures { IsTrue result ↔ (self.now.wanted ≡ wanted) }
     {
         is_same(&self.wanted, &wanted)
     }
 
-    /// Looks at those globals and functions of `scope` that weren't looked at.
+    /// Reads the globals and functions of `scope` that have not been read.
     fn look(&mut self, scope: &Scope<'_>) -> Result<(), Error>
         requires scope { IsScope (context_of scope.now) }
         requires kept { IsKeptOffer (context_of scope.now) self.old }
@@ -156,7 +159,7 @@ impl KeptOffer {
         self.look_at_funcs(scope)
     }
 
-    /// Looks at those globals of `scope` that weren't looked at.
+    /// Reads the globals of `scope` that have not been read.
     fn look_at_globals(&mut self, scope: &Scope<'_>) -> Result<(), Error>
         requires scope { IsScope (context_of scope.now) }
         requires kept { IsKeptOffer (context_of scope.now) self.old }
@@ -174,7 +177,7 @@ impl KeptOffer {
         Ok(())
     }
 
-    /// Looks at those functions of `scope` that weren't looked at.
+    /// Reads the functions of `scope` that have not been read.
     fn look_at_funcs(&mut self, scope: &Scope<'_>) -> Result<(), Error>
         requires scope { IsScope (context_of scope.now) }
         requires kept { IsKeptOffer (context_of scope.now) self.old }
@@ -193,7 +196,7 @@ impl KeptOffer {
         Ok(())
     }
 
-    /// Goes past the globals.
+    /// Searches the offered globals for the choice at `place`.
     #[tactic(auto, unfolding(crate::specs::ConstOffers::past))]
     pub(super) fn past_globals(&self, place: usize) -> Result<usize, Choice>
         ensures { result ≡ past (map choice.Global self.now.globals) place }
@@ -205,7 +208,7 @@ impl KeptOffer {
         Ok(place - globals.len())
     }
 
-    /// Goes past the functions.
+    /// Searches the offered functions for the choice at `place`.
     #[tactic(auto, unfolding(crate::specs::ConstOffers::past))]
     pub(super) fn past_funcs(&self, place: usize) -> Result<usize, Choice>
         ensures { result ≡ past (map choice.Function self.now.funcs) place }

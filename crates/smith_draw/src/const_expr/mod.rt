@@ -1,4 +1,4 @@
-//! Drawn constant expressions, by a list of tasks under fuel.
+//! Drawn constant expressions, by a list of tasks and with fuel.
 
 ghost use Rattle.std.specs.Prelude.{◌≡◌, ◌≤◌, ◌↔◌, ℕ, Some, None, [], length, IsTrue, IfOk, IfErr, IfSome, IsSome, false, All, OnOk};
 ghost use Rattle.std.specs.List.{Contains};
@@ -40,20 +40,23 @@ use smith_config::Config;
 use smith_types::{ConstInstr, Items, RefType, ValType};
 use std::alloc::Global;
 
-/// Draws a constant expression that gives a value below `wanted`. The expression may read imported immutable globals, and where
-/// `allow_defined` is set and garbage collection is on, defined immutable globals too. The standard's section Validation,
-/// Constant Expressions, with subtypes as in [`smith_types::TypeSpace::val_type_is_sub_type`].
+/// Draws a constant expression whose value has a subtype of `wanted`. See the standard, section
+/// Validation, Constant Expressions; subtyping is that of
+/// [`smith_types::TypeSpace::val_type_is_sub_type`].
 ///
-/// Under the features of `config`, the types of `spaces` are valid, and its functions, its globals and `wanted` are valid over
-/// these types. `spaces` has fewer than 2^32 functions, fewer than 2^32 globals, and no more imported globals than globals.
+/// The expression may read imported immutable globals. If `allow_defined` is `true` and garbage
+/// collection is enabled, it may also read defined immutable globals. If `wanted` is not a float
+/// and no type of `spaces` contains a float, the expression has no float constants.
 ///
-/// Where `wanted` is no float and no type of `spaces` holds a float, no constant of the expression is a float.
+/// Requires the types of `spaces` to be valid under the features of `config`, and its functions,
+/// its globals and `wanted` to be valid over these types. Requires `spaces` to have fewer than 2^32
+/// functions, fewer than 2^32 globals, and no more imported globals than globals.
 ///
 /// # Errors
 ///
-/// `EmptyChoose` where nothing gives a value that is needed. That comes only where `wanted`, or a field or element type of
-/// `spaces`, is a reference that may not be null, and, where `config` has references that aren't nullable, none that a struct type
-/// or a function of `spaces` grounds.
+/// Returns `EmptyChoose` if nothing produces a value that is needed. This happens only if `wanted`,
+/// or a field or element type of `spaces`, is a non-nullable reference; with
+/// `non_nullable_enabled`, only if in addition no struct type or function of `spaces` grounds it.
 pub fn arbitrary_const_expr(
     alloc: Global,
     config: &Config,
@@ -77,8 +80,8 @@ pub fn arbitrary_const_expr(
     draw_const_expr(alloc, config, spaces, wanted, allow_defined, &mut kept, u)
 }
 
-/// Draws a constant expression, as [`arbitrary_const_expr`] does. What the globals and functions offer is read from `kept`, and kept
-/// there.
+/// Draws a constant expression as [`arbitrary_const_expr`] does. Reads from `kept` which globals
+/// and functions are offered, and records it there.
 pub fn draw_const_expr(
     alloc: Global,
     config: &Config,
@@ -111,18 +114,20 @@ pub fn draw_const_expr(
     draw_whole_expression(alloc, &scope, kept, wanted, u)
 }
 
-/// Draws the initialiser of a table whose elements are of the type `element`, or none where null will do. The initialiser may
-/// read imported immutable globals alone. The standard's section Validation, Tables. Without garbage collection there is
-/// none, whatever the input, and no memory is taken.
+/// Draws the initialiser of a table with elements of the type `element`, or `None` if null serves
+/// as initial value. See the standard, section Validation, Tables.
 ///
-/// `config` and `spaces` are as [`arbitrary_const_expr`] asks, and `element` is valid over the types of `spaces`. `config` has
-/// garbage collection on where `element` may not be null, and reference types on where garbage collection is on.
+/// The initialiser may read imported immutable globals only. If no type of `spaces` contains a
+/// float, it has no float constants. Without garbage collection the result is always `None`, and
+/// nothing is allocated.
 ///
-/// Where no type of `spaces` holds a float, no constant of the initialiser is a float.
+/// Requires of `config` and `spaces` the same as [`arbitrary_const_expr`], and `element` to be
+/// valid over the types of `spaces`. Requires garbage collection to be enabled if `element` is
+/// non-nullable, and reference types to be enabled if garbage collection is.
 ///
 /// # Errors
 ///
-/// As [`arbitrary_const_expr`] for a reference of the type `element`.
+/// Returns the errors of [`arbitrary_const_expr`] for a reference of the type `element`.
 #[tactic(auto, unfolding(crate::specs::ConstExprs::table_init_at))]
 pub fn arbitrary_table_init(
     alloc: Global,
@@ -156,11 +161,14 @@ pub fn arbitrary_table_init(
     Ok(Some(drawn))
 }
 
-/// Lists the indices of the immutable globals that a constant expression may read and whose type is below `wanted`, in ascending
-/// order: imported globals, and where `allow_defined` is set and garbage collection is on, defined globals too. The standard's
-/// section Validation, Constant Expressions, with subtypes as in [`smith_types::TypeSpace::val_type_is_sub_type`].
+/// Lists the indices of the immutable globals that a constant expression may read and whose type is
+/// a subtype of `wanted`, in ascending order. See the standard, section Validation, Constant
+/// Expressions; subtyping is that of [`smith_types::TypeSpace::val_type_is_sub_type`].
 ///
-/// `config`, `spaces` and `wanted` are as [`arbitrary_const_expr`] asks.
+/// These are imported globals and, if `allow_defined` is `true` and garbage collection is enabled,
+/// defined globals.
+///
+/// Requires of `config`, `spaces` and `wanted` the same as [`arbitrary_const_expr`].
 pub fn globals_for_const_expr(
     alloc: Global,
     config: &Config,

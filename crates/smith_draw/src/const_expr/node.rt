@@ -23,16 +23,16 @@ pub(super) enum Operand {
     Length,
 }
 
-/// An instruction, and the operands that are drawn before it.
+/// An instruction and the operands that are drawn before it.
 #[derive(Drop)]
 pub(super) struct Node {
     /// The operands, in the order in which they are drawn.
     pub operands: Items<Operand>,
-    /// The instruction, which takes the operands.
+    /// The instruction that takes the operands.
     pub instruction: ConstInstr,
 }
 
-/// Makes `choice` into a node: draws the value of a constant, and the size of a fixed array.
+/// Turns `choice` into a node. Draws the value of a constant and the size of a fixed array.
 #[tactic(auto, unfolding(crate::specs::ConstNodes::node_at))]
 pub(super) fn draw_node(
     alloc: Global,
@@ -95,7 +95,7 @@ fn of_value(alloc: Global, value: ValType, instruction: ConstInstr) -> Result<No
     of_one(alloc, Operand::Value(value), instruction)
 }
 
-/// The node of an array that repeats an element. The length stands behind the element.
+/// Returns the node of an array that repeats one element. The length follows the element.
 fn array(alloc: Global, types: &[SubType], index: u32) -> Result<Node, Error>
     ensures exact { IfOk result (λ node. node ≡ node_of (field_operands types.now index ++ Operand.Length ∷ []) (ConstInstr.ArrayNew index)) }
     ensures memory { IfErr result (λ e. e ≡ Error.Memory) }
@@ -105,7 +105,8 @@ fn array(alloc: Global, types: &[SubType], index: u32) -> Result<Node, Error>
     Ok(node)
 }
 
-/// The node of `instruction`, which takes the fields of the struct type `index`, or the element of the array type.
+/// Returns the node of `instruction` for the type `index`. Its operands are the fields of a struct
+/// type, or the element of an array type.
 fn of_fields(
     alloc: Global,
     types: &[SubType],
@@ -123,7 +124,7 @@ fn of_fields(
     })
 }
 
-/// The node of an array of a drawn size, with each element by itself.
+/// Returns the node of an array of a drawn size, with an operand for each element.
 #[tactic(auto, unfolding(crate::specs::ConstNodes::node_at))]
 fn draw_fixed_array(
     alloc: Global,
@@ -145,7 +146,7 @@ fn draw_fixed_array(
     })
 }
 
-/// Pushes the operands of the type `index`, `times` times.
+/// Appends the operands of the type `index`, `times` times.
 fn push_repeated(
     operands: &mut Items<Operand>,
     types: &[SubType],
@@ -161,7 +162,8 @@ fn push_repeated(
     Ok(())
 }
 
-/// Pushes an operand for each field of the struct type `index`, or for the element of the array type.
+/// Appends an operand for each field of the struct type `index`, or for the element of the array
+/// type `index`.
 fn push_fields(operands: &mut Items<Operand>, types: &[SubType], index: u32) -> Result<(), Error>
     ensures ok { OnOk result (operands.new ≡ operands.old ++ field_operands types.now index) }
     ensures memory { IfErr result (λ e. e ≡ Error.Memory) }
@@ -190,7 +192,8 @@ fn push_fields_of(operands: &mut Items<Operand>, inner: &CompositeInnerType) -> 
     }
 }
 
-/// The reference type that is converted to `wanted`: of the heap type `ty`, and as nullable and as shared as `wanted`.
+/// Returns the reference type to convert to `wanted`: to the heap type `ty`, with the nullability
+/// and sharedness of `wanted`.
 fn converted(wanted: ValType, ty: AbstractHeapType) -> ValType
     ensures { result ≡ converted wanted ty }
 {

@@ -1,28 +1,28 @@
 ghost use Rattle.std.specs.Prelude.{◌≡◌};
 ghost use Rattle.smith_draw.specs.ConstNodes.{is_extended};
 
-/// A choice where a value is drawn.
+/// A way to produce a value.
 #[derive(Clone, Copy)]
 pub(super) enum Choice {
     Global(u32),
     /// A constant of the wanted type, or null.
     Constant,
-    /// Constants of an integer type, and operators on them.
+    /// An extended constant: operators over constants of an integer type.
     Extended,
     Function(u32),
-    /// A struct, by its fields.
+    /// A struct created from its fields.
     Struct(u32),
     StructDefault(u32),
-    /// An array that repeats an element, by the element and a length.
+    /// An array that repeats one element, created from the element and a length.
     Array(u32),
-    /// An array of a few elements, each by itself.
+    /// An array of a few elements, created from each of them.
     FixedArray(u32),
     ArrayDefault(u32),
     I31,
     SharedI31,
-    /// A conversion of a reference from outside.
+    /// A conversion of an external reference.
     FromExtern,
-    /// A conversion of a reference from inside.
+    /// A conversion of an internal reference.
     FromAny,
 }
 

@@ -25,8 +25,9 @@ ghost use Rattle.smith_draw.specs.ConstOffers.{
 };
 ghost use Rattle.smith_draw.specs.KeptOffers.{IsWhole};
 
-// Each function goes past the choices of one kind, and counts `place` from the first of these. The choice at `place` is answered
-// as an `Err`, with which a `?` leaves. Where `place` lies behind the last of these choices, how far is answered.
+// Each of these functions searches the choices of one kind for the one at `place`, counted from the
+// first of them. It returns that choice as an `Err`, so that `?` ends the search. If there are too
+// few choices, it returns as `Ok` the place counted from the end of them.
 
 use super::kept_offers::KeptOffer;
 use super::node_choice::Choice;
@@ -38,7 +39,7 @@ use smith_types::{
     is_defaultable, unpacked,
 };
 
-/// Goes past all that is offered where a value of the type `wanted` is drawn.
+/// Searches all choices offered for a value of the type `wanted`.
 #[tactic(auto, unfolding(crate::specs::ConstOffers::past))]
 pub(super) fn past_offers(
     scope: &Scope<'_>,
@@ -175,7 +176,8 @@ fn past_created(
     past_others(scope, wanted, fuel, place)
 }
 
-/// Goes past the ways of creating a value of each struct type, or where `arrays` is set of each array type.
+/// Searches the ways to create a value of each struct type, or of each array type if `arrays` is
+/// `true`.
 #[tactic(auto, using(crate::proofs::ConstFoundLemmas::past_append, crate::proofs::ConstFoundLemmas::past_front), unfolding(crate::specs::ConstOffers::past))]
 fn past_types(
     scope: &Scope<'_>,
@@ -295,7 +297,7 @@ fn past_conversions_to(heap_type: HeapType, place: usize) -> Result<usize, Choic
     }
 }
 
-/// Goes past `choice`, if it is offered.
+/// Searches `choice` alone, if it is offered.
 #[tactic(auto, unfolding(crate::specs::ConstOffers::past))]
 fn past_if(is_offered: bool, choice: Choice, place: usize) -> Result<usize, Choice>
     ensures { result ≡ past (offered_if is_offered choice) place }

@@ -18,7 +18,7 @@ pub(super) fn is_below(types: &TypeSpace, a: ValType, b: ValType) -> bool
     types.val_type_is_sub_type(a, b)
 }
 
-/// Whether a global of the type `global` is immutable and has values below `wanted`.
+/// Returns whether a global of the type `global` is immutable and has a subtype of `wanted`.
 pub(super) fn is_readable(types: &TypeSpace, global: GlobalType, wanted: ValType) -> bool
     requires lower { IsValInRange types.now.types global.val_type }
     requires upper { IsValInRange types.now.types wanted }
@@ -39,7 +39,8 @@ pub(super) fn i31(shared: bool) -> ValType
     })
 }
 
-/// The type of a reference to a created value of the type `index`: with custom descriptors an exact reference.
+/// Returns the type of a reference to a created value of the type `index`. It is exact with custom
+/// descriptors.
 fn created(scope: &Scope<'_>, index: u32) -> ValType
     ensures { result ≡ created (context_of scope.now) index }
 {
@@ -54,7 +55,7 @@ fn created(scope: &Scope<'_>, index: u32) -> ValType
     })
 }
 
-/// The type of a reference to the function `function`, whose type is `index`.
+/// Returns the type of a reference to the function `function` with the type `index`.
 pub(super) fn function_reference(scope: &Scope<'_>, function: usize, index: u32) -> ValType
     ensures { result ≡ function_reference (context_of scope.now) function index }
 {
@@ -68,7 +69,7 @@ pub(super) fn function_reference(scope: &Scope<'_>, function: usize, index: u32)
     created(scope, index)
 }
 
-/// Whether a reference to a created value of the type `index` is below `wanted`.
+/// Returns whether a reference to a created value of the type `index` has a subtype of `wanted`.
 pub(super) fn gives(scope: &Scope<'_>, index: u32, wanted: ValType) -> bool
     requires there { index < length (context_of scope.now).types }
     requires upper { IsValInRange (context_of scope.now).types wanted }

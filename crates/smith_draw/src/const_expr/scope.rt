@@ -4,18 +4,18 @@ ghost use Rattle.smith_draw.specs.ConstScopes.{visible_end};
 use crate::spaces::Spaces;
 use smith_config::Config;
 
-/// What an expression may refer to: of the globals those below `visible`.
+/// The context of an expression, in which only globals below `visible` may be read.
 #[derive(Clone, Copy)]
 pub(super) struct Scope<'a> {
     /// The configuration.
     pub config: &'a Config,
-    /// The types and entities that stand.
+    /// The types and entities defined so far.
     pub spaces: &'a Spaces<'a>,
-    /// The number of globals that may be read, from the first on.
+    /// The number of globals that may be read, from the first.
     pub visible: usize,
 }
 
-/// The number of globals that an expression may read, from the first on.
+/// Returns the number of globals that an expression may read, from the first.
 pub(super) fn visible_end(config: &Config, spaces: &Spaces<'_>, allow_defined: bool) -> usize
     ensures { result ≡ visible_end config.now spaces.now allow_defined }
 {

@@ -5,17 +5,17 @@ use super::node::{Node, Operand};
 use smith_bytes::Error;
 use smith_types::ConstInstr;
 
-/// What is still to be done while an expression is drawn.
+/// A remaining task while an expression is drawn.
 #[derive(Clone, Copy)]
 pub(super) enum Task {
-    /// Draw an operand: an expression of a type, or a length.
+    /// Draws an operand: an expression of a type, or a length.
     Draw(Operand),
-    /// Write an instruction after those that are drawn.
+    /// Appends an instruction to those drawn.
     Write(ConstInstr),
 }
 
-/// Adds to `tasks`, of which the last is the next, the operands of `node`, the first of them as the next, and its instruction after
-/// them.
+/// Adds `node` to `tasks`, of which the last is the next. The operands of `node` become the next
+/// tasks, in order, and its instruction follows them.
 pub(super) fn push_node(node: &Node, tasks: &mut Vec<Task>) -> Result<(), Error>
     ensures ok { OnOk result (reverse tasks.new.items ≡ map Draw node.now.operands ++ (Write node.now.instruction ∷ reverse tasks.old.items)) }
     ensures memory { IfErr result (λ e. e ≡ Error.Memory) }
@@ -24,7 +24,7 @@ pub(super) fn push_node(node: &Node, tasks: &mut Vec<Task>) -> Result<(), Error>
     push_operands(node.operands.as_slice(), tasks)
 }
 
-/// Adds `operands` to `tasks`, the last operand first.
+/// Adds `operands` to `tasks` in reverse order.
 fn push_operands(operands: &[Operand], tasks: &mut Vec<Task>) -> Result<(), Error>
     ensures ok { OnOk result (reverse tasks.new.items ≡ map Draw operands.now ++ reverse tasks.old.items) }
     ensures memory { IfErr result (λ e. e ≡ Error.Memory) }

@@ -1,5 +1,5 @@
-// What may be chosen in constant expressions, what they are drawn as, how long they are and when none is drawn. The clauses are
-// proved; nothing calls these functions.
+// The choices in constant expressions, the nodes drawn for them, the lengths of expressions, and
+// the cases without an expression. The clauses are proved, and nothing calls these functions.
 
 ghost use Rattle.std.specs.Prelude.{◌≡◌, ◌-◌, ◌^◌, [], ◌∷◌, true, false, Some, None, pos, negsuc, List};
 ghost use Rattle.smith_bytes.specs.declared.error.Error.TheVariants as errors;

@@ -1,4 +1,4 @@
-// Drawn value types. The clauses are proved; nothing calls these functions.
+// Drawn value types. The clauses are proved, and nothing calls these functions.
 
 ghost use Rattle.std.specs.Prelude.{◌≡◌, [], ◌∷◌, true, false};
 ghost use Rattle.smith_types.specs.declared.value_type.AbstractHeapType.TheVariants as heap;

@@ -1,4 +1,5 @@
-// Values that meet the definitions, and values that do not. The clauses are proved; nothing calls these functions.
+// Values that meet the definitions, and values that don't. The clauses are proved; nothing calls
+// these functions.
 
 mod changed_bytes;
 mod family;

@@ -61,8 +61,8 @@ impl Drawn {
     }
 }
 
-/// Draws the parts of a module into `drawn`, which is empty, in the order of the steps, and
-/// collects the interesting values.
+/// Draws the parts of a module into `drawn`, which is empty, in the order of the steps. Collects
+/// the interesting values.
 #[tactic(auto, unfolding(crate::specs::Build::module_at))]
 fn draw_parts(
     alloc: Global,

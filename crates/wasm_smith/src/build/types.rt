@@ -19,8 +19,8 @@ use smith_draw::{Entities, arbitrary_types};
 use smith_types::TypeSpace;
 use std::alloc::Global;
 
-/// Draws types to follow those of `types`, which are kept. `funcs` are the functions so far, of
-/// which the first `imported_funcs` are imported.
+/// Draws types to follow those of `types`, which stay. `funcs` are the functions so far, of which
+/// the first `imported_funcs` are imported.
 #[tactic(auto, using(smith_draw::proofs::CallerLemmas::passes_but_imports))]
 pub(crate) fn add_more_types(
     alloc: Global,

@@ -8,7 +8,7 @@ use Rattle.smith_bytes.specs.declared.error.Why.TheVariants.{Loop}
 use Rattle.smith_bytes.specs.Loop.{Turn, EndsAt, at_most, at_bool, at_false, too_few, at_error}
 use Rattle.smith_bytes.proofs.repeat.arbitrary_loop.Goals as goal
 
--- what a false answer means, by the test whether there were too few calls
+-- the end of the loop after a false result, by cases on whether there were too few calls
 ends_at_false : {F : Type 0} (g : Mut F (MutBor (List ℕ) × Unit {0}) (Result Bool Error × (MutBor (List ℕ) × Unit {0}))) (min max calls : ℕ) (f f' : F) (bytes bytes' : List ℕ) (r : Result (Unit {0}) Error) (b : Bool) → ltb calls min ≡ b
     → (calls < min → r ≡ Err (IncorrectFormat Loop)) → (min ≤ calls → r ≡ Ok tt) → Turn g min max calls f bytes (Ok false) f' bytes' → EndsAt g min max calls f bytes r bytes'
 ends_at_false g min max calls f f' bytes bytes' r true few refused over turn = rw (refused (ltb-true calls min few)) (too_few f' bytes' (ltb-true calls min few) turn)

@@ -4,7 +4,7 @@ use Rattle.std.proofs.lemmas.Str.{utf8_valid_len_le}
 use Rattle.smith_bytes.proofs.TextFrontLemmas.{valid_len_by_part, valid_len_by_window}
 use Rattle.smith_bytes.proofs.text.utf8_front.Goals as goal
 
--- the longest front of a part is that of all, where that ends within the part
+-- the longest UTF-8 prefix of a part is that of all bytes, if it ends within the part
 front_of_part : (bytes front : List ℕ) (part : ℕ) → part ≤ length bytes → utf8_valid_len bytes ≤ part → front ≡ take (utf8_valid_len (take part bytes)) (take part bytes)
     → front ≡ take (utf8_valid_len bytes) bytes
 front_of_part bytes front part within inside is =

@@ -12,7 +12,7 @@ use Rattle.smith_draw.proofs.GroupSizeLemmas.{clone_rec_group_most}
 use Rattle.smith_draw.proofs.RecGroupLemmas.{sound_within, clone_rec_group_valid}
 use Rattle.smith_draw.proofs.rec_group.clone_rec_group.Goals as goal
 
--- what holds of the drawn space holds of the space that stands where there is an answer
+-- a property of the drawn space holds for the space left by a successful call
 drawn_space : (P : Space → Type 0) (result : Result Bool Error) (drawn : Bool × (Space × List ℕ)) (new : Space) (left : List ℕ) → P drawn.1.0 → IfOk result (λ added. drawn ≡ (added, (new, left))) → OnOk result (P new)
 drawn_space P (Ok added) drawn new left h exact = subst (λ (r : Bool × (Space × List ℕ)). P r.1.0) exact h
 drawn_space P (Err e) drawn new left h exact = tt

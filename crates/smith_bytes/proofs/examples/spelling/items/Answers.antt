@@ -16,7 +16,7 @@ returns-clause-two c = record {
   whole = refl;
 }
 
--- what is read from two bytes
+-- the values read from two bytes
 read : (piece : List ℕ) → Each SpellsByte (6 ∷ 7 ∷ []) piece → grow_at (λ (made : List ℕ). range_at 0 255) 2 2 [] (piece ++ []) ≡ (6 ∷ 7 ∷ [], [])
 read piece each = each_read SpellsByte (λ (made : List ℕ). range_at 0 255) 2 [] (6 ∷ 7 ∷ []) piece [] (λ made x piece after h. number_read x 0 255 piece after h) refl each
 

@@ -9,7 +9,7 @@ first : joined 0 true 1 ≡ 1
 unfolding joined
 first = refl
 
--- what the calls of `with` give, one after the other
+-- the results of the calls of `with`, in order
 pub returns : goal.returns
 returns c =
     let features = features_of c.args.self.now in

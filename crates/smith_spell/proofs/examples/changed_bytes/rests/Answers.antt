@@ -10,11 +10,11 @@ use Rattle.smith_spell.specs.Spelling.{SpellsRest, SpellsGlobal, SpellsBytes, Sp
 use Rattle.smith_spell.proofs.SpelledExamples.{one_odd, bool_first, any_first, digit_first, this_first, word_first, without_nothing, global_parts, opened}
 use Rattle.smith_spell.proofs.examples.changed_bytes.rests.Goals as goal
 
--- what stands behind the globals, from the exports on
+-- the bytes after the globals, from the exports on
 Behind : List (List ℕ) → List ℕ → Type 0
 Behind passive = Joined (SpellsNone 100) (Joined SpellsAnyByte (Joined (SpellsNoStart default_config [] []) (SpellsSegments default_config passive)))
 
--- what stands behind the sharedness of the number 7
+-- the bytes after the sharedness of the number 7
 Mutable : List ℕ → Type 0
 Mutable = Joined (SpellsBool true) (Joined (SpellsNumber 0 0 1) (SpellsI32 (pos 7)))
 
@@ -47,7 +47,7 @@ valued h =
 pub returns-clause-a_number : goal.returns-clause-a_number
 returns-clause-a_number c = ((λ h. cc (asked _ _ _ _ _ h).0), ((λ h. cc (asked _ _ _ _ _ h).1.0), ((λ h. cc (asked _ _ _ _ _ h).1.1.0), ((λ h. cc (asked _ _ _ _ _ h).1.1.1.0), ((λ h. cc (valued (asked _ _ _ _ _ h).1.1.1.1).0), ((λ h. cc (valued (asked _ _ _ _ _ h).1.1.1.1).1.0), ((λ h. cc (valued (asked _ _ _ _ _ h).1.1.1.1).1.1.0), ((λ h. cc (valued (asked _ _ _ _ _ h).1.1.1.1).1.1.0), ((λ h. cc (valued (asked _ _ _ _ _ h).1.1.1.1).1.1.0), ((λ h. cc (valued (asked _ _ _ _ _ h).1.1.1.1).1.1.0), ((λ h. cc (valued (asked _ _ _ _ _ h).1.1.1.1).1.1.1.0), ((λ h. cc (valued (asked _ _ _ _ _ h).1.1.1.1).1.1.1.1.0), ((λ h. cc (valued (asked _ _ _ _ _ h).1.1.1.1).1.1.1.1.1.0), ((λ h. one_odd (valued (asked _ _ _ _ _ h).1.1.1.1).1.1.1.1.1.1), tt))))))))))))))
 
--- what a spelling of one byte list says, up to the bool that asks for it
+-- what a spelling of one byte list says, up to the bool that announces it
 empty_up_to : (tables memories more export flag element next : ℕ) (b : List ℕ) → SpellsRest default_config [] [] [] ((42 ∷ []) ∷ []) (tables ∷ memories ∷ more ∷ export ∷ flag ∷ element ∷ next ∷ b)
     → (tables % 2 ≡ 0) × ((memories % 2 ≡ 0) × ((more % 2 ≡ 0) × ((export % 2 ≡ 0) × ((element % 2 ≡ 0) × ((next % 2 ≡ 1) × Joined (SpellsBytes (42 ∷ [])) (SpellsBool false) b)))))
 unfolding SpellsRest Listed
@@ -60,7 +60,7 @@ empty_up_to tables memories more export flag element next b h =
     let (asked, sixth) = bool_first fifth in
     (table, (memory, (global, (none, (segment, (asked, sixth))))))
 
--- and behind it
+-- and after it
 one_byte : (next byte last segment : ℕ) → Joined (SpellsBytes (42 ∷ [])) (SpellsBool false) (next ∷ byte ∷ last ∷ segment ∷ [])
     → (next % 2 ≡ 1) × ((byte ≡ 42) × ((last % 2 ≡ 0) × SpellsBool false (segment ∷ [])))
 unfolding SpellsBytes

@@ -28,7 +28,7 @@ holder_back : ReferBack with_non_nullable (alone (struct_of_bytes 0)) (alone (st
 holder_back =
     (All-from_recursion (RefersTo with_non_nullable (alone (struct_of_bytes 0))) (Ref (not_null (Concrete 0)) ∷ []) ((omega arith, inr ((grounds_itself (struct_of_bytes 0) false).0 refl)), tt), tt)
 
--- where there is no struct, none grounds
+-- if there is no struct, none grounds
 without_struct : (types : List SubType) → ReferBack with_non_nullable [] (final (struct_with (plain heap.Any)) ∷ types) → ⊥
 without_struct types back = elim (All-head (RefersTo with_non_nullable []) (Ref (not_null (plain heap.Any))) [] back.0).1 [ inl never ↦ cc | inr grounded ↦ none_grounded false (plain heap.Any) grounded ]
 
@@ -57,7 +57,7 @@ returns-clause-to_itself c = refers_to_itself
 pub returns-clause-a_group_that_refers_to_itself : goal.returns-clause-a_group_that_refers_to_itself
 returns-clause-a_group_that_refers_to_itself c = λ fit. let (filled, room, back, more) = fit in refers_to_itself back
 
--- a function that takes and gives nothing, alone in a group
+-- a function without parameters and results, alone in a group
 function_spelled : SpellsGroup default_config [] false (alone plain_function) (1 ∷ 1 ∷ 1 ∷ 0 ∷ 0 ∷ [])
 unfolding SpellsGroup SpellsSubTypes SpellsFuncType Listed digit_count
 function_spelled =

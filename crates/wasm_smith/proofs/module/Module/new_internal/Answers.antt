@@ -17,7 +17,7 @@ use Rattle.wasm_smith.proofs.ReachedLemmas.{members_reached, rests_reached}
 use Rattle.wasm_smith.proofs.module.Module.new_internal.Goals as goal
 
 module _ (distinct : Bool) (given : Config) (bytes : List ℕ) (sound : IsSanitized (sanitized given)) where
-  -- what is refused before anything is drawn
+  -- a refusal before anything is drawn
   refused_undrawn : (e : Error) → MayRefuse (sanitized given) e → (MayGive (sanitized given) → e ≡ Memory) → ((Passes (sanitized given) → ⊥) → IsFaulted (sanitized given) e)
       → (Passes (sanitized given) → (AreShapesValid (sanitized given) → ⊥) → IsFirstFaulty (sanitized given) e) → IsGenerated distinct given bytes (Err e) bytes
   refused_undrawn e refused memory fault shape_fault =
@@ -45,7 +45,7 @@ module _ (distinct : Bool) (given : Config) (bytes : List ℕ) (sound : IsSaniti
         source = piece_same _;
       }
 
-  -- a shape that is refused, passed on
+  -- the refusal of a shape, passed on
   shape_refused : (answer : Result Parts Error) (e : Error) → Passes (sanitized given) → IsFirstFaulty (sanitized given) e → IsErrAnd answer (λ other. other ≡ e) → IsGenerated distinct given bytes answer bytes
   shape_refused (Ok m) e passes first passed = absurd passed
   shape_refused (Err other) e passes first passed =
