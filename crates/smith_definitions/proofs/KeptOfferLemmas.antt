@@ -1,6 +1,7 @@
 -- The kept globals and functions are right for later initialisers.
 use Rattle.std.proofs.Common.{◌≡◌, Bool, List, [], ◌∷◌, ◌++◌, refl}
 use Rattle.std.specs.Prelude.{All}
+use Rattle.std.proofs.lemmas.List.Elements.{All-weaker}
 use Rattle.smith_types.specs.Entities.{IsFuncValid, IsGlobalValid}
 use Rattle.smith_types.specs.Grown.{Extends}
 use Rattle.smith_types.specs.Imports.{IndexSpaces}
@@ -36,6 +37,13 @@ kept_pushed config standing globals more one offers orderly funcs valid longer =
       imported_funcs = refl;
     } in
     kept_grown (global_scope config standing globals) (global_scope config standing more) sound grown offers
+
+-- for the initialisers of tables and of globals alike: which globals an initialiser may read isn't kept
+pub kept_alike : (config : Config) (types : List SubType) (spaces : IndexSpaces) (defined : Definitions) (one other : Bool) (offers : List KeptOffer) → All (IsKeptOffer (scope_beside config types spaces defined one)) offers
+    → All (IsKeptOffer (scope_beside config types spaces defined other)) offers
+kept_alike config types spaces defined one other offers all =
+    All-weaker (IsKeptOffer (scope_beside config types spaces defined one)) (IsKeptOffer (scope_beside config types spaces defined other))
+    (λ offer kept. record { wanted = kept.wanted; globals_seen = kept.globals_seen; globals = kept.globals; funcs_seen = kept.funcs_seen; funcs = kept.funcs }) offers all
 
 module _ (config : Config) (space : Space) (spaces : IndexSpaces) (defined : Definitions) (allow : Bool) (may : MayDefineMore config space spaces defined 1) where
   sound : AreValidOver (scope_beside config space.types spaces defined allow)

@@ -1,4 +1,4 @@
-ghost use Rattle.std.specs.Prelude.{◌≡◌, Bool, true, IfErr, OnOk};
+ghost use Rattle.std.specs.Prelude.{◌≡◌, Bool, true, false, IfErr, OnOk};
 ghost use Rattle.smith_bytes.specs.Source.{KeepsPieces};
 ghost use Rattle.smith_types.specs.Entities.{AreEntitiesValid, IsTableValid, IsGlobalValid};
 ghost use Rattle.smith_types.specs.IndexSpaces.{spaces_in};
@@ -17,7 +17,7 @@ use crate::definitions::Definitions;
 use crate::standing::standing;
 use smith_bytes::{Error, Unstructured, Why};
 use smith_config::Config;
-use smith_draw::{KeptOffers, Spaces, arbitrary_table_init, draw_const_expr};
+use smith_draw::{KeptOffers, Spaces, draw_const_expr, draw_table_init};
 use smith_types::{EntityType, ExportKind, GlobalType, IndexSpaces, TableType, TypeSpace};
 use std::alloc::Global;
 
@@ -73,18 +73,21 @@ fn define_table(
     types: &TypeSpace,
     spaces: &IndexSpaces,
     table: TableType,
+    kept: &mut KeptOffers,
     definitions: &mut Definitions,
     u: &mut Unstructured<'_>,
 ) -> Result<(), Error>
     requires may { MayDefineMore config.now types.now (spaces_in spaces.now) definitions.old 1 }
     requires valid { IsTableValid (features_of config.now) types.now.types table }
+    requires kept { AreKeptOffers (scope_beside config.now types.now.types (spaces_in spaces.now) definitions.old false) kept.old }
     ensures exact { Answers (λ _. (definitions.new, u.new)) result (defined_with_at config.now types.now.types (spaces_in spaces.now) definitions.old (EntityType.Table table) u.old) }
     ensures initialised { OnOk result (IsInitialised config.now types.now.types (spaces_in spaces.now) definitions.old definitions.new (EntityType.Table table)) }
+    ensures kept { OnOk result (AreKeptOffers (scope_beside config.now types.now.types (spaces_in spaces.now) definitions.old false) kept.new) }
     ensures refusal { IfErr result (MayRefuseConstExpr config.now (drawn_beside config.now types.now.types (spaces_in spaces.now) definitions.old) (Ref table.element_type)) }
     ensures left { KeepsPieces u.old u.new }
 {
     let spaces = scope(types, spaces, definitions);
-    let initial = arbitrary_table_init(alloc, config, &spaces, table.element_type, u)?;
+    let initial = draw_table_init(alloc, config, &spaces, table.element_type, kept, u)?;
     definitions.tables.push(initial)
 }
 
@@ -138,7 +141,7 @@ fn define_initial(
 {
     match added {
         EntityType::Table(table) => {
-            return define_table(alloc, config, types, spaces, table, definitions, u);
+            return define_table(alloc, config, types, spaces, table, kept, definitions, u);
         }
         EntityType::Global(global) => {
             return define_global(alloc, config, types, spaces, global, kept, definitions, u);

@@ -1,4 +1,4 @@
-ghost use Rattle.std.specs.Prelude.{◌≡◌, ◌<◌, [], length, IsTrue, IfOk, IfErr, OnOk, All};
+ghost use Rattle.std.specs.Prelude.{◌≡◌, ◌<◌, [], false, length, IsTrue, IfOk, IfErr, OnOk, All};
 ghost use Rattle.std.specs.List.{flat_map};
 ghost use Rattle.smith_bytes.specs.Source.{KeepsPieces};
 ghost use Rattle.smith_bytes.specs.Takes.{Takes};
@@ -7,6 +7,8 @@ ghost use Rattle.smith_types.specs.Floats.{HasNoFloat};
 ghost use Rattle.smith_config.specs.Features.{features_of};
 ghost use Rattle.smith_draw.specs.Bounds.{IsTableWithin};
 ghost use Rattle.smith_draw.specs.ConstFloats.{GivesNoFloat};
+ghost use Rattle.smith_draw.specs.ConstScopes.{seen_by};
+ghost use Rattle.smith_draw.specs.KeptOffers.{AreKeptOffers};
 ghost use Rattle.smith_bytes.specs.Spelling.{SpellsEmpty};
 ghost use Rattle.smith_definitions.specs.Defined.{IsFilled, AreAdded, MayInitialise, MayRefuseDrawn, drawn_over, standing_of};
 ghost use Rattle.smith_definitions.specs.DefinedTables.{IsTableFit, AreTablesDrawn};
@@ -17,7 +19,7 @@ ghost use Rattle.smith_bytes.specs.Spelling.{SpellsNone};
 use crate::past_full::ask_past_full;
 use smith_bytes::{Error, Unstructured, goes_on};
 use smith_config::Config;
-use smith_draw::{Spaces, Standing, arbitrary_table_init, draw_table_type};
+use smith_draw::{KeptOffers, Spaces, Standing, draw_table_init, draw_table_type};
 use smith_types::{ConstInstr, Items, TableType};
 use std::alloc::Global;
 
@@ -27,18 +29,21 @@ fn draw_initialised_table(
     config: &Config,
     spaces: &Spaces<'_>,
     standing: &Standing<'_>,
+    kept: &mut KeptOffers,
     u: &mut Unstructured<'_>,
 ) -> Result<(TableType, Option<Items<ConstInstr>>), Error>
     requires may { MayInitialise config.now spaces.now.types.now (standing_of spaces.now) }
     requires standing { standing.now ≡ drawn_over config.now (standing_of spaces.now) }
     requires imported_globals { spaces.now.entities.imported_globals ≡ length spaces.now.entities.globals.now }
+    requires kept { AreKeptOffers (seen_by config.now spaces.now false) kept.old }
     ensures exact { IfOk result (λ drawn. table_at config.now (standing_of spaces.now) u.old ≡ (drawn, u.new)) }
     ensures fit { IfOk result (IsTableFit config.now (standing_of spaces.now)) }
+    ensures kept { OnOk result (AreKeptOffers (seen_by config.now spaces.now false) kept.new) }
     ensures refusal { IfErr result (MayRefuseDrawn config.now (drawn_over config.now (standing_of spaces.now))) }
     ensures left { KeepsPieces u.old u.new }
 {
     let table = draw_table_type(config, standing, u);
-    let initial = arbitrary_table_init(alloc, config, spaces, table.element_type, u)?;
+    let initial = draw_table_init(alloc, config, spaces, table.element_type, kept, u)?;
     Ok((table, initial))
 }
 
@@ -63,11 +68,14 @@ fn push_tables(
     let before = tables.len();
     let least = (config.min_tables as usize).saturating_sub(before);
     let most = config.max_tables.saturating_sub(before);
+    let mut kept = KeptOffers::new(alloc);
     for made in 0..most {
         if !goes_on(u, made, least) {
             return Ok(());
         }
-        let (table, initial) = draw_initialised_table(alloc, config, spaces, standing, u)?;
+        let (table, initial) = draw_initialised_table(
+            alloc, config, spaces, standing, &mut kept, u,
+        )?;
         tables.push(table)?;
         initials.push(initial)?;
     }

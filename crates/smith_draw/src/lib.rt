@@ -33,7 +33,8 @@ mod value_type;
 pub use choice::choose;
 pub use composite_type::{arbitrary_composite_type, arbitrary_func_type, arbitrary_struct_type};
 pub use const_expr::{
-    KeptOffers, arbitrary_const_expr, arbitrary_table_init, draw_const_expr, globals_for_const_expr,
+    KeptOffers, arbitrary_const_expr, arbitrary_table_init, draw_const_expr, draw_table_init,
+    globals_for_const_expr,
 };
 pub use entity_type::arbitrary_memtype;
 pub use field_type::{arbitrary_field_type, arbitrary_storage_type};

@@ -1,4 +1,4 @@
-ghost use Rattle.std.specs.Prelude.{◌≡◌, ◌++◌, ◌↔◌, IsTrue, IfSome, OnOk, IfOk, IfErr, map};
+ghost use Rattle.std.specs.Prelude.{◌≡◌, ◌≤◌, ◌++◌, ◌↔◌, IsTrue, IfSome, OnOk, IfOk, IfErr, map};
 ghost use Rattle.smith_types.specs.Expressions.{Context};
 ghost use Rattle.smith_types.specs.Subtyping.{IsValInRange};
 ghost use Rattle.smith_types.specs.declared.value_type.ValType.{ValType as Wanted};
@@ -21,7 +21,9 @@ const FEW: usize = 32;
 /// The globals and functions offered for each wanted type, recorded so that repeated draws read
 /// each global and function only once per type.
 ///
-/// If there are few globals and functions, nothing is recorded or allocated.
+/// Initialisers of tables and of globals may share one value: an entry that has read defined
+/// globals is not used where only imported globals are visible. If there are few globals and
+/// functions, nothing is recorded or allocated.
 #[derive(Drop)]
 pub struct KeptOffers {
     kept: Vec<KeptOffer>,
@@ -68,18 +70,19 @@ impl KeptOffers {
         if scope.visible + entities.funcs.len() < FEW {
             return Ok(None);
         }
-        let place = self.place_of(alloc, wanted)?;
+        let place = self.place_of(alloc, wanted, scope.visible)?;
         self.kept[place].look(scope)?;
         Ok(Some(place))
     }
 
-    /// Returns the position of the entry for the type `wanted`, and adds one if there is none.
-    fn place_of(&mut self, alloc: Global, wanted: ValType) -> Result<usize, Error>
+    /// Returns the position of the entry for the type `wanted` that has read no global past the
+    /// first `visible`, and adds one if there is none.
+    fn place_of(&mut self, alloc: Global, wanted: ValType, visible: usize) -> Result<usize, Error>
         ensures kept { (context : Context) → IsValInRange context.types wanted → AreKeptOffers context self.old → OnOk result (AreKeptOffers context self.new) }
         ensures place { IfOk result (λ place. IsKeptAt self.new.kept.items place wanted) }
         ensures memory { IfErr result (λ e. e ≡ Error.Memory) }
     {
-        if let Some(place) = find(self.kept.as_slice(), wanted) {
+        if let Some(place) = find(self.kept.as_slice(), wanted, visible) {
             return Ok(place);
         }
         let place = self.kept.len();
@@ -102,12 +105,13 @@ impl KeptOffers {
     }
 }
 
-/// Returns the position of the entry for the type `wanted` in `kept`, if there is one.
-fn find(kept: &[KeptOffer], wanted: ValType) -> Option<usize>
+/// Returns the position of the entry in `kept` for the type `wanted` that has read no global past
+/// the first `visible`, if there is one.
+fn find(kept: &[KeptOffer], wanted: ValType, visible: usize) -> Option<usize>
     ensures { IfSome result (λ place. IsKeptAt kept.now place wanted) }
 {
     for place in 0..kept.len() {
-        if kept[place].is_for(wanted) {
+        if kept[place].is_for(wanted, visible) {
             return Some(place);
         }
     }
@@ -140,11 +144,12 @@ impl KeptOffer {
         }
     }
 
-    /// Returns whether this is the entry for the type `wanted`.
-    fn is_for(&self, wanted: ValType) -> bool
-        ensures { IsTrue result ↔ (self.now.wanted ≡ wanted) }
+    /// Returns whether this is the entry for the type `wanted`, and has read no global past the
+    /// first `visible`.
+    fn is_for(&self, wanted: ValType, visible: usize) -> bool
+        ensures { IsTrue result ↔ ((self.now.wanted ≡ wanted) × (self.now.globals_seen ≤ visible)) }
     {
-        is_same(&self.wanted, &wanted)
+        is_same(&self.wanted, &wanted) && self.globals_seen <= visible
     }
 
     /// Reads the globals and functions of `scope` that have not been read.

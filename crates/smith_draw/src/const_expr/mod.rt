@@ -128,7 +128,6 @@ pub fn draw_const_expr(
 /// # Errors
 ///
 /// Returns the errors of [`arbitrary_const_expr`] for a reference of the type `element`.
-#[tactic(auto, unfolding(crate::specs::ConstExprs::table_init_at))]
 pub fn arbitrary_table_init(
     alloc: Global,
     config: &Config,
@@ -151,13 +150,46 @@ pub fn arbitrary_table_init(
     ensures refusal { IfErr result (MayRefuseConstExpr config.now (standing_in config.now spaces.now) (Ref element)) }
     ensures left { KeepsPieces u.old u.new }
 {
+    let mut kept = KeptOffers::new(alloc);
+    draw_table_init(alloc, config, spaces, element, &mut kept, u)
+}
+
+/// Draws the initialiser of a table, or `None`, as [`arbitrary_table_init`] does, and records in
+/// `kept` the globals and functions that it reads.
+#[tactic(auto, unfolding(crate::specs::ConstExprs::table_init_at))]
+pub fn draw_table_init(
+    alloc: Global,
+    config: &Config,
+    spaces: &Spaces<'_>,
+    element: RefType,
+    kept: &mut KeptOffers,
+    u: &mut Unstructured<'_>,
+) -> Result<Option<Items<ConstInstr>>, Error>
+    requires standing { AreSpacesValid config.now spaces.now }
+    requires element { IsRefTypeValid (features_of config.now) (length spaces.now.types.now.types) element }
+    requires created { element.nullable ≡ false → IsTrue config.now.gc_enabled }
+    requires references { IsTrue config.now.gc_enabled → IsTrue config.now.reference_types_enabled }
+    requires kept { AreKeptOffers (seen_by config.now spaces.now false) kept.old }
+    ensures exact { IfOk result (λ initial. table_init_at config.now (seen_by config.now spaces.now false) element u.old ≡ Some (initial, u.new)) }
+    ensures none { IfErr result (λ e. e ≡ Error.EmptyChoose → table_init_at config.now (seen_by config.now spaces.now false) element u.old ≡ None) }
+    ensures typed { IfOk result (λ initial. IfSome initial (IsConstExpr (seen_by config.now spaces.now false) (Ref element))) }
+    ensures short { IfOk result (λ initial. IfSome initial (λ drawn. length drawn ≤ most_instructions config.now spaces.now.types.now.types)) }
+    ensures floats { All HasNoFloat spaces.now.types.now.types → IfOk result (λ initial. IfSome initial (All GivesNoFloat)) }
+    ensures gc { IfOk result (λ initial. IsSome initial → IsTrue config.now.gc_enabled) }
+    ensures without_gc { config.now.gc_enabled ≡ false → result ≡ Ok None }
+    ensures needed { element.nullable ≡ false → IfOk result IsSome }
+    ensures kept { OnOk result (AreKeptOffers (seen_by config.now spaces.now false) kept.new) }
+    ensures refusal { IfErr result (MayRefuseConstExpr config.now (standing_in config.now spaces.now) (Ref element)) }
+    ensures left { KeepsPieces u.old u.new }
+{
     if !config.gc_enabled {
         return Ok(None);
     }
     if element.nullable && u.arbitrary() {
         return Ok(None);
     }
-    let drawn = arbitrary_const_expr(alloc, config, spaces, ValType::Ref(element), false, u)?;
+    let wanted = ValType::Ref(element);
+    let drawn = draw_const_expr(alloc, config, spaces, wanted, false, kept, u)?;
     Ok(Some(drawn))
 }
 

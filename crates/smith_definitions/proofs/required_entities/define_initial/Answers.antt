@@ -1,16 +1,23 @@
-use Rattle.std.proofs.Common.{[]}
+use Rattle.std.proofs.Common.{true, false, []}
 use Rattle.std.proofs.lemmas.List.Elements.{All-head}
-use Rattle.std.proofs.lemmas.Result.{IfErr-weaker}
+use Rattle.std.proofs.lemmas.Result.{IfErr-weaker, on_ok_weaker}
 use Rattle.smith_types.specs.Entities.{IsTableValid, IsGlobalValid}
 use Rattle.smith_types.specs.IndexSpaces.{spaces_in}
 use Rattle.smith_config.specs.Features.{features_of}
 use Rattle.smith_definitions.specs.Defined.{drawn_beside}
+use Rattle.smith_definitions.proofs.KeptOfferLemmas.{kept_alike}
 use Rattle.smith_definitions.proofs.RequiredEntityLemmas.{tag_counted, func_counted, table_refused, global_refused}
 use Rattle.smith_definitions.proofs.required_entities.define_initial.Goals as goal
 
 pub define_table-requires-clause-valid : goal.define_table-requires-clause-valid
 define_table-requires-clause-valid c =
     All-head (IsTableValid (features_of c.args.config.now) c.args.types.now.types) c.in-Table.table [] (rw c.in-Table.is at c.requires.valid.tables)
+
+pub define_table-requires-clause-kept : goal.define_table-requires-clause-kept
+define_table-requires-clause-kept c = kept_alike c.args.config.now c.args.types.now.types (spaces_in c.args.spaces.now) c.args.definitions.now true false _ c.requires.kept
+
+pub returns-in-Table-clause-kept : goal.returns-in-Table-clause-kept
+returns-in-Table-clause-kept c = on_ok_weaker c.define_table.result (kept_alike c.args.config.now c.args.types.now.types (spaces_in c.args.spaces.now) c.args.definitions.now false true _) c.define_table.ensures.kept
 
 pub define_global-requires-clause-valid : goal.define_global-requires-clause-valid
 define_global-requires-clause-valid c =

@@ -1,8 +1,10 @@
-use Rattle.std.proofs.Common.{false}
-use Rattle.std.proofs.lemmas.Result.{IfOk-weaker}
+use Rattle.std.proofs.Common.{false, sym, subst}
+use Rattle.std.proofs.lemmas.Result.{IfOk-weaker, on_ok_weaker}
 use Rattle.smith_types.specs.IndexSpaces.{spaces_in}
 use Rattle.smith_types.specs.declared.value_type.ValType.TheVariants.{Ref}
+use Rattle.smith_types.specs.Expressions.{Context}
 use Rattle.smith_draw.specs.Grounding.{standing_in}
+use Rattle.smith_draw.specs.KeptOffers.{AreKeptOffers}
 use Rattle.smith_draw.proofs.ConstStepLemmas.{passed_on}
 use Rattle.smith_definitions.proofs.RequiredEntityLemmas.{answered, refused_initial, refused_beside, table_lacking, table_made}
 use Rattle.smith_definitions.proofs.required_entities.define_table.Goals as goal
@@ -22,3 +24,10 @@ returns-clause-exact c =
     answered _ c.push.result _ c.push.ensures.memory (IfOk-weaker c.push.result _ _
     (λ done longer. table_made c.args.config.now c.args.types.now.types (spaces_in c.args.spaces.now) c.args.definitions.now _ c.args.u.now c.args.table (c.scope-spaces.ensures.seen c.args.config.now false) _ _ _ longer c.in_ok-initial.ensures.exact)
     c.push.ensures.ok)
+
+pub draw_table_init-requires-clause-kept : goal.draw_table_init-requires-clause-kept
+draw_table_init-requires-clause-kept c = subst (λ (context : Context). AreKeptOffers context c.args.kept.now) (sym (c.scope-spaces.ensures.seen c.args.config.now false)) c.requires.kept
+
+pub returns-clause-kept : goal.returns-clause-kept
+returns-clause-kept c =
+    on_ok_weaker c.push.result (λ longer. subst (λ (context : Context). AreKeptOffers context c.draw_table_init.new.kept) (c.scope-spaces.ensures.seen c.args.config.now false) c.in_ok-initial.ensures.kept) c.push.ensures.ok

@@ -7,11 +7,11 @@ use Rattle.smith_definitions.proofs.DefinedTableLemmas.{spaces_valid, needs_gc, 
 use Rattle.smith_definitions.proofs.DrawnStepLemmas.{drawn_refused}
 use Rattle.smith_definitions.proofs.tables.draw_initialised_table.Goals as goal
 
-pub arbitrary_table_init-requires-clause-standing : goal.arbitrary_table_init-requires-clause-standing
-arbitrary_table_init-requires-clause-standing c = spaces_valid c.args.config.now c.args.spaces.now c.requires.may c.requires.imported_globals
+pub draw_table_init-requires-clause-standing : goal.draw_table_init-requires-clause-standing
+draw_table_init-requires-clause-standing c = spaces_valid c.args.config.now c.args.spaces.now c.requires.may c.requires.imported_globals
 
-pub arbitrary_table_init-requires-clause-created : goal.arbitrary_table_init-requires-clause-created
-arbitrary_table_init-requires-clause-created c = needs_gc c.args.config.now c.draw_table_type-table.result.element_type c.requires.may.sanitized c.draw_table_type-table.ensures.nullable
+pub draw_table_init-requires-clause-created : goal.draw_table_init-requires-clause-created
+draw_table_init-requires-clause-created c = needs_gc c.args.config.now c.draw_table_type-table.result.element_type c.requires.may.sanitized c.draw_table_type-table.ensures.nullable
 
 pub returns-in_err-initial-clause-refusal : goal.returns-in_err-initial-clause-refusal
 returns-in_err-initial-clause-refusal c =
