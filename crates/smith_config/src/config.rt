@@ -137,9 +137,11 @@ pub struct Config {
     /// contain floats in any case.
     pub allow_floats: bool,
 
-    /// Whether active segments lie within their tables and memories, so that they never trap. A
-    /// start function may still trap. Defaults to `false`. If `true`, a table may have one element
-    /// and a memory one page even if `max_table_elements`, `max_memory32_bytes` or
+    /// Whether active segments lie within their tables and memories, so that they never trap, and
+    /// no instruction of a generated body traps except `unreachable`, which is then used only where
+    /// fuel is exhausted or no other instruction without operands produces the type. Imported
+    /// functions and raw bytes may still trap. Defaults to `false`. If `true`, a table may have one
+    /// element and a memory one page even if `max_table_elements`, `max_memory32_bytes` or
     /// `max_memory64_bytes` is lower.
     pub disallow_traps: bool,
 
@@ -224,8 +226,8 @@ pub struct Config {
     /// module, whose bodies have no drawn instructions.
     pub allowed_instructions: InstructionKinds,
 
-    /// The weights for the position of the offset of a memory access. Ignored: offsets are chosen
-    /// without weights.
+    /// The weights for the position of the offset of a memory access. Ignored for a module, whose
+    /// bodies have no drawn instructions.
     pub memory_offset_choices: MemoryOffsetChoices,
 
     /// The number of instructions with operands or nested instructions to choose for a body of a

@@ -95,16 +95,3 @@ kept_again kept place d old new wanted (offer, at, same) is still =
       slice_get-get_or (set kept place new) place new (rw (length-set kept place new) inside) ∙ ap (λ (each : KeptOffer). Some each) (get_or-set_same kept place new new inside),
       still ∙ ap (λ (each : KeptOffer). each.wanted) (is ∙ get_or_from_slice_get kept place offer d at) ∙ same,
     )
-
--- an entry for all visible globals and all functions lists all that are offered
-pub whole_kept : (context : Context) (offer : KeptOffer) (wanted : ValType) → IsKeptOffer context offer → offer.wanted ≡ wanted → offer.globals_seen ≡ context.visible → offer.funcs_seen ≡ length context.funcs → IsWhole context wanted offer
-whole_kept context offer wanted kept same globals funcs = record {
-  globals =
-      kept.globals
-      ∙ ap (λ (w : ValType). each_from (global_offers context w) 0 (take offer.globals_seen context.globals)) same
-      ∙ ap (λ (n : ℕ). each_from (global_offers context wanted) 0 (take n context.globals)) globals;
-  funcs =
-      kept.funcs
-      ∙ ap (λ (w : ValType). each_from (function_offers context w) 0 (take offer.funcs_seen context.funcs)) same
-      ∙ ap (λ (xs : List ℕ). each_from (function_offers context wanted) 0 xs) (ap (λ (n : ℕ). take n context.funcs) funcs ∙ take-length context.funcs);
-}
