@@ -3,9 +3,9 @@ use Rattle.std.proofs.Common.{◌≡◌, ℕ, zero, suc, ◌+◌, ◌-◌, ◌<�
 use Rattle.std.specs.Prelude.{slice_get, slice_index_or, Result, Ok, Err, IfOk, option_map, ◌==◌, if◌then◌else◌}
 use Rattle.std.specs.Cmp.{unsigned_Decides}
 use Rattle.std.proofs.lemmas.Option.{slice_get-get_or, slice_get_past}
-use Rattle.smith_bytes.specs.Draws.{bool_at, choose_at, digit_count, range_at, whole_at}
+use Rattle.smith_bytes.specs.Draws.{bool_at, choose_at, digit_count, range_at}
 use Rattle.smith_bytes.specs.declared.error.Error.{Error}
-use Rattle.smith_types.specs.declared.instruction_kind.InstructionKinds.{InstructionKinds}
+use Rattle.smith_config.specs.declared.config.Config.{Config}
 use Rattle.smith_types.specs.declared.value_type.ValType.{ValType}
 use Rattle.smith_types.specs.declared.value_type.ValType.TheVariants.{I32, I64, F32, F64}
 use Rattle.smith_types.specs.declared.composite_type.FuncType.{FuncType}
@@ -23,7 +23,7 @@ use Rattle.smith_instr.specs.declared.memory.Store.TheVariants as store
 use Rattle.smith_instr.specs.declared.numeric.NumericInstr.{NumericInstr}
 use Rattle.smith_code.specs.Choices.{allowed_choice_at, any_block_at, any_block_node, any_call_at, any_call_node, block_at, branch_at, call_at, call_node, drop_at, dropped_at, global_set_at, global_set_node, growth_node, label_at, leaving_at, load_at, load_by, load_node, memory_at, memory_by, numeric_at, numeric_node, opening_at, or_nop, return_node, set_at, set_node, some_targets_at, statement_choice_at, statement_families, statement_of, store_at, store_node, table_at, tee_at, tee_node, value_choice_at, value_families, value_of}
 use Rattle.smith_code.specs.Chosen.{Chosen, giving}
-use Rattle.smith_code.specs.Accesses.{access_at}
+use Rattle.smith_code.specs.Accesses.{access_at, offset_at}
 use Rattle.smith_code.specs.Nodes.{blocked, is_node_allowed, node_of, setting}
 use Rattle.smith_code.specs.Offered.{func_in, function_at, is_addressed, is_callable, is_local_below, is_mutable, label_count, offered}
 use Rattle.smith_code.specs.Rows.{loads_of, numeric_rows, stores}
@@ -237,17 +237,17 @@ unfolding table_at
 table_there context bytes middle left targets label taken drawn at all = rw (drawn, at, all) refl
 
 -- where a memory is accessed
-pub access_none : (memories : List MemoryType) (log2_bytes : ℕ) (bytes : List ℕ) → indexed (length memories) ≡ 0 → access_at memories log2_bytes bytes ≡ (None, bytes)
+pub access_none : (config : Config) (memories : List MemoryType) (log2_bytes : ℕ) (bytes : List ℕ) → indexed (length memories) ≡ 0 → access_at config memories log2_bytes bytes ≡ (None, bytes)
 unfolding access_at
-access_none memories log2_bytes bytes none =
+access_none config memories log2_bytes bytes none =
     let past : slice_get memories 0 ≡ None = slice_get_past memories 0 (no_count (length memories) none) in
     rw (no_index (length memories) bytes none, past) refl
 
-pub access_there : (memories : List MemoryType) (log2_bytes : ℕ) (bytes first second left : List ℕ) (index align offset : ℕ) (d : MemoryType) → range_at 0 (indexed (length memories) - 1) bytes ≡ (index, first) → range_at 0 log2_bytes first ≡ (align, second)
-    → index < length memories → whole_at (if (get_or memories index d).memory64 then 8 else 4) second ≡ (offset, left)
-    → access_at memories log2_bytes bytes ≡ (Some (record { at = record { align = align; offset = offset; memory = index }; wide = (get_or memories index d).memory64 }), left)
+pub access_there : (config : Config) (memories : List MemoryType) (log2_bytes : ℕ) (bytes first second left : List ℕ) (index align offset : ℕ) (d : MemoryType) → range_at 0 (indexed (length memories) - 1) bytes ≡ (index, first) → range_at 0 log2_bytes first ≡ (align, second)
+    → index < length memories → offset_at config.memory_offset_choices (get_or memories index d) second ≡ (offset, left)
+    → access_at config memories log2_bytes bytes ≡ (Some (record { at = record { align = align; offset = offset; memory = index }; wide = (get_or memories index d).memory64 }), left)
 unfolding access_at
-access_there memories log2_bytes bytes first second left index align offset d drawn drawn' inside drawn'' =
+access_there config memories log2_bytes bytes first second left index align offset d drawn drawn' inside drawn'' =
     rw (drawn, slice_get-get_or memories index d inside, drawn', drawn'') refl
 
 -- a load
@@ -258,30 +258,30 @@ a_load : (wanted : ValType) (bytes left : List ℕ) (rows : List Load) (place : 
 a_load wanted bytes left rows place d are drawn inside =
     subst (λ (ops : List Load). choose_at ops bytes ≡ (Some (get_or rows place d), left)) are (choose_there rows bytes left place d drawn inside)
 
-pub load_none : (context : BodyContext) (wanted : ValType) (bytes : List ℕ) (rows : List Load) → rows ≡ loads_of wanted → length rows ≡ 0 → load_at context wanted bytes ≡ (None, bytes)
+pub load_none : (config : Config) (context : BodyContext) (wanted : ValType) (bytes : List ℕ) (rows : List Load) → rows ≡ loads_of wanted → length rows ≡ 0 → load_at config context wanted bytes ≡ (None, bytes)
 unfolding load_at
-load_none context wanted bytes rows are none = ap (λ (op : Option Load × List ℕ). load_by context.memories op.0 op.1) (no_load wanted bytes rows are none)
+load_none config context wanted bytes rows are none = ap (λ (op : Option Load × List ℕ). load_by config context.memories op.0 op.1) (no_load wanted bytes rows are none)
 
-pub load_without : (context : BodyContext) (wanted : ValType) (bytes middle left : List ℕ) (rows : List Load) (place : ℕ) (d : Load) → rows ≡ loads_of wanted → range_at 0 (length rows - 1) bytes ≡ (place, middle) → place < length rows
-    → access_at context.memories (loaded (get_or rows place d)).1 middle ≡ (None, left) → load_at context wanted bytes ≡ (None, left)
+pub load_without : (config : Config) (context : BodyContext) (wanted : ValType) (bytes middle left : List ℕ) (rows : List Load) (place : ℕ) (d : Load) → rows ≡ loads_of wanted → range_at 0 (length rows - 1) bytes ≡ (place, middle) → place < length rows
+    → access_at config context.memories (loaded (get_or rows place d)).1 middle ≡ (None, left) → load_at config context wanted bytes ≡ (None, left)
 unfolding load_at
-load_without context wanted bytes middle left rows place d are drawn inside access =
-    ap (λ (op : Option Load × List ℕ). load_by context.memories op.0 op.1) (a_load wanted bytes middle rows place d are drawn inside)
+load_without config context wanted bytes middle left rows place d are drawn inside access =
+    ap (λ (op : Option Load × List ℕ). load_by config context.memories op.0 op.1) (a_load wanted bytes middle rows place d are drawn inside)
     ∙ ap (λ (drawn : Option Access × List ℕ). giving (load_node (get_or rows place d)) drawn) access
 
-pub load_there : (context : BodyContext) (wanted : ValType) (bytes middle left : List ℕ) (rows : List Load) (place : ℕ) (d : Load) (access : Access) → rows ≡ loads_of wanted → range_at 0 (length rows - 1) bytes ≡ (place, middle) → place < length rows
-    → access_at context.memories (loaded (get_or rows place d)).1 middle ≡ (Some access, left)
-    → load_at context wanted bytes ≡ (Some (node_of (address access.wide ∷ []) (instr.Load (get_or rows place d) access.at) 0), left)
+pub load_there : (config : Config) (context : BodyContext) (wanted : ValType) (bytes middle left : List ℕ) (rows : List Load) (place : ℕ) (d : Load) (access : Access) → rows ≡ loads_of wanted → range_at 0 (length rows - 1) bytes ≡ (place, middle) → place < length rows
+    → access_at config context.memories (loaded (get_or rows place d)).1 middle ≡ (Some access, left)
+    → load_at config context wanted bytes ≡ (Some (node_of (address access.wide ∷ []) (instr.Load (get_or rows place d) access.at) 0), left)
 unfolding load_at
-load_there context wanted bytes middle left rows place d access are drawn inside at =
-    ap (λ (op : Option Load × List ℕ). load_by context.memories op.0 op.1) (a_load wanted bytes middle rows place d are drawn inside)
+load_there config context wanted bytes middle left rows place d access are drawn inside at =
+    ap (λ (op : Option Load × List ℕ). load_by config context.memories op.0 op.1) (a_load wanted bytes middle rows place d are drawn inside)
     ∙ ap (λ (drawn : Option Access × List ℕ). giving (load_node (get_or rows place d)) drawn) at
 
 -- a store
-pub store_by : (context : BodyContext) (bytes left : List ℕ) (place : ℕ) (rows : List Store) → rows ≡ stores → range_at 0 8 bytes ≡ (place, left)
-    → store_at context bytes ≡ giving (store_node (get_or rows place store.I32)) (access_at context.memories (stored (get_or rows place store.I32)).1 left)
+pub store_by : (config : Config) (context : BodyContext) (bytes left : List ℕ) (place : ℕ) (rows : List Store) → rows ≡ stores → range_at 0 8 bytes ≡ (place, left)
+    → store_at config context bytes ≡ giving (store_node (get_or rows place store.I32)) (access_at config context.memories (stored (get_or rows place store.I32)).1 left)
 unfolding store_at chosen_at
-store_by context bytes left place rows are drawn = rw (drawn, are) refl
+store_by config context bytes left place rows are drawn = rw (drawn, are) refl
 
 -- the size of a memory, or its growth
 pub memory_none : (context : BodyContext) (wanted : ValType) (bytes left : List ℕ) → choose_at (offered (is_addressed context wanted) (indexed (length context.memories))) bytes ≡ (None, left) → memory_at context wanted bytes ≡ (None, left)
@@ -302,28 +302,28 @@ chosen_by {F = F} of first families rows bytes left drawn family are is same =
     let is' : chosen_at first families bytes ≡ (family, left) = rw (are, same) at is in
     ap (λ (r : F × List ℕ). of r.0 r.1) is'
 
-pub value_by : (context : BodyContext) (wanted : ValType) (bytes left : List ℕ) (families : List ValueFamily) (drawn_family family : ValueFamily) → families ≡ value_families → chosen_at value.Leaf families bytes ≡ (drawn_family, left) → drawn_family ≡ family
-    → value_choice_at context wanted bytes ≡ value_of context wanted family left
+pub value_by : (config : Config) (context : BodyContext) (wanted : ValType) (bytes left : List ℕ) (families : List ValueFamily) (drawn_family family : ValueFamily) → families ≡ value_families → chosen_at value.Leaf families bytes ≡ (drawn_family, left) → drawn_family ≡ family
+    → value_choice_at config context wanted bytes ≡ value_of config context wanted family left
 unfolding value_choice_at
-value_by context wanted bytes left families drawn_family family are drawn is = chosen_by (value_of context wanted) value.Leaf value_families families bytes left drawn_family family are drawn is
+value_by config context wanted bytes left families drawn_family family are drawn is = chosen_by (value_of config context wanted) value.Leaf value_families families bytes left drawn_family family are drawn is
 
-pub statement_by : (context : BodyContext) (bytes left : List ℕ) (families : List StatementFamily) (drawn_family family : StatementFamily) → families ≡ statement_families → chosen_at statement.Nop families bytes ≡ (drawn_family, left) → drawn_family ≡ family
-    → statement_choice_at context bytes ≡ or_nop (statement_of context family left)
+pub statement_by : (config : Config) (context : BodyContext) (bytes left : List ℕ) (families : List StatementFamily) (drawn_family family : StatementFamily) → families ≡ statement_families → chosen_at statement.Nop families bytes ≡ (drawn_family, left) → drawn_family ≡ family
+    → statement_choice_at config context bytes ≡ or_nop (statement_of config context family left)
 unfolding statement_choice_at
-statement_by context bytes left families drawn_family family are drawn is =
-    chosen_by (λ family bytes. or_nop (statement_of context family bytes)) statement.Nop statement_families families bytes left drawn_family family are drawn is
+statement_by config context bytes left families drawn_family family are drawn is =
+    chosen_by (λ family bytes. or_nop (statement_of config context family bytes)) statement.Nop statement_families families bytes left drawn_family family are drawn is
 
 -- the node where it is allowed
-pub allowed_node : (kinds : InstructionKinds) (context : BodyContext) (wanted : ValType) (bytes left : List ℕ) (node : Node) → value_choice_at context wanted bytes ≡ (Some node, left) → is_node_allowed context.features kinds node ≡ true
-    → allowed_choice_at kinds context wanted bytes ≡ (Some node, left)
+pub allowed_node : (config : Config) (context : BodyContext) (wanted : ValType) (bytes left : List ℕ) (node : Node) → value_choice_at config context wanted bytes ≡ (Some node, left) → is_node_allowed context.features config node ≡ true
+    → allowed_choice_at config context wanted bytes ≡ (Some node, left)
 unfolding allowed_choice_at
-allowed_node kinds context wanted bytes left node drawn allowed = rw (drawn, allowed) refl
+allowed_node config context wanted bytes left node drawn allowed = rw (drawn, allowed) refl
 
-pub forbidden_node : (kinds : InstructionKinds) (context : BodyContext) (wanted : ValType) (bytes left : List ℕ) (node : Node) → value_choice_at context wanted bytes ≡ (Some node, left) → is_node_allowed context.features kinds node ≡ false
-    → allowed_choice_at kinds context wanted bytes ≡ (None, left)
+pub forbidden_node : (config : Config) (context : BodyContext) (wanted : ValType) (bytes left : List ℕ) (node : Node) → value_choice_at config context wanted bytes ≡ (Some node, left) → is_node_allowed context.features config node ≡ false
+    → allowed_choice_at config context wanted bytes ≡ (None, left)
 unfolding allowed_choice_at
-forbidden_node kinds context wanted bytes left node drawn forbidden = rw (drawn, forbidden) refl
+forbidden_node config context wanted bytes left node drawn forbidden = rw (drawn, forbidden) refl
 
-pub allowed_none : (kinds : InstructionKinds) (context : BodyContext) (wanted : ValType) (bytes left : List ℕ) → value_choice_at context wanted bytes ≡ (None, left) → allowed_choice_at kinds context wanted bytes ≡ (None, left)
+pub allowed_none : (config : Config) (context : BodyContext) (wanted : ValType) (bytes left : List ℕ) → value_choice_at config context wanted bytes ≡ (None, left) → allowed_choice_at config context wanted bytes ≡ (None, left)
 unfolding allowed_choice_at
-allowed_none kinds context wanted bytes left drawn = rw drawn refl
+allowed_none config context wanted bytes left drawn = rw drawn refl

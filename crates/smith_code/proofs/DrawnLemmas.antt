@@ -2,6 +2,7 @@
 use Rattle.std.proofs.Common.{◌≡◌, ℕ, zero, suc, ◌+◌, ◌-◌, ◌*◌, ◌<◌, ◌≤◌, List, [], ◌∷◌, ◌++◌, length, replicate, take, get_or, refl, sym, subst, ap, ◌∙◌, append_assoc, arith, length-append}
 use Rattle.std.specs.Prelude.{option_to_list, Option, All}
 use Rattle.std.proofs.Math.Seq.{take-append_seam}
+use Rattle.std.proofs.lemmas.Bool.{false≢true}
 use Rattle.std.proofs.lemmas.List.{append-nil, take_more, length-replicate}
 use Rattle.std.proofs.lemmas.List.Elements.{All-nil, All-push, All-append, All-take}
 use Rattle.smith_types.specs.declared.value_type.ValType.{ValType}
@@ -39,11 +40,11 @@ both_allowed scope first second = All-append (IsAllowedIn scope) first second
 
 ends_allowed : (scope : Scope) → IsAllowedIn scope instr.End
 unfolding is_enabled
-ends_allowed scope = refl
+ends_allowed scope = record { enabled = refl; trapless = λ disallowed traps. absurd (false≢true traps) }
 
 else_allowed : (scope : Scope) → IsAllowedIn scope instr.Else
 unfolding is_enabled
-else_allowed scope = refl
+else_allowed scope = record { enabled = refl; trapless = λ disallowed traps. absurd (false≢true traps) }
 
 -- one instruction on top of any stack
 pub one : (context : BodyContext) (instruction : Instr) (operands results given base : List ValType) (set set' : List ℕ)

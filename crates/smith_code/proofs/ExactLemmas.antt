@@ -2,7 +2,7 @@
 use Rattle.std.proofs.Common.{◌≡◌, ℕ, zero, suc, ◌+◌, ◌-◌, ◌<◌, ◌≤◌, true, false, List, [], ◌∷◌, ◌++◌, Option, Some, None, length, get_or, replicate, take, drop, drop-cons, refl, sym, ap, ◌∙◌, arith}
 use Rattle.std.specs.Prelude.{option_to_list, ◌==◌}
 use Rattle.smith_bytes.specs.Draws.{range_at}
-use Rattle.smith_types.specs.declared.instruction_kind.InstructionKinds.{InstructionKinds}
+use Rattle.smith_config.specs.declared.config.Config.{Config}
 use Rattle.smith_types.specs.declared.value_type.ValType.{ValType}
 use Rattle.smith_instr.specs.Contexts.{BodyContext, labelled}
 use Rattle.smith_instr.specs.declared.control.BlockType.{BlockType}
@@ -53,34 +53,34 @@ state_is : (scope : Scope) (draft : Draft) (labels : List (List ValType)) (out :
 state_is scope draft labels out set fuel bytes labels_are out_is set_is fuel_is = rw (← labels_are, ← out_is, ← set_is, ← fuel_is) refl
 
 -- a value: an instruction without operands at the last level and without fuel, and otherwise what was chosen
-pub last_value : (kinds : InstructionKinds) (depth : ℕ) (wanted : ValType) (s : State) → depth ≡ 0 → (drawing_at kinds depth).value wanted s ≡ leaf_in kinds wanted s
+pub last_value : (config : Config) (depth : ℕ) (wanted : ValType) (s : State) → depth ≡ 0 → (drawing_at config depth).value wanted s ≡ leaf_in config wanted s
 unfolding drawing_at
-last_value kinds zero wanted s last = refl
-last_value kinds (suc depth) wanted s last = absurd (omega arith)
+last_value config zero wanted s last = refl
+last_value config (suc depth) wanted s last = absurd (omega arith)
 
-pub unpaid_value : (kinds : InstructionKinds) (depth : ℕ) (wanted : ValType) (s : State) → s.fuel ≡ 0 → (drawing_at kinds depth).value wanted s ≡ leaf_in kinds wanted s
+pub unpaid_value : (config : Config) (depth : ℕ) (wanted : ValType) (s : State) → s.fuel ≡ 0 → (drawing_at config depth).value wanted s ≡ leaf_in config wanted s
 unfolding drawing_at value_at
-unpaid_value kinds zero wanted s none = refl
-unpaid_value kinds (suc depth) wanted s none = let test : (s.fuel == 0) ≡ true = ap (λ (n : ℕ). n == 0) none in rw test refl
+unpaid_value config zero wanted s none = refl
+unpaid_value config (suc depth) wanted s none = let test : (s.fuel == 0) ≡ true = ap (λ (n : ℕ). n == 0) none in rw test refl
 
-pub chosen_value : (kinds : InstructionKinds) (depth : ℕ) (wanted : ValType) (s : State) (node : Node) (left : List ℕ) → 0 < depth → 0 < s.fuel → allowed_choice_at kinds s.context wanted s.bytes ≡ (Some node, left)
-    → (drawing_at kinds depth).value wanted s ≡ node_at (drawing_at kinds (depth - 1)) node (record s { bytes = left })
+pub chosen_value : (config : Config) (depth : ℕ) (wanted : ValType) (s : State) (node : Node) (left : List ℕ) → 0 < depth → 0 < s.fuel → allowed_choice_at config s.context wanted s.bytes ≡ (Some node, left)
+    → (drawing_at config depth).value wanted s ≡ node_at (drawing_at config (depth - 1)) node (record s { bytes = left })
 unfolding drawing_at value_at
-chosen_value kinds zero wanted s node left deep paid chosen = absurd (omega arith)
-chosen_value kinds (suc depth) wanted s node left deep paid chosen =
+chosen_value config zero wanted s node left deep paid chosen = absurd (omega arith)
+chosen_value config (suc depth) wanted s node left deep paid chosen =
     let less : suc depth - 1 ≡ depth = omega arith in
     rw (less, not_zero s.fuel paid, chosen) refl
 
-pub other_value : (kinds : InstructionKinds) (depth : ℕ) (wanted : ValType) (s : State) (left : List ℕ) → 0 < depth → 0 < s.fuel → allowed_choice_at kinds s.context wanted s.bytes ≡ (None, left)
-    → (drawing_at kinds depth).value wanted s ≡ leaf_in kinds wanted (record s { bytes = left })
+pub other_value : (config : Config) (depth : ℕ) (wanted : ValType) (s : State) (left : List ℕ) → 0 < depth → 0 < s.fuel → allowed_choice_at config s.context wanted s.bytes ≡ (None, left)
+    → (drawing_at config depth).value wanted s ≡ leaf_in config wanted (record s { bytes = left })
 unfolding drawing_at value_at
-other_value kinds zero wanted s left deep paid chosen = absurd (omega arith)
-other_value kinds (suc depth) wanted s left deep paid chosen = rw (not_zero s.fuel paid, chosen) refl
+other_value config zero wanted s left deep paid chosen = absurd (omega arith)
+other_value config (suc depth) wanted s left deep paid chosen = rw (not_zero s.fuel paid, chosen) refl
 
-pub leaf_written : (kinds : InstructionKinds) (wanted : ValType) (s : State) (instruction : Instr) (out : List Instr) (left : List ℕ) → leaf_at kinds s.context s.set wanted s.bytes ≡ (instruction, left) → out ≡ s.out ++ instruction ∷ []
-    → leaf_in kinds wanted s ≡ record s { out = out; bytes = left }
+pub leaf_written : (config : Config) (wanted : ValType) (s : State) (instruction : Instr) (out : List Instr) (left : List ℕ) → leaf_at config s.context s.set wanted s.bytes ≡ (instruction, left) → out ≡ s.out ++ instruction ∷ []
+    → leaf_in config wanted s ≡ record s { out = out; bytes = left }
 unfolding leaf_in
-leaf_written kinds wanted s instruction out left drawn is =
+leaf_written config wanted s instruction out left drawn is =
     ap (λ (leaf : Instr × List ℕ). record s { out = s.out ++ leaf.0 ∷ []; bytes = leaf.1 }) drawn ∙ ap (λ (out : List Instr). record s { out = out; bytes = left }) (sym is)
 
 pub drops_written : (scope : Scope) (count : ℕ) (old new : Draft) (bytes : List ℕ) → new.out ≡ old.out ++ replicate count instr.Drop → new.set.items ≡ old.set.items → new.labels.items ≡ old.labels.items → new.fuel ≡ old.fuel
@@ -181,15 +181,15 @@ no_values draw (value ∷ wanted) zero s past = absurd (omega arith)
 no_values draw (value ∷ wanted) (suc place) s past = no_values draw wanted place s (omega arith)
 
 -- a statement
-pub chosen_statement : (kinds : InstructionKinds) (below : Drawing) (s : State) (node : Node) (left : List ℕ) → statement_choice_at s.context s.bytes ≡ (node, left) → is_node_allowed s.context.features kinds node ≡ true
-    → statement_at kinds below s ≡ node_at below node (record s { bytes = left })
+pub chosen_statement : (config : Config) (below : Drawing) (s : State) (node : Node) (left : List ℕ) → statement_choice_at config s.context s.bytes ≡ (node, left) → is_node_allowed s.context.features config node ≡ true
+    → statement_at config below s ≡ node_at below node (record s { bytes = left })
 unfolding statement_at
-chosen_statement kinds below s node left chosen allowed = rw (chosen, allowed) refl
+chosen_statement config below s node left chosen allowed = rw (chosen, allowed) refl
 
-pub forbidden_statement : (kinds : InstructionKinds) (below : Drawing) (s : State) (node : Node) (left : List ℕ) → statement_choice_at s.context s.bytes ≡ (node, left) → is_node_allowed s.context.features kinds node ≡ false
-    → statement_at kinds below s ≡ record s { fuel = s.fuel - 1; bytes = left }
+pub forbidden_statement : (config : Config) (below : Drawing) (s : State) (node : Node) (left : List ℕ) → statement_choice_at config s.context s.bytes ≡ (node, left) → is_node_allowed s.context.features config node ≡ false
+    → statement_at config below s ≡ record s { fuel = s.fuel - 1; bytes = left }
 unfolding statement_at
-forbidden_statement kinds below s node left chosen forbidden = rw (chosen, forbidden) refl
+forbidden_statement config below s node left chosen forbidden = rw (chosen, forbidden) refl
 
 -- statements that are still to come, of which there are at most as many as there is fuel
 pub record AreLeft (statement : State → State) (whole s : State) : Type 0 where
@@ -234,29 +234,29 @@ pub stopped : (statement : State → State) (whole s : State) (number : ℕ) (le
 stopped statement whole s number left paid drawn none all = all.same ∙ last_statement statement all.most number s left paid all.few drawn none
 
 -- the statements of a depth
-pub last_statements : (kinds : InstructionKinds) (depth : ℕ) (s : State) → depth ≡ 0 → (drawing_at kinds depth).statements s ≡ s
+pub last_statements : (config : Config) (depth : ℕ) (s : State) → depth ≡ 0 → (drawing_at config depth).statements s ≡ s
 unfolding drawing_at
-last_statements kinds zero s last = refl
-last_statements kinds (suc depth) s last = absurd (omega arith)
+last_statements config zero s last = refl
+last_statements config (suc depth) s last = absurd (omega arith)
 
-pub deep_statements : (kinds : InstructionKinds) (depth : ℕ) (s : State) → 0 < depth → (drawing_at kinds depth).statements s ≡ statements_within (statement_at kinds (drawing_at kinds (depth - 1))) s.fuel s
+pub deep_statements : (config : Config) (depth : ℕ) (s : State) → 0 < depth → (drawing_at config depth).statements s ≡ statements_within (statement_at config (drawing_at config (depth - 1))) s.fuel s
 unfolding drawing_at
-deep_statements kinds zero s deep = absurd (omega arith)
-deep_statements kinds (suc depth) s deep = let less : suc depth - 1 ≡ depth = omega arith in rw less refl
+deep_statements config zero s deep = absurd (omega arith)
+deep_statements config (suc depth) s deep = let less : suc depth - 1 ≡ depth = omega arith in rw less refl
 
 pub whole_exact : (draw : Drawing) (results : List ValType) (s statements rest : State) → draw.statements s ≡ statements → values_at draw results statements ≡ rest → whole_at draw results s ≡ rest
 unfolding whole_at
 whole_exact draw results s statements rest first second = ap (λ (s : State). values_at draw results s) first ∙ second
 
 -- a body
-pub body_exact : (kinds : InstructionKinds) (context : BodyContext) (fuel : ℕ) (bytes : List ℕ) (start rest : State) → 0 < fuel → whole_at (drawing_at kinds 40) context.results start ≡ rest → start ≡ begun context fuel bytes
-    → body_at kinds context fuel bytes ≡ ended rest
+pub body_exact : (config : Config) (context : BodyContext) (fuel : ℕ) (bytes : List ℕ) (start rest : State) → 0 < fuel → whole_at (drawing_at config 40) context.results start ≡ rest → start ≡ begun context fuel bytes
+    → body_at config context fuel bytes ≡ ended rest
 unfolding body_at
-body_exact kinds context fuel bytes start rest some drawn begin =
-    let whole : ended (whole_at (drawing_at kinds 40) context.results (begun context fuel bytes)) ≡ ended rest =
-    ap (λ (s : State). ended (whole_at (drawing_at kinds 40) context.results s)) (sym begin) ∙ ap (λ (s : State). ended s) drawn in
+body_exact config context fuel bytes start rest some drawn begin =
+    let whole : ended (whole_at (drawing_at config 40) context.results (begun context fuel bytes)) ≡ ended rest =
+    ap (λ (s : State). ended (whole_at (drawing_at config 40) context.results s)) (sym begin) ∙ ap (λ (s : State). ended s) drawn in
     rw (not_zero fuel some) whole
 
-pub body_stops : (kinds : InstructionKinds) (context : BodyContext) (fuel : ℕ) (bytes : List ℕ) → fuel ≡ 0 → body_at kinds context fuel bytes ≡ (instr.Unreachable ∷ [], bytes)
+pub body_stops : (config : Config) (context : BodyContext) (fuel : ℕ) (bytes : List ℕ) → fuel ≡ 0 → body_at config context fuel bytes ≡ (instr.Unreachable ∷ [], bytes)
 unfolding body_at
-body_stops kinds context fuel bytes none = let test : (fuel == 0) ≡ true = ap (λ (n : ℕ). n == 0) none in rw test refl
+body_stops config context fuel bytes none = let test : (fuel == 0) ≡ true = ap (λ (n : ℕ). n == 0) none in rw test refl

@@ -1,18 +1,17 @@
 -- Which instruction without operands is chosen.
-use Rattle.std.proofs.Common.{◌≡◌, ℕ, ◌<◌, Bool, List, Option, Some, None, length, get_or, refl, ap, ◌∙◌}
+use Rattle.std.proofs.Common.{◌≡◌, ℕ, ◌<◌, Bool, List, [], Option, Some, None, length, get_or, refl, sym, subst, ap, ◌∙◌}
 use Rattle.std.specs.Prelude.{slice_get, if◌then◌else◌}
 use Rattle.std.proofs.lemmas.Option.{slice_get-get_or}
 use Rattle.smith_bytes.specs.Draws.{choose_at}
-use Rattle.smith_types.specs.declared.instruction_kind.InstructionKinds.{InstructionKinds}
+use Rattle.smith_config.specs.declared.config.Config.{Config}
 use Rattle.smith_types.specs.declared.value_type.ValType.{ValType}
 use Rattle.smith_draw.specs.Choices.{chosen_at}
 use Rattle.smith_instr.specs.Contexts.{BodyContext}
-use Rattle.smith_instr.specs.Enabled.{is_enabled}
 use Rattle.smith_instr.specs.declared.instr.Instr.{Instr}
-use Rattle.smith_instr.specs.declared.instr.Instr.TheVariants as instr
 use Rattle.smith_code.specs.Chosen.{giving}
-use Rattle.smith_code.specs.Leaves.{any_leaf_at, constant_at, leaf_at, leaf_choice_at, leaf_families, leaf_of, named_at, or_constant}
+use Rattle.smith_code.specs.Leaves.{any_leaf_at, constant_at, first_of, if_permitted, leaf_at, leaf_choice_at, leaf_families, leaf_of, named_at, or_constant, spare_leaf}
 use Rattle.smith_code.specs.Offered.{is_reference, offered}
+use Rattle.smith_code.specs.Scopes.{is_permitted}
 use Rattle.smith_code.specs.declared.families.LeafFamily.{LeafFamily}
 use Rattle.smith_code.specs.declared.families.LeafFamily.TheVariants as leaf
 use Rattle.smith_code.proofs.ChoiceLemmas.{chosen_by}
@@ -43,8 +42,20 @@ pub leaf_constant : (context : BodyContext) (set : List ℕ) (wanted : ValType) 
 unfolding any_leaf_at
 leaf_constant context set wanted bytes middle left instruction drawn is = ap (λ (d : Option Instr × List ℕ). or_constant wanted d.0 d.1) drawn ∙ is
 
--- the instruction where it is enabled, or `unreachable`
-pub leaf_enabled : (kinds : InstructionKinds) (context : BodyContext) (set : List ℕ) (wanted : ValType) (bytes left : List ℕ) (instruction : Instr) (enabled : Bool) → any_leaf_at context set wanted bytes ≡ (instruction, left) → is_enabled context.features kinds instruction ≡ enabled
-    → leaf_at kinds context set wanted bytes ≡ (if enabled then instruction else instr.Unreachable, left)
+-- the instruction where it is permitted, or another
+pub leaf_permitted : (config : Config) (context : BodyContext) (set : List ℕ) (wanted : ValType) (bytes left : List ℕ) (instruction : Instr) (permitted : Bool) → any_leaf_at context set wanted bytes ≡ (instruction, left) → is_permitted context.features config instruction ≡ permitted
+    → leaf_at config context set wanted bytes ≡ (if permitted then instruction else spare_leaf config context set wanted, left)
 unfolding leaf_at
-leaf_enabled kinds context set wanted bytes left instruction enabled drawn is = rw (drawn, is) refl
+leaf_permitted config context set wanted bytes left instruction permitted drawn is = rw (drawn, is) refl
+
+-- the first instruction of a family, where it is permitted
+pub first_none : (config : Config) (context : BodyContext) (set : List ℕ) (wanted : ValType) (family : LeafFamily) (bytes left : List ℕ) → bytes ≡ [] → leaf_of context set wanted family bytes ≡ (None, left) → None ≡ first_of config context set wanted family
+first_none config context set wanted family bytes left empty drawn =
+    let drawn' : leaf_of context set wanted family [] ≡ (None, left) = subst (λ (bytes : List ℕ). leaf_of context set wanted family bytes ≡ (None, left)) empty drawn in
+    ap (λ (d : Option Instr × List ℕ). if_permitted config context d.0) (sym drawn')
+
+pub first_there : (config : Config) (context : BodyContext) (set : List ℕ) (wanted : ValType) (family : LeafFamily) (bytes left : List ℕ) (instruction : Instr) (permitted : Bool) → bytes ≡ [] → leaf_of context set wanted family bytes ≡ (Some instruction, left)
+    → is_permitted context.features config instruction ≡ permitted → (if permitted then Some instruction else None) ≡ first_of config context set wanted family
+first_there config context set wanted family bytes left instruction permitted empty drawn is =
+    let drawn' : leaf_of context set wanted family [] ≡ (Some instruction, left) = subst (λ (bytes : List ℕ). leaf_of context set wanted family bytes ≡ (Some instruction, left)) empty drawn in
+    ap (λ (b : Bool). if b then Some instruction else None) (sym is) ∙ ap (λ (d : Option Instr × List ℕ). if_permitted config context d.0) (sym drawn')

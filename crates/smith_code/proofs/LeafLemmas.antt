@@ -35,7 +35,7 @@ no_constant wanted context set valid = record {
 
 pub stop_allowed : (scope : Scope) → IsAllowedIn scope instr.Unreachable
 unfolding is_enabled
-stop_allowed scope = refl
+stop_allowed scope = record { enabled = refl; trapless = λ disallowed traps. refl }
 
 pub local_leaf : (context : BodyContext) (set : List ℕ) (wanted : ValType) (index : ℕ) → IsOrderly context.types → is_readable context set wanted index ≡ true → IsLeaf context set wanted (instr.LocalGet index)
 local_leaf context set wanted index orderly is =

@@ -32,3 +32,5 @@ pub mod AtomicChoiceLemmas
 pub mod ThrowLemmas
 pub mod RepeatLemmas
 pub mod TryLemmas
+pub mod TrapLemmas
+pub mod MemoryLemmas

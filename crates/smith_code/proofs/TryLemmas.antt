@@ -1,6 +1,6 @@
 -- Blocks that catch exceptions, and their clauses.
 use Rattle.std.proofs.Common.{◌≡◌, ℕ, ◌+◌, ◌-◌, ◌<◌, ◌≤◌, Bool, true, false, List, [], ◌∷◌, ◌++◌, Option, Some, None, length, refl, sym, subst, ap, ◌∙◌, arith}
-use Rattle.std.specs.Prelude.{All, IfSome, IsTrue, option_map, option_to_list, slice_get, ◌&&◌}
+use Rattle.std.specs.Prelude.{All, IfSome, IsTrue, option_map, option_to_list, slice_get, ◌&&◌, ◌||◌, not}
 use Rattle.std.proofs.lemmas.List.{append-nil}
 use Rattle.std.proofs.lemmas.List.Elements.{All-push}
 use Rattle.smith_bytes.specs.Draws.{bool_at, choose_at, range_at}
@@ -8,10 +8,10 @@ use Rattle.smith_types.specs.Entities.{IsFuncAt}
 use Rattle.smith_types.specs.Expressions.{reference_to}
 use Rattle.smith_types.specs.FeatureBits.{features_in}
 use Rattle.smith_types.specs.Features.{Features}
-use Rattle.smith_types.specs.declared.instruction_kind.InstructionKinds.{InstructionKinds}
 use Rattle.smith_types.specs.declared.value_type.ValType.{ValType}
 use Rattle.smith_types.specs.declared.composite_type.FuncType.{FuncType}
 use Rattle.smith_types.proofs.GrowthLemmas.{IsValBelow-refl}
+use Rattle.smith_config.specs.declared.config.Config.{Config}
 use Rattle.smith_instr.specs.Contexts.{BodyContext, IsValid, AreBelow, AreValid, IsBlockType}
 use Rattle.smith_types.specs.declared.instruction_kind.InstructionKind.TheVariants as kind
 use Rattle.smith_instr.specs.Enabled.{is_allowed, is_block_enabled, is_enabled}
@@ -23,7 +23,7 @@ use Rattle.smith_instr.specs.declared.instr.Instr.TheVariants as instr
 use Rattle.smith_instr.proofs.SequenceLemmas.{below_themselves}
 use Rattle.smith_code.specs.Nodes.{AreSidesValid, IsHeadAllowed, IsNode, is_drop_allowed, is_head_allowed, trying}
 use Rattle.smith_code.specs.Offered.{func_in, is_target, label_count, offered}
-use Rattle.smith_code.specs.Scopes.{IsAllowedIn, indexed}
+use Rattle.smith_code.specs.Scopes.{IsAllowedIn, indexed, is_permitted}
 use Rattle.smith_code.specs.ThrowChoices.{exn, refers_to_exceptions, tag_at, tag_type_at}
 use Rattle.smith_code.specs.TryChoices.{IsCaught, any_try_at, any_try_node, brought, clause_at, clause_of, clause_to, clauses_at, referenced_at, refers_to_caught, some_clauses_at, tagged_by, tagged_clause_at, tagged_to, try_at}
 use Rattle.smith_code.specs.declared.node.Head.{Head}
@@ -33,6 +33,7 @@ use Rattle.smith_code.specs.declared.scope.Scope.{Scope}
 use Rattle.smith_code.proofs.NodeLemmas.{func_wide, no_valid, one_valid, three_wide}
 use Rattle.smith_code.proofs.OfferLemmas.{both}
 use Rattle.smith_code.proofs.RepeatLemmas.{AreDrawnSoFar, all_turns, one_turn}
+use Rattle.smith_code.proofs.TrapLemmas.{permitted_allowed}
 
 -- what a clause brings to its label
 pub brought_valid : (context : BodyContext) (values : List ValType) (referenced : Bool) → AreValid context values → (IsTrue referenced → IsTrue (refers_to_caught context.features)) → AreValid context (brought values referenced)
@@ -138,33 +139,35 @@ any_try_by context bytes middle left clauses index o drawn drawn' at =
     ∙ ap (λ (o : Option FuncType). (Some (any_try_node clauses index o), left)) at)
 
 -- where a block that catches exceptions is allowed
-shuffled : (b e k : Bool) → ((b && e) && k) ≡ ((e && k) && (b && k))
-shuffled true true true = refl
-shuffled true true false = refl
-shuffled true false k = refl
-shuffled false true true = refl
-shuffled false true false = refl
-shuffled false false k = refl
+shuffled : (b e k h : Bool) → (((b && e) && k) && h) ≡ (((e && k) && h) && ((b && k) && h))
+shuffled true true true true = refl
+shuffled true true true false = refl
+shuffled true true false h = refl
+shuffled true false k h = refl
+shuffled false true true true = refl
+shuffled false true true false = refl
+shuffled false true false h = refl
+shuffled false false k h = refl
 
-try_enabled : (features : Features) (kinds : InstructionKinds) (ty : BlockType) (clauses : List Catch) → is_enabled features kinds (instr.TryTable ty clauses) ≡ (is_enabled features kinds instr.ThrowRef && is_enabled features kinds (instr.Block ty))
-unfolding is_enabled
-try_enabled features kinds ty clauses = shuffled (is_block_enabled features ty) features.exceptions (is_allowed kinds kind.Control)
+try_permitted : (features : Features) (config : Config) (ty : BlockType) (clauses : List Catch) → is_permitted features config (instr.TryTable ty clauses) ≡ (is_permitted features config (instr.Throw 0) && is_permitted features config (instr.Block ty))
+unfolding is_permitted is_enabled
+try_permitted features config ty clauses = shuffled (is_block_enabled features ty) features.exceptions (is_allowed config.allowed_instructions kind.Control) (not config.disallow_traps || true)
 
-pub try_forbidden : (features : Features) (kinds : InstructionKinds) (ty : BlockType) (clauses : List Catch) (drop : Bool) → is_enabled features kinds instr.ThrowRef ≡ false → false ≡ (is_enabled features kinds (instr.TryTable ty clauses) && drop)
-try_forbidden features kinds ty clauses drop off = rw (try_enabled features kinds ty clauses, off) refl
+pub try_forbidden : (features : Features) (config : Config) (ty : BlockType) (clauses : List Catch) (drop : Bool) → is_permitted features config (instr.Throw 0) ≡ false → false ≡ (is_permitted features config (instr.TryTable ty clauses) && drop)
+try_forbidden features config ty clauses drop off = rw (try_permitted features config ty clauses, off) refl
 
-pub try_allowed : (features : Features) (kinds : InstructionKinds) (ty : BlockType) (clauses : List Catch) (drop result : Bool) → is_enabled features kinds instr.ThrowRef ≡ true → result ≡ (is_enabled features kinds (instr.Block ty) && drop)
-    → result ≡ (is_enabled features kinds (instr.TryTable ty clauses) && drop)
-try_allowed features kinds ty clauses drop result on is = rw (try_enabled features kinds ty clauses, on) is
+pub try_allowed : (features : Features) (config : Config) (ty : BlockType) (clauses : List Catch) (drop result : Bool) → is_permitted features config (instr.Throw 0) ≡ true → result ≡ (is_permitted features config (instr.Block ty) && drop)
+    → result ≡ (is_permitted features config (instr.TryTable ty clauses) && drop)
+try_allowed features config ty clauses drop result on is = rw (try_permitted features config ty clauses, on) is
 
 pub try_head : (scope : Scope) (head : Head) (ty : BlockType) (clauses : List Catch) (sides : Sides) (result : Bool) → head ≡ heads.Try ty clauses sides
-    → ((clauses : List Catch) → result ≡ (is_enabled (features_in scope.features) scope.kinds (instr.TryTable ty clauses) && is_drop_allowed (features_in scope.features) scope.kinds (length sides.params)))
-    → result ≡ is_head_allowed (features_in scope.features) scope.kinds head
+    → ((clauses : List Catch) → result ≡ (is_permitted (features_in scope.features) scope.config.now (instr.TryTable ty clauses) && is_drop_allowed (features_in scope.features) scope.config.now (length sides.params)))
+    → result ≡ is_head_allowed (features_in scope.features) scope.config.now head
 try_head scope head ty clauses sides result is exact = rw is (exact clauses)
 
 pub try_head_allowed : (scope : Scope) (head : Head) (ty : BlockType) (clauses : List Catch) (sides : Sides) (result : Bool) → head ≡ heads.Try ty clauses sides
-    → ((clauses : List Catch) → result ≡ (is_enabled (features_in scope.features) scope.kinds (instr.TryTable ty clauses) && is_drop_allowed (features_in scope.features) scope.kinds (length sides.params)))
+    → ((clauses : List Catch) → result ≡ (is_permitted (features_in scope.features) scope.config.now (instr.TryTable ty clauses) && is_drop_allowed (features_in scope.features) scope.config.now (length sides.params)))
     → (IsTrue result → 0 < length sides.params → IsAllowedIn scope instr.Drop) → IsTrue result → IsHeadAllowed scope head
 try_head_allowed scope head ty clauses sides result is exact drops true_result =
-    let (enabled, _) = both (is_enabled (features_in scope.features) scope.kinds (instr.TryTable ty clauses)) (is_drop_allowed (features_in scope.features) scope.kinds (length sides.params)) (sym (exact clauses) ∙ true_result) in
-    rw is (record { instruction = enabled; drops = drops true_result })
+    let (permitted, _) = both (is_permitted (features_in scope.features) scope.config.now (instr.TryTable ty clauses)) (is_drop_allowed (features_in scope.features) scope.config.now (length sides.params)) (sym (exact clauses) ∙ true_result) in
+    rw is (record { instruction = permitted_allowed scope (instr.TryTable ty clauses) permitted; drops = drops true_result })

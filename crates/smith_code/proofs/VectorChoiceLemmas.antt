@@ -4,6 +4,7 @@ use Rattle.std.specs.Prelude.{option_map}
 use Rattle.smith_bytes.specs.Draws.{range_at}
 use Rattle.smith_types.specs.declared.entity_type.MemoryType.{MemoryType}
 use Rattle.smith_types.specs.declared.value_type.ValType.{ValType}
+use Rattle.smith_config.specs.declared.config.Config.{Config}
 use Rattle.smith_draw.specs.Choices.{chosen_at}
 use Rattle.smith_instr.specs.Contexts.{BodyContext}
 use Rattle.smith_instr.specs.MemoryTypes.{vector_bytes}
@@ -43,52 +44,52 @@ vector_there rows wanted bytes middle left place d op are drawn inside on =
     ∙ ap (λ (op : VectorInstr × List ℕ). (Some (vector_node op.0), op.1)) on
 
 -- a load of a vector
-pub vector_load_by : (memories : List MemoryType) (bytes middle left : List ℕ) (rows : List VectorLoad) (op : VectorLoad) (o : Option Access) → rows ≡ vector_loads → chosen_at load.V128 rows bytes ≡ (op, middle) → access_at memories (vector_bytes op) middle ≡ (o, left)
-    → vector_load_at memories bytes ≡ (option_map (vector_load_node op) o, left)
+pub vector_load_by : (config : Config) (memories : List MemoryType) (bytes middle left : List ℕ) (rows : List VectorLoad) (op : VectorLoad) (o : Option Access) → rows ≡ vector_loads → chosen_at load.V128 rows bytes ≡ (op, middle) → access_at config memories (vector_bytes op) middle ≡ (o, left)
+    → vector_load_at config memories bytes ≡ (option_map (vector_load_node op) o, left)
 unfolding vector_load_at
-vector_load_by memories bytes middle left rows op o are drawn at =
+vector_load_by config memories bytes middle left rows op o are drawn at =
     let drawn' : chosen_at load.V128 vector_loads bytes ≡ (op, middle) = rw are at drawn in
     rw (drawn', at) refl
 
 -- a lane, and where a memory is accessed for it
-pub lane_access_none : (memories : List MemoryType) (bytes middle left : List ℕ) (log2_bytes : ℕ) → range_at 0 3 bytes ≡ (log2_bytes, middle) → access_at memories log2_bytes middle ≡ (None, left) → lane_access_at memories bytes ≡ (None, left)
+pub lane_access_none : (config : Config) (memories : List MemoryType) (bytes middle left : List ℕ) (log2_bytes : ℕ) → range_at 0 3 bytes ≡ (log2_bytes, middle) → access_at config memories log2_bytes middle ≡ (None, left) → lane_access_at config memories bytes ≡ (None, left)
 unfolding lane_access_at
-lane_access_none memories bytes middle left log2_bytes drawn at = rw (drawn, at) refl
+lane_access_none config memories bytes middle left log2_bytes drawn at = rw (drawn, at) refl
 
-pub lane_access_there : (memories : List MemoryType) (bytes first second left : List ℕ) (log2_bytes lane : ℕ) (access : Access) → range_at 0 3 bytes ≡ (log2_bytes, first) → access_at memories log2_bytes first ≡ (Some access, second)
-    → range_at 0 (2 ^ (4 - log2_bytes) - 1) second ≡ (lane, left) → lane_access_at memories bytes ≡ (Some (record { log2_bytes = log2_bytes; access = access; lane = lane }), left)
+pub lane_access_there : (config : Config) (memories : List MemoryType) (bytes first second left : List ℕ) (log2_bytes lane : ℕ) (access : Access) → range_at 0 3 bytes ≡ (log2_bytes, first) → access_at config memories log2_bytes first ≡ (Some access, second)
+    → range_at 0 (2 ^ (4 - log2_bytes) - 1) second ≡ (lane, left) → lane_access_at config memories bytes ≡ (Some (record { log2_bytes = log2_bytes; access = access; lane = lane }), left)
 unfolding lane_access_at
-lane_access_there memories bytes first second left log2_bytes lane access drawn at drawn' = rw (drawn, at, drawn') refl
+lane_access_there config memories bytes first second left log2_bytes lane access drawn at drawn' = rw (drawn, at, drawn') refl
 
 -- a vector by its family
-pub vector_choice_by : (memories : List MemoryType) (bytes left : List ℕ) (families : List VectorFamily) (drawn_family of_family : VectorFamily) → families ≡ vector_families → chosen_at family.Instr families bytes ≡ (drawn_family, left) → drawn_family ≡ of_family
-    → vector_choice_at memories bytes ≡ vector_of memories of_family left
+pub vector_choice_by : (config : Config) (memories : List MemoryType) (bytes left : List ℕ) (families : List VectorFamily) (drawn_family of_family : VectorFamily) → families ≡ vector_families → chosen_at family.Instr families bytes ≡ (drawn_family, left) → drawn_family ≡ of_family
+    → vector_choice_at config memories bytes ≡ vector_of config memories of_family left
 unfolding vector_choice_at
-vector_choice_by memories bytes left families drawn_family of_family are drawn is =
+vector_choice_by config memories bytes left families drawn_family of_family are drawn is =
     let drawn' : chosen_at family.Instr vector_families bytes ≡ (of_family, left) = rw (are, is) at drawn in
-    ap (λ (r : VectorFamily × List ℕ). vector_of memories r.0 r.1) drawn'
+    ap (λ (r : VectorFamily × List ℕ). vector_of config memories r.0 r.1) drawn'
 
 -- with the feature of vectors, and without
-pub vector_off : (context : BodyContext) (wanted : ValType) (bytes : List ℕ) → context.features.simd ≡ false → vector_at context wanted bytes ≡ (None, bytes)
+pub vector_off : (config : Config) (context : BodyContext) (wanted : ValType) (bytes : List ℕ) → context.features.simd ≡ false → vector_at config context wanted bytes ≡ (None, bytes)
 unfolding vector_at
-vector_off context wanted bytes off = rw off refl
+vector_off config context wanted bytes off = rw off refl
 
-pub vector_on : (context : BodyContext) (wanted : ValType) (bytes : List ℕ) → context.features.simd ≡ true → vector_at context wanted bytes ≡ any_vector_at context.memories wanted bytes
+pub vector_on : (config : Config) (context : BodyContext) (wanted : ValType) (bytes : List ℕ) → context.features.simd ≡ true → vector_at config context wanted bytes ≡ any_vector_at config context.memories wanted bytes
 unfolding vector_at
-vector_on context wanted bytes on = rw on refl
+vector_on config context wanted bytes on = rw on refl
 
-pub vector_store_off : (context : BodyContext) (bytes : List ℕ) → context.features.simd ≡ false → vector_store_at context bytes ≡ (None, bytes)
+pub vector_store_off : (config : Config) (context : BodyContext) (bytes : List ℕ) → context.features.simd ≡ false → vector_store_at config context bytes ≡ (None, bytes)
 unfolding vector_store_at
-vector_store_off context bytes off = rw off refl
+vector_store_off config context bytes off = rw off refl
 
-pub vector_store_on : (context : BodyContext) (bytes left : List ℕ) (o : Option Access) → context.features.simd ≡ true → access_at context.memories 4 bytes ≡ (o, left) → vector_store_at context bytes ≡ (option_map vector_store_node o, left)
+pub vector_store_on : (config : Config) (context : BodyContext) (bytes left : List ℕ) (o : Option Access) → context.features.simd ≡ true → access_at config context.memories 4 bytes ≡ (o, left) → vector_store_at config context bytes ≡ (option_map vector_store_node o, left)
 unfolding vector_store_at
-vector_store_on context bytes left o on at = rw (on, at) refl
+vector_store_on config context bytes left o on at = rw (on, at) refl
 
-pub store_lane_off : (context : BodyContext) (bytes : List ℕ) → context.features.simd ≡ false → store_lane_at context bytes ≡ (None, bytes)
+pub store_lane_off : (config : Config) (context : BodyContext) (bytes : List ℕ) → context.features.simd ≡ false → store_lane_at config context bytes ≡ (None, bytes)
 unfolding store_lane_at
-store_lane_off context bytes off = rw off refl
+store_lane_off config context bytes off = rw off refl
 
-pub store_lane_on : (context : BodyContext) (bytes left : List ℕ) (o : Option LaneAccess) → context.features.simd ≡ true → lane_access_at context.memories bytes ≡ (o, left) → store_lane_at context bytes ≡ (option_map store_lane_node o, left)
+pub store_lane_on : (config : Config) (context : BodyContext) (bytes left : List ℕ) (o : Option LaneAccess) → context.features.simd ≡ true → lane_access_at config context.memories bytes ≡ (o, left) → store_lane_at config context bytes ≡ (option_map store_lane_node o, left)
 unfolding store_lane_at
-store_lane_on context bytes left o on at = rw (on, at) refl
+store_lane_on config context bytes left o on at = rw (on, at) refl

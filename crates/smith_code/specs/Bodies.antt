@@ -1,7 +1,7 @@
 -- The body that the bytes produce. Rules of this project.
 use Rattle.std.specs.Prelude.{ℕ, zero, suc, ◌-◌, ◌==◌, Option, Some, None, option_to_list, List, [], ◌∷◌, ◌++◌, length, replicate, if◌then◌else◌}
 use Rattle.smith_bytes.specs.Draws.{range_at}
-use Rattle.smith_types.specs.declared.instruction_kind.InstructionKinds.{InstructionKinds}
+use Rattle.smith_config.specs.declared.config.Config.{Config}
 use Rattle.smith_types.specs.declared.value_type.ValType.{ValType}
 use Rattle.smith_instr.specs.Contexts.{BodyContext, labelled}
 use Rattle.smith_instr.specs.declared.instr.Instr.{Instr}
@@ -64,32 +64,32 @@ unfoldable pub node_at : Drawing → Node → State → State
 node_at draw node s = dropped node.drops (head_at draw node.head node.sets (values_at draw node.operands (record s { fuel = s.fuel - 1 })))
 
 -- an instruction without operands
-unfoldable pub leaf_in : InstructionKinds → ValType → State → State
-leaf_in kinds wanted s =
-    let leaf = leaf_at kinds s.context s.set wanted s.bytes in
+unfoldable pub leaf_in : Config → ValType → State → State
+leaf_in config wanted s =
+    let leaf = leaf_at config s.context s.set wanted s.bytes in
     record s { out = s.out ++ leaf.0 ∷ []; bytes = leaf.1 }
 
 -- the node that was chosen, or an instruction without operands
-abbrev pub node_or_leaf_at : InstructionKinds → Drawing → ValType → Option Node → State → State
-node_or_leaf_at kinds below wanted (Some node) s = node_at below node s
-node_or_leaf_at kinds below wanted None s = leaf_in kinds wanted s
+abbrev pub node_or_leaf_at : Config → Drawing → ValType → Option Node → State → State
+node_or_leaf_at config below wanted (Some node) s = node_at below node s
+node_or_leaf_at config below wanted None s = leaf_in config wanted s
 
 -- a value, given the draws one level deeper: without fuel an instruction without operands
-unfoldable pub value_at : InstructionKinds → Drawing → ValType → State → State
-value_at kinds below wanted s =
-    let chosen = allowed_choice_at kinds s.context wanted s.bytes in
-    if s.fuel == 0 then leaf_in kinds wanted s else node_or_leaf_at kinds below wanted chosen.0 (record s { bytes = chosen.1 })
+unfoldable pub value_at : Config → Drawing → ValType → State → State
+value_at config below wanted s =
+    let chosen = allowed_choice_at config s.context wanted s.bytes in
+    if s.fuel == 0 then leaf_in config wanted s else node_or_leaf_at config below wanted chosen.0 (record s { bytes = chosen.1 })
 
 -- a node if it is allowed; otherwise one unit of fuel is taken all the same
-abbrev pub allowed_at : InstructionKinds → Drawing → Node → State → State
-allowed_at kinds below node s =
-    if is_node_allowed s.context.features kinds node then node_at below node s else record s { fuel = s.fuel - 1 }
+abbrev pub allowed_at : Config → Drawing → Node → State → State
+allowed_at config below node s =
+    if is_node_allowed s.context.features config node then node_at below node s else record s { fuel = s.fuel - 1 }
 
 -- a statement, given the draws one level deeper
-unfoldable pub statement_at : InstructionKinds → Drawing → State → State
-statement_at kinds below s =
-    let chosen = statement_choice_at s.context s.bytes in
-    allowed_at kinds below chosen.0 (record s { bytes = chosen.1 })
+unfoldable pub statement_at : Config → Drawing → State → State
+statement_at config below s =
+    let chosen = statement_choice_at config s.context s.bytes in
+    allowed_at config below chosen.0 (record s { bytes = chosen.1 })
 
 -- at most `most` statements, until the fuel ends or a drawn number is 0
 abbrev pub statements_within : (State → State) → ℕ → State → State
@@ -101,11 +101,11 @@ statements_within statement (suc most) s =
 
 -- the draws at a depth, given those one level deeper: at the last there are no statements, and
 -- values have no operands
-unfoldable pub drawing_at : InstructionKinds → ℕ → Drawing
-drawing_at kinds zero = record { value = leaf_in kinds; statements = λ s. s }
-drawing_at kinds (suc depth) = record {
-  value = λ wanted s. value_at kinds (drawing_at kinds depth) wanted s;
-  statements = λ s. statements_within (statement_at kinds (drawing_at kinds depth)) s.fuel s;
+unfoldable pub drawing_at : Config → ℕ → Drawing
+drawing_at config zero = record { value = leaf_in config; statements = λ s. s }
+drawing_at config (suc depth) = record {
+  value = λ wanted s. value_at config (drawing_at config depth) wanted s;
+  statements = λ s. statements_within (statement_at config (drawing_at config depth)) s.fuel s;
 }
 
 -- the inside of a body: statements, then the results
@@ -121,6 +121,6 @@ ended s = (s.out, s.bytes)
 
 -- a body of at most 40 levels, without its last `end`, and the bytes left: without fuel
 -- `unreachable`
-unfoldable pub body_at : InstructionKinds → BodyContext → ℕ → List ℕ → List Instr × List ℕ
-body_at kinds context fuel bytes =
-    if fuel == 0 then (instr.Unreachable ∷ [], bytes) else ended (whole_at (drawing_at kinds 40) context.results (begun context fuel bytes))
+unfoldable pub body_at : Config → BodyContext → ℕ → List ℕ → List Instr × List ℕ
+body_at config context fuel bytes =
+    if fuel == 0 then (instr.Unreachable ∷ [], bytes) else ended (whole_at (drawing_at config 40) context.results (begun context fuel bytes))

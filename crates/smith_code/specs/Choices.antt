@@ -3,7 +3,7 @@
 use Rattle.std.specs.Prelude.{ℕ, zero, suc, ◌-◌, ◌==◌, Bool, true, false, Option, Some, None, option_map, option_to_list, unwrap_or, List, [], ◌∷◌, ◌++◌, length, slice_get, slice_index_or, if◌then◌else◌}
 use Rattle.smith_bytes.specs.Draws.{bool_at, range_at, choose_at}
 use Rattle.smith_types.specs.Features.{Features}
-use Rattle.smith_types.specs.declared.instruction_kind.InstructionKinds.{InstructionKinds}
+use Rattle.smith_config.specs.declared.config.Config.{Config}
 use Rattle.smith_types.specs.declared.value_type.ValType.{ValType}
 use Rattle.smith_types.specs.declared.value_type.ValType.TheVariants.{I32, I64, F32, F64, Ref}
 use Rattle.smith_types.specs.declared.composite_type.FuncType.{FuncType}
@@ -123,13 +123,13 @@ leaving_at context bytes =
 abbrev pub load_node : Load → Access → Option Node
 load_node op access = Some (node_of (address access.wide ∷ []) (instr.Load op access.at) 0)
 
-abbrev pub load_by : List MemoryType → Option Load → List ℕ → Chosen
-load_by memories None bytes = (None, bytes)
-load_by memories (Some op) bytes = giving (load_node op) (access_at memories (loaded op).1 bytes)
+abbrev pub load_by : Config → List MemoryType → Option Load → List ℕ → Chosen
+load_by config memories None bytes = (None, bytes)
+load_by config memories (Some op) bytes = giving (load_node op) (access_at config memories (loaded op).1 bytes)
 
 -- a load that produces a value of the wanted type
-unfoldable pub load_at : BodyContext → ValType → List ℕ → Chosen
-load_at context wanted bytes = let op = choose_at (loads_of wanted) bytes in load_by context.memories op.0 op.1
+unfoldable pub load_at : Config → BodyContext → ValType → List ℕ → Chosen
+load_at config context wanted bytes = let op = choose_at (loads_of wanted) bytes in load_by config context.memories op.0 op.1
 
 -- the growth of a memory, or its size
 abbrev pub growth_node : ValType → ℕ → Bool → Node
@@ -187,44 +187,44 @@ value_families =
     []
 
 -- a value of a family: none of a leaf
-abbrev pub value_of : BodyContext → ValType → ValueFamily → List ℕ → Chosen
-value_of context wanted value.Leaf bytes = (None, bytes)
-value_of context wanted value.Numeric bytes = numeric_at wanted bytes
-value_of context wanted value.Select bytes = (select_node wanted, bytes)
-value_of context wanted value.Tee bytes = tee_at context wanted bytes
-value_of context wanted value.Call bytes = call_at context wanted bytes
-value_of context wanted value.Block bytes = block_at wanted bytes
-value_of context wanted value.Leaving bytes = leaving_at context bytes
-value_of context wanted value.Load bytes = load_at context wanted bytes
-value_of context wanted value.Memory bytes = memory_at context wanted bytes
-value_of context wanted value.Table bytes = table_value_at context wanted bytes
-value_of context wanted value.SelectTyped bytes = (Some (select_typed_node wanted), bytes)
-value_of context wanted value.Reference bytes = reference_value_at context wanted bytes
-value_of context wanted value.CallIndirect bytes = indirect_at context (outcome.Wanted wanted) bytes
-value_of context wanted value.CallRef bytes = by_reference_at context (outcome.Wanted wanted) bytes
-value_of context wanted value.TailCall bytes = tail_call_at context bytes
-value_of context wanted value.NullBranch bytes = br_on_null_value_at context wanted bytes
-value_of context wanted value.Vector bytes = vector_at context wanted bytes
-value_of context wanted value.Atomic bytes = atomic_at context wanted bytes
-value_of context wanted value.Creation bytes = creation_at context wanted bytes
-value_of context wanted value.FieldRead bytes = field_read_at context wanted bytes
-value_of context wanted value.Cast bytes = cast_choice_at context wanted bytes
-value_of context wanted value.CastBranch bytes = cast_value_at context wanted bytes
-value_of context wanted value.Throw bytes = any_throw_at context bytes
-value_of context wanted value.Try bytes = try_at context wanted bytes
+abbrev pub value_of : Config → BodyContext → ValType → ValueFamily → List ℕ → Chosen
+value_of config context wanted value.Leaf bytes = (None, bytes)
+value_of config context wanted value.Numeric bytes = numeric_at wanted bytes
+value_of config context wanted value.Select bytes = (select_node wanted, bytes)
+value_of config context wanted value.Tee bytes = tee_at context wanted bytes
+value_of config context wanted value.Call bytes = call_at context wanted bytes
+value_of config context wanted value.Block bytes = block_at wanted bytes
+value_of config context wanted value.Leaving bytes = leaving_at context bytes
+value_of config context wanted value.Load bytes = load_at config context wanted bytes
+value_of config context wanted value.Memory bytes = memory_at context wanted bytes
+value_of config context wanted value.Table bytes = table_value_at context wanted bytes
+value_of config context wanted value.SelectTyped bytes = (Some (select_typed_node wanted), bytes)
+value_of config context wanted value.Reference bytes = reference_value_at context wanted bytes
+value_of config context wanted value.CallIndirect bytes = indirect_at context (outcome.Wanted wanted) bytes
+value_of config context wanted value.CallRef bytes = by_reference_at context (outcome.Wanted wanted) bytes
+value_of config context wanted value.TailCall bytes = tail_call_at context bytes
+value_of config context wanted value.NullBranch bytes = br_on_null_value_at context wanted bytes
+value_of config context wanted value.Vector bytes = vector_at config context wanted bytes
+value_of config context wanted value.Atomic bytes = atomic_at config context wanted bytes
+value_of config context wanted value.Creation bytes = creation_at context wanted bytes
+value_of config context wanted value.FieldRead bytes = field_read_at context wanted bytes
+value_of config context wanted value.Cast bytes = cast_choice_at context wanted bytes
+value_of config context wanted value.CastBranch bytes = cast_value_at context wanted bytes
+value_of config context wanted value.Throw bytes = any_throw_at context bytes
+value_of config context wanted value.Try bytes = try_at context wanted bytes
 
-unfoldable pub value_choice_at : BodyContext → ValType → List ℕ → Chosen
-value_choice_at context wanted bytes = let family = chosen_at value.Leaf value_families bytes in value_of context wanted family.0 family.1
+unfoldable pub value_choice_at : Config → BodyContext → ValType → List ℕ → Chosen
+value_choice_at config context wanted bytes = let family = chosen_at value.Leaf value_families bytes in value_of config context wanted family.0 family.1
 
 -- that node, if it is allowed
-abbrev pub if_allowed : Features → InstructionKinds → Option Node → Option Node
-if_allowed features kinds None = None
-if_allowed features kinds (Some node) = if is_node_allowed features kinds node then Some node else None
+abbrev pub if_allowed : Features → Config → Option Node → Option Node
+if_allowed features config None = None
+if_allowed features config (Some node) = if is_node_allowed features config node then Some node else None
 
-unfoldable pub allowed_choice_at : InstructionKinds → BodyContext → ValType → List ℕ → Chosen
-allowed_choice_at kinds context wanted bytes =
-    let chosen = value_choice_at context wanted bytes in
-    (if_allowed context.features kinds chosen.0, chosen.1)
+unfoldable pub allowed_choice_at : Config → BodyContext → ValType → List ℕ → Chosen
+allowed_choice_at config context wanted bytes =
+    let chosen = value_choice_at config context wanted bytes in
+    (if_allowed context.features config chosen.0, chosen.1)
 
 -- a value that is dropped: of a type of numbers, or of the type of a local
 unfoldable pub dropped_at : List ValType → List ℕ → ValType × List ℕ
@@ -301,10 +301,10 @@ table_at context bytes = let label = label_at context bytes in table_by context 
 abbrev pub store_node : Store → Access → Option Node
 store_node op access = Some (node_of (address access.wide ∷ (stored op).0 ∷ []) (instr.Store op access.at) 0)
 
-unfoldable pub store_at : BodyContext → List ℕ → Chosen
-store_at context bytes =
+unfoldable pub store_at : Config → BodyContext → List ℕ → Chosen
+store_at config context bytes =
     let op = chosen_at store.I32 stores bytes in
-    giving (store_node op.0) (access_at context.memories (stored op.0).1 op.1)
+    giving (store_node op.0) (access_at config context.memories (stored op.0).1 op.1)
 
 -- the families of statements; the number of times that each is listed is its weight
 abbrev pub statement_families : List StatementFamily
@@ -342,38 +342,38 @@ statement_families =
     []
 
 -- a statement of a family: none of `nop`
-abbrev pub statement_of : BodyContext → StatementFamily → List ℕ → Chosen
-statement_of context statement.Nop bytes = (None, bytes)
-statement_of context statement.Drop bytes = drop_at context bytes
-statement_of context statement.GlobalSet bytes = global_set_at context bytes
-statement_of context statement.Call bytes = any_call_at context bytes
-statement_of context statement.Block bytes = any_block_at context bytes
-statement_of context statement.Branch bytes = branch_at context bytes
-statement_of context statement.Leaving bytes = leaving_at context bytes
-statement_of context statement.Table bytes = table_at context bytes
-statement_of context statement.Store bytes = store_at context bytes
-statement_of context statement.Unreachable bytes = (Some (node_of [] instr.Unreachable 0), bytes)
-statement_of context statement.LocalSet bytes = set_at context bytes
-statement_of context statement.TableChange bytes = table_change_at context bytes
-statement_of context statement.Bulk bytes = bulk_at context bytes
-statement_of context statement.CallIndirect bytes = indirect_at context outcome.Dropped bytes
-statement_of context statement.CallRef bytes = by_reference_at context outcome.Dropped bytes
-statement_of context statement.TailCall bytes = tail_call_at context bytes
-statement_of context statement.NullBranch bytes = null_branch_at context bytes
-statement_of context statement.VectorStore bytes = vector_store_at context bytes
-statement_of context statement.StoreLane bytes = store_lane_at context bytes
-statement_of context statement.AtomicStore bytes = atomic_store_at context bytes
-statement_of context statement.Fence bytes = (Some (node_of [] instr.AtomicFence 0), bytes)
-statement_of context statement.FieldWrite bytes = field_write_at context bytes
-statement_of context statement.CastBranch bytes = cast_branch_at context bytes
-statement_of context statement.Throw bytes = any_throw_at context bytes
-statement_of context statement.Try bytes = any_try_at context bytes
+abbrev pub statement_of : Config → BodyContext → StatementFamily → List ℕ → Chosen
+statement_of config context statement.Nop bytes = (None, bytes)
+statement_of config context statement.Drop bytes = drop_at context bytes
+statement_of config context statement.GlobalSet bytes = global_set_at context bytes
+statement_of config context statement.Call bytes = any_call_at context bytes
+statement_of config context statement.Block bytes = any_block_at context bytes
+statement_of config context statement.Branch bytes = branch_at context bytes
+statement_of config context statement.Leaving bytes = leaving_at context bytes
+statement_of config context statement.Table bytes = table_at context bytes
+statement_of config context statement.Store bytes = store_at config context bytes
+statement_of config context statement.Unreachable bytes = (Some (node_of [] instr.Unreachable 0), bytes)
+statement_of config context statement.LocalSet bytes = set_at context bytes
+statement_of config context statement.TableChange bytes = table_change_at context bytes
+statement_of config context statement.Bulk bytes = bulk_at context bytes
+statement_of config context statement.CallIndirect bytes = indirect_at context outcome.Dropped bytes
+statement_of config context statement.CallRef bytes = by_reference_at context outcome.Dropped bytes
+statement_of config context statement.TailCall bytes = tail_call_at context bytes
+statement_of config context statement.NullBranch bytes = null_branch_at context bytes
+statement_of config context statement.VectorStore bytes = vector_store_at config context bytes
+statement_of config context statement.StoreLane bytes = store_lane_at config context bytes
+statement_of config context statement.AtomicStore bytes = atomic_store_at config context bytes
+statement_of config context statement.Fence bytes = (Some (node_of [] instr.AtomicFence 0), bytes)
+statement_of config context statement.FieldWrite bytes = field_write_at context bytes
+statement_of config context statement.CastBranch bytes = cast_branch_at context bytes
+statement_of config context statement.Throw bytes = any_throw_at context bytes
+statement_of config context statement.Try bytes = any_try_at context bytes
 
 -- the node that was chosen, or `nop`
 abbrev pub or_nop : Chosen → Node × List ℕ
 or_nop chosen = (unwrap_or chosen.0 (node_of [] instr.Nop 0), chosen.1)
 
-unfoldable pub statement_choice_at : BodyContext → List ℕ → Node × List ℕ
-statement_choice_at context bytes =
+unfoldable pub statement_choice_at : Config → BodyContext → List ℕ → Node × List ℕ
+statement_choice_at config context bytes =
     let family = chosen_at statement.Nop statement_families bytes in
-    or_nop (statement_of context family.0 family.1)
+    or_nop (statement_of config context family.0 family.1)

@@ -1,21 +1,20 @@
 -- The instruction without operands that the bytes produce. The choices and their order are rules of
 -- this project.
-use Rattle.std.specs.Prelude.{ℕ, Option, Some, None, option_map, List, [], ◌∷◌, length, slice_get, if◌then◌else◌}
+use Rattle.std.specs.Prelude.{ℕ, Option, Some, None, option_map, unwrap_or, List, [], ◌∷◌, length, slice_get, if◌then◌else◌}
 use Rattle.std.specs.Int.{cast_signed, w32, w64, w128}
 use Rattle.smith_bytes.specs.Draws.{choose_at, whole_at}
-use Rattle.smith_types.specs.declared.instruction_kind.InstructionKinds.{InstructionKinds}
+use Rattle.smith_config.specs.declared.config.Config.{Config}
 use Rattle.smith_types.specs.declared.value_type.RefType.{RefType}
 use Rattle.smith_types.specs.declared.value_type.ValType.{ValType}
 use Rattle.smith_types.specs.declared.value_type.ValType.TheVariants.{I32, I64, F32, F64, V128, Ref}
 use Rattle.smith_draw.specs.Choices.{chosen_at}
 use Rattle.smith_instr.specs.Contexts.{BodyContext}
-use Rattle.smith_instr.specs.Enabled.{is_enabled}
 use Rattle.smith_instr.specs.declared.instr.Instr.{Instr}
 use Rattle.smith_instr.specs.declared.instr.Instr.TheVariants as instr
 use Rattle.smith_instr.specs.declared.reference.ReferenceInstr.TheVariants as reference
 use Rattle.smith_code.specs.Chosen.{giving}
 use Rattle.smith_code.specs.Offered.{is_global_below, is_readable, is_reference, offered}
-use Rattle.smith_code.specs.Scopes.{indexed}
+use Rattle.smith_code.specs.Scopes.{indexed, is_permitted}
 use Rattle.smith_code.specs.declared.families.LeafFamily.{LeafFamily}
 use Rattle.smith_code.specs.declared.families.LeafFamily.TheVariants as leaf
 
@@ -79,8 +78,31 @@ or_constant wanted None bytes = constant_at wanted bytes
 unfoldable pub any_leaf_at : BodyContext → List ℕ → ValType → List ℕ → Instr × List ℕ
 any_leaf_at context set wanted bytes = let chosen = leaf_choice_at context set wanted bytes in or_constant wanted chosen.0 chosen.1
 
--- that instruction if it is enabled, or `unreachable`
-unfoldable pub leaf_at : InstructionKinds → BodyContext → List ℕ → ValType → List ℕ → Instr × List ℕ
-leaf_at kinds context set wanted bytes =
+-- that instruction, if it is permitted
+abbrev pub if_permitted : Config → BodyContext → Option Instr → Option Instr
+if_permitted config context None = None
+if_permitted config context (Some instruction) = if is_permitted context.features config instruction then Some instruction else None
+
+-- the first instruction of a family, which no bytes choose
+abbrev pub first_of : Config → BodyContext → List ℕ → ValType → LeafFamily → Option Instr
+first_of config context set wanted family = if_permitted config context (leaf_of context set wanted family []).0
+
+-- the first local, global or reference that may be read, zero or null, and only otherwise
+-- `unreachable`
+unfoldable pub first_leaf : Config → BodyContext → List ℕ → ValType → Instr
+first_leaf config context set wanted =
+    unwrap_or (first_of config context set wanted leaf.Local)
+    (unwrap_or (first_of config context set wanted leaf.Global)
+    (unwrap_or (first_of config context set wanted leaf.Reference)
+    (unwrap_or (if_permitted config context (Some (constant_at wanted []).0)) instr.Unreachable)))
+
+-- in place of an instruction that isn't permitted: `unreachable`, which with `disallow_traps` is the
+-- last resort
+unfoldable pub spare_leaf : Config → BodyContext → List ℕ → ValType → Instr
+spare_leaf config context set wanted = if config.disallow_traps then first_leaf config context set wanted else instr.Unreachable
+
+-- the instruction that was drawn if it is permitted, or one in its place
+unfoldable pub leaf_at : Config → BodyContext → List ℕ → ValType → List ℕ → Instr × List ℕ
+leaf_at config context set wanted bytes =
     let leaf = any_leaf_at context set wanted bytes in
-    (if is_enabled context.features kinds leaf.0 then leaf.0 else instr.Unreachable, leaf.1)
+    (if is_permitted context.features config leaf.0 then leaf.0 else spare_leaf config context set wanted, leaf.1)

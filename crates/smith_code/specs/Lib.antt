@@ -1,3 +1,4 @@
+pub mod Traps
 pub mod Scopes
 pub mod Nodes
 pub mod Drawn

@@ -3,20 +3,19 @@ use Rattle.std.specs.Prelude.{◌≡◌, ℕ, ◌+◌, ◌*◌, ◌≤◌, ◌<�
 use Rattle.std.specs.Cmp.Lexicographic.{pointwise}
 use Rattle.smith_bytes.specs.declared.error.Error.{Error}
 use Rattle.smith_types.specs.Features.{Features}
-use Rattle.smith_types.specs.declared.instruction_kind.InstructionKinds.{InstructionKinds}
+use Rattle.smith_config.specs.declared.config.Config.{Config}
 use Rattle.smith_types.specs.ValidTypes.{IsValTypeValid}
 use Rattle.smith_types.specs.contracts.value_type.ValTypePartialEq.TheImpl.{ghosts as val_same}
 use Rattle.smith_types.specs.declared.value_type.ValType.{ValType}
 use Rattle.smith_types.specs.declared.value_type.ValType.TheVariants.{I32}
 use Rattle.smith_types.specs.declared.composite_type.SubType.{SubType}
 use Rattle.smith_instr.specs.Contexts.{BodyContext, AreValid, AreBelow, IsBlockType}
-use Rattle.smith_instr.specs.Enabled.{is_enabled}
 use Rattle.smith_instr.specs.InstrTypes.{sets, HasInstrType, IsCatch}
 use Rattle.smith_instr.specs.declared.control.BlockType.{BlockType}
 use Rattle.smith_instr.specs.declared.control.Catch.{Catch}
 use Rattle.smith_instr.specs.declared.instr.Instr.{Instr}
 use Rattle.smith_instr.specs.declared.instr.Instr.TheVariants as instr
-use Rattle.smith_code.specs.Scopes.{widest, IsAllowedIn}
+use Rattle.smith_code.specs.Scopes.{is_permitted, widest, IsAllowedIn}
 use Rattle.smith_code.specs.declared.node.Head.{Head}
 use Rattle.smith_code.specs.declared.node.Head.TheVariants as head
 use Rattle.smith_code.specs.declared.node.Node.{Node}
@@ -112,16 +111,16 @@ pub record IsNodeAllowed (scope : Scope) (node : Node) : Type 0 where
   pub drops : 0 < node.drops → IsAllowedIn scope instr.Drop
 
 -- whether `count` values may be dropped
-abbrev pub is_drop_allowed : Features → InstructionKinds → ℕ → Bool
-is_drop_allowed features kinds count = (count == 0) || is_enabled features kinds instr.Drop
+abbrev pub is_drop_allowed : Features → Config → ℕ → Bool
+is_drop_allowed features config count = (count == 0) || is_permitted features config instr.Drop
 
 -- whether the instructions of a node may be used, except its operands: including `drop` if it drops
 -- anything
-abbrev pub is_head_allowed : Features → InstructionKinds → Head → Bool
-is_head_allowed features kinds head = is_enabled features kinds (head_instruction head) && is_drop_allowed features kinds (length (head_params head))
+abbrev pub is_head_allowed : Features → Config → Head → Bool
+is_head_allowed features config head = is_permitted features config (head_instruction head) && is_drop_allowed features config (length (head_params head))
 
-abbrev pub is_node_allowed : Features → InstructionKinds → Node → Bool
-is_node_allowed features kinds node = is_head_allowed features kinds node.head && is_drop_allowed features kinds node.drops
+abbrev pub is_node_allowed : Features → Config → Node → Bool
+is_node_allowed features config node = is_head_allowed features config node.head && is_drop_allowed features config node.drops
 
 -- a node leaves values of these types, and above them some that are dropped, if at least these
 -- locals are set

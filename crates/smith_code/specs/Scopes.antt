@@ -1,8 +1,9 @@
 -- The context in which a body is drawn.
-use Rattle.std.specs.Prelude.{◌≡◌, ℕ, ◌+◌, ◌*◌, ◌≤◌, ◌-◌, ◌^◌, min, max, List, [], ◌∷◌, length, slice_get, Some, All}
+use Rattle.std.specs.Prelude.{◌≡◌, ℕ, ◌+◌, ◌*◌, ◌≤◌, ◌-◌, ◌^◌, ◌&&◌, ◌||◌, not, Bool, IsTrue, min, max, List, [], ◌∷◌, length, slice_get, Some, All}
 use Rattle.smith_types.specs.FeatureBits.{features_in}
+use Rattle.smith_types.specs.Features.{Features}
 use Rattle.smith_types.specs.Types.{IsOrderly}
-use Rattle.smith_types.specs.Entities.{IsFuncAt, IsFuncValid, IsTagValid}
+use Rattle.smith_types.specs.Entities.{IsFuncAt, IsFuncValid, IsMemoryValid, IsTagValid}
 use Rattle.smith_types.specs.Expressions.{field_values}
 use Rattle.smith_types.specs.ValidTypes.{IsValTypeValid}
 use Rattle.smith_types.specs.declared.value_type.ValType.{ValType}
@@ -12,10 +13,12 @@ use Rattle.smith_types.specs.declared.composite_type.FuncType.{FuncType}
 use Rattle.smith_types.specs.declared.composite_type.SubType.{SubType}
 use Rattle.smith_types.specs.declared.entity_type.GlobalType.{GlobalType}
 use Rattle.smith_types.specs.declared.entity_type.TableType.{TableType}
+use Rattle.smith_config.specs.declared.config.Config.{Config}
 use Rattle.smith_draw.specs.ConstScopes.{fields_of}
 use Rattle.smith_instr.specs.Contexts.{BodyContext, AreValid, IsRefValid}
-use Rattle.smith_instr.specs.Enabled.{IsEnabled}
+use Rattle.smith_instr.specs.Enabled.{is_enabled, IsEnabled}
 use Rattle.smith_instr.specs.declared.instr.Instr.{Instr}
+use Rattle.smith_code.specs.Traps.{may_trap, IsTrapless}
 use Rattle.smith_code.specs.declared.scope.Scope.{Scope}
 use Rattle.smith_code.specs.declared.scope.Draft.{Draft}
 
@@ -47,9 +50,16 @@ bare scope = context_of scope []
 abbrev pub where_stands : Scope → Draft → BodyContext
 where_stands scope draft = context_of scope draft.labels.items
 
--- an instruction that may be used in a scope
-abbrev pub IsAllowedIn : Scope → Instr → Type 0
-IsAllowedIn scope instruction = IsEnabled (features_in scope.features) scope.kinds instruction
+-- an instruction may be chosen: it is enabled, and with `disallow_traps` it doesn't trap
+unfoldable pub is_permitted : Features → Config → Instr → Bool
+is_permitted features config instruction =
+    is_enabled features config.allowed_instructions instruction && (not config.disallow_traps || not (may_trap instruction))
+
+-- an instruction that may be used in a scope: with `disallow_traps` one that may trap is
+-- `unreachable`, in place of a value that no other instruction produces
+pub record IsAllowedIn (scope : Scope) (instruction : Instr) : Type 0 where
+  pub enabled : IsEnabled (features_in scope.features) scope.config.now.allowed_instructions instruction
+  pub trapless : IsTrue scope.config.now.disallow_traps → IsTrapless instruction
 
 -- the number of items that have an index (Structure, Indices)
 abbrev pub indexed : ℕ → ℕ
@@ -76,6 +86,7 @@ pub record IsScope (context : BodyContext) : Type 0 where
   pub globals : All (λ (global : GlobalType). IsValTypeValid context.features (length context.types) global.val_type) context.globals
   pub tables : All (λ (table : TableType). IsRefValid context table.element_type) context.tables
   pub tags : All (IsTagValid context.types) context.tags
+  pub memories : All (IsMemoryValid context.features) context.memories
   pub elements : All (IsRefValid context) context.elements
   pub locals : AreValid context context.locals
   pub results : AreValid context context.results

@@ -5,6 +5,7 @@ use Rattle.smith_bytes.specs.Draws.{choose_at, range_at}
 use Rattle.smith_types.specs.declared.value_type.ValType.{ValType}
 use Rattle.smith_types.specs.declared.value_type.ValType.TheVariants.{V128}
 use Rattle.smith_types.specs.declared.entity_type.MemoryType.{MemoryType}
+use Rattle.smith_config.specs.declared.config.Config.{Config}
 use Rattle.smith_draw.specs.Choices.{chosen_at}
 use Rattle.smith_instr.specs.Contexts.{BodyContext, address}
 use Rattle.smith_instr.specs.MemoryTypes.{vector_bytes}
@@ -56,10 +57,10 @@ vector_row_at wanted bytes = let row = choose_at (vector_rows wanted) bytes in v
 abbrev pub vector_load_node : VectorLoad → Access → Node
 vector_load_node op access = node_of (address access.wide ∷ []) (instr.VectorLoad op access.at) 0
 
-unfoldable pub vector_load_at : List MemoryType → List ℕ → Option Node × List ℕ
-vector_load_at memories bytes =
+unfoldable pub vector_load_at : Config → List MemoryType → List ℕ → Option Node × List ℕ
+vector_load_at config memories bytes =
     let op = chosen_at load.V128 vector_loads bytes in
-    accessing (vector_load_node op.0) (access_at memories (vector_bytes op.0) op.1)
+    accessing (vector_load_node op.0) (access_at config memories (vector_bytes op.0) op.1)
 
 -- a lane of bytes of this binary logarithm, and the access to a memory for it
 abbrev pub lane_in : ℕ → Option Access → List ℕ → Option LaneAccess × List ℕ
@@ -68,18 +69,18 @@ lane_in log2_bytes (Some access) bytes =
     let lane = range_at 0 (2 ^ (4 - log2_bytes) - 1) bytes in
     (Some (record { log2_bytes = log2_bytes; access = access; lane = lane.0 }), lane.1)
 
-unfoldable pub lane_access_at : List MemoryType → List ℕ → Option LaneAccess × List ℕ
-lane_access_at memories bytes =
+unfoldable pub lane_access_at : Config → List MemoryType → List ℕ → Option LaneAccess × List ℕ
+lane_access_at config memories bytes =
     let log2_bytes = range_at 0 3 bytes in
-    let access = access_at memories log2_bytes.0 log2_bytes.1 in
+    let access = access_at config memories log2_bytes.0 log2_bytes.1 in
     lane_in log2_bytes.0 access.0 access.1
 
 -- a load into a lane of a vector
 abbrev pub load_lane_node : LaneAccess → Node
 load_lane_node to = node_of (address to.access.wide ∷ V128 ∷ []) (instr.VectorLoadLane to.log2_bytes to.access.at to.lane) 0
 
-abbrev pub load_lane_at : List MemoryType → List ℕ → Option Node × List ℕ
-load_lane_at memories bytes = accessing load_lane_node (lane_access_at memories bytes)
+abbrev pub load_lane_at : Config → List MemoryType → List ℕ → Option Node × List ℕ
+load_lane_at config memories bytes = accessing load_lane_node (lane_access_at config memories bytes)
 
 -- the families of vectors; the number of times that each is listed is its weight
 abbrev pub vector_families : List VectorFamily
@@ -94,36 +95,36 @@ vector_families =
     family.LoadLane ∷
     []
 
-abbrev pub vector_of : List MemoryType → VectorFamily → List ℕ → Option Node × List ℕ
-vector_of memories family.Instr bytes = vector_row_at V128 bytes
-vector_of memories family.Load bytes = vector_load_at memories bytes
-vector_of memories family.LoadLane bytes = load_lane_at memories bytes
+abbrev pub vector_of : Config → List MemoryType → VectorFamily → List ℕ → Option Node × List ℕ
+vector_of config memories family.Instr bytes = vector_row_at V128 bytes
+vector_of config memories family.Load bytes = vector_load_at config memories bytes
+vector_of config memories family.LoadLane bytes = load_lane_at config memories bytes
 
 -- a vector
-unfoldable pub vector_choice_at : List MemoryType → List ℕ → Option Node × List ℕ
-vector_choice_at memories bytes = let drawn = chosen_at family.Instr vector_families bytes in vector_of memories drawn.0 drawn.1
+unfoldable pub vector_choice_at : Config → List MemoryType → List ℕ → Option Node × List ℕ
+vector_choice_at config memories bytes = let drawn = chosen_at family.Instr vector_families bytes in vector_of config memories drawn.0 drawn.1
 
 -- a vector, or a number that a vector instruction produces
-abbrev pub any_vector_at : List MemoryType → ValType → List ℕ → Option Node × List ℕ
-any_vector_at memories V128 bytes = vector_choice_at memories bytes
-any_vector_at memories wanted bytes = vector_row_at wanted bytes
+abbrev pub any_vector_at : Config → List MemoryType → ValType → List ℕ → Option Node × List ℕ
+any_vector_at config memories V128 bytes = vector_choice_at config memories bytes
+any_vector_at config memories wanted bytes = vector_row_at wanted bytes
 
 -- none without the feature
-unfoldable pub vector_at : BodyContext → ValType → List ℕ → Option Node × List ℕ
-vector_at context wanted bytes = if context.features.simd then any_vector_at context.memories wanted bytes else (None, bytes)
+unfoldable pub vector_at : Config → BodyContext → ValType → List ℕ → Option Node × List ℕ
+vector_at config context wanted bytes = if context.features.simd then any_vector_at config context.memories wanted bytes else (None, bytes)
 
 -- a store of a vector
 abbrev pub vector_store_node : Access → Node
 vector_store_node access = node_of (address access.wide ∷ V128 ∷ []) (instr.VectorStore access.at) 0
 
-unfoldable pub vector_store_at : BodyContext → List ℕ → Option Node × List ℕ
-vector_store_at context bytes =
-    if context.features.simd then accessing vector_store_node (access_at context.memories 4 bytes) else (None, bytes)
+unfoldable pub vector_store_at : Config → BodyContext → List ℕ → Option Node × List ℕ
+vector_store_at config context bytes =
+    if context.features.simd then accessing vector_store_node (access_at config context.memories 4 bytes) else (None, bytes)
 
 -- a store of a lane of a vector
 abbrev pub store_lane_node : LaneAccess → Node
 store_lane_node from = node_of (address from.access.wide ∷ V128 ∷ []) (instr.VectorStoreLane from.log2_bytes from.access.at from.lane) 0
 
-unfoldable pub store_lane_at : BodyContext → List ℕ → Option Node × List ℕ
-store_lane_at context bytes =
-    if context.features.simd then accessing store_lane_node (lane_access_at context.memories bytes) else (None, bytes)
+unfoldable pub store_lane_at : Config → BodyContext → List ℕ → Option Node × List ℕ
+store_lane_at config context bytes =
+    if context.features.simd then accessing store_lane_node (lane_access_at config context.memories bytes) else (None, bytes)

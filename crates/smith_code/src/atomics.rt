@@ -131,7 +131,7 @@ pub(crate) fn choose_atomic(
 ) -> Result<Option<Node>, Error>
     requires scope { IsScope (bare scope.now) }
     requires wanted { IsValid (bare scope.now) wanted }
-    ensures exact { IfOk result (λ chosen. atomic_at (where_stands scope.now draft.now) wanted u.old ≡ (chosen, u.new)) }
+    ensures exact { IfOk result (λ chosen. atomic_at scope.now.config.now (where_stands scope.now draft.now) wanted u.old ≡ (chosen, u.new)) }
     ensures offer { IsOffer (where_stands scope.now draft.now) draft.now.set.items (wanted ∷ []) result }
     ensures memory { IfErr result (λ e. e ≡ Error.Memory) }
     ensures left { KeepsPieces u.old u.new }
@@ -156,7 +156,7 @@ pub(crate) fn choose_atomic_store(
     u: &mut Unstructured<'_>,
 ) -> Result<Node, Error>
     requires scope { IsScope (bare scope.now) }
-    ensures exact { IfOk result (λ node. or_nop (atomic_store_at (where_stands scope.now draft.now) u.old) ≡ (node, u.new)) }
+    ensures exact { IfOk result (λ node. or_nop (atomic_store_at scope.now.config.now (where_stands scope.now draft.now) u.old) ≡ (node, u.new)) }
     ensures node { IfOk result (IsNode (where_stands scope.now draft.now) draft.now.set.items []) }
     ensures memory { IfErr result (λ e. e ≡ Error.Memory) }
     ensures left { KeepsPieces u.old u.new }

@@ -1,8 +1,11 @@
-ghost use Rattle.std.specs.Prelude.{◌≤◌, ◌<◌, ◌+◌, ◌*◌, All, length, IfOk};
+ghost use Rattle.std.specs.Prelude.{◌≤◌, ◌<◌, ◌+◌, ◌*◌, All, length, IfOk, IsTrue};
 ghost use Rattle.smith_draw.specs.Drawing.{Draws};
+ghost use Rattle.smith_types.specs.FeatureBits.{features_in};
+ghost use Rattle.smith_instr.specs.Enabled.{IsEnabled};
 ghost use Rattle.smith_instr.specs.Sequences.{IsBodyTyped};
 ghost use Rattle.smith_code.specs.Bodies.{body_at};
-ghost use Rattle.smith_code.specs.Scopes.{IsAllowedIn, IsScope, bare, most};
+ghost use Rattle.smith_code.specs.Scopes.{IsScope, bare, most};
+ghost use Rattle.smith_code.specs.Traps.{IsTrapless};
 
 use crate::drawn::draw_whole;
 use crate::scope::{Draft, Scope};
@@ -20,6 +23,10 @@ const DEPTH: u32 = 40;
 /// Most instructions take one unit of `fuel` each. Constants, reads of locals and globals, and
 /// references to functions take none. Without fuel the body is `unreachable`.
 ///
+/// With `disallow_traps` of the configuration, no instruction may trap but `unreachable`. Then it is
+/// drawn only without fuel, or for a value that no allowed instruction without operands produces,
+/// such as a reference that is not nullable.
+///
 /// # Errors
 ///
 /// `Memory` for lack of memory, and no other.
@@ -31,9 +38,10 @@ pub fn draw_body(
 ) -> Result<Items<Instr>, Error>
     requires scope { IsScope (bare scope.now) }
     ensures typed { IfOk result (IsBodyTyped (bare scope.now)) }
-    ensures allowed { IfOk result (All (IsAllowedIn scope.now)) }
+    ensures allowed { IfOk result (All (IsEnabled (features_in scope.now.features) scope.now.config.now.allowed_instructions)) }
+    ensures trapless { IsTrue scope.now.config.now.disallow_traps → IfOk result (All IsTrapless) }
     ensures short { IfOk result (λ body. length body ≤ 1 + length scope.now.results.now + most scope.now.types.now.types * fuel) }
-    ensures exact { Draws (body_at scope.now.kinds (bare scope.now) fuel u.old) result u.old u.new }
+    ensures exact { Draws (body_at scope.now.config.now (bare scope.now) fuel u.old) result u.old u.new }
 {
     if fuel == 0 {
         let mut body = Items::new(alloc);
@@ -52,9 +60,10 @@ fn draw_some(
     requires scope { IsScope (bare scope.now) }
     requires some { 0 < fuel }
     ensures typed { IfOk result (IsBodyTyped (bare scope.now)) }
-    ensures allowed { IfOk result (All (IsAllowedIn scope.now)) }
+    ensures allowed { IfOk result (All (IsEnabled (features_in scope.now.features) scope.now.config.now.allowed_instructions)) }
+    ensures trapless { IsTrue scope.now.config.now.disallow_traps → IfOk result (All IsTrapless) }
     ensures short { IfOk result (λ body. length body ≤ length scope.now.results.now + most scope.now.types.now.types * fuel) }
-    ensures exact { Draws (body_at scope.now.kinds (bare scope.now) fuel u.old) result u.old u.new }
+    ensures exact { Draws (body_at scope.now.config.now (bare scope.now) fuel u.old) result u.old u.new }
 {
     let mut labels = Vec::new(alloc);
     labels.push(Items::from_slice(alloc, scope.results)?)?;

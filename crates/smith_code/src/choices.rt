@@ -65,7 +65,7 @@ pub(crate) fn choose_allowed(
     requires scope { IsScope (bare scope.now) }
     requires labels { AreLabels scope.now draft.now.labels.items }
     requires wanted { IsValid (bare scope.now) wanted }
-    ensures exact { IfOk result (λ chosen. allowed_choice_at scope.now.kinds (where_stands scope.now draft.now) wanted u.old ≡ (chosen, u.new)) }
+    ensures exact { IfOk result (λ chosen. allowed_choice_at scope.now.config.now (where_stands scope.now draft.now) wanted u.old ≡ (chosen, u.new)) }
     ensures offer { IsOffer (where_stands scope.now draft.now) draft.now.set.items (wanted ∷ []) result }
     ensures allowed { IfOk result (λ chosen. IfSome chosen (IsNodeAllowed scope.now)) }
     ensures memory { IfErr result (λ e. e ≡ Error.Memory) }
@@ -93,7 +93,7 @@ fn choose_value(
     requires scope { IsScope (bare scope.now) }
     requires labels { AreLabels scope.now draft.now.labels.items }
     requires wanted { IsValid (bare scope.now) wanted }
-    ensures exact { IfOk result (λ chosen. value_choice_at (where_stands scope.now draft.now) wanted u.old ≡ (chosen, u.new)) }
+    ensures exact { IfOk result (λ chosen. value_choice_at scope.now.config.now (where_stands scope.now draft.now) wanted u.old ≡ (chosen, u.new)) }
     ensures offer { IsOffer (where_stands scope.now draft.now) draft.now.set.items (wanted ∷ []) result }
     ensures memory { IfErr result (λ e. e ≡ Error.Memory) }
     ensures left { KeepsPieces u.old u.new }
@@ -202,7 +202,7 @@ pub(crate) fn choose_statement(
 ) -> Result<Node, Error>
     requires scope { IsScope (bare scope.now) }
     requires labels { AreLabels scope.now draft.now.labels.items }
-    ensures exact { IfOk result (λ node. statement_choice_at (where_stands scope.now draft.now) u.old ≡ (node, u.new)) }
+    ensures exact { IfOk result (λ node. statement_choice_at scope.now.config.now (where_stands scope.now draft.now) u.old ≡ (node, u.new)) }
     ensures node { IfOk result (IsNode (where_stands scope.now draft.now) draft.now.set.items []) }
     ensures memory { IfErr result (λ e. e ≡ Error.Memory) }
     ensures left { KeepsPieces u.old u.new }

@@ -3,7 +3,16 @@ ghost use Rattle.smith_bytes.specs.Source.{KeepsPieces};
 ghost use Rattle.smith_instr.specs.Contexts.{IsValid};
 ghost use Rattle.smith_code.specs.Bodies.{leaf_in};
 ghost use Rattle.smith_code.specs.Drawn.{IsConstant, IsDrawn, IsLeaf, state_of};
-ghost use Rattle.smith_code.specs.Leaves.{any_leaf_at, constant_at, leaf_at, leaf_choice_at};
+ghost use Rattle.smith_code.specs.Leaves.{
+  any_leaf_at,
+  constant_at,
+  first_leaf,
+  first_of,
+  leaf_at,
+  leaf_choice_at,
+  leaf_of,
+  spare_leaf,
+};
 ghost use Rattle.smith_code.specs.Scopes.{IsAllowedIn, IsScope, bare, where_stands};
 
 use crate::families::{LeafFamily, leaf_families};
@@ -26,7 +35,7 @@ pub(crate) fn write_leaf(
 ) -> Result<(), Error>
     requires scope { IsScope (bare scope.now) }
     requires wanted { IsValid (bare scope.now) wanted }
-    ensures exact { OnOk result (leaf_in scope.now.kinds wanted (state_of scope.now draft.old u.old) ≡ state_of scope.now draft.new u.new) }
+    ensures exact { OnOk result (leaf_in scope.now.config.now wanted (state_of scope.now draft.old u.old) ≡ state_of scope.now draft.new u.new) }
     ensures drawn { OnOk result (IsDrawn scope.now [] (wanted ∷ []) 1 draft.old draft.new) }
     ensures memory { IfErr result (λ e. e ≡ Error.Memory) }
     ensures left { KeepsPieces u.old u.new }
@@ -36,11 +45,11 @@ pub(crate) fn write_leaf(
 }
 
 /// Draws an instruction that produces a value that matches `wanted`, without operands. Returns
-/// `unreachable` instead if it is not allowed.
+/// another instead if it is not allowed.
 fn draw_leaf(scope: &Scope<'_>, wanted: ValType, draft: &Draft, u: &mut Unstructured<'_>) -> Instr
     requires scope { IsScope (bare scope.now) }
     requires wanted { IsValid (bare scope.now) wanted }
-    ensures exact { leaf_at scope.now.kinds (where_stands scope.now draft.now) draft.now.set.items wanted u.old ≡ (result, u.new) }
+    ensures exact { leaf_at scope.now.config.now (where_stands scope.now draft.now) draft.now.set.items wanted u.old ≡ (result, u.new) }
     ensures typed { IsLeaf (where_stands scope.now draft.now) draft.now.set.items wanted result }
     ensures allowed { IsAllowedIn scope.now result }
     ensures left { KeepsPieces u.old u.new }
@@ -49,7 +58,65 @@ fn draw_leaf(scope: &Scope<'_>, wanted: ValType, draft: &Draft, u: &mut Unstruct
     if is_allowed(scope, &leaf) {
         return leaf;
     }
+    spare_leaf(scope, wanted, draft)
+}
+
+/// Returns `unreachable`. Returns the first allowed instruction instead if traps are disallowed.
+#[tactic(auto, unfolding(crate::specs::Leaves::spare_leaf))]
+fn spare_leaf(scope: &Scope<'_>, wanted: ValType, draft: &Draft) -> Instr
+    requires scope { IsScope (bare scope.now) }
+    requires wanted { IsValid (bare scope.now) wanted }
+    ensures exact { result ≡ spare_leaf scope.now.config.now (where_stands scope.now draft.now) draft.now.set.items wanted }
+    ensures typed { IsLeaf (where_stands scope.now draft.now) draft.now.set.items wanted result }
+    ensures allowed { IsAllowedIn scope.now result }
+{
+    if scope.config.disallow_traps {
+        return first_leaf(scope, wanted, draft);
+    }
     Instr::Unreachable
+}
+
+/// Returns the first allowed instruction that produces a value that matches `wanted`, without
+/// operands. Returns `unreachable` if there is none.
+#[tactic(auto, unfolding(crate::specs::Leaves::first_leaf))]
+fn first_leaf(scope: &Scope<'_>, wanted: ValType, draft: &Draft) -> Instr
+    requires scope { IsScope (bare scope.now) }
+    requires wanted { IsValid (bare scope.now) wanted }
+    ensures exact { result ≡ first_leaf scope.now.config.now (where_stands scope.now draft.now) draft.now.set.items wanted }
+    ensures typed { IsLeaf (where_stands scope.now draft.now) draft.now.set.items wanted result }
+    ensures allowed { IsAllowedIn scope.now result }
+{
+    if let Some(leaf) = first_of(scope, LeafFamily::Local, wanted, draft) {
+        return leaf;
+    }
+    if let Some(leaf) = first_of(scope, LeafFamily::Global, wanted, draft) {
+        return leaf;
+    }
+    if let Some(leaf) = first_of(scope, LeafFamily::Reference, wanted, draft) {
+        return leaf;
+    }
+    let mut nothing = Unstructured::new(&[]);
+    let constant = draw_constant(wanted, &mut nothing);
+    if is_allowed(scope, &constant) {
+        return constant;
+    }
+    Instr::Unreachable
+}
+
+/// Returns the first instruction of `family`, if it is allowed.
+fn first_of(scope: &Scope<'_>, family: LeafFamily, wanted: ValType, draft: &Draft) -> Option<Instr>
+    requires scope { IsScope (bare scope.now) }
+    requires wanted { IsValid (bare scope.now) wanted }
+    ensures exact { result ≡ first_of scope.now.config.now (where_stands scope.now draft.now) draft.now.set.items wanted family }
+    ensures typed { IfSome result (IsLeaf (where_stands scope.now draft.now) draft.now.set.items wanted) }
+    ensures allowed { IfSome result (IsAllowedIn scope.now) }
+{
+    let mut nothing = Unstructured::new(&[]);
+    let leaf = leaf_of(scope, family, wanted, draft, &mut nothing)?;
+    if is_allowed(scope, &leaf) {
+        return Some(leaf);
+    }
+    None
 }
 
 /// Draws a read of a set local, a read of a global, a reference to a function, or a constant.
@@ -85,7 +152,25 @@ fn choose_leaf(
     ensures typed { IfSome result (IsLeaf (where_stands scope.now draft.now) draft.now.set.items wanted) }
     ensures left { KeepsPieces u.old u.new }
 {
-    match choose(leaf_families(), u) {
+    let family = choose(leaf_families(), u);
+    leaf_of(scope, family, wanted, draft, u)
+}
+
+/// Chooses an instruction of `family`, if there is one.
+fn leaf_of(
+    scope: &Scope<'_>,
+    family: LeafFamily,
+    wanted: ValType,
+    draft: &Draft,
+    u: &mut Unstructured<'_>,
+) -> Option<Instr>
+    requires scope { IsScope (bare scope.now) }
+    requires wanted { IsValid (bare scope.now) wanted }
+    ensures exact { leaf_of (where_stands scope.now draft.now) draft.now.set.items wanted family u.old ≡ (result, u.new) }
+    ensures typed { IfSome result (IsLeaf (where_stands scope.now draft.now) draft.now.set.items wanted) }
+    ensures left { KeepsPieces u.old u.new }
+{
+    match family {
         LeafFamily::Local => {
             let index = choose_set_local(scope, wanted, draft, u)?;
             Some(Instr::LocalGet(index))

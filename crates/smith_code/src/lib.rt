@@ -37,6 +37,7 @@ mod scope;
 mod tables;
 mod tail_calls;
 mod throws;
+mod traps;
 mod try_tables;
 mod vector_memory;
 mod vector_rows;

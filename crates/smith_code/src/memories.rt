@@ -1,12 +1,13 @@
-ghost use Rattle.std.specs.Prelude.{◌≡◌, Some, false, true, ◌<◌, ◌≤◌, ◌^◌, if◌then◌else◌, [], ◌∷◌, length, IfOk, IfErr, IfSome};
-ghost use Rattle.smith_bytes.specs.Draws.{choose_at, whole_at};
+ghost use Rattle.std.specs.Prelude.{◌≡◌, Some, false, true, ◌<◌, ◌≤◌, ◌-◌, [], ◌∷◌, length, IfOk, IfErr, IfSome};
+ghost use Rattle.smith_bytes.specs.Draws.{choose_at};
 ghost use Rattle.smith_bytes.specs.Source.{KeepsPieces};
+ghost use Rattle.smith_types.specs.Entities.{addresses, page_log2};
 ghost use Rattle.smith_instr.specs.Contexts.{IsValid, address};
 ghost use Rattle.smith_instr.specs.MemoryTypes.{IsAccess, stored};
 ghost use Rattle.smith_instr.specs.ReferenceTypes.{narrower};
 ghost use Rattle.smith_code.specs.Choices.{growth_node, load_at, memory_at, or_nop, store_at, store_node};
 ghost use Rattle.smith_code.specs.Chosen.{giving};
-ghost use Rattle.smith_code.specs.Accesses.{access_at};
+ghost use Rattle.smith_code.specs.Accesses.{access_at, bytes_of, most_bytes, offset_at, place_at};
 ghost use Rattle.smith_code.specs.Nodes.{IsNode, IsOffer};
 ghost use Rattle.smith_code.specs.Offered.{is_address, is_addressed, offered};
 ghost use Rattle.smith_code.specs.Rows.{loads_of, stores};
@@ -16,8 +17,9 @@ use crate::node::{Node, plain};
 use crate::offer::{Offer, choose_offered};
 use crate::scope::{Draft, Scope, indexed};
 use smith_bytes::{Error, Unstructured};
+use smith_config::MemoryOffsetChoices;
 use smith_instr::{Instr, Load, MemArg, MemoryInstr, Store};
-use smith_types::ValType;
+use smith_types::{MemoryType, ValType};
 use std::alloc::Global;
 
 /// Lists the loads that produce a value of the type `wanted`.
@@ -78,7 +80,7 @@ pub(crate) fn draw_access(
     u: &mut Unstructured<'_>,
 ) -> Option<Access>
     requires scope { IsScope (bare scope.now) }
-    ensures exact { access_at scope.now.memories.now log2_bytes u.old ≡ (result, u.new) }
+    ensures exact { access_at scope.now.config.now scope.now.memories.now log2_bytes u.old ≡ (result, u.new) }
     ensures access { IfSome result (λ access. IsAccess scope.now.memories.now access.at access.wide) }
     ensures aligned { IfSome result (λ access. access.at.align ≤ log2_bytes) }
     ensures left { KeepsPieces u.old u.new }
@@ -89,29 +91,88 @@ pub(crate) fn draw_access(
     }
     let index = u.int_in_range(0..=count - 1);
     let align = u.int_in_range(0..=log2_bytes);
-    let wide = scope.memories[index].memory64;
-    let offset = draw_offset(wide, u);
-    let memory = index as u32;
+    let memory = scope.memories[index];
+    let offset = draw_offset(scope.config.memory_offset_choices, memory, u);
     Some(Access {
         at: MemArg {
             align,
             offset,
-            memory,
+            memory: index as u32,
         },
-        wide,
+        wide: memory.memory64,
     })
 }
 
-fn draw_offset(wide: bool, u: &mut Unstructured<'_>) -> u64
-    ensures exact { whole_at (if wide then 8 else 4) u.old ≡ (result, u.new) }
-    ensures offset { result < (if wide then 2 ^ 64 else 2 ^ 32) }
+/// Draws an offset of `memory` by the weights `choices`: below the least number of its bytes, from
+/// there to the greatest, or past it.
+#[tactic(auto, unfolding(crate::specs::Accesses::offset_at))]
+fn draw_offset(choices: MemoryOffsetChoices, memory: MemoryType, u: &mut Unstructured<'_>) -> u64
+    requires { page_log2 memory.page_size_log2 ≤ 16 }
+    ensures exact { offset_at choices memory u.old ≡ (result, u.new) }
+    ensures offset { result ≤ addresses memory.memory64 - 1 }
     ensures left { KeepsPieces u.old u.new }
 {
-    if wide {
-        return u.arbitrary();
+    let below = u64::from(choices.0);
+    let between = below + u64::from(choices.1);
+    let all = between + u64::from(choices.2);
+    let drawn = u.int_in_range(0..=all.saturating_sub(1));
+    if drawn < below {
+        return draw_place(memory, 0, bytes_of(memory, memory.minimum), u);
     }
-    let offset: u32 = u.arbitrary();
-    offset as u64
+    let most = most_bytes(memory);
+    if drawn < between {
+        return draw_place(memory, bytes_of(memory, memory.minimum), most, u);
+    }
+    draw_place(memory, most, addresses(memory), u)
+}
+
+/// Draws an address of `memory` from `first` on and before `end`. The address is `first` if `end` is
+/// not past it, and at most the last address.
+#[tactic(auto, unfolding(crate::specs::Accesses::place_at))]
+fn draw_place(memory: MemoryType, first: u128, end: u128, u: &mut Unstructured<'_>) -> u64
+    ensures exact { place_at memory first end u.old ≡ (result, u.new) }
+    ensures offset { result ≤ addresses memory.memory64 - 1 }
+    ensures left { KeepsPieces u.old u.new }
+{
+    let last = last_address(memory);
+    let first = first.min(u128::from(last)) as u64;
+    let end = end.saturating_sub(1).min(u128::from(last)) as u64;
+    u.int_in_range(first..=first.max(end))
+}
+
+/// Returns the greatest number of bytes of `memory`.
+fn most_bytes(memory: MemoryType) -> u128
+    requires { page_log2 memory.page_size_log2 ≤ 16 }
+    ensures { result ≡ most_bytes memory }
+{
+    match memory.maximum {
+        Some(pages) => bytes_of(memory, pages),
+        None => addresses(memory),
+    }
+}
+
+/// Returns the number of bytes of `pages` of `memory`.
+fn bytes_of(memory: MemoryType, pages: u64) -> u128
+    requires { page_log2 memory.page_size_log2 ≤ 16 }
+    ensures { result ≡ bytes_of memory pages }
+{
+    u128::from(pages) * (1 << memory.page_size_log2.unwrap_or(16))
+}
+
+fn addresses(memory: MemoryType) -> u128
+    ensures { result ≡ addresses memory.memory64 }
+{
+    if memory.memory64 { 1 << 64 } else { 1 << 32 }
+}
+
+fn last_address(memory: MemoryType) -> u64
+    ensures { result ≡ addresses memory.memory64 - 1 }
+{
+    if memory.memory64 {
+        u64::MAX
+    } else {
+        u64::from(u32::MAX)
+    }
 }
 
 /// Returns the type of the addresses of a memory or a table: of 64 bits if `wide` is set, else of
@@ -190,7 +251,7 @@ pub(crate) fn choose_load(
 ) -> Result<Option<Node>, Error>
     requires scope { IsScope (bare scope.now) }
     requires wanted { IsValid (bare scope.now) wanted }
-    ensures exact { IfOk result (λ chosen. load_at (where_stands scope.now draft.now) wanted u.old ≡ (chosen, u.new)) }
+    ensures exact { IfOk result (λ chosen. load_at scope.now.config.now (where_stands scope.now draft.now) wanted u.old ≡ (chosen, u.new)) }
     ensures offer { IsOffer (where_stands scope.now draft.now) draft.now.set.items (wanted ∷ []) result }
     ensures memory { IfErr result (λ e. e ≡ Error.Memory) }
     ensures left { KeepsPieces u.old u.new }
@@ -220,7 +281,7 @@ pub(crate) fn choose_store(
     u: &mut Unstructured<'_>,
 ) -> Result<Node, Error>
     requires scope { IsScope (bare scope.now) }
-    ensures exact { IfOk result (λ node. or_nop (store_at (where_stands scope.now draft.now) u.old) ≡ (node, u.new)) }
+    ensures exact { IfOk result (λ node. or_nop (store_at scope.now.config.now (where_stands scope.now draft.now) u.old) ≡ (node, u.new)) }
     ensures node { IfOk result (IsNode (where_stands scope.now draft.now) draft.now.set.items []) }
     ensures memory { IfErr result (λ e. e ≡ Error.Memory) }
     ensures left { KeepsPieces u.old u.new }
@@ -237,7 +298,7 @@ fn store_of(
     u: &mut Unstructured<'_>,
 ) -> Result<Node, Error>
     requires scope { IsScope (bare scope.now) }
-    ensures exact { IfOk result (λ node. or_nop (giving (store_node op) (access_at (where_stands scope.now draft.now).memories (stored op).1 u.old)) ≡ (node, u.new)) }
+    ensures exact { IfOk result (λ node. or_nop (giving (store_node op) (access_at scope.now.config.now (where_stands scope.now draft.now).memories (stored op).1 u.old)) ≡ (node, u.new)) }
     ensures node { IfOk result (IsNode (where_stands scope.now draft.now) draft.now.set.items []) }
     ensures memory { IfErr result (λ e. e ≡ Error.Memory) }
     ensures left { KeepsPieces u.old u.new }

@@ -2,10 +2,9 @@ ghost use Rattle.std.specs.Prelude.{◌≡◌, ◌<◌, List, length, ◌∷◌,
 ghost use Rattle.smith_types.specs.FeatureBits.{features_in};
 ghost use Rattle.smith_types.specs.declared.value_type.ValType.{ValType as Val};
 ghost use Rattle.smith_types.specs.declared.value_type.ValType.TheVariants.{I32};
-ghost use Rattle.smith_instr.specs.Enabled.{is_enabled};
 ghost use Rattle.smith_instr.specs.declared.control.Catch.{Catch as Clause};
 ghost use Rattle.smith_instr.specs.declared.instr.Instr.TheVariants as instr;
-ghost use Rattle.smith_code.specs.Scopes.{IsAllowedIn};
+ghost use Rattle.smith_code.specs.Scopes.{IsAllowedIn, is_permitted};
 ghost use Rattle.smith_code.specs.Nodes.{
   IsHeadAllowed,
   IsNodeAllowed,
@@ -22,6 +21,7 @@ ghost use Rattle.smith_code.specs.Nodes.{
 };
 
 use crate::scope::Scope;
+use crate::traps::may_trap;
 use smith_bytes::Error;
 use smith_instr::{BlockType, Catch, Instr};
 use smith_types::{Items, ValType};
@@ -233,7 +233,7 @@ fn fitting(opening: Option<Opening>, sides: &Sides) -> Option<Opening>
 
 /// Whether the instructions of `node`, except its operands, are allowed in `scope`.
 pub(crate) fn is_node_allowed(scope: &Scope<'_>, node: &Node) -> bool
-    ensures exact { result ≡ is_node_allowed (features_in scope.now.features) scope.now.kinds node.now }
+    ensures exact { result ≡ is_node_allowed (features_in scope.now.features) scope.now.config.now node.now }
     ensures allowed { IsTrue result → IsNodeAllowed scope.now node.now }
 {
     if !is_head_allowed(scope, &node.head) {
@@ -243,7 +243,7 @@ pub(crate) fn is_node_allowed(scope: &Scope<'_>, node: &Node) -> bool
 }
 
 fn is_head_allowed(scope: &Scope<'_>, head: &Head) -> bool
-    ensures exact { result ≡ is_head_allowed (features_in scope.now.features) scope.now.kinds head.now }
+    ensures exact { result ≡ is_head_allowed (features_in scope.now.features) scope.now.config.now head.now }
     ensures allowed { IsTrue result → IsHeadAllowed scope.now head.now }
 {
     match head {
@@ -262,20 +262,20 @@ fn is_head_allowed(scope: &Scope<'_>, head: &Head) -> bool
     }
 }
 
-/// Whether a `try_table` of the type `ty` is allowed in `scope`: where `throw_ref` is, and a
-/// `block` of that type.
+/// Whether a `try_table` of the type `ty` is allowed in `scope`: where `throw` is, and a `block`
+/// of that type.
 fn is_try_allowed(scope: &Scope<'_>, ty: BlockType, sides: &Sides) -> bool
-    ensures exact { (clauses : List Clause) → result ≡ (is_enabled (features_in scope.now.features) scope.now.kinds (instr.TryTable ty clauses) && is_drop_allowed (features_in scope.now.features) scope.now.kinds (length sides.now.params)) }
+    ensures exact { (clauses : List Clause) → result ≡ (is_permitted (features_in scope.now.features) scope.now.config.now (instr.TryTable ty clauses) && is_drop_allowed (features_in scope.now.features) scope.now.config.now (length sides.now.params)) }
     ensures drops { IsTrue result → 0 < length sides.now.params → IsAllowedIn scope.now instr.Drop }
 {
-    if !is_allowed(scope, &Instr::ThrowRef) {
+    if !is_allowed(scope, &Instr::Throw(0)) {
         return false;
     }
     is_block_allowed(scope, &Instr::Block(ty), sides)
 }
 
 fn is_block_allowed(scope: &Scope<'_>, opening: &Instr, sides: &Sides) -> bool
-    ensures exact { result ≡ (is_enabled (features_in scope.now.features) scope.now.kinds opening.now && is_drop_allowed (features_in scope.now.features) scope.now.kinds (length sides.now.params)) }
+    ensures exact { result ≡ (is_permitted (features_in scope.now.features) scope.now.config.now opening.now && is_drop_allowed (features_in scope.now.features) scope.now.config.now (length sides.now.params)) }
     ensures opening { IsTrue result → IsAllowedIn scope.now opening.now }
     ensures drops { IsTrue result → 0 < length sides.now.params → IsAllowedIn scope.now instr.Drop }
 {
@@ -285,9 +285,15 @@ fn is_block_allowed(scope: &Scope<'_>, opening: &Instr, sides: &Sides) -> bool
     sides.params.is_empty() || is_allowed(scope, &Instr::Drop)
 }
 
-/// Whether `instruction` is allowed in `scope`.
+/// Whether `instruction` may be chosen in `scope`: it is enabled, and with `disallow_traps` it does
+/// not trap.
+#[tactic(auto, unfolding(crate::specs::Scopes::is_permitted))]
 pub(crate) fn is_allowed(scope: &Scope<'_>, instruction: &Instr) -> bool
-    ensures { result ≡ is_enabled (features_in scope.now.features) scope.now.kinds instruction.now }
+    ensures exact { result ≡ is_permitted (features_in scope.now.features) scope.now.config.now instruction.now }
+    ensures allowed { IsTrue result → IsAllowedIn scope.now instruction.now }
 {
-    instruction.is_enabled(scope.features, scope.kinds)
+    if !instruction.is_enabled(scope.features, scope.config.allowed_instructions) {
+        return false;
+    }
+    !scope.config.disallow_traps || !may_trap(instruction)
 }

@@ -1,10 +1,10 @@
 ghost use Rattle.std.specs.Prelude.{◌≡◌};
 ghost use Rattle.smith_code.specs.Scopes.{indexed};
 
+use smith_config::Config;
 use smith_instr::Instr;
 use smith_types::{
-    GlobalType, InstructionKinds, Items, MemoryType, RefType, TableType, TypeSpace, ValType,
-    WasmFeatures,
+    GlobalType, Items, MemoryType, RefType, TableType, TypeSpace, ValType, WasmFeatures,
 };
 
 /// Context of a body without its labels: the standard's section Validation, Contexts. Imported
@@ -13,8 +13,9 @@ use smith_types::{
 pub struct Scope<'a> {
     /// The features that are on.
     pub features: WasmFeatures,
-    /// The kinds of instructions that are allowed.
-    pub kinds: InstructionKinds,
+    /// The configuration, which says the kinds of instructions that are allowed, whether they may
+    /// trap, and where accesses to memories lie.
+    pub config: &'a Config,
     /// The types.
     pub types: &'a TypeSpace,
     /// The index of the type of each function.

@@ -33,7 +33,7 @@ pub(crate) fn choose_vector_load(
 ) -> Result<Option<Node>, Error>
     requires scope { IsScope (bare scope.now) }
     requires simd { IsTrue (bare scope.now).features.simd }
-    ensures exact { IfOk result (λ chosen. vector_load_at scope.now.memories.now u.old ≡ (chosen, u.new)) }
+    ensures exact { IfOk result (λ chosen. vector_load_at scope.now.config.now scope.now.memories.now u.old ≡ (chosen, u.new)) }
     ensures offer { IsOffer (where_stands scope.now draft.now) draft.now.set.items (V128 ∷ []) result }
     ensures memory { IfErr result (λ e. e ≡ Error.Memory) }
     ensures left { KeepsPieces u.old u.new }
@@ -73,7 +73,7 @@ struct LaneAccess {
 /// Draws a lane, and an access to one of the memories for it. Returns none if there is no memory.
 fn draw_lane_access(scope: &Scope<'_>, u: &mut Unstructured<'_>) -> Option<LaneAccess>
     requires scope { IsScope (bare scope.now) }
-    ensures exact { lane_access_at scope.now.memories.now u.old ≡ (result, u.new) }
+    ensures exact { lane_access_at scope.now.config.now scope.now.memories.now u.old ≡ (result, u.new) }
     ensures access { IfSome result (λ to. IsAccess scope.now.memories.now to.access.at to.access.wide) }
     ensures aligned { IfSome result (λ to. to.access.at.align ≤ to.log2_bytes) }
     ensures lane { IfSome result (λ to. IsLane to.log2_bytes to.lane) }
@@ -111,7 +111,7 @@ pub(crate) fn choose_load_lane(
 ) -> Result<Option<Node>, Error>
     requires scope { IsScope (bare scope.now) }
     requires simd { IsTrue (bare scope.now).features.simd }
-    ensures exact { IfOk result (λ chosen. load_lane_at scope.now.memories.now u.old ≡ (chosen, u.new)) }
+    ensures exact { IfOk result (λ chosen. load_lane_at scope.now.config.now scope.now.memories.now u.old ≡ (chosen, u.new)) }
     ensures offer { IsOffer (where_stands scope.now draft.now) draft.now.set.items (V128 ∷ []) result }
     ensures memory { IfErr result (λ e. e ≡ Error.Memory) }
     ensures left { KeepsPieces u.old u.new }
@@ -137,7 +137,7 @@ pub(crate) fn choose_vector_store(
     u: &mut Unstructured<'_>,
 ) -> Result<Node, Error>
     requires scope { IsScope (bare scope.now) }
-    ensures exact { IfOk result (λ node. or_nop (vector_store_at (where_stands scope.now draft.now) u.old) ≡ (node, u.new)) }
+    ensures exact { IfOk result (λ node. or_nop (vector_store_at scope.now.config.now (where_stands scope.now draft.now) u.old) ≡ (node, u.new)) }
     ensures node { IfOk result (IsNode (where_stands scope.now draft.now) draft.now.set.items []) }
     ensures memory { IfErr result (λ e. e ≡ Error.Memory) }
     ensures left { KeepsPieces u.old u.new }
@@ -160,7 +160,7 @@ pub(crate) fn choose_store_lane(
     u: &mut Unstructured<'_>,
 ) -> Result<Node, Error>
     requires scope { IsScope (bare scope.now) }
-    ensures exact { IfOk result (λ node. or_nop (store_lane_at (where_stands scope.now draft.now) u.old) ≡ (node, u.new)) }
+    ensures exact { IfOk result (λ node. or_nop (store_lane_at scope.now.config.now (where_stands scope.now draft.now) u.old) ≡ (node, u.new)) }
     ensures node { IfOk result (IsNode (where_stands scope.now draft.now) draft.now.set.items []) }
     ensures memory { IfErr result (λ e. e ≡ Error.Memory) }
     ensures left { KeepsPieces u.old u.new }

@@ -37,7 +37,7 @@ pub(crate) fn choose_vector(
 ) -> Result<Option<Node>, Error>
     requires scope { IsScope (bare scope.now) }
     requires wanted { IsValid (bare scope.now) wanted }
-    ensures exact { IfOk result (λ chosen. vector_at (where_stands scope.now draft.now) wanted u.old ≡ (chosen, u.new)) }
+    ensures exact { IfOk result (λ chosen. vector_at scope.now.config.now (where_stands scope.now draft.now) wanted u.old ≡ (chosen, u.new)) }
     ensures offer { IsOffer (where_stands scope.now draft.now) draft.now.set.items (wanted ∷ []) result }
     ensures memory { IfErr result (λ e. e ≡ Error.Memory) }
     ensures left { KeepsPieces u.old u.new }
@@ -65,7 +65,7 @@ fn choose_any_vector(
     requires scope { IsScope (bare scope.now) }
     requires simd { IsTrue (bare scope.now).features.simd }
     requires wanted { IsValid (bare scope.now) wanted }
-    ensures exact { IfOk result (λ chosen. any_vector_at scope.now.memories.now wanted u.old ≡ (chosen, u.new)) }
+    ensures exact { IfOk result (λ chosen. any_vector_at scope.now.config.now scope.now.memories.now wanted u.old ≡ (chosen, u.new)) }
     ensures offer { IsOffer (where_stands scope.now draft.now) draft.now.set.items (wanted ∷ []) result }
     ensures memory { IfErr result (λ e. e ≡ Error.Memory) }
     ensures left { KeepsPieces u.old u.new }
@@ -84,7 +84,7 @@ fn choose_vector_value(
 ) -> Result<Option<Node>, Error>
     requires scope { IsScope (bare scope.now) }
     requires simd { IsTrue (bare scope.now).features.simd }
-    ensures exact { IfOk result (λ chosen. vector_choice_at scope.now.memories.now u.old ≡ (chosen, u.new)) }
+    ensures exact { IfOk result (λ chosen. vector_choice_at scope.now.config.now scope.now.memories.now u.old ≡ (chosen, u.new)) }
     ensures offer { IsOffer (where_stands scope.now draft.now) draft.now.set.items (V128 ∷ []) result }
     ensures memory { IfErr result (λ e. e ≡ Error.Memory) }
     ensures left { KeepsPieces u.old u.new }

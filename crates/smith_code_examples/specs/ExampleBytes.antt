@@ -1,14 +1,24 @@
--- Bytes that the examples speak of, and contexts of functions that give values.
-use Rattle.std.specs.Prelude.{ℕ, false, List, [], ◌∷◌, ◌++◌, pos}
+-- Bytes, configurations and contexts that the examples speak of.
+use Rattle.std.specs.Prelude.{ℕ, false, true, List, [], ◌∷◌, ◌++◌, pos}
 use Rattle.smith_types.specs.ExampleFeatures.{usual_features}
 use Rattle.smith_types.specs.ExampleTypes.{final_type}
 use Rattle.smith_types.specs.declared.value_type.ValType.{ValType}
 use Rattle.smith_types.specs.declared.value_type.ValType.TheVariants.{I32, I64}
 use Rattle.smith_types.specs.declared.composite_type.CompositeInnerType.TheVariants.{Func}
+use Rattle.smith_types.specs.declared.instruction_kind.InstructionKinds.{InstructionKinds}
+use Rattle.smith_config.specs.Config.{default_config}
+use Rattle.smith_config.specs.declared.config.Config.{Config}
 use Rattle.smith_instr.specs.Contexts.{BodyContext}
 use Rattle.smith_instr.specs.declared.instr.Instr.{Instr}
 use Rattle.smith_instr.specs.declared.instr.Instr.TheVariants as instr
 use Rattle.smith_instr_examples.specs.ExampleBodies.{function_of}
+
+-- the default configuration with these kinds of instructions, and without traps
+abbrev pub of_kinds : InstructionKinds → Config
+of_kinds kinds = record default_config { allowed_instructions = kinds }
+
+abbrev pub trapless : Config
+trapless = record default_config { disallow_traps = true }
 
 -- what gives an i32 constant where an instruction without operands is drawn
 abbrev pub narrow : ℕ → List ℕ

@@ -68,7 +68,7 @@ raw_drawn m place given raw bytes read is code at =
     ap (λ (i : Instructions). unless_raw m place code i bytes) is'
 
 function_drawn : (m : Parts) (place : ℕ) (code : Code) (instructions : Instructions) (function : FuncType) (drawn : List Instr) (bytes left : List ℕ) → ¬ IsRaw instructions → defined_at m place ≡ Some function
-    → body_at m.config.allowed_instructions (function_context m function code.locals) m.config.max_instructions bytes ≡ (drawn, left) → unless_raw m place code instructions bytes ≡ (body.Drawn drawn, left)
+    → body_at m.config (function_context m function code.locals) m.config.max_instructions bytes ≡ (drawn, left) → unless_raw m place code instructions bytes ≡ (body.Drawn drawn, left)
 function_drawn m place code (Arbitrary raw) function drawn bytes left not_raw there exact = absurd (not_raw tt)
 function_drawn m place code Unreachable function drawn bytes left not_raw there exact = rw (there, exact) refl
 
@@ -76,7 +76,7 @@ defined_there : (m : Parts) (place : ℕ) (function : FuncType) → HasDefinedTy
 defined_there m place function (index, here, (t, at, is)) = rw (here, at, is) refl
 
 pub instructions_drawn : (m : Parts) (place : ℕ) (given : Code) (function : FuncType) (drawn : List Instr) (bytes left : List ℕ) → given ≡ get_or m.code place given → ¬ IsRaw given.instructions → HasDefinedType m place function
-    → body_at m.config.allowed_instructions (function_context m function given.locals) m.config.max_instructions bytes ≡ (drawn, left) → (code : Code) → slice_get m.code place ≡ Some code → one_at m place code bytes ≡ (body.Drawn drawn, left)
+    → body_at m.config (function_context m function given.locals) m.config.max_instructions bytes ≡ (drawn, left) → (code : Code) → slice_get m.code place ≡ Some code → one_at m place code bytes ≡ (body.Drawn drawn, left)
 unfolding one_at
 instructions_drawn m place given function drawn bytes left read not_raw there exact code at =
     let same : given ≡ code = read ∙ get_or_from_slice_get m.code place code given at in

@@ -1,6 +1,6 @@
 -- What bodies of a valid module may refer to.
 use Rattle.std.proofs.Common.{◌≡◌, ℕ, ◌+◌, ◌*◌, ◌<◌, ◌≤◌, List, [], ◌∷◌, ◌++◌, Some, length, length-append, get_or, refl, subst, ap, ◌∙◌, arith}
-use Rattle.std.specs.Prelude.{All, slice_get}
+use Rattle.std.specs.Prelude.{All, IsTrue, slice_get}
 use Rattle.std.specs.List.{AllByRecursion as Each}
 use Rattle.std.specs.declared.ops.Range.{Range}
 use Rattle.std.proofs.lemmas.List.Elements.{All-append, All-from_recursion, All-map, recursion_from_All, All-weaker}
@@ -30,6 +30,7 @@ use Rattle.smith_instr.specs.Enabled.{IsEnabled}
 use Rattle.smith_instr.specs.Sequences.{IsBodyTyped}
 use Rattle.smith_instr.specs.declared.instr.Instr.{Instr}
 use Rattle.smith_code.specs.Scopes.{most, IsScope}
+use Rattle.smith_code.specs.Traps.{IsTrapless}
 use Rattle.smith_program.specs.Bodies.{HasDefinedType, IsDrawnAt, function_context}
 use Rattle.smith_code.proofs.NodeLemmas.{func_wide}
 
@@ -76,6 +77,7 @@ module_scope m valid index function there locals locals_valid =
       globals = All-weaker (IsGlobalValid features m.types) (λ (global : GlobalType). P global.val_type) (λ (global : GlobalType) (h : IsGlobalValid features m.types global). h.value) m.globals valid.entities.globals;
       tables = All-weaker (IsTableValid features m.types) (λ (table : TableType). R table.element_type) (λ (table : TableType) (h : IsTableValid features m.types table). h.element) m.tables valid.entities.tables;
       tags = valid.entities.tags;
+      memories = valid.entities.memories;
       elements = All-map R (λ (segment : ElementSegment). segment.ty) m.elems
           (All-weaker (IsElementValid (segment_context m) m.tables) (λ (segment : ElementSegment). R segment.ty) (λ (segment : ElementSegment) (h : IsElementValid (segment_context m) m.tables segment). h.ty) m.elems valid.elements);
       locals = All-append P function.params locals params locals_valid;
@@ -129,10 +131,10 @@ not_raw (Arbitrary bytes) other = λ raw. other bytes refl
 
 -- a body that was drawn for the function that was read
 pub drawn_at : (m : Parts) (place : ℕ) (given : Code) (function : FuncType) (instructions : List Instr) → given ≡ get_or m.code place given → ¬ IsRaw given.instructions → HasDefinedType m place function
-    → IsBodyTyped (function_context m function given.locals) instructions → All (IsEnabled (module_features m) m.config.allowed_instructions) instructions
+    → IsBodyTyped (function_context m function given.locals) instructions → All (IsEnabled (module_features m) m.config.allowed_instructions) instructions → (IsTrue m.config.disallow_traps → All IsTrapless instructions)
     → length instructions ≤ 1 + length function.results + most m.types * m.config.max_instructions
     → (code : Code) → slice_get m.code place ≡ Some code → (¬ IsRaw code.instructions) × IsDrawnAt m place code instructions
-drawn_at m place given function instructions read drawn there typed enabled short code at =
+drawn_at m place given function instructions read drawn there typed enabled trapless short code at =
     let same : given ≡ code = read ∙ get_or_from_slice_get m.code place code given at in
     subst (λ (code : Code). (¬ IsRaw code.instructions) × IsDrawnAt m place code instructions) same
-    (drawn, record { body = record { function = function; there = there; typed = typed }; enabled = enabled; short = short })
+    (drawn, record { body = record { function = function; there = there; typed = typed }; enabled = enabled; trapless = trapless; short = short })

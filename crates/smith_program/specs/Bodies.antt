@@ -1,6 +1,6 @@
 -- Bodies of the functions of a module: the section Validation, Functions, of the WebAssembly Core
 -- Specification 3.0.
-use Rattle.std.specs.Prelude.{◌≡◌, ℕ, ◌+◌, ◌*◌, ◌≤◌, Some, List, [], ◌++◌, map, length, slice_get, All}
+use Rattle.std.specs.Prelude.{◌≡◌, ℕ, ◌+◌, ◌*◌, ◌≤◌, Some, List, [], ◌++◌, map, length, slice_get, All, IsTrue}
 use Rattle.smith_types.specs.Entities.{IsFuncAt}
 use Rattle.smith_types.specs.declared.code.Code.{Code}
 use Rattle.smith_types.specs.declared.composite_type.FuncType.{FuncType}
@@ -13,6 +13,7 @@ use Rattle.smith_instr.specs.Enabled.{IsEnabled}
 use Rattle.smith_instr.specs.Sequences.{IsBodyTyped}
 use Rattle.smith_instr.specs.declared.instr.Instr.{Instr}
 use Rattle.smith_code.specs.Scopes.{most}
+use Rattle.smith_code.specs.Traps.{IsTrapless}
 use Rattle.smith_program.specs.References.{references_of}
 use Rattle.smith_program.specs.declared.program.Body.{Body}
 use Rattle.smith_program.specs.declared.program.Body.TheVariants as body
@@ -48,11 +49,12 @@ pub record IsBodyAt (m : Parts) (place : ℕ) (code : Code) (instructions : List
   pub there : HasDefinedType m place function
   pub typed : IsBodyTyped (function_context m function code.locals) instructions
 
--- the same for instructions that are all enabled, and not more than the fuel of a body allows (own
--- rules)
+-- the same for instructions that are all enabled, not more than the fuel of a body allows, and with
+-- `disallow_traps` all without traps but `unreachable` (own rules)
 pub record IsDrawnAt (m : Parts) (place : ℕ) (code : Code) (instructions : List Instr) : Type 0 where
   pub body : IsBodyAt m place code instructions
   pub enabled : All (IsEnabled (module_features m) m.config.allowed_instructions) instructions
+  pub trapless : IsTrue m.config.disallow_traps → All IsTrapless instructions
   pub short : length instructions ≤ 1 + length body.function.results + most m.types * m.config.max_instructions
 
 -- a body whose instructions have a property, or raw bytes, which are kept (own rule)

@@ -18,7 +18,7 @@ defined_at m place = function_in m.types (slice_get m.funcs (length (module_impo
 -- the body of a function of this type
 abbrev pub body_of : Parts → Code → Option FuncType → List ℕ → Body × List ℕ
 body_of m code (Some function) bytes =
-    let drawn = body_at m.config.allowed_instructions (function_context m function code.locals) m.config.max_instructions bytes in
+    let drawn = body_at m.config (function_context m function code.locals) m.config.max_instructions bytes in
     (body.Drawn drawn.0, drawn.1)
 body_of m code None bytes = (body.Raw, bytes)
 

@@ -1,4 +1,4 @@
-ghost use Rattle.std.specs.Prelude.{◌≡◌, ◌<◌, ◌≤◌, ◌+◌, ◌*◌, ◌++◌, ℕ, All, IfOk, IfErr, Some, length, slice_get};
+ghost use Rattle.std.specs.Prelude.{◌≡◌, ◌<◌, ◌≤◌, ◌+◌, ◌*◌, ◌++◌, ℕ, All, IfOk, IfErr, IsTrue, Some, length, slice_get};
 ghost use Rattle.smith_bytes.specs.Source.{KeepsPieces};
 ghost use Rattle.smith_types.specs.Entities.{IsFuncAt};
 ghost use Rattle.smith_types.specs.ValidTypes.{IsValTypeValid};
@@ -11,6 +11,7 @@ ghost use Rattle.smith_program.specs.DrawnBodies.{bodies_at, one_at};
 ghost use Rattle.smith_program.specs.Named.{IsNamed};
 ghost use Rattle.smith_code.specs.Bodies.{body_at};
 ghost use Rattle.smith_code.specs.Scopes.{most};
+ghost use Rattle.smith_code.specs.Traps.{IsTrapless};
 
 use crate::program::Body;
 use crate::references::{element_types, references_of};
@@ -22,6 +23,9 @@ use std::alloc::Global;
 use wasm_smith::Module;
 
 /// Draws a body for each function that `module` defines, except for bodies of raw bytes.
+///
+/// With `disallow_traps` of the configuration, no instruction of a body may trap but `unreachable`, as
+/// [`draw_body`] says. Raw bytes stay as they are.
 ///
 /// `module` is valid.
 ///
@@ -137,8 +141,9 @@ fn draw_instructions(
     requires locals { All (IsValTypeValid (module_features «module».now) (length «module».now.types)) code.now.locals }
     ensures typed { IfOk result (IsBodyTyped (function_context «module».now function.now code.now.locals)) }
     ensures enabled { IfOk result (All (IsEnabled (module_features «module».now) «module».now.config.allowed_instructions)) }
+    ensures trapless { IsTrue «module».now.config.disallow_traps → IfOk result (All IsTrapless) }
     ensures short { IfOk result (λ body. length body ≤ 1 + length function.now.results + most «module».now.types * «module».now.config.max_instructions) }
-    ensures exact { IfOk result (λ body. body_at «module».now.config.allowed_instructions (function_context «module».now function.now code.now.locals) «module».now.config.max_instructions u.old ≡ (body, u.new)) }
+    ensures exact { IfOk result (λ body. body_at «module».now.config (function_context «module».now function.now code.now.locals) «module».now.config.max_instructions u.old ≡ (body, u.new)) }
     ensures refusal { IfErr result (λ e. e ≡ Error.Memory) }
     ensures left { KeepsPieces u.old u.new }
 {
@@ -146,7 +151,7 @@ fn draw_instructions(
     let config = module.config();
     let scope = Scope {
         features: config.features(),
-        kinds: config.allowed_instructions,
+        config,
         types: module.type_space(),
         funcs: module.funcs(),
         imported_funcs: imported_funcs(module),

@@ -1,10 +1,8 @@
 use crate::asked::Asked;
 use crate::failure::Failure;
 
-// The fields by which the Rust crate chooses offsets and NaNs in bodies, and makes custom sections and components, of which there is none
-// here.
-const WITHOUT_EFFECT: [&str; 10] = [
-    "memory-offset-choices",
+// The fields by which the Rust crate chooses NaNs in bodies, and makes custom sections and components, of which there is none here.
+const WITHOUT_EFFECT: [&str; 9] = [
     "canonicalize-nans",
     "generate-custom-sections",
     "min-uleb-size",

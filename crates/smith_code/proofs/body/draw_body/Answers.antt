@@ -1,8 +1,9 @@
 use Rattle.smith_code.specs.Scopes.{bare}
-use Rattle.std.proofs.Common.{arith}
+use Rattle.std.proofs.Common.{[], ◌∷◌, arith}
 use Rattle.smith_code.proofs.ExactLemmas.{body_stops}
 use Rattle.smith_instr.specs.declared.instr.Instr.TheVariants as instr
 use Rattle.smith_code.proofs.DrawnLemmas.{one_allowed}
+use Rattle.smith_code.proofs.TrapLemmas.{all_enabled, all_trapless}
 use Rattle.smith_code.proofs.LeafLemmas.{stop_allowed}
 use Rattle.smith_code.proofs.BodyLemmas.{stop_typed}
 use Rattle.smith_code.proofs.body.draw_body.Goals as goal
@@ -12,10 +13,15 @@ returns-then-fuel-eq0-clause-typed c = rw (c.in_ok-push.ensures.ok, c.new-body.e
 
 pub returns-then-fuel-eq0-clause-exact : goal.returns-then-fuel-eq0-clause-exact
 returns-then-fuel-eq0-clause-exact c = record {
-  exact = rw (c.in_ok-push.ensures.ok, c.new-body.ensures) (body_stops c.args.scope.now.kinds (bare c.args.scope.now) c.args.fuel c.args.u.now (omega arith));
+  exact = rw (c.in_ok-push.ensures.ok, c.new-body.ensures) (body_stops c.args.scope.now.config.now (bare c.args.scope.now) c.args.fuel c.args.u.now (omega arith));
   memory = tt;
   left = λ whole h. h;
 }
 
 pub returns-then-fuel-eq0-clause-allowed : goal.returns-then-fuel-eq0-clause-allowed
-returns-then-fuel-eq0-clause-allowed c = rw (c.in_ok-push.ensures.ok, c.new-body.ensures) (one_allowed c.args.scope.now instr.Unreachable (stop_allowed c.args.scope.now))
+returns-then-fuel-eq0-clause-allowed c =
+    rw (c.in_ok-push.ensures.ok, c.new-body.ensures) (all_enabled c.args.scope.now (instr.Unreachable ∷ []) (one_allowed c.args.scope.now instr.Unreachable (stop_allowed c.args.scope.now)))
+
+pub returns-then-fuel-eq0-clause-trapless : goal.returns-then-fuel-eq0-clause-trapless
+returns-then-fuel-eq0-clause-trapless c = λ disallowed.
+    rw (c.in_ok-push.ensures.ok, c.new-body.ensures) (all_trapless c.args.scope.now (instr.Unreachable ∷ []) (one_allowed c.args.scope.now instr.Unreachable (stop_allowed c.args.scope.now)) disallowed)

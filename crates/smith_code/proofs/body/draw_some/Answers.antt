@@ -2,6 +2,7 @@ use Rattle.std.proofs.Common.{refl}
 use Rattle.smith_code.specs.Scopes.{bare}
 use Rattle.smith_code.proofs.ExactLemmas.{body_exact}
 use Rattle.smith_code.proofs.DrawnLemmas.{body_typed, body_allowed, body_short}
+use Rattle.smith_code.proofs.TrapLemmas.{all_enabled, all_trapless}
 use Rattle.smith_code.proofs.body.draw_some.Goals as goal
 
 pub returns-clause-typed : goal.returns-clause-typed
@@ -10,14 +11,17 @@ returns-clause-typed c =
     (rw (c.in_ok-push.ensures.items, c.new-labels.ensures.items, c.in_ok-from_slice.ensures.ok) refl)
 
 pub returns-clause-allowed : goal.returns-clause-allowed
-returns-clause-allowed c = body_allowed c.in_ok-draw_whole.ensures.drawn c.new.ensures
+returns-clause-allowed c = all_enabled c.args.scope.now _ (body_allowed c.in_ok-draw_whole.ensures.drawn c.new.ensures)
+
+pub returns-clause-trapless : goal.returns-clause-trapless
+returns-clause-trapless c = λ disallowed. all_trapless c.args.scope.now _ (body_allowed c.in_ok-draw_whole.ensures.drawn c.new.ensures) disallowed
 
 pub returns-clause-short : goal.returns-clause-short
 returns-clause-short c = body_short c.in_ok-draw_whole.ensures.drawn c.new.ensures
 
 pub returns-clause-exact : goal.returns-clause-exact
 returns-clause-exact c = record {
-  exact = body_exact c.args.scope.now.kinds (bare c.args.scope.now) c.args.fuel c.args.u.now _ _ c.requires.some c.in_ok-draw_whole.ensures.exact
+  exact = body_exact c.args.scope.now.config.now (bare c.args.scope.now) c.args.fuel c.args.u.now _ _ c.requires.some c.in_ok-draw_whole.ensures.exact
       (rw (c.new.ensures, c.new-2.ensures.items, c.in_ok-push.ensures.items, c.new-labels.ensures.items, c.in_ok-from_slice.ensures.ok) refl);
   memory = tt;
   left = c.draw_whole.ensures.left;

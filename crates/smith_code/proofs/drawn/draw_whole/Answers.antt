@@ -11,4 +11,4 @@ returns-clause-drawn c = on_ok_weaker c.draw_values.result (λ values. drawn_wit
 
 pub returns-clause-exact : goal.returns-clause-exact
 returns-clause-exact c =
-    on_ok_weaker c.draw_values.result (λ is. whole_exact (drawing_at c.args.scope.now.kinds c.args.depth) c.args.scope.now.results.now (state_of c.args.scope.now c.args.draft.now c.args.u.now) _ _ c.in_ok-draw_statements.ensures.exact is) c.draw_values.ensures.exact
+    on_ok_weaker c.draw_values.result (λ is. whole_exact (drawing_at c.args.scope.now.config.now c.args.depth) c.args.scope.now.results.now (state_of c.args.scope.now c.args.draft.now c.args.u.now) _ _ c.in_ok-draw_statements.ensures.exact is) c.draw_values.ensures.exact

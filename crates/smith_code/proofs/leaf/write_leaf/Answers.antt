@@ -7,7 +7,7 @@ use Rattle.smith_code.proofs.leaf.write_leaf.Goals as goal
 
 pub returns-clause-exact : goal.returns-clause-exact
 returns-clause-exact c =
-    on_ok_weaker c.push.result (λ longer. leaf_written c.args.scope.now.kinds c.args.wanted (state_of c.args.scope.now c.args.draft.now c.args.u.now) c.draw_leaf-leaf.result _ _ c.draw_leaf-leaf.ensures.exact longer) c.push.ensures.ok
+    on_ok_weaker c.push.result (λ longer. leaf_written c.args.scope.now.config.now c.args.wanted (state_of c.args.scope.now c.args.draft.now c.args.u.now) c.draw_leaf-leaf.result _ _ c.draw_leaf-leaf.ensures.exact longer) c.push.ensures.ok
 
 pub returns-clause-drawn : goal.returns-clause-drawn
 returns-clause-drawn c =

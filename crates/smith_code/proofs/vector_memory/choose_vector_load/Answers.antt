@@ -14,10 +14,10 @@ returns-clause-offer c =
 pub returns-in_default-clause-exact : goal.returns-in_default-clause-exact
 returns-in_default-clause-exact c =
     let at = rw c.log2_bytes.ensures at c.in_default.ensures.exact in
-    vector_load_by c.args.scope.now.memories.now c.args.u.now _ _ c.vector_loads.result.now c.choose-op.result None c.vector_loads.ensures (c.choose-op.ensures.exact load.V128) at
+    vector_load_by c.args.scope.now.config.now c.args.scope.now.memories.now c.args.u.now _ _ c.vector_loads.result.now c.choose-op.result None c.vector_loads.ensures (c.choose-op.ensures.exact load.V128) at
 
 pub returns-clause-exact : goal.returns-clause-exact
 returns-clause-exact c =
     let at = rw c.log2_bytes.ensures at c.in-Some.ensures.exact in
     rw (c.in_ok-node.ensures.exact, c.address.ensures)
-    (vector_load_by c.args.scope.now.memories.now c.args.u.now _ _ c.vector_loads.result.now c.choose-op.result (Some c.in-Some.access) c.vector_loads.ensures (c.choose-op.ensures.exact load.V128) at)
+    (vector_load_by c.args.scope.now.config.now c.args.scope.now.memories.now c.args.u.now _ _ c.vector_loads.result.now c.choose-op.result (Some c.in-Some.access) c.vector_loads.ensures (c.choose-op.ensures.exact load.V128) at)

@@ -1,0 +1,92 @@
+ghost use Rattle.std.specs.Prelude.{◌≡◌, true, false, [], ◌∷◌, ◌++◌};
+ghost use Rattle.smith_types.specs.declared.instruction_kind.InstructionKind.TheVariants.{NumericInt};
+ghost use Rattle.smith_types.specs.declared.value_type.ValType.TheVariants.{I32};
+ghost use Rattle.smith_config.specs.Config.{default_config};
+ghost use Rattle.smith_instr.specs.declared.aggregate.AggregateInstr.TheVariants as aggregate;
+ghost use Rattle.smith_instr.specs.declared.atomic.AtomicAccess.TheVariants as atomic;
+ghost use Rattle.smith_instr.specs.declared.control.BlockType.TheVariants as block;
+ghost use Rattle.smith_instr.specs.declared.instr.Instr.TheVariants as instr;
+ghost use Rattle.smith_instr.specs.declared.memory.Load.TheVariants as load;
+ghost use Rattle.smith_instr.specs.declared.memory.MemoryInstr.TheVariants as memory;
+ghost use Rattle.smith_instr.specs.declared.numeric.Conversion.TheVariants as convert;
+ghost use Rattle.smith_instr.specs.declared.numeric.FloatBinary.TheVariants as float_binary;
+ghost use Rattle.smith_instr.specs.declared.numeric.IntBinary.TheVariants as int_binary;
+ghost use Rattle.smith_instr.specs.declared.numeric.NumericInstr.TheVariants as numeric;
+ghost use Rattle.smith_instr.specs.declared.numeric.SaturatingConversion.TheVariants as saturate;
+ghost use Rattle.smith_instr.specs.declared.reference.ReferenceInstr.TheVariants as reference;
+ghost use Rattle.smith_instr.specs.declared.table.TableInstr.TheVariants as table;
+ghost use Rattle.smith_instr_examples.specs.ExampleBodies.{aligned, function_of, kinds_of, number, some_func};
+ghost use Rattle.smith_code.specs.Bodies.{body_at};
+ghost use Rattle.smith_code.specs.Traps.{IsTrapless, may_trap};
+ghost use Rattle.smith_code_examples.specs.ExampleBytes.{narrow, trapless};
+
+fn numbers()
+    ensures division { may_trap (instr.Numeric (numeric.I32Binary int_binary.DivS)) ≡ true }
+    ensures remainder { may_trap (instr.Numeric (numeric.I64Binary int_binary.RemU)) ≡ true }
+    ensures division_of_floats { may_trap (instr.Numeric (numeric.F32Binary float_binary.Div)) ≡ false }
+    ensures shift { may_trap (instr.Numeric (numeric.I32Binary int_binary.Shl)) ≡ false }
+    ensures truncation { may_trap (instr.Numeric (numeric.Convert convert.I32TruncF64U)) ≡ true }
+    ensures saturating_truncation { may_trap (instr.Numeric (numeric.Saturate saturate.I32TruncSatF64U)) ≡ false }
+    ensures wrap { may_trap (instr.Numeric (numeric.Convert convert.I32WrapI64)) ≡ false }
+{}
+
+fn memories_and_tables()
+    ensures load { may_trap (instr.Load load.I32 (aligned 0 0)) ≡ true }
+    ensures notify { may_trap (instr.Atomic atomic.Notify (aligned 0 2)) ≡ true }
+    ensures fence { may_trap instr.AtomicFence ≡ false }
+    ensures growth { may_trap (instr.Memory (memory.Grow 0)) ≡ false }
+    ensures fill { may_trap (instr.Memory (memory.Fill 0)) ≡ true }
+    ensures dropped_data { may_trap (instr.Memory (memory.DataDrop 0)) ≡ false }
+    ensures element { may_trap (instr.Table (table.Get 0)) ≡ true }
+    ensures table_size { may_trap (instr.Table (table.Size 0)) ≡ false }
+{}
+
+fn references()
+    ensures cast { may_trap (instr.Reference reference.AsNonNull) ≡ true }
+    ensures test { may_trap (instr.Reference reference.IsNull) ≡ false }
+    ensures branch { may_trap (instr.BrOnNull 0) ≡ false }
+    ensures field { may_trap (instr.Aggregate (aggregate.StructSet 2 1)) ≡ true }
+    ensures new_array { may_trap (instr.Aggregate (aggregate.ArrayNew 3)) ≡ false }
+    ensures array_of_data { may_trap (instr.Aggregate (aggregate.ArrayNewData 3 0)) ≡ true }
+    ensures small_number { may_trap (instr.Aggregate aggregate.I31GetS) ≡ true }
+{}
+
+fn control()
+    ensures stop { may_trap instr.Unreachable ≡ true }
+    ensures call { may_trap (instr.Call 0) ≡ false }
+    ensures call_through_a_table { may_trap (instr.CallIndirect 0 0) ≡ true }
+    ensures tail_call_by_reference { may_trap (instr.ReturnCallRef 0) ≡ true }
+    ensures thrown { may_trap (instr.Throw 0) ≡ false }
+    ensures thrown_again { may_trap instr.ThrowRef ≡ true }
+    ensures block_that_catches { may_trap (instr.TryTable (block.Value I32) []) ≡ false }
+    ensures stop_is_left { IsTrapless instr.Unreachable }
+    ensures load_is_not { ¬ IsTrapless (instr.Load load.I32 (aligned 0 0)) }
+{}
+
+fn with_traps()
+    ensures division { body_at default_config (function_of [] (I32 ∷ [])) 1 (0 ∷ 1 ∷ 6 ∷ narrow 5 ++ narrow 7)
+        ≡ (number 5 ∷ number 7 ∷ instr.Numeric (numeric.I32Binary int_binary.DivS) ∷ [], []) }
+    ensures stop { body_at default_config (function_of [] []) 1 (1 ∷ 14 ∷ []) ≡ (instr.Unreachable ∷ [], []) }
+    ensures constant_that_is_none { body_at default_config (function_of [] (some_func ∷ [])) 1 (0 ∷ 0 ∷ 4 ∷ []) ≡ (instr.Unreachable ∷ [], []) }
+{}
+
+fn without_traps()
+    ensures division { body_at trapless (function_of [] (I32 ∷ [])) 1 (0 ∷ 1 ∷ 6 ∷ narrow 5 ++ narrow 7) ≡ (number 5 ∷ [], narrow 7) }
+    ensures subtraction { body_at trapless (function_of [] (I32 ∷ [])) 1 (0 ∷ 1 ∷ 4 ∷ narrow 5 ++ narrow 7)
+        ≡ (number 5 ∷ number 7 ∷ instr.Numeric (numeric.I32Binary int_binary.Sub) ∷ [], []) }
+    ensures call { body_at trapless (function_of [] []) 1 (1 ∷ 5 ∷ 0 ∷ []) ≡ (instr.Call 0 ∷ [], []) }
+    ensures stop { body_at trapless (function_of [] []) 1 (1 ∷ 14 ∷ []) ≡ ([], []) }
+    ensures growth { body_at trapless (function_of [] (I32 ∷ [])) 1 (0 ∷ 15 ∷ 1 ∷ narrow 2) ≡ (number 2 ∷ instr.Memory (memory.Grow 0) ∷ [], []) }
+    ensures thrown { body_at trapless (function_of [] []) 1 (1 ∷ 28 ∷ 1 ∷ narrow 5) ≡ (number 5 ∷ instr.Throw 0 ∷ [], []) }
+    ensures thrown_again { body_at trapless (function_of [] []) 1 (1 ∷ 28 ∷ 0 ∷ 4 ∷ []) ≡ ([], 4 ∷ []) }
+    ensures block_that_catches { body_at trapless (function_of [] (I32 ∷ [])) 1 (0 ∷ 34 ∷ 0 ∷ narrow 5) ≡ (instr.TryTable (block.Value I32) [] ∷ number 5 ∷ instr.End ∷ [], []) }
+    ensures drawn_all_the_same { ¬ (body_at trapless (function_of [] (I32 ∷ [])) 1 (0 ∷ 1 ∷ 6 ∷ narrow 5 ++ narrow 7)
+        ≡ (number 5 ∷ number 7 ∷ instr.Numeric (numeric.I32Binary int_binary.DivS) ∷ [], [])) }
+{}
+
+fn in_place_of_a_stop()
+    ensures function { body_at trapless (function_of [] (some_func ∷ [])) 1 (0 ∷ 0 ∷ 4 ∷ []) ≡ (instr.Reference (reference.Func 1) ∷ [], []) }
+    ensures nothing { body_at trapless (record (function_of [] (some_func ∷ [])) { references = [] }) 1 (0 ∷ 0 ∷ 4 ∷ []) ≡ (instr.Unreachable ∷ [], []) }
+    ensures zero { body_at (record trapless { allowed_instructions = kinds_of NumericInt }) (function_of [] (I32 ∷ [])) 1 (0 ∷ 0 ∷ 2 ∷ 1 ∷ []) ≡ (number 0 ∷ [], []) }
+    ensures fuel { body_at trapless (function_of [] (I32 ∷ [])) 0 [] ≡ (instr.Unreachable ∷ [], []) }
+{}
