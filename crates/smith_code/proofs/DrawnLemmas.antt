@@ -17,16 +17,16 @@ use Rattle.smith_instr.specs.declared.instr.Instr.{Instr}
 use Rattle.smith_instr.specs.declared.instr.Instr.TheVariants as instr
 use Rattle.smith_instr.proofs.SequenceLemmas.{below_themselves, finished}
 use Rattle.smith_instr.proofs.CompositionLemmas.{typed_append}
-use Rattle.smith_code.specs.Scopes.{context_of, bare, where_stands, widest, most, AreLabels, IsAllowedIn}
-use Rattle.smith_code.specs.Nodes.{block_cost, IsNode, HasHeadType, MayOpen, head_sets, head_instruction, opened, label_of, taken_by}
+use Rattle.smith_code_nodes.specs.Scopes.{context_of, bare, where_stands, widest, most, AreLabels, IsAllowedIn}
+use Rattle.smith_code_nodes.specs.Nodes.{block_cost, IsNode, HasHeadType, MayOpen, head_sets, head_instruction, opened, label_of, taken_by}
 use Rattle.smith_code.specs.Drawn.{IsDrawn, IsWritten, IsOpened, IsEnded, IsLeaf}
-use Rattle.smith_code.specs.declared.node.Head.{Head}
-use Rattle.smith_code.specs.declared.node.Head.TheVariants as heads
-use Rattle.smith_code.specs.declared.node.Node.{Node}
-use Rattle.smith_code.specs.declared.node.Opening.{Opening}
-use Rattle.smith_code.specs.declared.node.Opening.TheVariants as opening
-use Rattle.smith_code.specs.declared.scope.Scope.{Scope}
-use Rattle.smith_code.specs.declared.scope.Draft.{Draft}
+use Rattle.smith_code_nodes.specs.declared.node.Head.{Head}
+use Rattle.smith_code_nodes.specs.declared.node.Head.TheVariants as heads
+use Rattle.smith_code_nodes.specs.declared.node.Node.{Node}
+use Rattle.smith_code_nodes.specs.declared.node.Opening.{Opening}
+use Rattle.smith_code_nodes.specs.declared.node.Opening.TheVariants as opening
+use Rattle.smith_code_nodes.specs.declared.scope.Scope.{Scope}
+use Rattle.smith_code_nodes.specs.declared.scope.Draft.{Draft}
 
 -- values on top of others are valid
 pub joined_valid : (context : BodyContext) (base values : List ValType) → AreValid context base → AreValid context values → AreValid context (base ++ values)

@@ -8,13 +8,13 @@ use Rattle.smith_types.specs.declared.value_type.ValType.{ValType}
 use Rattle.smith_draw.specs.Choices.{chosen_at}
 use Rattle.smith_instr.specs.Contexts.{BodyContext}
 use Rattle.smith_instr.specs.declared.instr.Instr.{Instr}
-use Rattle.smith_code.specs.Chosen.{giving}
+use Rattle.smith_code_nodes.specs.Chosen.{giving}
 use Rattle.smith_code.specs.Leaves.{any_leaf_at, constant_at, first_of, if_permitted, leaf_at, leaf_choice_at, leaf_families, leaf_of, named_at, or_constant, spare_leaf}
-use Rattle.smith_code.specs.Offered.{is_reference, offered}
-use Rattle.smith_code.specs.Scopes.{is_permitted}
+use Rattle.smith_code_nodes.specs.Offered.{is_reference, offered}
+use Rattle.smith_code_nodes.specs.Scopes.{is_permitted}
 use Rattle.smith_code.specs.declared.families.LeafFamily.{LeafFamily}
 use Rattle.smith_code.specs.declared.families.LeafFamily.TheVariants as leaf
-use Rattle.smith_code.proofs.ChoiceLemmas.{chosen_by}
+use Rattle.smith_code_nodes.proofs.ChosenLemmas.{chosen_by}
 
 -- a function that may be named, by its place among those
 pub named_none : (context : BodyContext) (wanted : ValType) (bytes left : List ℕ) → choose_at (offered (is_reference context wanted) (length context.references)) bytes ≡ (None, left) → named_at context wanted bytes ≡ (None, left)

@@ -11,11 +11,11 @@ use Rattle.smith_instr.specs.Enabled.{is_enabled}
 use Rattle.smith_instr.specs.declared.instr.Instr.TheVariants as instr
 use Rattle.smith_instr.specs.declared.reference.ReferenceInstr.TheVariants as reference
 use Rattle.smith_code.specs.Drawn.{IsConstant, IsLeaf}
-use Rattle.smith_code.specs.Scopes.{IsAllowedIn}
-use Rattle.smith_code.specs.Offered.{is_readable, is_global_below, IsReferenceTo}
-use Rattle.smith_code.specs.declared.scope.Scope.{Scope}
-use Rattle.smith_code.proofs.OfferLemmas.{readable, global_below}
-use Rattle.smith_code.proofs.NodeLemmas.{one_valid}
+use Rattle.smith_code_nodes.specs.Scopes.{IsAllowedIn}
+use Rattle.smith_code_nodes.specs.Offered.{is_readable, is_global_below, IsReferenceTo}
+use Rattle.smith_code_nodes.specs.declared.scope.Scope.{Scope}
+use Rattle.smith_code_nodes.proofs.OfferLemmas.{readable, global_below}
+use Rattle.smith_code_nodes.proofs.NodeLemmas.{one_valid}
 
 pub null_constant : (to : RefType) → to.nullable ≡ true → IsConstant (Ref to) (instr.Reference (reference.Null to.heap_type))
 null_constant to nullable context set valid = record {

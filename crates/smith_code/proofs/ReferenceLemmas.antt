@@ -11,8 +11,8 @@ use Rattle.smith_types.specs.declared.value_type.HeapType.TheVariants.{Concrete,
 use Rattle.smith_types.specs.declared.value_type.ValType.{ValType}
 use Rattle.smith_draw.specs.Below.{is_val_below}
 use Rattle.smith_instr.specs.Contexts.{BodyContext, reference_to_function}
-use Rattle.smith_code.specs.Offered.{is_reference_at, is_named, is_reference, IsReferenceTo}
-use Rattle.smith_code.proofs.OfferLemmas.{tested}
+use Rattle.smith_code_nodes.specs.Offered.{is_reference_at, is_named, is_reference, IsReferenceTo}
+use Rattle.smith_code_nodes.proofs.OfferLemmas.{tested}
 
 chosen_in_range : (types : List SubType) (index : ℕ) → index < length types → (a b : Bool) → IsValInRange types (if a then reference_to (if b then Exact index else Concrete index) else reference_to (Concrete index))
 chosen_in_range types index h true true = h

@@ -8,11 +8,11 @@ use Rattle.smith_instr.specs.declared.instr.Instr.{Instr}
 use Rattle.smith_instr.specs.declared.instr.Instr.TheVariants as instr
 use Rattle.smith_code.specs.Choices.{allowed_choice_at, statement_choice_at}
 use Rattle.smith_code.specs.Leaves.{leaf_at}
-use Rattle.smith_code.specs.Nodes.{is_node_allowed, label_of, opened}
-use Rattle.smith_code.specs.declared.node.Head.{Head}
-use Rattle.smith_code.specs.declared.node.Head.TheVariants as head
-use Rattle.smith_code.specs.declared.node.Node.{Node}
-use Rattle.smith_code.specs.declared.node.Sides.{Sides}
+use Rattle.smith_code_nodes.specs.Nodes.{is_node_allowed, label_of, opened}
+use Rattle.smith_code_nodes.specs.declared.node.Head.{Head}
+use Rattle.smith_code_nodes.specs.declared.node.Head.TheVariants as head
+use Rattle.smith_code_nodes.specs.declared.node.Node.{Node}
+use Rattle.smith_code_nodes.specs.declared.node.Sides.{Sides}
 
 -- a body that is being drawn: the context of the next instruction, the instructions so far, the
 -- locals that were set, the fuel, and the bytes left

@@ -1,68 +1,44 @@
 -- The node that the bytes choose. The choices, their order and their weights are rules of this
 -- project.
-use Rattle.std.specs.Prelude.{ℕ, zero, suc, ◌-◌, ◌==◌, Bool, true, false, Option, Some, None, option_map, option_to_list, unwrap_or, List, [], ◌∷◌, ◌++◌, length, slice_get, slice_index_or, if◌then◌else◌}
-use Rattle.smith_bytes.specs.Draws.{bool_at, range_at, choose_at}
+use Rattle.std.specs.Prelude.{ℕ, ◌-◌, Option, Some, None, option_map, List, [], ◌∷◌, length, slice_get, if◌then◌else◌}
+use Rattle.smith_bytes.specs.Draws.{range_at, choose_at}
 use Rattle.smith_types.specs.Features.{Features}
-use Rattle.smith_config.specs.declared.config.Config.{Config}
 use Rattle.smith_types.specs.declared.value_type.ValType.{ValType}
-use Rattle.smith_types.specs.declared.value_type.ValType.TheVariants.{I32, I64, F32, F64, Ref}
+use Rattle.smith_types.specs.declared.value_type.ValType.TheVariants.{I32, I64, F32, F64}
 use Rattle.smith_types.specs.declared.composite_type.FuncType.{FuncType}
-use Rattle.smith_types.specs.declared.entity_type.MemoryType.{MemoryType}
+use Rattle.smith_config.specs.declared.config.Config.{Config}
 use Rattle.smith_draw.specs.Choices.{chosen_at}
-use Rattle.smith_instr.specs.Contexts.{BodyContext, address}
-use Rattle.smith_instr.specs.MemoryTypes.{loaded, stored}
-use Rattle.smith_instr.specs.NumericTypes.{signature}
-use Rattle.smith_instr.specs.declared.control.BlockType.TheVariants as block
+use Rattle.smith_instr.specs.Contexts.{BodyContext}
 use Rattle.smith_instr.specs.declared.instr.Instr.TheVariants as instr
 use Rattle.smith_instr.specs.declared.memory.Load.{Load}
 use Rattle.smith_instr.specs.declared.memory.Store.{Store}
-use Rattle.smith_instr.specs.declared.memory.Store.TheVariants as store
-use Rattle.smith_instr.specs.declared.memory.MemoryInstr.TheVariants as memory
-use Rattle.smith_instr.specs.declared.numeric.NumericInstr.{NumericInstr}
-use Rattle.smith_code.specs.BulkChoices.{bulk_at}
-use Rattle.smith_code.specs.CallChoices.{by_reference_at, indirect_at, tail_call_at}
-use Rattle.smith_code.specs.CastBranchChoices.{cast_branch_at, cast_value_at}
-use Rattle.smith_code.specs.CastChoices.{cast_choice_at}
-use Rattle.smith_code.specs.Chosen.{Chosen, giving}
-use Rattle.smith_code.specs.Accesses.{access_at}
-use Rattle.smith_code.specs.AtomicChoices.{atomic_at, atomic_store_at}
-use Rattle.smith_code.specs.CreationChoices.{creation_at}
-use Rattle.smith_code.specs.FieldChoices.{field_read_at, field_write_at}
-use Rattle.smith_code.specs.Nodes.{blocked, is_node_allowed, node_of, setting}
-use Rattle.smith_code.specs.NullChoices.{br_on_null_value_at, null_branch_at}
-use Rattle.smith_code.specs.Offered.{func_in, function_at, is_addressed, is_callable, is_local_below, is_mutable, is_target, label_count, offered}
-use Rattle.smith_code.specs.ReferenceChoices.{reference_value_at, select_typed_node}
-use Rattle.smith_code.specs.Rows.{loads_of, numeric_rows, stores}
-use Rattle.smith_code.specs.Scopes.{indexed}
-use Rattle.smith_code.specs.TableChoices.{table_change_at, table_value_at}
-use Rattle.smith_code.specs.ThrowChoices.{any_throw_at}
-use Rattle.smith_code.specs.TryChoices.{any_try_at, try_at}
-use Rattle.smith_code.specs.VectorChoices.{store_lane_at, vector_at, vector_store_at}
+use Rattle.smith_code_nodes.specs.Chosen.{Chosen, giving, or_nop}
+use Rattle.smith_code_nodes.specs.Nodes.{is_node_allowed, node_of, setting}
+use Rattle.smith_code_nodes.specs.Offered.{function_at, is_callable, is_local_below, is_mutable, offered}
+use Rattle.smith_code_nodes.specs.ReferenceChoices.{reference_value_at, select_typed_node}
+use Rattle.smith_code_nodes.specs.Scopes.{indexed}
+use Rattle.smith_code_nodes.specs.declared.node.Node.{Node}
+use Rattle.smith_code_nodes.specs.NumericChoices.{numeric_at, select_node}
+use Rattle.smith_code_memory.specs.BulkChoices.{bulk_at}
+use Rattle.smith_code_memory.specs.AtomicChoices.{atomic_at, atomic_store_at}
+use Rattle.smith_code_memory.specs.TableChoices.{table_change_at, table_value_at}
+use Rattle.smith_code_memory.specs.VectorChoices.{store_lane_at, vector_at, vector_store_at}
+use Rattle.smith_code_memory.specs.MemoryChoices.{load_at, memory_at, store_at}
+use Rattle.smith_code_control.specs.CallChoices.{by_reference_at, indirect_at, tail_call_at}
+use Rattle.smith_code_control.specs.NullChoices.{br_on_null_value_at, null_branch_at}
+use Rattle.smith_code_control.specs.ThrowChoices.{any_throw_at}
+use Rattle.smith_code_control.specs.TryChoices.{any_try_at, try_at}
+use Rattle.smith_code_control.specs.declared.outcomes.Outcome.TheVariants as outcome
+use Rattle.smith_code_control.specs.BlockChoices.{any_block_at, block_at}
+use Rattle.smith_code_control.specs.BranchChoices.{branch_at, leaving_at, table_at}
+use Rattle.smith_code_aggregates.specs.CastBranchChoices.{cast_branch_at, cast_value_at}
+use Rattle.smith_code_aggregates.specs.CastChoices.{cast_choice_at}
+use Rattle.smith_code_aggregates.specs.CreationChoices.{creation_at}
+use Rattle.smith_code_aggregates.specs.FieldChoices.{field_read_at, field_write_at}
 use Rattle.smith_code.specs.declared.families.StatementFamily.{StatementFamily}
 use Rattle.smith_code.specs.declared.families.StatementFamily.TheVariants as statement
 use Rattle.smith_code.specs.declared.families.ValueFamily.{ValueFamily}
 use Rattle.smith_code.specs.declared.families.ValueFamily.TheVariants as value
-use Rattle.smith_code.specs.declared.memories.Access.{Access}
-use Rattle.smith_code.specs.declared.node.Node.{Node}
-use Rattle.smith_code.specs.declared.node.Opening.{Opening}
-use Rattle.smith_code.specs.declared.node.Opening.TheVariants as opening
-use Rattle.smith_code.specs.declared.outcomes.Outcome.TheVariants as outcome
-
--- a numeric instruction whose first result has the wanted type; the other results are dropped
-abbrev pub numeric_node : NumericInstr → Option Node
-numeric_node op = Some (node_of (signature op).operands (instr.Numeric op) (length (signature op).results - 1))
-
-unfoldable pub numeric_at : ValType → List ℕ → Chosen
-numeric_at wanted bytes = giving numeric_node (choose_at (numeric_rows wanted) bytes)
-
--- a type of numbers or vectors
-abbrev pub is_numeric : ValType → Bool
-is_numeric (Ref reference) = false
-is_numeric _ = true
-
--- `select` between numbers, or between vectors
-abbrev pub select_node : ValType → Option Node
-select_node wanted = if is_numeric wanted then Some (node_of (wanted ∷ wanted ∷ I32 ∷ []) instr.Select 0) else None
 
 -- a local whose type matches the wanted type, set and read again
 abbrev pub tee_node : BodyContext → ℕ → Option Node
@@ -78,73 +54,6 @@ call_node context index =
 
 unfoldable pub call_at : BodyContext → ValType → List ℕ → Chosen
 call_at context wanted bytes = giving (call_node context) (choose_at (offered (is_callable context wanted) (indexed (length context.funcs))) bytes)
-
--- a block, a loop, an `if` with its `else`, or one without; the number of times that each is listed
--- is its weight
-abbrev pub openings : List (Option Opening)
-openings =
-    Some opening.Block ∷
-    Some opening.Loop ∷
-    None ∷
-    Some opening.Block ∷
-    Some opening.Loop ∷
-    Some opening.IfAlone ∷
-    []
-
-unfoldable pub opening_at : List ℕ → Option Opening × List ℕ
-opening_at bytes = let number = range_at 0 5 bytes in (slice_index_or openings number.0 None, number.1)
-
--- a block that produces a value of the wanted type
-unfoldable pub block_at : ValType → List ℕ → Chosen
-block_at wanted bytes = let opening = opening_at bytes in (Some (blocked opening.0 (block.Value wanted) [] (wanted ∷ []) 0), opening.1)
-
--- a label, or 0 if there is none
-abbrev pub label_at : BodyContext → List ℕ → ℕ × List ℕ
-label_at context bytes = range_at 0 (label_count context - 1) bytes
-
--- a branch out of the function
-abbrev pub return_node : BodyContext → Node
-return_node context = node_of context.results instr.Return 0
-
--- a branch to a label
-abbrev pub br_node : BodyContext → ℕ → Option Node
-br_node context label = option_map (λ (taken : List ValType). node_of taken (instr.Br label) 0) (slice_get context.labels label)
-
--- an unconditional branch: out of the function, or to a label
-unfoldable pub leaving_at : BodyContext → List ℕ → Chosen
-leaving_at context bytes =
-    let out = bool_at bytes in
-    let label = label_at context out.1 in
-    if label_count context == 0 then (Some (return_node context), bytes)
-    else if out.0 then (Some (return_node context), out.1)
-    else (br_node context label.0, label.1)
-
--- a load
-abbrev pub load_node : Load → Access → Option Node
-load_node op access = Some (node_of (address access.wide ∷ []) (instr.Load op access.at) 0)
-
-abbrev pub load_by : Config → List MemoryType → Option Load → List ℕ → Chosen
-load_by config memories None bytes = (None, bytes)
-load_by config memories (Some op) bytes = giving (load_node op) (access_at config memories (loaded op).1 bytes)
-
--- a load that produces a value of the wanted type
-unfoldable pub load_at : Config → BodyContext → ValType → List ℕ → Chosen
-load_at config context wanted bytes = let op = choose_at (loads_of wanted) bytes in load_by config context.memories op.0 op.1
-
--- the growth of a memory, or its size
-abbrev pub growth_node : ValType → ℕ → Bool → Node
-growth_node wanted index grown =
-    if grown then node_of (wanted ∷ []) (instr.Memory (memory.Grow index)) 0 else node_of [] (instr.Memory (memory.Size index)) 0
-
-abbrev pub memory_by : ValType → Option ℕ → List ℕ → Chosen
-memory_by wanted None bytes = (None, bytes)
-memory_by wanted (Some index) bytes = let grown = bool_at bytes in (Some (growth_node wanted index grown.0), grown.1)
-
--- that of a memory whose addresses have the wanted type
-unfoldable pub memory_at : BodyContext → ValType → List ℕ → Chosen
-memory_at context wanted bytes =
-    let index = choose_at (offered (is_addressed context wanted) (indexed (length context.memories))) bytes in
-    memory_by wanted index.0 index.1
 
 -- the families of values; the number of times that each is listed is its weight
 abbrev pub value_families : List ValueFamily
@@ -255,57 +164,6 @@ any_call_node context index =
 unfoldable pub any_call_at : BodyContext → List ℕ → Chosen
 any_call_at context bytes = let index = range_at 0 (indexed (length context.funcs) - 1) bytes in (any_call_node context index.0, index.1)
 
--- a block of a function type, whose results are dropped, or one without parameters and results
-abbrev pub any_block_node : Option Opening → ℕ → Option FuncType → Node
-any_block_node opening index (Some function) = blocked opening (block.Func index) function.params function.results (length function.results)
-any_block_node opening index None = blocked opening block.Empty [] [] 0
-
-unfoldable pub any_block_at : BodyContext → List ℕ → Chosen
-any_block_at context bytes =
-    let opening = opening_at bytes in
-    let index = range_at 0 (indexed (length context.types)) opening.1 in
-    (Some (any_block_node opening.0 index.0 (func_in (slice_get context.types index.0))), index.1)
-
--- a conditional branch; the values that it leaves if it is not taken are dropped
-abbrev pub br_if_node : BodyContext → ℕ → Option Node
-br_if_node context label =
-    option_map (λ (taken : List ValType). node_of (taken ++ I32 ∷ []) (instr.BrIf label) (length taken)) (slice_get context.labels label)
-
-unfoldable pub branch_at : BodyContext → List ℕ → Chosen
-branch_at context bytes = let label = label_at context bytes in (br_if_node context label.0, label.1)
-
--- labels that a branch with the operands for another label may target
-unfoldable pub targets_at : BodyContext → List ValType → ℕ → List ℕ → List ℕ × List ℕ
-targets_at context taken zero bytes = ([], bytes)
-targets_at context taken (suc count) bytes =
-    let label = choose_at (offered (is_target context.types context.labels taken) (label_count context)) bytes in
-    let more = targets_at context taken count label.1 in
-    (option_to_list label.0 ++ more.0, more.1)
-
--- at most seven of them
-abbrev pub some_targets_at : BodyContext → List ValType → List ℕ → List ℕ × List ℕ
-some_targets_at context taken bytes = let count = range_at 0 7 bytes in targets_at context taken count.0 count.1
-
--- a branch to one of several labels, one of which is for every other number: out of the function if
--- there is no label
-abbrev pub table_by : BodyContext → ℕ → Option (List ValType) → List ℕ → Chosen
-table_by context label None bytes = (Some (return_node context), bytes)
-table_by context label (Some taken) bytes =
-    let targets = some_targets_at context taken bytes in
-    (Some (node_of (taken ++ I32 ∷ []) (instr.BrTable targets.0 label) 0), targets.1)
-
-unfoldable pub table_at : BodyContext → List ℕ → Chosen
-table_at context bytes = let label = label_at context bytes in table_by context label.0 (slice_get context.labels label.0) label.1
-
--- a store
-abbrev pub store_node : Store → Access → Option Node
-store_node op access = Some (node_of (address access.wide ∷ (stored op).0 ∷ []) (instr.Store op access.at) 0)
-
-unfoldable pub store_at : Config → BodyContext → List ℕ → Chosen
-store_at config context bytes =
-    let op = chosen_at store.I32 stores bytes in
-    giving (store_node op.0) (access_at config context.memories (stored op.0).1 op.1)
-
 -- the families of statements; the number of times that each is listed is its weight
 abbrev pub statement_families : List StatementFamily
 statement_families =
@@ -368,10 +226,6 @@ statement_of config context statement.FieldWrite bytes = field_write_at context 
 statement_of config context statement.CastBranch bytes = cast_branch_at context bytes
 statement_of config context statement.Throw bytes = any_throw_at context bytes
 statement_of config context statement.Try bytes = any_try_at context bytes
-
--- the node that was chosen, or `nop`
-abbrev pub or_nop : Chosen → Node × List ℕ
-or_nop chosen = (unwrap_or chosen.0 (node_of [] instr.Nop 0), chosen.1)
 
 unfoldable pub statement_choice_at : Config → BodyContext → List ℕ → Node × List ℕ
 statement_choice_at config context bytes =

@@ -7,9 +7,9 @@ use Rattle.smith_instr.specs.InstrTypes.{sets, HasInstrType}
 use Rattle.smith_instr.specs.Sequences.{stacked, AreTyped}
 use Rattle.smith_instr.specs.declared.instr.Instr.{Instr}
 use Rattle.smith_code.specs.Bodies.{State}
-use Rattle.smith_code.specs.Scopes.{bare, where_stands, most, IsAllowedIn}
-use Rattle.smith_code.specs.declared.scope.Draft.{Draft}
-use Rattle.smith_code.specs.declared.scope.Scope.{Scope}
+use Rattle.smith_code_nodes.specs.Scopes.{bare, where_stands, most, IsAllowedIn}
+use Rattle.smith_code_nodes.specs.declared.scope.Draft.{Draft}
+use Rattle.smith_code_nodes.specs.declared.scope.Scope.{Scope}
 
 -- instructions follow the old ones that take operands of these types from the top of any stack, and
 -- leave values of those; the labels are the same, and at most `cost` instructions are not paid for

@@ -12,9 +12,9 @@ use Rattle.smith_instr.specs.Contexts.{BodyContext}
 use Rattle.smith_instr.specs.declared.instr.Instr.{Instr}
 use Rattle.smith_instr.specs.declared.instr.Instr.TheVariants as instr
 use Rattle.smith_instr.specs.declared.reference.ReferenceInstr.TheVariants as reference
-use Rattle.smith_code.specs.Chosen.{giving}
-use Rattle.smith_code.specs.Offered.{is_global_below, is_readable, is_reference, offered}
-use Rattle.smith_code.specs.Scopes.{indexed, is_permitted}
+use Rattle.smith_code_nodes.specs.Chosen.{giving}
+use Rattle.smith_code_nodes.specs.Offered.{is_global_below, is_readable, is_reference, offered}
+use Rattle.smith_code_nodes.specs.Scopes.{indexed, is_permitted}
 use Rattle.smith_code.specs.declared.families.LeafFamily.{LeafFamily}
 use Rattle.smith_code.specs.declared.families.LeafFamily.TheVariants as leaf
 

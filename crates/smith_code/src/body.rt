@@ -4,12 +4,12 @@ ghost use Rattle.smith_types.specs.FeatureBits.{features_in};
 ghost use Rattle.smith_instr.specs.Enabled.{IsEnabled};
 ghost use Rattle.smith_instr.specs.Sequences.{IsBodyTyped};
 ghost use Rattle.smith_code.specs.Bodies.{body_at};
-ghost use Rattle.smith_code.specs.Scopes.{IsScope, bare, most};
-ghost use Rattle.smith_code.specs.Traps.{IsTrapless};
+ghost use Rattle.smith_code_nodes.specs.Scopes.{IsScope, bare, most};
+ghost use Rattle.smith_code_nodes.specs.Traps.{IsTrapless};
 
 use crate::drawn::draw_whole;
-use crate::scope::{Draft, Scope};
 use smith_bytes::{Error, Unstructured};
+use smith_code_nodes::{Draft, Scope};
 use smith_instr::Instr;
 use smith_types::Items;
 use std::alloc::Global;

@@ -1,53 +1,33 @@
 ghost use Rattle.std.specs.Prelude.{◌≡◌, ◌<◌, [], ◌∷◌, length, IfOk, IfErr, IfSome};
 ghost use Rattle.smith_bytes.specs.Source.{KeepsPieces};
 ghost use Rattle.smith_instr.specs.Contexts.{IsValid};
-ghost use Rattle.smith_code.specs.Choices.{
-  allowed_choice_at,
-  any_call_at,
-  call_at,
-  drop_at,
-  dropped_at,
-  global_set_at,
-  leaving_at,
-  or_nop,
-  set_at,
-  statement_choice_at,
-  tee_at,
-  value_choice_at,
-};
-ghost use Rattle.smith_code.specs.Nodes.{IsNode, IsNodeAllowed, IsOffer};
-ghost use Rattle.smith_code.specs.Scopes.{AreLabels, IsScope, bare, where_stands};
+ghost use Rattle.smith_code.specs.Choices.{allowed_choice_at, any_call_at, call_at, drop_at, dropped_at, global_set_at, set_at, statement_choice_at, tee_at, value_choice_at};
+ghost use Rattle.smith_code_control.specs.BranchChoices.{leaving_at};
+ghost use Rattle.smith_code_nodes.specs.Chosen.{or_nop};
+ghost use Rattle.smith_code_nodes.specs.Nodes.{IsNode, IsNodeAllowed, IsOffer};
+ghost use Rattle.smith_code_nodes.specs.Scopes.{AreLabels, IsScope, bare, where_stands};
 
-use crate::atomics::{choose_atomic, choose_atomic_store};
-use crate::blocks::{choose_any_block, choose_block};
-use crate::branches::{choose_branch, choose_leaving, choose_table};
-use crate::bulk::choose_bulk;
-use crate::calls::{
-    choose_any_by_reference, choose_any_indirect, choose_by_reference, choose_indirect,
-};
-use crate::cast_branches::{choose_cast_branch, choose_kept_cast};
-use crate::casts::choose_cast;
-use crate::creations::choose_creation;
 use crate::families::{StatementFamily, ValueFamily, statement_families, value_families};
-use crate::field_reads::choose_field_read;
-use crate::field_writes::choose_field_write;
-use crate::funcs::{choose_callable, function_of};
-use crate::globals::choose_mutable;
-use crate::locals::choose_local;
-use crate::memories::{choose_load, choose_memory, choose_store};
-use crate::node::{Node, is_node_allowed, plain, setter};
-use crate::null_branches::{choose_kept, choose_null_branch};
-use crate::numeric::{choose_numeric, choose_select};
-use crate::outcomes::Outcome;
-use crate::reference_values::{choose_reference_value, choose_select_typed};
-use crate::scope::{Draft, Scope, indexed};
-use crate::tables::{choose_table_change, choose_table_value};
-use crate::tail_calls::{choose_any_tail_call, choose_tail_call};
-use crate::throws::{choose_any_throw, choose_throw_statement};
-use crate::try_tables::{choose_any_try, choose_try};
-use crate::vector_memory::{choose_store_lane, choose_vector_store};
-use crate::vectors::choose_vector;
 use smith_bytes::{Error, Unstructured};
+use smith_code_aggregates::{
+    choose_cast, choose_cast_branch, choose_creation, choose_field_read, choose_field_write,
+    choose_kept_cast,
+};
+use smith_code_control::{
+    Outcome, choose_any_block, choose_any_by_reference, choose_any_indirect, choose_any_tail_call,
+    choose_any_throw, choose_any_try, choose_block, choose_branch, choose_by_reference,
+    choose_indirect, choose_kept, choose_leaving, choose_null_branch, choose_table,
+    choose_tail_call, choose_throw_statement, choose_try,
+};
+use smith_code_memory::{
+    choose_atomic, choose_atomic_store, choose_bulk, choose_load, choose_memory, choose_store,
+    choose_store_lane, choose_table_change, choose_table_value, choose_vector, choose_vector_store,
+};
+use smith_code_nodes::{
+    Draft, Node, Scope, choose_callable, choose_local, choose_mutable, choose_numeric,
+    choose_reference_value, choose_select, choose_select_typed, function_of, indexed,
+    is_node_allowed, plain, setter,
+};
 use smith_draw::choose;
 use smith_instr::Instr;
 use smith_types::ValType;

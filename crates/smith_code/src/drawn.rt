@@ -5,40 +5,16 @@ ghost use Rattle.smith_types.specs.declared.value_type.ValType.TheVariants.{I32}
 ghost use Rattle.smith_instr.specs.Contexts.{AreBelow, AreValid, IsBlockType, IsValid};
 ghost use Rattle.smith_instr.specs.InstrTypes.{IsCatch};
 ghost use Rattle.smith_instr.specs.declared.instr.Instr.TheVariants as instr;
-ghost use Rattle.smith_code.specs.Bodies.{
-  drawing_at,
-  enclosed_at,
-  head_at,
-  inside_at,
-  node_at,
-  statement_at,
-  values_at,
-  whole_at,
-  written,
-};
+ghost use Rattle.smith_code.specs.Bodies.{drawing_at, enclosed_at, head_at, inside_at, node_at, statement_at, values_at, whole_at, written};
 ghost use Rattle.smith_code.specs.Drawn.{IsDrawn, state_of};
-ghost use Rattle.smith_code.specs.Nodes.{
-  AreSidesValid,
-  HasHeadType,
-  IsHeadAllowed,
-  IsHeadValid,
-  IsNode,
-  IsNodeAllowed,
-  MayOpen,
-  block_cost,
-  head_sets,
-  label_of,
-  opened,
-  taken_by,
-};
-ghost use Rattle.smith_code.specs.Scopes.{AreLabels, IsAllowedIn, IsScope, bare, where_stands};
+ghost use Rattle.smith_code_nodes.specs.Nodes.{AreSidesValid, HasHeadType, IsHeadAllowed, IsHeadValid, IsNode, IsNodeAllowed, MayOpen, block_cost, head_sets, label_of, opened, taken_by};
+ghost use Rattle.smith_code_nodes.specs.Scopes.{AreLabels, IsAllowedIn, IsScope, bare, where_stands};
 
 use crate::choices::{choose_allowed, choose_statement};
 use crate::leaf::write_leaf;
-use crate::node::{Head, Node, Opening, Sides, is_node_allowed};
-use crate::scope::{Draft, Scope};
 use crate::written::{drop_values, write_else, write_end, write_opening, write_plain};
 use smith_bytes::{Error, Unstructured};
+use smith_code_nodes::{Draft, Head, Node, Opening, Scope, Sides, is_node_allowed};
 use smith_instr::{BlockType, Catch, Instr};
 use smith_types::{Items, ValType};
 use std::alloc::Global;

@@ -1,7 +1,6 @@
 ghost use Rattle.std.specs.Prelude.{◌≡◌};
 ghost use Rattle.smith_code.specs.Choices.{statement_families, value_families};
 ghost use Rattle.smith_code.specs.Leaves.{leaf_families};
-ghost use Rattle.smith_code.specs.VectorChoices.{vector_families};
 
 /// Families of instructions that may produce a value.
 #[derive(Clone, Copy)]
@@ -86,16 +85,6 @@ pub(crate) enum StatementFamily {
     Throw,
     /// A block that catches exceptions.
     Try,
-}
-
-/// Families of instructions that may produce a vector.
-#[derive(Clone, Copy)]
-pub(crate) enum VectorFamily {
-    /// An instruction that accesses no memory.
-    Instr,
-    Load,
-    /// A load into a lane.
-    LoadLane,
 }
 
 /// Families of instructions that may produce a value without operands.
@@ -185,22 +174,6 @@ pub(crate) fn statement_families<'a>() -> &'a [StatementFamily]
         StatementFamily::CastBranch,
         StatementFamily::Throw,
         StatementFamily::Try,
-    ]
-}
-
-/// Lists the families of vectors. The number of times that a family is listed is its weight.
-pub(crate) fn vector_families<'a>() -> &'a [VectorFamily]
-    ensures { result.now ≡ vector_families }
-{
-    &[
-        VectorFamily::Instr,
-        VectorFamily::Instr,
-        VectorFamily::Instr,
-        VectorFamily::Instr,
-        VectorFamily::Instr,
-        VectorFamily::Load,
-        VectorFamily::Load,
-        VectorFamily::LoadLane,
     ]
 }
 

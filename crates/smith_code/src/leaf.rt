@@ -3,25 +3,13 @@ ghost use Rattle.smith_bytes.specs.Source.{KeepsPieces};
 ghost use Rattle.smith_instr.specs.Contexts.{IsValid};
 ghost use Rattle.smith_code.specs.Bodies.{leaf_in};
 ghost use Rattle.smith_code.specs.Drawn.{IsConstant, IsDrawn, IsLeaf, state_of};
-ghost use Rattle.smith_code.specs.Leaves.{
-  any_leaf_at,
-  constant_at,
-  first_leaf,
-  first_of,
-  leaf_at,
-  leaf_choice_at,
-  leaf_of,
-  spare_leaf,
-};
-ghost use Rattle.smith_code.specs.Scopes.{IsAllowedIn, IsScope, bare, where_stands};
+ghost use Rattle.smith_code.specs.Leaves.{any_leaf_at, constant_at, first_leaf, first_of, leaf_at, leaf_choice_at, leaf_of, spare_leaf};
+ghost use Rattle.smith_code_nodes.specs.Scopes.{IsAllowedIn, IsScope, bare, where_stands};
 
 use crate::families::{LeafFamily, leaf_families};
-use crate::globals::choose_global;
-use crate::locals::choose_set_local;
-use crate::node::is_allowed;
 use crate::references::choose_reference;
-use crate::scope::{Draft, Scope};
 use smith_bytes::{Error, Unstructured};
+use smith_code_nodes::{Draft, Scope, choose_global, choose_set_local, is_allowed};
 use smith_draw::choose;
 use smith_instr::{Instr, ReferenceInstr};
 use smith_types::ValType;

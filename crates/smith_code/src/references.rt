@@ -2,13 +2,11 @@ ghost use Rattle.std.specs.Prelude.{◌≡◌, ◌<◌, length, Some, IfSome};
 ghost use Rattle.smith_bytes.specs.Source.{KeepsPieces};
 ghost use Rattle.smith_instr.specs.Contexts.{IsValid, reference_to_function};
 ghost use Rattle.smith_code.specs.Leaves.{named_at};
-ghost use Rattle.smith_code.specs.Offered.{IsReferenceTo, is_named, is_reference};
-ghost use Rattle.smith_code.specs.Scopes.{IsScope, bare};
+ghost use Rattle.smith_code_nodes.specs.Offered.{IsReferenceTo, is_named, is_reference};
+ghost use Rattle.smith_code_nodes.specs.Scopes.{IsScope, bare};
 
-use crate::locals::is_sub_type;
-use crate::offer::{Offer, choose_offered};
-use crate::scope::Scope;
 use smith_bytes::Unstructured;
+use smith_code_nodes::{Offer, Scope, choose_offered, is_sub_type};
 use smith_types::{HeapType, RefType, ValType, WasmFeatures};
 
 /// Functions that `ref.func` may name and whose reference type matches a wanted type.
@@ -21,8 +19,8 @@ struct ReferenceOffer<'a> {
 impl<'a> Offer for ReferenceOffer<'a> {
     ghost use Rattle.std.specs.Prelude.{length};
     ghost use Rattle.smith_instr.specs.Contexts.{IsValid};
-    ghost use Rattle.smith_code.specs.Offered.{is_reference};
-    ghost use Rattle.smith_code.specs.Scopes.{IsScope, bare};
+    ghost use Rattle.smith_code_nodes.specs.Offered.{is_reference};
+    ghost use Rattle.smith_code_nodes.specs.Scopes.{IsScope, bare};
 
     ghost ready = { λ self. IsScope (bare self.scope.now) × IsValid (bare self.scope.now) self.wanted };
 

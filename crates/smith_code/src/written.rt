@@ -2,8 +2,8 @@ ghost use Rattle.std.specs.Prelude.{◌≡◌, List, ◌∷◌, ◌++◌, replic
 ghost use Rattle.smith_types.specs.declared.value_type.ValType.{ValType as Val};
 ghost use Rattle.smith_code.specs.Drawn.{IsWritten, IsOpened, IsEnded};
 
-use crate::scope::Draft;
 use smith_bytes::Error;
+use smith_code_nodes::Draft;
 use smith_instr::Instr;
 use smith_types::{Items, ValType};
 use std::alloc::Global;

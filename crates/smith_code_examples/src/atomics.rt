@@ -1,4 +1,4 @@
-#![tactic(auto, unfolding(smith_code::specs::AtomicChoices::atomic_at, smith_code::specs::AtomicChoices::atomic_store_at, smith_code::specs::Accesses::access_at, smith_code::specs::Accesses::offset_at, smith_code::specs::Accesses::place_at, smith_draw::specs::Choices::chosen_at, smith_bytes::specs::Draws::choose_at, smith_bytes::specs::Draws::digit_count, smith_bytes::specs::Draws::range_at))]
+#![tactic(auto, unfolding(smith_code_memory::specs::AtomicChoices::atomic_at, smith_code_memory::specs::AtomicChoices::atomic_store_at, smith_code_memory::specs::Accesses::access_at, smith_code_memory::specs::Accesses::offset_at, smith_code_memory::specs::Accesses::place_at, smith_draw::specs::Choices::chosen_at, smith_bytes::specs::Draws::choose_at, smith_bytes::specs::Draws::digit_count, smith_bytes::specs::Draws::range_at))]
 
 ghost use Rattle.std.specs.Prelude.{◌≡◌, Some, None, [], ◌∷◌};
 ghost use Rattle.smith_types.specs.declared.value_type.ValType.TheVariants.{I32, I64, F32};
@@ -8,8 +8,8 @@ ghost use Rattle.smith_instr.specs.declared.atomic.AtomicUpdate.TheVariants as u
 ghost use Rattle.smith_instr.specs.declared.atomic.AtomicWidth.TheVariants as width;
 ghost use Rattle.smith_instr.specs.declared.instr.Instr.TheVariants as instr;
 ghost use Rattle.smith_instr_examples.specs.ExampleBodies.{aligned, function_of};
-ghost use Rattle.smith_code.specs.AtomicChoices.{atomic_at, atomic_store_at};
-ghost use Rattle.smith_code.specs.Nodes.{node_of};
+ghost use Rattle.smith_code_memory.specs.AtomicChoices.{atomic_at, atomic_store_at};
+ghost use Rattle.smith_code_nodes.specs.Nodes.{node_of};
 
 fn values()
     ensures load { atomic_at default_config (function_of [] []) I32 (3 ∷ 0 ∷ 0 ∷ 0 ∷ 8 ∷ 9 ∷ []) ≡ (Some (node_of (I32 ∷ []) (instr.Atomic (atomic.Load width.I32) (record (aligned 0 2) { offset = 8 })) 0), 9 ∷ []) }

@@ -1,4 +1,4 @@
-#![tactic(auto, unfolding(smith_code::specs::CreationChoices::created_at, smith_code::specs::CreationChoices::creation_at, smith_code::specs::Items::index_at, smith_code::specs::Offered::offered, smith_draw::specs::Below::is_heap_below, smith_draw::specs::Choices::chosen_at, smith_draw::specs::Offered::ancestors, smith_bytes::specs::Draws::choose_at, smith_bytes::specs::Draws::digit_count, smith_bytes::specs::Draws::range_at))]
+#![tactic(auto, unfolding(smith_code_aggregates::specs::CreationChoices::created_at, smith_code_aggregates::specs::CreationChoices::creation_at, smith_code_nodes::specs::Items::index_at, smith_code_nodes::specs::Offered::offered, smith_draw::specs::Below::is_heap_below, smith_draw::specs::Choices::chosen_at, smith_draw::specs::Offered::ancestors, smith_bytes::specs::Draws::choose_at, smith_bytes::specs::Draws::digit_count, smith_bytes::specs::Draws::range_at))]
 
 ghost use Rattle.std.specs.Prelude.{◌≡◌, Some, None, [], ◌∷◌};
 ghost use Rattle.smith_types.specs.Flags.{funcref};
@@ -6,7 +6,7 @@ ghost use Rattle.smith_types.specs.declared.value_type.AbstractHeapType.TheVaria
 ghost use Rattle.smith_types.specs.declared.value_type.ValType.TheVariants.{I32, I64, Ref};
 ghost use Rattle.smith_instr.specs.declared.aggregate.AggregateInstr.TheVariants as aggregate;
 ghost use Rattle.smith_instr_examples.specs.ExampleBodies.{some_func};
-ghost use Rattle.smith_code.specs.CreationChoices.{aggregate_of, creation_at};
+ghost use Rattle.smith_code_aggregates.specs.CreationChoices.{aggregate_of, creation_at};
 ghost use Rattle.smith_code_examples.specs.ExampleAggregates.{aggregates, any, some, some_of};
 
 fn structs()

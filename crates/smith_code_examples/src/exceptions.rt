@@ -8,7 +8,7 @@ ghost use Rattle.smith_instr.specs.declared.instr.Instr.TheVariants as instr;
 ghost use Rattle.smith_instr.specs.declared.reference.ReferenceInstr.TheVariants as reference;
 ghost use Rattle.smith_instr_examples.specs.ExampleBodies.{exnref, function_of, number};
 ghost use Rattle.smith_code.specs.Bodies.{body_at};
-ghost use Rattle.smith_code.specs.ThrowChoices.{exn};
+ghost use Rattle.smith_code_control.specs.ThrowChoices.{exn};
 ghost use Rattle.smith_code_examples.specs.ExampleBytes.{narrow, wide, wide_number, without_exceptions};
 
 fn throws()

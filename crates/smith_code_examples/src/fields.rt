@@ -1,12 +1,12 @@
-#![tactic(auto, unfolding(smith_code::specs::FieldChoices::field_read_at, smith_code::specs::FieldChoices::field_write_at, smith_code::specs::FieldChoices::read_at, smith_code::specs::FieldChoices::write_at, smith_code::specs::Items::index_at, smith_code::specs::Offered::offered, smith_draw::specs::Below::is_heap_below, smith_draw::specs::Choices::chosen_at, smith_draw::specs::Offered::ancestors, smith_bytes::specs::Draws::bool_at, smith_bytes::specs::Draws::choose_at, smith_bytes::specs::Draws::digit_count, smith_bytes::specs::Draws::range_at))]
+#![tactic(auto, unfolding(smith_code_aggregates::specs::FieldChoices::field_read_at, smith_code_aggregates::specs::FieldChoices::field_write_at, smith_code_aggregates::specs::FieldChoices::read_at, smith_code_aggregates::specs::FieldChoices::write_at, smith_code_nodes::specs::Items::index_at, smith_code_nodes::specs::Offered::offered, smith_draw::specs::Below::is_heap_below, smith_draw::specs::Choices::chosen_at, smith_draw::specs::Offered::ancestors, smith_bytes::specs::Draws::bool_at, smith_bytes::specs::Draws::choose_at, smith_bytes::specs::Draws::digit_count, smith_bytes::specs::Draws::range_at))]
 
 ghost use Rattle.std.specs.Prelude.{◌≡◌, Some, None, [], ◌∷◌};
 ghost use Rattle.smith_types.specs.Flags.{funcref};
 ghost use Rattle.smith_types.specs.declared.value_type.ValType.TheVariants.{I32, I64, F32, Ref};
 ghost use Rattle.smith_instr.specs.declared.aggregate.AggregateInstr.TheVariants as aggregate;
 ghost use Rattle.smith_instr.specs.declared.aggregate.Extension.TheVariants as extension;
-ghost use Rattle.smith_code.specs.CreationChoices.{aggregate_of};
-ghost use Rattle.smith_code.specs.FieldChoices.{field_read_at, field_write_at};
+ghost use Rattle.smith_code_aggregates.specs.CreationChoices.{aggregate_of};
+ghost use Rattle.smith_code_aggregates.specs.FieldChoices.{field_read_at, field_write_at};
 ghost use Rattle.smith_code_examples.specs.ExampleAggregates.{aggregates, any, unmanaged};
 
 fn reads()

@@ -1,12 +1,12 @@
-#![tactic(auto, unfolding(smith_code::specs::NullChoices::br_on_non_null_at, smith_code::specs::NullChoices::br_on_null_at, smith_code::specs::NullChoices::br_on_null_value_at, smith_code::specs::NullChoices::null_branch_at, smith_code::specs::ReferenceChoices::referent_at, smith_code::specs::Offered::offered, smith_draw::specs::Choices::chosen_at, smith_bytes::specs::Draws::bool_at, smith_bytes::specs::Draws::choose_at, smith_bytes::specs::Draws::digit_count, smith_bytes::specs::Draws::range_at))]
+#![tactic(auto, unfolding(smith_code_control::specs::NullChoices::br_on_non_null_at, smith_code_control::specs::NullChoices::br_on_null_at, smith_code_control::specs::NullChoices::br_on_null_value_at, smith_code_control::specs::NullChoices::null_branch_at, smith_code_nodes::specs::ReferenceChoices::referent_at, smith_code_nodes::specs::Offered::offered, smith_draw::specs::Choices::chosen_at, smith_bytes::specs::Draws::bool_at, smith_bytes::specs::Draws::choose_at, smith_bytes::specs::Draws::digit_count, smith_bytes::specs::Draws::range_at))]
 
 ghost use Rattle.std.specs.Prelude.{◌≡◌, Some, None, [], ◌∷◌};
 ghost use Rattle.smith_types.specs.Flags.{funcref};
 ghost use Rattle.smith_types.specs.declared.value_type.ValType.TheVariants.{I32, I64, Ref};
 ghost use Rattle.smith_instr.specs.declared.instr.Instr.TheVariants as instr;
 ghost use Rattle.smith_instr_examples.specs.ExampleBodies.{some_func};
-ghost use Rattle.smith_code.specs.Nodes.{node_of};
-ghost use Rattle.smith_code.specs.NullChoices.{br_on_null_value_at, null_branch_at};
+ghost use Rattle.smith_code_nodes.specs.Nodes.{node_of};
+ghost use Rattle.smith_code_control.specs.NullChoices.{br_on_null_value_at, null_branch_at};
 ghost use Rattle.smith_code_examples.specs.ExampleContexts.{among, external, labelled_four, without_references};
 
 fn values()

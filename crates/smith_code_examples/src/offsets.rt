@@ -5,7 +5,7 @@ ghost use Rattle.smith_config.specs.OffsetChoices.{default_choices, zero_choices
 ghost use Rattle.smith_instr.specs.declared.instr.Instr.TheVariants as instr;
 ghost use Rattle.smith_instr.specs.declared.memory.Load.TheVariants as load;
 ghost use Rattle.smith_instr_examples.specs.ExampleBodies.{aligned, function_of, narrow_memory, number, wide_memory};
-ghost use Rattle.smith_code.specs.Accesses.{least_bytes, most_bytes, offset_at};
+ghost use Rattle.smith_code_memory.specs.Accesses.{least_bytes, most_bytes, offset_at};
 ghost use Rattle.smith_code.specs.Bodies.{body_at};
 ghost use Rattle.smith_code_examples.specs.ExampleBytes.{narrow};
 

@@ -1,4 +1,4 @@
-#![tactic(auto, unfolding(smith_code::specs::ReferenceChoices::reference_value_at, smith_code::specs::ReferenceChoices::referent_at, smith_code::specs::ReferenceChoices::test_at, smith_draw::specs::Choices::chosen_at, smith_bytes::specs::Draws::bool_at, smith_bytes::specs::Draws::digit_count, smith_bytes::specs::Draws::range_at))]
+#![tactic(auto, unfolding(smith_code_nodes::specs::ReferenceChoices::reference_value_at, smith_code_nodes::specs::ReferenceChoices::referent_at, smith_code_nodes::specs::ReferenceChoices::test_at, smith_draw::specs::Choices::chosen_at, smith_bytes::specs::Draws::bool_at, smith_bytes::specs::Draws::digit_count, smith_bytes::specs::Draws::range_at))]
 
 ghost use Rattle.std.specs.Prelude.{◌≡◌, Some, None, [], ◌∷◌};
 ghost use Rattle.smith_types.specs.ExampleTypes.{eqref, not_null, nullable, plain};
@@ -9,8 +9,8 @@ ghost use Rattle.smith_types.specs.declared.value_type.ValType.TheVariants.{I32,
 ghost use Rattle.smith_instr.specs.declared.instr.Instr.TheVariants as instr;
 ghost use Rattle.smith_instr.specs.declared.reference.ReferenceInstr.TheVariants as reference;
 ghost use Rattle.smith_instr_examples.specs.ExampleBodies.{function_of, some_func};
-ghost use Rattle.smith_code.specs.Nodes.{node_of};
-ghost use Rattle.smith_code.specs.ReferenceChoices.{reference_value_at, referent_at, select_typed_node};
+ghost use Rattle.smith_code_nodes.specs.Nodes.{node_of};
+ghost use Rattle.smith_code_nodes.specs.ReferenceChoices.{reference_value_at, referent_at, select_typed_node};
 ghost use Rattle.smith_code_examples.specs.ExampleContexts.{external, unmanaged, without_references};
 
 fn referents()

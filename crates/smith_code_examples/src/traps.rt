@@ -17,7 +17,7 @@ ghost use Rattle.smith_instr.specs.declared.reference.ReferenceInstr.TheVariants
 ghost use Rattle.smith_instr.specs.declared.table.TableInstr.TheVariants as table;
 ghost use Rattle.smith_instr_examples.specs.ExampleBodies.{aligned, function_of, kinds_of, number, some_func};
 ghost use Rattle.smith_code.specs.Bodies.{body_at};
-ghost use Rattle.smith_code.specs.Traps.{IsTrapless, may_trap};
+ghost use Rattle.smith_code_nodes.specs.Traps.{IsTrapless, may_trap};
 ghost use Rattle.smith_code_examples.specs.ExampleBytes.{narrow, trapless};
 
 fn numbers()

@@ -1,4 +1,4 @@
-#![tactic(auto, unfolding(smith_code::specs::VectorChoices::lane_access_at, smith_code::specs::VectorChoices::lanes_at, smith_code::specs::VectorChoices::shuffled_at, smith_code::specs::VectorChoices::store_lane_at, smith_code::specs::VectorChoices::vector_at, smith_code::specs::VectorChoices::vector_choice_at, smith_code::specs::VectorChoices::vector_load_at, smith_code::specs::VectorChoices::vector_row_at, smith_code::specs::VectorChoices::vector_store_at, smith_code::specs::Accesses::access_at, smith_code::specs::Accesses::offset_at, smith_code::specs::Accesses::place_at, smith_draw::specs::Choices::chosen_at, smith_bytes::specs::Draws::choose_at, smith_bytes::specs::Draws::digit_count, smith_bytes::specs::Draws::range_at))]
+#![tactic(auto, unfolding(smith_code_memory::specs::VectorChoices::lane_access_at, smith_code_memory::specs::VectorChoices::lanes_at, smith_code_memory::specs::VectorChoices::shuffled_at, smith_code_memory::specs::VectorChoices::store_lane_at, smith_code_memory::specs::VectorChoices::vector_at, smith_code_memory::specs::VectorChoices::vector_choice_at, smith_code_memory::specs::VectorChoices::vector_load_at, smith_code_memory::specs::VectorChoices::vector_row_at, smith_code_memory::specs::VectorChoices::vector_store_at, smith_code_memory::specs::Accesses::access_at, smith_code_memory::specs::Accesses::offset_at, smith_code_memory::specs::Accesses::place_at, smith_draw::specs::Choices::chosen_at, smith_bytes::specs::Draws::choose_at, smith_bytes::specs::Draws::digit_count, smith_bytes::specs::Draws::range_at))]
 
 ghost use Rattle.std.specs.Prelude.{◌≡◌, Some, None, [], ◌∷◌};
 ghost use Rattle.smith_types.specs.Flags.{funcref};
@@ -11,8 +11,8 @@ ghost use Rattle.smith_instr.specs.declared.vector.VectorInstr.TheVariants as ve
 ghost use Rattle.smith_instr.specs.declared.vector.VectorLoad.TheVariants as load;
 ghost use Rattle.smith_instr.specs.declared.vector.VectorUnary.TheVariants as unary;
 ghost use Rattle.smith_instr_examples.specs.ExampleBodies.{aligned, function_of};
-ghost use Rattle.smith_code.specs.Nodes.{node_of};
-ghost use Rattle.smith_code.specs.VectorChoices.{lanes_at, shuffled_at, store_lane_at, vector_at, vector_store_at};
+ghost use Rattle.smith_code_nodes.specs.Nodes.{node_of};
+ghost use Rattle.smith_code_memory.specs.VectorChoices.{lanes_at, shuffled_at, store_lane_at, vector_at, vector_store_at};
 ghost use Rattle.smith_code_examples.specs.ExampleContexts.{without_vectors};
 
 fn lanes()

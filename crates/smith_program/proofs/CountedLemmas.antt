@@ -14,7 +14,7 @@ use Rattle.smith_instr.specs.declared.instr.Instr.TheVariants as instr
 use Rattle.smith_instr.specs.declared.numeric.IntBinary.TheVariants as int_binary
 use Rattle.smith_instr.specs.declared.numeric.NumericInstr.TheVariants as numeric
 use Rattle.smith_instr.proofs.SequenceLemmas.{below_themselves, count_as_themselves}
-use Rattle.smith_code.proofs.NodeLemmas.{one_valid, no_valid}
+use Rattle.smith_code_nodes.proofs.NodeLemmas.{one_valid, no_valid}
 use Rattle.wasm_smith.specs.Termination.{counter}
 use Rattle.smith_program.specs.Counted.{check_of, checks_of, checked_after, counted}
 

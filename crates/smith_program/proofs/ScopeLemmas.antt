@@ -29,10 +29,10 @@ use Rattle.smith_definitions.specs.Module.{Parts, IsValid, module_features, modu
 use Rattle.smith_instr.specs.Enabled.{IsEnabled}
 use Rattle.smith_instr.specs.Sequences.{IsBodyTyped}
 use Rattle.smith_instr.specs.declared.instr.Instr.{Instr}
-use Rattle.smith_code.specs.Scopes.{most, IsScope}
-use Rattle.smith_code.specs.Traps.{IsTrapless}
+use Rattle.smith_code_nodes.specs.Scopes.{most, IsScope}
+use Rattle.smith_code_nodes.specs.Traps.{IsTrapless}
 use Rattle.smith_program.specs.Bodies.{HasDefinedType, IsDrawnAt, function_context}
-use Rattle.smith_code.proofs.NodeLemmas.{func_wide}
+use Rattle.smith_code_nodes.proofs.NodeLemmas.{func_wide}
 
 each_front : {A : Type 0} (P : A → Type 0) (xs ys : List A) → Each P (xs ++ ys) → Each P xs × Each P ys
 each_front P [] ys h = (tt, h)

@@ -12,8 +12,8 @@ use Rattle.smith_instr.specs.Contexts.{BodyContext}
 use Rattle.smith_instr.specs.Enabled.{IsEnabled}
 use Rattle.smith_instr.specs.Sequences.{IsBodyTyped}
 use Rattle.smith_instr.specs.declared.instr.Instr.{Instr}
-use Rattle.smith_code.specs.Scopes.{most}
-use Rattle.smith_code.specs.Traps.{IsTrapless}
+use Rattle.smith_code_nodes.specs.Scopes.{most}
+use Rattle.smith_code_nodes.specs.Traps.{IsTrapless}
 use Rattle.smith_program.specs.References.{references_of}
 use Rattle.smith_program.specs.declared.program.Body.{Body}
 use Rattle.smith_program.specs.declared.program.Body.TheVariants as body

@@ -6,7 +6,7 @@ use Rattle.smith_types.specs.declared.code.Instructions.TheVariants.{Arbitrary, 
 use Rattle.smith_types.specs.declared.composite_type.FuncType.{FuncType}
 use Rattle.smith_definitions.specs.Module.{Parts, module_imports}
 use Rattle.smith_code.specs.Bodies.{body_at}
-use Rattle.smith_code.specs.Offered.{function_in}
+use Rattle.smith_code_nodes.specs.Offered.{function_in}
 use Rattle.smith_program.specs.Bodies.{function_context}
 use Rattle.smith_program.specs.declared.program.Body.{Body}
 use Rattle.smith_program.specs.declared.program.Body.TheVariants as body

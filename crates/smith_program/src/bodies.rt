@@ -10,8 +10,8 @@ ghost use Rattle.smith_program.specs.Bodies.{AreDrawnBodies, HasDefinedType, IsD
 ghost use Rattle.smith_program.specs.DrawnBodies.{bodies_at, one_at};
 ghost use Rattle.smith_program.specs.Named.{IsNamed};
 ghost use Rattle.smith_code.specs.Bodies.{body_at};
-ghost use Rattle.smith_code.specs.Scopes.{most};
-ghost use Rattle.smith_code.specs.Traps.{IsTrapless};
+ghost use Rattle.smith_code_nodes.specs.Scopes.{most};
+ghost use Rattle.smith_code_nodes.specs.Traps.{IsTrapless};
 
 use crate::program::Body;
 use crate::references::{element_types, references_of};

@@ -1,9 +1,9 @@
-use Rattle.smith_code.specs.Scopes.{bare}
+use Rattle.smith_code_nodes.specs.Scopes.{bare}
 use Rattle.std.proofs.Common.{[], ◌∷◌, arith}
 use Rattle.smith_code.proofs.ExactLemmas.{body_stops}
 use Rattle.smith_instr.specs.declared.instr.Instr.TheVariants as instr
 use Rattle.smith_code.proofs.DrawnLemmas.{one_allowed}
-use Rattle.smith_code.proofs.TrapLemmas.{all_enabled, all_trapless}
+use Rattle.smith_code_nodes.proofs.AllowedLemmas.{all_enabled, all_trapless}
 use Rattle.smith_code.proofs.LeafLemmas.{stop_allowed}
 use Rattle.smith_code.proofs.BodyLemmas.{stop_typed}
 use Rattle.smith_code.proofs.body.draw_body.Goals as goal

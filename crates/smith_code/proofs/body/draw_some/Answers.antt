@@ -1,8 +1,8 @@
 use Rattle.std.proofs.Common.{refl}
-use Rattle.smith_code.specs.Scopes.{bare}
+use Rattle.smith_code_nodes.specs.Scopes.{bare}
 use Rattle.smith_code.proofs.ExactLemmas.{body_exact}
 use Rattle.smith_code.proofs.DrawnLemmas.{body_typed, body_allowed, body_short}
-use Rattle.smith_code.proofs.TrapLemmas.{all_enabled, all_trapless}
+use Rattle.smith_code_nodes.proofs.AllowedLemmas.{all_enabled, all_trapless}
 use Rattle.smith_code.proofs.body.draw_some.Goals as goal
 
 pub returns-clause-typed : goal.returns-clause-typed

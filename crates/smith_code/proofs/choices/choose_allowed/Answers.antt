@@ -1,5 +1,5 @@
 use Rattle.std.proofs.Common.{sym, ◌∙◌}
-use Rattle.smith_code.specs.Scopes.{where_stands}
+use Rattle.smith_code_nodes.specs.Scopes.{where_stands}
 use Rattle.smith_code.proofs.ChoiceLemmas.{allowed_node, allowed_none, forbidden_node}
 use Rattle.smith_code.proofs.choices.choose_allowed.Goals as goal
 

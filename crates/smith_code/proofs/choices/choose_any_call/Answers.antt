@@ -1,8 +1,9 @@
-use Rattle.smith_code.specs.Scopes.{where_stands}
-use Rattle.smith_code.proofs.ResultLemmas.{ok_like}
-use Rattle.smith_code.proofs.OfferLemmas.{function_there}
-use Rattle.smith_code.proofs.NodeLemmas.{any_call_node}
-use Rattle.smith_code.proofs.ChoiceLemmas.{any_call_none, any_call_there, any_call_unknown, as_node, as_nop}
+use Rattle.smith_code_nodes.specs.Scopes.{where_stands}
+use Rattle.smith_code_nodes.proofs.ResultLemmas.{ok_like}
+use Rattle.smith_code_nodes.proofs.OfferLemmas.{function_there}
+use Rattle.smith_code.proofs.ChoiceNodeLemmas.{any_call_node}
+use Rattle.smith_code.proofs.ChoiceLemmas.{any_call_none, any_call_there, any_call_unknown}
+use Rattle.smith_code_nodes.proofs.ChosenLemmas.{as_node, as_nop}
 use Rattle.std.proofs.Common.{arith}
 use Rattle.smith_code.proofs.choices.choose_any_call.Goals as goal
 

@@ -1,6 +1,6 @@
-use Rattle.smith_code.specs.Scopes.{where_stands}
-use Rattle.smith_code.proofs.OfferLemmas.{function_there}
-use Rattle.smith_code.proofs.NodeLemmas.{call_for}
+use Rattle.smith_code_nodes.specs.Scopes.{where_stands}
+use Rattle.smith_code_nodes.proofs.OfferLemmas.{function_there}
+use Rattle.smith_code.proofs.ChoiceNodeLemmas.{call_for}
 use Rattle.smith_code.proofs.ChoiceLemmas.{call_none, call_there}
 use Rattle.smith_code.proofs.choices.choose_call.Goals as goal
 

@@ -1,7 +1,8 @@
-use Rattle.smith_code.specs.Scopes.{where_stands}
-use Rattle.smith_code.proofs.ResultLemmas.{ok_like}
-use Rattle.smith_code.proofs.NodeLemmas.{drop_node}
-use Rattle.smith_code.proofs.ChoiceLemmas.{as_node, drop_by}
+use Rattle.smith_code_nodes.specs.Scopes.{where_stands}
+use Rattle.smith_code_nodes.proofs.ResultLemmas.{ok_like}
+use Rattle.smith_code.proofs.ChoiceNodeLemmas.{drop_node}
+use Rattle.smith_code_nodes.proofs.ChosenLemmas.{as_node}
+use Rattle.smith_code.proofs.ChoiceLemmas.{drop_by}
 use Rattle.smith_code.proofs.choices.choose_drop.Goals as goal
 
 pub returns-clause-node : goal.returns-clause-node

@@ -1,8 +1,9 @@
-use Rattle.smith_code.specs.Scopes.{where_stands}
-use Rattle.smith_code.proofs.ResultLemmas.{ok_like}
-use Rattle.smith_code.proofs.OfferLemmas.{mutable_there}
-use Rattle.smith_code.proofs.NodeLemmas.{global_set_node}
-use Rattle.smith_code.proofs.ChoiceLemmas.{as_node, as_nop, global_set_none, global_set_there}
+use Rattle.smith_code_nodes.specs.Scopes.{where_stands}
+use Rattle.smith_code_nodes.proofs.ResultLemmas.{ok_like}
+use Rattle.smith_code_nodes.proofs.OfferLemmas.{mutable_there}
+use Rattle.smith_code.proofs.ChoiceNodeLemmas.{global_set_node}
+use Rattle.smith_code_nodes.proofs.ChosenLemmas.{as_node, as_nop}
+use Rattle.smith_code.proofs.ChoiceLemmas.{global_set_none, global_set_there}
 use Rattle.smith_code.proofs.choices.choose_global_set.Goals as goal
 
 pub returns-clause-node : goal.returns-clause-node

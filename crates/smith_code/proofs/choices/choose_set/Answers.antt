@@ -1,8 +1,10 @@
 use Rattle.std.proofs.Common.{arith}
-use Rattle.smith_code.specs.Scopes.{where_stands}
-use Rattle.smith_code.proofs.ResultLemmas.{ok_like}
-use Rattle.smith_code.proofs.NodeLemmas.{set_node, nop_node}
-use Rattle.smith_code.proofs.ChoiceLemmas.{as_node, as_nop, set_none, set_there}
+use Rattle.smith_code_nodes.specs.Scopes.{where_stands}
+use Rattle.smith_code_nodes.proofs.ResultLemmas.{ok_like}
+use Rattle.smith_code.proofs.ChoiceNodeLemmas.{set_node}
+use Rattle.smith_code_nodes.proofs.NodeLemmas.{nop_node}
+use Rattle.smith_code_nodes.proofs.ChosenLemmas.{as_node, as_nop}
+use Rattle.smith_code.proofs.ChoiceLemmas.{set_none, set_there}
 use Rattle.smith_code.proofs.choices.choose_set.Goals as goal
 
 pub returns-then-count-eq0-clause-node : goal.returns-then-count-eq0-clause-node

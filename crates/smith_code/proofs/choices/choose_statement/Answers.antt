@@ -1,9 +1,10 @@
-use Rattle.smith_code.specs.Scopes.{where_stands}
+use Rattle.smith_code_nodes.specs.Scopes.{where_stands}
 use Rattle.smith_code.specs.declared.families.StatementFamily.TheVariants as statement
-use Rattle.smith_code.proofs.ResultLemmas.{ok_like}
-use Rattle.smith_code.proofs.AtomicNodeLemmas.{fence_node}
-use Rattle.smith_code.proofs.NodeLemmas.{nop_node, stop_node}
-use Rattle.smith_code.proofs.ChoiceLemmas.{ok_by, ok_node, statement_by}
+use Rattle.smith_code_nodes.proofs.ResultLemmas.{ok_like}
+use Rattle.smith_code_memory.proofs.AtomicNodeLemmas.{fence_node}
+use Rattle.smith_code_nodes.proofs.NodeLemmas.{nop_node, stop_node}
+use Rattle.smith_code_nodes.proofs.ChosenLemmas.{ok_by, ok_node}
+use Rattle.smith_code.proofs.ChoiceLemmas.{statement_by}
 use Rattle.smith_code.proofs.choices.choose_statement.Goals as goal
 
 pub returns-in-Nop-clause-node : goal.returns-in-Nop-clause-node

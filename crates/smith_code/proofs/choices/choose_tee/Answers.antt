@@ -1,6 +1,6 @@
-use Rattle.smith_code.specs.Scopes.{where_stands}
-use Rattle.smith_code.proofs.OfferLemmas.{local_below}
-use Rattle.smith_code.proofs.NodeLemmas.{tee_node}
+use Rattle.smith_code_nodes.specs.Scopes.{where_stands}
+use Rattle.smith_code_nodes.proofs.OfferLemmas.{local_below}
+use Rattle.smith_code.proofs.ChoiceNodeLemmas.{tee_node}
 use Rattle.smith_code.proofs.ChoiceLemmas.{tee_none, tee_there}
 use Rattle.smith_code.proofs.choices.choose_tee.Goals as goal
 

@@ -1,7 +1,8 @@
-use Rattle.smith_code.specs.Scopes.{where_stands}
+use Rattle.smith_code_nodes.specs.Scopes.{where_stands}
 use Rattle.smith_code.specs.declared.families.ValueFamily.TheVariants as value
-use Rattle.smith_code.proofs.ResultLemmas.{ok_like}
-use Rattle.smith_code.proofs.ChoiceLemmas.{ok_by, value_by}
+use Rattle.smith_code_nodes.proofs.ResultLemmas.{ok_like}
+use Rattle.smith_code_nodes.proofs.ChosenLemmas.{ok_by}
+use Rattle.smith_code.proofs.ChoiceLemmas.{value_by}
 use Rattle.smith_code.proofs.choices.choose_value.Goals as goal
 
 pub returns-in-Leaf-clause-exact : goal.returns-in-Leaf-clause-exact

@@ -1,4 +1,4 @@
-use Rattle.smith_code.specs.Scopes.{where_stands}
+use Rattle.smith_code_nodes.specs.Scopes.{where_stands}
 use Rattle.smith_code.proofs.LeafChoiceLemmas.{leaf_chosen, leaf_constant}
 use Rattle.smith_code.proofs.leaf.draw_any_leaf.Goals as goal
 

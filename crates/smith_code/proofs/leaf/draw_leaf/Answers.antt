@@ -1,4 +1,4 @@
-use Rattle.smith_code.specs.Scopes.{where_stands}
+use Rattle.smith_code_nodes.specs.Scopes.{where_stands}
 use Rattle.std.proofs.Common.{sym, ◌∙◌}
 use Rattle.smith_code.proofs.LeafChoiceLemmas.{leaf_permitted}
 use Rattle.smith_code.proofs.leaf.draw_leaf.Goals as goal

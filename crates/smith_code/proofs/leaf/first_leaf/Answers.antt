@@ -1,4 +1,4 @@
-use Rattle.smith_code.specs.Scopes.{where_stands}
+use Rattle.smith_code_nodes.specs.Scopes.{where_stands}
 use Rattle.smith_code.proofs.LeafLemmas.{no_constant, stop_allowed}
 use Rattle.smith_code.proofs.leaf.first_leaf.Goals as goal
 

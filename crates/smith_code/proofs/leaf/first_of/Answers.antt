@@ -1,5 +1,5 @@
 use Rattle.std.proofs.Common.{sym, ◌∙◌}
-use Rattle.smith_code.specs.Scopes.{where_stands}
+use Rattle.smith_code_nodes.specs.Scopes.{where_stands}
 use Rattle.smith_code.proofs.LeafChoiceLemmas.{first_none, first_there}
 use Rattle.smith_code.proofs.leaf.first_of.Goals as goal
 

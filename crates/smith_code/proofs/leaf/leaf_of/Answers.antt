@@ -2,7 +2,7 @@ use Rattle.std.proofs.Common.{ℕ, List, Option, ap, refl}
 use Rattle.smith_instr.specs.declared.instr.Instr.TheVariants as instr
 use Rattle.smith_instr.specs.declared.reference.ReferenceInstr.TheVariants as reference
 use Rattle.smith_code.specs.Leaves.{by_index, named_at}
-use Rattle.smith_code.specs.Scopes.{where_stands}
+use Rattle.smith_code_nodes.specs.Scopes.{where_stands}
 use Rattle.smith_code.proofs.LeafLemmas.{local_leaf, global_leaf}
 use Rattle.smith_code.proofs.leaf.leaf_of.Goals as goal
 

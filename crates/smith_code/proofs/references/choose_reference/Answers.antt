@@ -1,4 +1,4 @@
-use Rattle.smith_code.specs.Scopes.{bare}
+use Rattle.smith_code_nodes.specs.Scopes.{bare}
 use Rattle.smith_code.proofs.ReferenceLemmas.{reference_there}
 use Rattle.smith_code.proofs.LeafChoiceLemmas.{named_none, named_there}
 use Rattle.smith_code.proofs.references.choose_reference.Goals as goal

@@ -1,5 +1,5 @@
 use Rattle.std.proofs.Common.{arith}
-use Rattle.smith_code.specs.Scopes.{bare}
+use Rattle.smith_code_nodes.specs.Scopes.{bare}
 use Rattle.smith_code.proofs.ReferenceLemmas.{named_past}
 use Rattle.smith_code.proofs.references.is_named.Goals as goal
 

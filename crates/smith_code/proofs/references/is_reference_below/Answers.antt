@@ -1,4 +1,4 @@
-use Rattle.smith_code.specs.Scopes.{bare}
+use Rattle.smith_code_nodes.specs.Scopes.{bare}
 use Rattle.smith_code.proofs.ReferenceLemmas.{function_in_range, named_tested}
 use Rattle.smith_code.proofs.references.is_reference_below.Goals as goal
 

@@ -1,0 +1,9 @@
+pub mod BranchNodeLemmas
+pub mod BranchChoiceLemmas
+pub mod TargetLemmas
+pub mod BlockNodeLemmas
+pub mod BlockChoiceLemmas
+pub mod CallLemmas
+pub mod NullLemmas
+pub mod ThrowLemmas
+pub mod TryLemmas

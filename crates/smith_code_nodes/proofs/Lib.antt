@@ -1,0 +1,14 @@
+pub mod OfferedLemmas
+pub mod OfferLemmas
+pub mod AmongLemmas
+pub mod AllowedLemmas
+pub mod NodeLemmas
+pub mod ChosenLemmas
+pub mod PlainNodeLemmas
+pub mod PlainLemmas
+pub mod NumericNodeLemmas
+pub mod NumericChoiceLemmas
+pub mod ReferenceChoiceLemmas
+pub mod ItemLemmas
+pub mod ResultLemmas
+pub mod RepeatLemmas

@@ -1,0 +1,9 @@
+pub mod Traps
+pub mod Scopes
+pub mod Nodes
+pub mod Offered
+pub mod NumericRows
+pub mod Chosen
+pub mod Items
+pub mod NumericChoices
+pub mod ReferenceChoices

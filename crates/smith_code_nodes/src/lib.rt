@@ -1,0 +1,33 @@
+//! The context of a body, the instructions that are offered in it, and nodes: instructions with the
+//! types of their operands. The numeric instructions, and those on references, are chosen here. The
+//! standard is the WebAssembly Core Specification 3.0.
+#![tactic(auto)]
+
+mod funcs;
+mod globals;
+mod items;
+mod locals;
+mod node;
+mod numeric;
+mod numeric_rows;
+mod offer;
+mod operands;
+mod reference_values;
+mod scope;
+mod traps;
+
+pub use funcs::{choose_callable, func_type_at, function_of, is_first_below};
+pub use globals::{choose_global, choose_mutable};
+pub use items::{draw_index, draw_item};
+pub use locals::{choose_local, choose_set_local, is_below, is_sub_type};
+pub use node::{
+    Head, Node, Opening, Sides, block, conditional, is_allowed, is_node_allowed, or_nop, plain,
+    setter, topped, try_table,
+};
+pub use numeric::{choose_numeric, choose_select};
+pub use offer::{Offer, choose_offered, count_offered};
+pub use operands::{field_values, repeated, taking};
+pub use reference_values::{
+    choose_reference_value, choose_select_typed, draw_referent, nullable_to,
+};
+pub use scope::{Draft, Scope, indexed};
