@@ -1,15 +1,14 @@
 -- Struct types, array types and their fields that are offered.
 use Rattle.std.proofs.Common.{◌≡◌, ℕ, ◌<◌, Bool, true, false, List, [], ◌∷◌, Option, Some, None, length, get_or, refl, sym, subst, ap, ◌∙◌, arith}
-use Rattle.std.specs.Prelude.{slice_get, option_map, map, All, if◌then◌else◌}
+use Rattle.std.specs.Prelude.{slice_get, option_map, map, All}
 use Rattle.std.proofs.lemmas.List.{get_or-map, length-map}
 use Rattle.std.proofs.lemmas.List.Elements.{All-from_recursion}
 use Rattle.std.proofs.lemmas.Option.{same_Some, slice_get-get_or, slice_get_within}
-use Rattle.smith_types.specs.Expressions.{IsArrayAt, IsDefaultable, IsStructAt, field_values, reference_to, unpacked}
+use Rattle.smith_types.specs.Expressions.{IsArrayAt, IsDefaultable, IsStructAt, field_values, unpacked}
 use Rattle.smith_types.specs.Grounded.{are_defaultable, is_defaultable}
 use Rattle.smith_types.specs.Matching.{IsStorageMatch}
-use Rattle.smith_types.specs.Subtyping.{IsValInRange}
 use Rattle.smith_types.specs.Types.{IsOrderly}
-use Rattle.smith_types.specs.declared.value_type.HeapType.TheVariants.{Concrete, Exact}
+use Rattle.smith_types.specs.declared.value_type.HeapType.TheVariants.{Concrete}
 use Rattle.smith_types.specs.declared.value_type.ValType.{ValType}
 use Rattle.smith_types.specs.declared.value_type.ValType.TheVariants.{I32, I64, F32, F64, V128, Ref}
 use Rattle.smith_types.specs.declared.composite_type.CompositeInnerType.{CompositeInnerType}
@@ -74,11 +73,6 @@ field_valid context fields index d valid inside =
     let value = λ (field : FieldType). unpacked field.element_type in
     let inside' : index < length (map value fields) = rw (length-map fields value) inside in
     subst (IsValid context) (get_or-map value fields index d (value d) inside) (valid index (value d) inside')
-
--- a type of an index is below a wanted type only where it is in range
-pub created_in_range : (types : List SubType) (index : ℕ) (exact : Bool) → index < length types → IsValInRange types (reference_to (if exact then Exact index else Concrete index))
-created_in_range types index true inside = inside
-created_in_range types index false inside = inside
 
 -- a reference to a type of an index is valid
 pub concrete_valid : (context : BodyContext) (index : ℕ) (t : SubType) → names_types context ≡ true → slice_get context.types index ≡ Some t → IsValid context (nullable_to (Concrete index))

@@ -10,7 +10,7 @@ ghost use Rattle.smith_code_nodes.specs.Scopes.{AreLabels, IsScope, bare, where_
 
 use crate::casts::{draw_above, reference_or};
 use smith_bytes::{Error, Unstructured};
-use smith_code_control::{choose_drafted_target, choose_of_reference, last_reference};
+use smith_code_control::{choose_of_reference, choose_target, last_reference};
 use smith_code_nodes::{Draft, Node, Scope, choose_local, or_nop, plain, topped};
 use smith_instr::{BranchCast, Instr};
 use smith_types::{RefType, ValType};
@@ -226,11 +226,12 @@ fn choose_cast_to(
     ensures memory { IfErr result (λ e. e ≡ Error.Memory) }
     ensures left { KeepsPieces u.old u.new }
 {
+    let labels = draft.labels.as_slice();
     let wanted = [ValType::Ref(to)];
-    let Some(label) = choose_drafted_target(scope, draft, &wanted, u) else {
+    let Some(label) = choose_target(scope, labels, &wanted, u) else {
         return Ok(None);
     };
-    let taken = draft.labels[label as usize].as_slice();
+    let taken = labels[label as usize].as_slice();
     let Some(from) = last_reference(taken) else {
         return Ok(None);
     };

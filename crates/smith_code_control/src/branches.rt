@@ -91,31 +91,6 @@ impl<'a> Offer for TargetOffer<'a> {
     }
 }
 
-/// Chooses a label that a branch with operands of the types `taken` may target, if there is one.
-pub fn choose_drafted_target(
-    scope: &Scope<'_>,
-    draft: &Draft,
-    taken: &[ValType],
-    u: &mut Unstructured<'_>,
-) -> Option<u32>
-    requires scope { IsScope (bare scope.now) }
-    requires labels { AreLabels scope.now draft.now.labels.items }
-    requires taken { AreValid (bare scope.now) taken.now }
-    ensures exact { choose_at (offered (is_target (bare scope.now).types draft.now.labels.items taken.now) (min (length draft.now.labels.items) 64)) u.old ≡ (result, u.new) }
-    ensures below { IfSome result (λ index. index < length draft.now.labels.items) }
-    ensures offered { IfSome result (λ index. is_target (bare scope.now).types draft.now.labels.items taken.now index ≡ true) }
-    ensures left { KeepsPieces u.old u.new }
-{
-    let labels = draft.labels.as_slice();
-    let offer = TargetOffer {
-        scope,
-        labels,
-        taken,
-    };
-    let index = choose_offered(&offer, u)?;
-    Some(index as u32)
-}
-
 /// Whether each of `values` matches the type at its place in `wanted`.
 pub(crate) fn are_below(scope: &Scope<'_>, values: &[ValType], wanted: &[ValType]) -> bool
     requires scope { IsScope (bare scope.now) }
@@ -135,7 +110,7 @@ pub(crate) fn are_below(scope: &Scope<'_>, values: &[ValType], wanted: &[ValType
 }
 
 /// Chooses a label that a branch with operands of the types `taken` may target, if there is one.
-pub(crate) fn choose_target<'a>(
+pub fn choose_target<'a>(
     scope: &'a Scope<'a>,
     labels: &'a [Items<ValType>],
     taken: &'a [ValType],
@@ -145,6 +120,7 @@ pub(crate) fn choose_target<'a>(
     requires labels { AreLabels scope.now labels.now }
     requires taken { AreValid (bare scope.now) taken.now }
     ensures exact { choose_at (offered (is_target (bare scope.now).types labels.now taken.now) (min (length labels.now) 64)) u.old ≡ (result, u.new) }
+    ensures below { IfSome result (λ label. label < length labels.now) }
     ensures offered { IfSome result (λ label. is_target (bare scope.now).types labels.now taken.now label ≡ true) }
     ensures left { KeepsPieces u.old u.new }
 {

@@ -13,7 +13,7 @@ mod throws;
 mod try_tables;
 
 pub use blocks::{choose_any_block, choose_block};
-pub use branches::{choose_branch, choose_drafted_target, choose_leaving, choose_table};
+pub use branches::{choose_branch, choose_leaving, choose_table, choose_target};
 pub use calls::{
     choose_any_by_reference, choose_any_indirect, choose_by_reference, choose_indirect,
 };

@@ -17,7 +17,9 @@ use std::alloc::Global;
 /// Parameters and results of a block.
 #[derive(Drop)]
 pub struct Sides {
+    /// The types of the parameters.
     pub params: Items<ValType>,
+    /// The types of the results.
     pub results: Items<ValType>,
 }
 
@@ -25,7 +27,9 @@ pub struct Sides {
 /// `else` is no such block.
 #[derive(Clone, Copy)]
 pub enum Opening {
+    /// A `block`.
     Block,
+    /// A `loop`.
     Loop,
     /// An `if` without `else`.
     IfAlone,

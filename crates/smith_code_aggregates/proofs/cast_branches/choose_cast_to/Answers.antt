@@ -6,8 +6,8 @@ use Rattle.smith_code_nodes.proofs.NodeLemmas.{one_valid}
 use Rattle.smith_types.specs.declared.value_type.ValType.TheVariants.{Ref}
 use Rattle.smith_code_aggregates.proofs.cast_branches.choose_cast_to.Goals as goal
 
-pub choose_drafted_target-requires-clause-taken : goal.choose_drafted_target-requires-clause-taken
-choose_drafted_target-requires-clause-taken c = one_valid (bare c.args.scope.now) (Ref c.args.to) c.requires.to
+pub choose_target-requires-clause-taken : goal.choose_target-requires-clause-taken
+choose_target-requires-clause-taken c = one_valid (bare c.args.scope.now) (Ref c.args.to) c.requires.to
 
 pub returns-in_default-clause-exact : goal.returns-in_default-clause-exact
 returns-in_default-clause-exact c = cast_value_none (where_stands c.args.scope.now c.args.draft.now) c.args.to c.args.u.now _ c.in_default.ensures.exact
