@@ -35,7 +35,7 @@ pub more_valid : (context : BodyContext) (value : ValType) (values : List ValTyp
 more_valid context value values valid more = All-append (IsValid context) (value ∷ []) values (one_valid context value valid) more
 
 -- a type of numbers
-pub is_number : ValType → Bool
+unfoldable pub is_number : ValType → Bool
 is_number I32 = true
 is_number I64 = true
 is_number F32 = true
@@ -55,7 +55,7 @@ pub numbers_valid : (context : BodyContext) (values : List ValType) → list_all
 numbers_valid context values numbers = λ k d inside. number_valid context (get_or values k d) (AllPass-from_list_all is_number values numbers k d inside)
 
 -- the first of these types is this number
-pub begins : ValType → List ValType → Bool
+unfoldable pub begins : ValType → List ValType → Bool
 begins I32 (I32 ∷ more) = true
 begins I64 (I64 ∷ more) = true
 begins F32 (F32 ∷ more) = true
