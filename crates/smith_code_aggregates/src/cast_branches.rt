@@ -231,7 +231,7 @@ fn choose_cast_to(
     let Some(label) = choose_target(scope, labels, &wanted, u) else {
         return Ok(None);
     };
-    let taken = labels[label as usize].as_slice();
+    let taken = draft.labels[label as usize].as_slice();
     let Some(from) = last_reference(taken) else {
         return Ok(None);
     };
