@@ -29,3 +29,6 @@ pub returns-clause-exact : goal.returns-clause-exact
 returns-clause-exact c =
     let count = c.len-before.ensures in
     tables_full c.loop-made.invariant.defining (rw (c.saturating_sub-most.ensures, count) at c.loop-made-test.false) (rw count at c.ask_past_full.ensures.exact)
+
+pub returns-in_err-push-clause-left : goal.returns-in_err-push-clause-left
+returns-in_err-push-clause-left c = λ whole is. c.in_ok-table.ensures.left whole (c.goes_on.ensures.left whole (c.loop-made.invariant.defining.defining.growing.left whole is))
