@@ -302,10 +302,10 @@ chosen_by {F = F} of first families rows bytes left drawn family are is same =
     let is' : chosen_at first families bytes ≡ (family, left) = rw (are, same) at is in
     ap (λ (r : F × List ℕ). of r.0 r.1) is'
 
-pub value_by : (config : Config) (context : BodyContext) (wanted : ValType) (bytes left : List ℕ) (families : List ValueFamily) (drawn_family family : ValueFamily) → families ≡ value_families → chosen_at value.Leaf families bytes ≡ (drawn_family, left) → drawn_family ≡ family
+pub value_by : (config : Config) (context : BodyContext) (wanted : ValType) (bytes left : List ℕ) (families : List ValueFamily) (drawn_family family : ValueFamily) → families ≡ value_families wanted → chosen_at value.Leaf families bytes ≡ (drawn_family, left) → drawn_family ≡ family
     → value_choice_at config context wanted bytes ≡ value_of config context wanted family left
 unfolding value_choice_at
-value_by config context wanted bytes left families drawn_family family are drawn is = chosen_by (value_of config context wanted) value.Leaf value_families families bytes left drawn_family family are drawn is
+value_by config context wanted bytes left families drawn_family family are drawn is = chosen_by (value_of config context wanted) value.Leaf (value_families wanted) families bytes left drawn_family family are drawn is
 
 pub statement_by : (config : Config) (context : BodyContext) (bytes left : List ℕ) (families : List StatementFamily) (drawn_family family : StatementFamily) → families ≡ statement_families → chosen_at statement.Nop families bytes ≡ (drawn_family, left) → drawn_family ≡ family
     → statement_choice_at config context bytes ≡ or_nop (statement_of config context family left)

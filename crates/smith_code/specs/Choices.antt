@@ -5,7 +5,7 @@ use Rattle.smith_bytes.specs.Draws.{bool_at, range_at, choose_at}
 use Rattle.smith_types.specs.Features.{Features}
 use Rattle.smith_config.specs.declared.config.Config.{Config}
 use Rattle.smith_types.specs.declared.value_type.ValType.{ValType}
-use Rattle.smith_types.specs.declared.value_type.ValType.TheVariants.{I32, I64, F32, F64, Ref}
+use Rattle.smith_types.specs.declared.value_type.ValType.TheVariants.{I32, I64, F32, F64, V128, Ref}
 use Rattle.smith_types.specs.declared.composite_type.FuncType.{FuncType}
 use Rattle.smith_types.specs.declared.entity_type.MemoryType.{MemoryType}
 use Rattle.smith_draw.specs.Choices.{chosen_at}
@@ -146,9 +146,10 @@ memory_at context wanted bytes =
     let index = choose_at (offered (is_addressed context wanted) (indexed (length context.memories))) bytes in
     memory_by wanted index.0 index.1
 
--- the families of values; the number of times that each is listed is its weight
-abbrev pub value_families : List ValueFamily
-value_families =
+-- the families of numbers, of vectors and of references; the number of times that each is listed is
+-- its weight
+abbrev pub number_families : List ValueFamily
+number_families =
     value.Leaf ∷
     value.Numeric ∷
     value.Numeric ∷
@@ -171,11 +172,89 @@ value_families =
     value.CallIndirect ∷
     value.CallRef ∷
     value.TailCall ∷
-    value.NullBranch ∷
+    value.Atomic ∷
     value.Vector ∷
     value.Vector ∷
     value.Vector ∷
     value.Atomic ∷
+    value.Atomic ∷
+    value.Numeric ∷
+    value.Numeric ∷
+    value.FieldRead ∷
+    value.Cast ∷
+    value.Leaf ∷
+    value.Throw ∷
+    value.Try ∷
+    []
+
+abbrev pub vector_value_families : List ValueFamily
+vector_value_families =
+    value.Leaf ∷
+    value.Vector ∷
+    value.Vector ∷
+    value.Vector ∷
+    value.Vector ∷
+    value.Vector ∷
+    value.Select ∷
+    value.Tee ∷
+    value.Call ∷
+    value.Call ∷
+    value.Block ∷
+    value.Block ∷
+    value.Leaving ∷
+    value.Vector ∷
+    value.Vector ∷
+    value.Vector ∷
+    value.Vector ∷
+    value.SelectTyped ∷
+    value.Vector ∷
+    value.CallIndirect ∷
+    value.CallRef ∷
+    value.TailCall ∷
+    value.Vector ∷
+    value.Vector ∷
+    value.Vector ∷
+    value.Vector ∷
+    value.Vector ∷
+    value.Vector ∷
+    value.Vector ∷
+    value.Leaf ∷
+    value.FieldRead ∷
+    value.Leaf ∷
+    value.Leaf ∷
+    value.Throw ∷
+    value.Try ∷
+    []
+
+abbrev pub reference_value_families : List ValueFamily
+reference_value_families =
+    value.Leaf ∷
+    value.Creation ∷
+    value.Creation ∷
+    value.Creation ∷
+    value.Creation ∷
+    value.Cast ∷
+    value.FieldRead ∷
+    value.Tee ∷
+    value.Call ∷
+    value.Call ∷
+    value.Block ∷
+    value.Block ∷
+    value.Leaving ∷
+    value.Creation ∷
+    value.Creation ∷
+    value.Table ∷
+    value.Table ∷
+    value.SelectTyped ∷
+    value.Reference ∷
+    value.CallIndirect ∷
+    value.CallRef ∷
+    value.TailCall ∷
+    value.NullBranch ∷
+    value.Cast ∷
+    value.Cast ∷
+    value.CallRef ∷
+    value.Call ∷
     value.Creation ∷
     value.Creation ∷
     value.Creation ∷
@@ -185,6 +264,12 @@ value_families =
     value.Throw ∷
     value.Try ∷
     []
+
+-- the families of values of a type
+abbrev pub value_families : ValType → List ValueFamily
+value_families V128 = vector_value_families
+value_families (Ref reference) = reference_value_families
+value_families _ = number_families
 
 -- a value of a family: none of a leaf
 abbrev pub value_of : Config → BodyContext → ValType → ValueFamily → List ℕ → Chosen
@@ -214,7 +299,7 @@ value_of config context wanted value.Throw bytes = any_throw_at context bytes
 value_of config context wanted value.Try bytes = try_at context wanted bytes
 
 unfoldable pub value_choice_at : Config → BodyContext → ValType → List ℕ → Chosen
-value_choice_at config context wanted bytes = let family = chosen_at value.Leaf value_families bytes in value_of config context wanted family.0 family.1
+value_choice_at config context wanted bytes = let family = chosen_at value.Leaf (value_families wanted) bytes in value_of config context wanted family.0 family.1
 
 -- that node, if it is allowed
 abbrev pub if_allowed : Features → Config → Option Node → Option Node

@@ -67,6 +67,8 @@ fn creations<'a>() -> &'a [Creation]
         Creation::ArrayFixed,
         Creation::ArrayData,
         Creation::ArrayElem,
+        Creation::ArrayElem,
+        Creation::ArrayElem,
     ]
 }
 
