@@ -115,7 +115,7 @@ converted_to nullable _ = None
 
 -- a reference out of a number or another reference; the number of times that each way is listed is its weight
 abbrev pub conversions : List Conversion
-conversions = conversion.I31 ∷ conversion.Outside ∷ conversion.Cast ∷ conversion.NonNullCast ∷ conversion.Outside ∷ []
+conversions = conversion.I31 ∷ conversion.Outside ∷ conversion.Cast ∷ conversion.NonNullCast ∷ conversion.Outside ∷ conversion.Outside ∷ conversion.Outside ∷ []
 
 abbrev pub conversion_of : BodyContext → RefType → Conversion → List ℕ → Chosen
 conversion_of context to conversion.I31 bytes = (i31_node context to, bytes)

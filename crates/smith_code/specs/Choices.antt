@@ -253,8 +253,8 @@ reference_value_families =
     value.NullBranch ∷
     value.Cast ∷
     value.Cast ∷
-    value.CallRef ∷
-    value.Call ∷
+    value.Cast ∷
+    value.Cast ∷
     value.Creation ∷
     value.Creation ∷
     value.Creation ∷

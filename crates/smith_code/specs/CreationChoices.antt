@@ -85,6 +85,9 @@ creations =
     creation.ArrayElem ∷
     creation.ArrayElem ∷
     creation.ArrayElem ∷
+    creation.ArrayElem ∷
+    creation.ArrayElem ∷
+    creation.ArrayElem ∷
     []
 
 -- an array type that is drawn, and then what creates an array of it

@@ -87,6 +87,8 @@ fn conversions<'a>() -> &'a [Conversion]
         Conversion::Cast,
         Conversion::NonNullCast,
         Conversion::Outside,
+        Conversion::Outside,
+        Conversion::Outside,
     ]
 }
 
@@ -329,7 +331,6 @@ fn without_null(scope: &Scope<'_>, to: RefType) -> RefType
     requires to { IsValid (bare scope.now) (Ref to) }
     ensures exact { result ≡ without_null (bare scope.now).features to }
     ensures valid { IsValid (bare scope.now) (Ref result) }
-    ensures below { IsRefBelow (bare scope.now).types result to }
 {
     let has_null = !scope.features.contains(WasmFeatures::FUNCTION_REFERENCES);
     RefType {

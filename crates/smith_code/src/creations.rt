@@ -69,6 +69,9 @@ fn creations<'a>() -> &'a [Creation]
         Creation::ArrayElem,
         Creation::ArrayElem,
         Creation::ArrayElem,
+        Creation::ArrayElem,
+        Creation::ArrayElem,
+        Creation::ArrayElem,
     ]
 }
 

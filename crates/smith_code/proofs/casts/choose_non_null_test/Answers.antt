@@ -1,4 +1,4 @@
-use Rattle.smith_code.specs.Scopes.{bare, where_stands}
+use Rattle.smith_code.specs.Scopes.{where_stands}
 use Rattle.smith_code.proofs.CastLemmas.{non_null_test_none, non_null_test_some}
 use Rattle.smith_code.proofs.ChoiceLemmas.{ok_by}
 use Rattle.smith_code.proofs.casts.choose_non_null_test.Goals as goal
