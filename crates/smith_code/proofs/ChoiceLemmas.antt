@@ -117,10 +117,10 @@ pub drop_by : (context : BodyContext) (bytes left : List ℕ) (value : ValType) 
 unfolding drop_at
 drop_by context bytes left value drawn = ap (λ (d : ValType × List ℕ). (Some (node_of (d.0 ∷ []) instr.Drop 0), d.1)) drawn
 
-pub value_by : (config : Config) (context : BodyContext) (wanted : ValType) (bytes left : List ℕ) (families : List ValueFamily) (drawn_family family : ValueFamily) → families ≡ value_families → chosen_at value.Leaf families bytes ≡ (drawn_family, left) → drawn_family ≡ family
+pub value_by : (config : Config) (context : BodyContext) (wanted : ValType) (bytes left : List ℕ) (families : List ValueFamily) (drawn_family family : ValueFamily) → families ≡ value_families wanted → chosen_at value.Leaf families bytes ≡ (drawn_family, left) → drawn_family ≡ family
     → value_choice_at config context wanted bytes ≡ value_of config context wanted family left
 unfolding value_choice_at
-value_by config context wanted bytes left families drawn_family family are drawn is = chosen_by (value_of config context wanted) value.Leaf value_families families bytes left drawn_family family are drawn is
+value_by config context wanted bytes left families drawn_family family are drawn is = chosen_by (value_of config context wanted) value.Leaf (value_families wanted) families bytes left drawn_family family are drawn is
 
 pub statement_by : (config : Config) (context : BodyContext) (bytes left : List ℕ) (families : List StatementFamily) (drawn_family family : StatementFamily) → families ≡ statement_families → chosen_at statement.Nop families bytes ≡ (drawn_family, left) → drawn_family ≡ family
     → statement_choice_at config context bytes ≡ or_nop (statement_of config context family left)

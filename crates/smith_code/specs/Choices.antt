@@ -4,7 +4,7 @@ use Rattle.std.specs.Prelude.{ℕ, ◌-◌, Option, Some, None, option_map, List
 use Rattle.smith_bytes.specs.Draws.{range_at, choose_at}
 use Rattle.smith_types.specs.Features.{Features}
 use Rattle.smith_types.specs.declared.value_type.ValType.{ValType}
-use Rattle.smith_types.specs.declared.value_type.ValType.TheVariants.{I32, I64, F32, F64}
+use Rattle.smith_types.specs.declared.value_type.ValType.TheVariants.{I32, I64, F32, F64, V128, Ref}
 use Rattle.smith_types.specs.declared.composite_type.FuncType.{FuncType}
 use Rattle.smith_config.specs.declared.config.Config.{Config}
 use Rattle.smith_draw.specs.Choices.{chosen_at}
@@ -55,9 +55,10 @@ call_node context index =
 unfoldable pub call_at : BodyContext → ValType → List ℕ → Chosen
 call_at context wanted bytes = giving (call_node context) (choose_at (offered (is_callable context wanted) (indexed (length context.funcs))) bytes)
 
--- the families of values; the number of times that each is listed is its weight
-abbrev pub value_families : List ValueFamily
-value_families =
+-- the families of numbers, of vectors and of references; the number of times that each is listed is
+-- its weight
+abbrev pub number_families : List ValueFamily
+number_families =
     value.Leaf ∷
     value.Numeric ∷
     value.Numeric ∷
@@ -80,11 +81,89 @@ value_families =
     value.CallIndirect ∷
     value.CallRef ∷
     value.TailCall ∷
-    value.NullBranch ∷
+    value.Atomic ∷
     value.Vector ∷
     value.Vector ∷
     value.Vector ∷
     value.Atomic ∷
+    value.Atomic ∷
+    value.Numeric ∷
+    value.Numeric ∷
+    value.FieldRead ∷
+    value.Cast ∷
+    value.Leaf ∷
+    value.Throw ∷
+    value.Try ∷
+    []
+
+abbrev pub vector_value_families : List ValueFamily
+vector_value_families =
+    value.Leaf ∷
+    value.Vector ∷
+    value.Vector ∷
+    value.Vector ∷
+    value.Vector ∷
+    value.Vector ∷
+    value.Select ∷
+    value.Tee ∷
+    value.Call ∷
+    value.Call ∷
+    value.Block ∷
+    value.Block ∷
+    value.Leaving ∷
+    value.Vector ∷
+    value.Vector ∷
+    value.Vector ∷
+    value.Vector ∷
+    value.SelectTyped ∷
+    value.Vector ∷
+    value.CallIndirect ∷
+    value.CallRef ∷
+    value.TailCall ∷
+    value.Vector ∷
+    value.Vector ∷
+    value.Vector ∷
+    value.Vector ∷
+    value.Vector ∷
+    value.Vector ∷
+    value.Vector ∷
+    value.Leaf ∷
+    value.FieldRead ∷
+    value.Leaf ∷
+    value.Leaf ∷
+    value.Throw ∷
+    value.Try ∷
+    []
+
+abbrev pub reference_value_families : List ValueFamily
+reference_value_families =
+    value.Leaf ∷
+    value.Creation ∷
+    value.Creation ∷
+    value.Creation ∷
+    value.Creation ∷
+    value.Cast ∷
+    value.FieldRead ∷
+    value.Tee ∷
+    value.Call ∷
+    value.Call ∷
+    value.Block ∷
+    value.Block ∷
+    value.Leaving ∷
+    value.Creation ∷
+    value.Creation ∷
+    value.Table ∷
+    value.Table ∷
+    value.SelectTyped ∷
+    value.Reference ∷
+    value.CallIndirect ∷
+    value.CallRef ∷
+    value.TailCall ∷
+    value.NullBranch ∷
+    value.Cast ∷
+    value.Cast ∷
+    value.Cast ∷
+    value.Cast ∷
     value.Creation ∷
     value.Creation ∷
     value.Creation ∷
@@ -94,6 +173,12 @@ value_families =
     value.Throw ∷
     value.Try ∷
     []
+
+-- the families of values of a type
+abbrev pub value_families : ValType → List ValueFamily
+value_families V128 = vector_value_families
+value_families (Ref reference) = reference_value_families
+value_families _ = number_families
 
 -- a value of a family: none of a leaf
 abbrev pub value_of : Config → BodyContext → ValType → ValueFamily → List ℕ → Chosen
@@ -123,7 +208,7 @@ value_of config context wanted value.Throw bytes = any_throw_at context bytes
 value_of config context wanted value.Try bytes = try_at context wanted bytes
 
 unfoldable pub value_choice_at : Config → BodyContext → ValType → List ℕ → Chosen
-value_choice_at config context wanted bytes = let family = chosen_at value.Leaf value_families bytes in value_of config context wanted family.0 family.1
+value_choice_at config context wanted bytes = let family = chosen_at value.Leaf (value_families wanted) bytes in value_of config context wanted family.0 family.1
 
 -- that node, if it is allowed
 abbrev pub if_allowed : Features → Config → Option Node → Option Node

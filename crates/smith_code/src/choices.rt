@@ -79,7 +79,7 @@ fn choose_value(
     ensures left { KeepsPieces u.old u.new }
 {
     let outcome = Outcome::Wanted(wanted);
-    match choose(value_families(), u) {
+    match choose(value_families(wanted), u) {
         ValueFamily::Leaf => Ok(None),
         ValueFamily::Numeric => choose_numeric(alloc, wanted, u),
         ValueFamily::Select => choose_select(alloc, wanted),

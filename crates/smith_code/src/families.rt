@@ -1,6 +1,14 @@
 ghost use Rattle.std.specs.Prelude.{◌≡◌};
-ghost use Rattle.smith_code.specs.Choices.{statement_families, value_families};
+ghost use Rattle.smith_code.specs.Choices.{
+  number_families,
+  reference_value_families,
+  statement_families,
+  value_families,
+  vector_value_families,
+};
 ghost use Rattle.smith_code.specs.Leaves.{leaf_families};
+
+use smith_types::ValType;
 
 /// Families of instructions that may produce a value.
 #[derive(Clone, Copy)]
@@ -96,9 +104,21 @@ pub(crate) enum LeafFamily {
     Constant,
 }
 
-/// Lists the families of values. The number of times that a family is listed is its weight.
-pub(crate) fn value_families<'a>() -> &'a [ValueFamily]
-    ensures { result.now ≡ value_families }
+/// Lists the families of values of the type `wanted`. The number of times that a family is listed
+/// is its weight.
+pub(crate) fn value_families<'a>(wanted: ValType) -> &'a [ValueFamily]
+    ensures { result.now ≡ value_families wanted }
+{
+    match wanted {
+        ValType::V128 => vector_value_families(),
+        ValType::Ref(_) => reference_value_families(),
+        _ => number_families(),
+    }
+}
+
+/// Lists the families of values of a number type.
+fn number_families<'a>() -> &'a [ValueFamily]
+    ensures { result.now ≡ number_families }
 {
     &[
         ValueFamily::Leaf,
@@ -123,11 +143,97 @@ pub(crate) fn value_families<'a>() -> &'a [ValueFamily]
         ValueFamily::CallIndirect,
         ValueFamily::CallRef,
         ValueFamily::TailCall,
-        ValueFamily::NullBranch,
+        ValueFamily::Atomic,
         ValueFamily::Vector,
         ValueFamily::Vector,
         ValueFamily::Vector,
         ValueFamily::Atomic,
+        ValueFamily::Atomic,
+        ValueFamily::Numeric,
+        ValueFamily::Numeric,
+        ValueFamily::FieldRead,
+        ValueFamily::Cast,
+        ValueFamily::Leaf,
+        ValueFamily::Throw,
+        ValueFamily::Try,
+    ]
+}
+
+/// Lists the families of vectors.
+fn vector_value_families<'a>() -> &'a [ValueFamily]
+    ensures { result.now ≡ vector_value_families }
+{
+    &[
+        ValueFamily::Leaf,
+        ValueFamily::Vector,
+        ValueFamily::Vector,
+        ValueFamily::Vector,
+        ValueFamily::Vector,
+        ValueFamily::Vector,
+        ValueFamily::Select,
+        ValueFamily::Tee,
+        ValueFamily::Call,
+        ValueFamily::Call,
+        ValueFamily::Block,
+        ValueFamily::Block,
+        ValueFamily::Leaving,
+        ValueFamily::Vector,
+        ValueFamily::Vector,
+        ValueFamily::Vector,
+        ValueFamily::Vector,
+        ValueFamily::SelectTyped,
+        ValueFamily::Vector,
+        ValueFamily::CallIndirect,
+        ValueFamily::CallRef,
+        ValueFamily::TailCall,
+        ValueFamily::Vector,
+        ValueFamily::Vector,
+        ValueFamily::Vector,
+        ValueFamily::Vector,
+        ValueFamily::Vector,
+        ValueFamily::Vector,
+        ValueFamily::Vector,
+        ValueFamily::Leaf,
+        ValueFamily::FieldRead,
+        ValueFamily::Leaf,
+        ValueFamily::Leaf,
+        ValueFamily::Throw,
+        ValueFamily::Try,
+    ]
+}
+
+/// Lists the families of references.
+fn reference_value_families<'a>() -> &'a [ValueFamily]
+    ensures { result.now ≡ reference_value_families }
+{
+    &[
+        ValueFamily::Leaf,
+        ValueFamily::Creation,
+        ValueFamily::Creation,
+        ValueFamily::Creation,
+        ValueFamily::Creation,
+        ValueFamily::Cast,
+        ValueFamily::FieldRead,
+        ValueFamily::Tee,
+        ValueFamily::Call,
+        ValueFamily::Call,
+        ValueFamily::Block,
+        ValueFamily::Block,
+        ValueFamily::Leaving,
+        ValueFamily::Creation,
+        ValueFamily::Creation,
+        ValueFamily::Table,
+        ValueFamily::Table,
+        ValueFamily::SelectTyped,
+        ValueFamily::Reference,
+        ValueFamily::CallIndirect,
+        ValueFamily::CallRef,
+        ValueFamily::TailCall,
+        ValueFamily::NullBranch,
+        ValueFamily::Cast,
+        ValueFamily::Cast,
+        ValueFamily::Cast,
+        ValueFamily::Cast,
         ValueFamily::Creation,
         ValueFamily::Creation,
         ValueFamily::Creation,

@@ -1,9 +1,10 @@
 -- Casts, tests and conversions of references, and instructions on an i31.
-use Rattle.std.proofs.Common.{◌≡◌, ℕ, ◌<◌, Bool, true, false, List, [], ◌∷◌, Option, Some, None, length, get_or, refl, sym, subst, ap, ◌∙◌, arith}
-use Rattle.std.specs.Prelude.{unwrap_or}
+use Rattle.std.proofs.Common.{◌≡◌, ℕ, ◌<◌, Bool, true, false, List, [], ◌∷◌, ◌++◌, Option, Some, None, length, get_or, refl, sym, subst, ap, ◌∙◌, arith}
+use Rattle.std.specs.Prelude.{◌&&◌, not, IsTrue, unwrap_or}
 use Rattle.std.proofs.lemmas.Option.{slice_get-get_or}
 use Rattle.smith_bytes.specs.Draws.{choose_at}
 use Rattle.smith_types.specs.Expressions.{reference_to}
+use Rattle.smith_types.specs.Features.{Features}
 use Rattle.smith_types.specs.Subtyping.{IsRefBelow, itself}
 use Rattle.smith_types.specs.Types.{IsOrderly}
 use Rattle.smith_types.specs.declared.composite_type.SubType.{SubType}
@@ -22,7 +23,7 @@ use Rattle.smith_instr.specs.declared.aggregate.AggregateInstr.TheVariants as ag
 use Rattle.smith_instr.specs.declared.instr.Instr.TheVariants as instr
 use Rattle.smith_instr.specs.declared.reference.ReferenceInstr.TheVariants as reference
 use Rattle.smith_code_aggregates.specs.Aggregates.{names_types}
-use Rattle.smith_code_aggregates.specs.CastChoices.{above_at, above_in, cast_at, cast_choice_at, cast_for, conversion_at, conversion_of, conversions, i31_node, is_above, is_above_at, is_i31_below, reference_local_at, scalar_at, scalar_of, scalars, tested_for, type_test_at, with_null}
+use Rattle.smith_code_aggregates.specs.CastChoices.{above_at, above_in, cast_at, cast_choice_at, cast_for, conversion_at, conversion_of, conversions, i31_node, is_above, is_above_at, is_i31_below, non_null_test_at, reference_local_at, scalar_at, scalar_of, scalars, tested_for, type_test_at, with_null, without_null}
 use Rattle.smith_code_aggregates.specs.CreationChoices.{aggregate_of}
 use Rattle.smith_code_nodes.specs.Items.{continued}
 use Rattle.smith_code_nodes.specs.Nodes.{IsNode, node_of}
@@ -77,12 +78,30 @@ pub above_some : (context : BodyContext) (to : RefType) (bytes left : List ℕ) 
 above_some context to bytes left index d drawn inside =
     ap (λ (d : Option ℕ × List ℕ). (above_in context to d.0, d.1)) drawn ∙ ap (λ (o : Option ValType). (unwrap_or (reference_in o) (with_null to), left)) (slice_get-get_or context.locals index d inside)
 
+-- the type without null is below
+pub strict_below : (types : List SubType) (features : Features) (to : RefType) → IsRefBelow types (without_null features to) to
+strict_below types features to = record { heap = itself; nullable = λ h. (both to.nullable (not features.function_references) h).0 }
+
+strict_null : (nullable on : Bool) → (nullable ≡ false → IsTrue on) → (nullable && not on) ≡ false → IsTrue on
+strict_null true true valid h = refl
+strict_null true false valid h = cc
+strict_null false on valid h = valid refl
+
+pub strict_valid : (context : BodyContext) (to : RefType) → IsValid context (Ref to) → IsValid context (Ref (without_null context.features to))
+strict_valid context to valid = (valid.0, record { heap_type = valid.1.heap_type; nullable = λ h. strict_null to.nullable context.features.function_references valid.1.nullable h })
+
 -- a cast, and a test
 pub cast_gives : (context : BodyContext) (set : List ℕ) (to from : RefType) → IsValid context (Ref to) → IsValid context (Ref from) → IsRefBelow context.types to from
     → IsNode context set (Ref to ∷ []) (node_of (Ref from ∷ []) (instr.Reference (reference.Cast to)) 0)
 cast_gives context set to from valid valid' below =
     gives_one context set (Ref to) (Ref to) (Ref from ∷ []) (instr.Reference (reference.Cast to)) (λ more. (from, valid.1, valid'.1, below, (refl, refl))) (IsValBelow-refl context.types (Ref to)) valid refl (omega arith)
     (one_valid context (Ref from) valid')
+
+pub strict_cast_gives : (context : BodyContext) (set : List ℕ) (to strict from : RefType) → IsValid context (Ref to) → IsValid context (Ref strict) → IsRefBelow context.types strict to → IsValid context (Ref from) → IsRefBelow context.types strict from
+    → IsNode context set (Ref to ∷ []) (node_of (Ref from ∷ []) (instr.Reference (reference.Cast strict)) 0)
+strict_cast_gives context set to strict from valid valid' below' valid'' below =
+    gives_one context set (Ref to) (Ref strict) (Ref from ∷ []) (instr.Reference (reference.Cast strict)) (λ more. (from, valid'.1, valid''.1, below, (refl, refl))) below' valid refl (omega arith)
+    (one_valid context (Ref from) valid'')
 
 pub test_gives : (context : BodyContext) (set : List ℕ) (to from : RefType) → IsValid context (Ref to) → IsValid context (Ref from) → IsRefBelow context.types to from
     → IsNode context set (I32 ∷ []) (node_of (Ref from ∷ []) (instr.Reference (reference.Test to)) 0)
@@ -193,3 +212,13 @@ type_test_none context bytes left drawn = ap (λ (d : Option RefType × List ℕ
 pub type_test_some : (context : BodyContext) (bytes left : List ℕ) (to : RefType) → reference_local_at context bytes ≡ (Some to, left) → type_test_at context bytes ≡ tested_for context to left
 unfolding type_test_at
 type_test_some context bytes left to drawn = ap (λ (d : Option RefType × List ℕ). continued (tested_for context) d.0 d.1) drawn
+
+pub non_null_test_none : (context : BodyContext) (bytes left : List ℕ) → reference_local_at context bytes ≡ (None, left) → non_null_test_at context bytes ≡ (None, left)
+unfolding non_null_test_at
+non_null_test_none context bytes left drawn =
+    ap (λ (d : Option RefType × List ℕ). continued (λ (to : RefType) (bytes : List ℕ). tested_for context (without_null context.features to) bytes) d.0 d.1) drawn
+
+pub non_null_test_some : (context : BodyContext) (bytes left : List ℕ) (to : RefType) → reference_local_at context bytes ≡ (Some to, left) → non_null_test_at context bytes ≡ tested_for context (without_null context.features to) left
+unfolding non_null_test_at
+non_null_test_some context bytes left to drawn =
+    ap (λ (d : Option RefType × List ℕ). continued (λ (to : RefType) (bytes : List ℕ). tested_for context (without_null context.features to) bytes) d.0 d.1) drawn

@@ -1,8 +1,9 @@
 -- Which cast, test or conversion of a reference the bytes choose, and which instruction on an i31. The choices, their order and how
 -- often each comes are rules of this project.
-use Rattle.std.specs.Prelude.{ℕ, Bool, true, false, Option, Some, None, is_some, unwrap_or, List, [], ◌∷◌, length, slice_get, if◌then◌else◌}
+use Rattle.std.specs.Prelude.{ℕ, Bool, true, false, ◌&&◌, not, Option, Some, None, is_some, unwrap_or, List, [], ◌∷◌, length, slice_get, if◌then◌else◌}
 use Rattle.smith_bytes.specs.Draws.{choose_at}
 use Rattle.smith_types.specs.Expressions.{reference_to}
+use Rattle.smith_types.specs.Features.{Features}
 use Rattle.smith_types.specs.declared.composite_type.SubType.{SubType}
 use Rattle.smith_types.specs.declared.value_type.AbstractHeapType.TheVariants as abstract
 use Rattle.smith_types.specs.declared.value_type.HeapType.{HeapType}
@@ -53,6 +54,10 @@ above_at context to bytes =
     let index = choose_at (offered (is_above context to) (indexed (length context.locals))) bytes in
     (above_in context to index.0, index.1)
 
+-- the type without null, if the feature of such types is on
+abbrev pub without_null : Features → RefType → RefType
+without_null features to = record { nullable = to.nullable && not features.function_references; heap_type = to.heap_type }
+
 -- a cast to a reference type
 unfoldable pub cast_at : BodyContext → RefType → List ℕ → Chosen
 cast_at context to bytes = let from = above_at context to bytes in (Some (node_of (Ref from.0 ∷ []) (instr.Reference (reference.Cast to)) 0), from.1)
@@ -72,15 +77,22 @@ tested_for context to bytes = let from = above_at context to bytes in (Some (nod
 unfoldable pub type_test_at : BodyContext → List ℕ → Chosen
 type_test_at context bytes = let to = reference_local_at context bytes in continued (tested_for context) to.0 to.1
 
+-- a test for the type of a local without null
+unfoldable pub non_null_test_at : BodyContext → List ℕ → Chosen
+non_null_test_at context bytes =
+    let to = reference_local_at context bytes in
+    continued (λ (to : RefType) (bytes : List ℕ). tested_for context (without_null context.features to) bytes) to.0 to.1
+
 -- a number out of a reference, each way as likely
 abbrev pub scalars : List Scalar
-scalars = scalar.Length ∷ scalar.Signed ∷ scalar.Unsigned ∷ scalar.Test ∷ []
+scalars = scalar.Length ∷ scalar.Signed ∷ scalar.Unsigned ∷ scalar.Test ∷ scalar.NonNullTest ∷ []
 
 abbrev pub scalar_of : BodyContext → Scalar → List ℕ → Chosen
 scalar_of context scalar.Length bytes = (Some (aggregate_of (nullable_to (Abstract false abstract.Array) ∷ []) aggregate.ArrayLen), bytes)
 scalar_of context scalar.Signed bytes = (Some (aggregate_of (nullable_to (Abstract false abstract.I31) ∷ []) aggregate.I31GetS), bytes)
 scalar_of context scalar.Unsigned bytes = (Some (aggregate_of (nullable_to (Abstract false abstract.I31) ∷ []) aggregate.I31GetU), bytes)
 scalar_of context scalar.Test bytes = type_test_at context bytes
+scalar_of context scalar.NonNullTest bytes = non_null_test_at context bytes
 
 unfoldable pub scalar_at : BodyContext → List ℕ → Chosen
 scalar_at context bytes = let kind = chosen_at scalar.Length scalars bytes in scalar_of context kind.0 kind.1
@@ -101,14 +113,15 @@ converted_to nullable (Abstract shared abstract.Any) = Some (aggregate_of (exter
 converted_to nullable (Abstract shared abstract.Extern) = Some (aggregate_of (internal shared nullable ∷ []) aggregate.ExternConvertAny)
 converted_to nullable _ = None
 
--- a reference out of a number or another reference, each way as likely
+-- a reference out of a number or another reference; the number of times that each way is listed is its weight
 abbrev pub conversions : List Conversion
-conversions = conversion.I31 ∷ conversion.Outside ∷ conversion.Cast ∷ []
+conversions = conversion.I31 ∷ conversion.Outside ∷ conversion.Cast ∷ conversion.NonNullCast ∷ conversion.Outside ∷ conversion.Outside ∷ conversion.Outside ∷ []
 
 abbrev pub conversion_of : BodyContext → RefType → Conversion → List ℕ → Chosen
 conversion_of context to conversion.I31 bytes = (i31_node context to, bytes)
 conversion_of context to conversion.Outside bytes = (converted_to to.nullable to.heap_type, bytes)
 conversion_of context to conversion.Cast bytes = cast_at context to bytes
+conversion_of context to conversion.NonNullCast bytes = cast_at context (without_null context.features to) bytes
 
 unfoldable pub conversion_at : BodyContext → RefType → List ℕ → Chosen
 conversion_at context to bytes = let kind = chosen_at conversion.Cast conversions bytes in conversion_of context to kind.0 kind.1

@@ -73,7 +73,7 @@ array_elem_node array segment = Some (aggregate_of (I32 ∷ I32 ∷ []) (aggrega
 abbrev pub array_elem : BodyContext → ℕ × FieldType → List ℕ → Chosen
 array_elem context array bytes = giving (array_elem_node array) (segment_at context (value_of array.1) bytes)
 
--- the creations, each as likely
+-- the creations; the number of times that each is listed is its weight
 abbrev pub creations : List Creation
 creations =
     creation.StructNew ∷
@@ -82,6 +82,11 @@ creations =
     creation.ArrayDefault ∷
     creation.ArrayFixed ∷
     creation.ArrayData ∷
+    creation.ArrayElem ∷
+    creation.ArrayElem ∷
+    creation.ArrayElem ∷
+    creation.ArrayElem ∷
+    creation.ArrayElem ∷
     creation.ArrayElem ∷
     []
 

@@ -94,9 +94,9 @@ elem_initialized context array bytes = giving (init_elem_node array) (segment_at
 abbrev pub init_elem_at : BodyContext → List ℕ → Chosen
 init_elem_at context bytes = let array = array_at context field_use.SetReferences bytes in continued (elem_initialized context) array.0 array.1
 
--- the writes, each as likely
+-- the writes; the number of times that each is listed is its weight
 abbrev pub field_writes : List FieldWrite
-field_writes = write.StructSet ∷ write.ArraySet ∷ write.ArrayFill ∷ write.ArrayCopy ∷ write.InitData ∷ write.InitElem ∷ []
+field_writes = write.StructSet ∷ write.ArraySet ∷ write.ArrayFill ∷ write.ArrayCopy ∷ write.InitData ∷ write.InitElem ∷ write.InitElem ∷ write.InitElem ∷ []
 
 abbrev pub write_of : BodyContext → FieldWrite → List ℕ → Chosen
 write_of context write.StructSet bytes = giving struct_set_node (field_at context field_use.Set bytes)

@@ -4,7 +4,7 @@ ghost use Rattle.smith_types.specs.Subtyping.{IsRefBelow};
 ghost use Rattle.smith_types.specs.declared.value_type.ValType.TheVariants.{I32, Ref};
 ghost use Rattle.smith_instr.specs.Contexts.{IsValid, nullable_to};
 ghost use Rattle.smith_code_aggregates.specs.Aggregates.{names_types};
-ghost use Rattle.smith_code_aggregates.specs.CastChoices.{above_at, cast_at, cast_choice_at, cast_for, conversion_at, conversions, converted_to, i31_node, is_i31_below, reference_local_at, scalar_at, scalars, tested_for, type_test_at, with_null};
+ghost use Rattle.smith_code_aggregates.specs.CastChoices.{above_at, cast_at, cast_choice_at, cast_for, conversion_at, conversions, converted_to, i31_node, is_i31_below, non_null_test_at, reference_local_at, scalar_at, scalars, tested_for, type_test_at, with_null, without_null};
 ghost use Rattle.smith_code_aggregates.specs.CreationChoices.{aggregate_of};
 ghost use Rattle.smith_code_nodes.specs.Nodes.{IsOffer};
 ghost use Rattle.smith_code_control.specs.NullChoices.{reference_in};
@@ -17,7 +17,7 @@ use smith_code_nodes::{
 };
 use smith_draw::choose;
 use smith_instr::{AggregateInstr, Instr, ReferenceInstr};
-use smith_types::{AbstractHeapType, HeapType, RefType, ValType};
+use smith_types::{AbstractHeapType, HeapType, RefType, ValType, WasmFeatures};
 use std::alloc::Global;
 
 /// Instructions that produce a number from a reference.
@@ -31,6 +31,8 @@ enum Scalar {
     Unsigned,
     /// A test for a type.
     Test,
+    /// A test for a type without null.
+    NonNullTest,
 }
 
 /// Instructions that produce a reference from a number or another reference.
@@ -40,6 +42,8 @@ enum Conversion {
     /// A conversion between internal and external references.
     Outside,
     Cast,
+    /// A cast to a type without null.
+    NonNullCast,
 }
 
 fn scalars<'a>() -> &'a [Scalar]
@@ -50,13 +54,22 @@ fn scalars<'a>() -> &'a [Scalar]
         Scalar::Signed,
         Scalar::Unsigned,
         Scalar::Test,
+        Scalar::NonNullTest,
     ]
 }
 
 fn conversions<'a>() -> &'a [Conversion]
     ensures { result.now ≡ conversions }
 {
-    &[Conversion::I31, Conversion::Outside, Conversion::Cast]
+    &[
+        Conversion::I31,
+        Conversion::Outside,
+        Conversion::Cast,
+        Conversion::NonNullCast,
+        Conversion::Outside,
+        Conversion::Outside,
+        Conversion::Outside,
+    ]
 }
 
 /// Locals whose type a reference type matches.
@@ -180,6 +193,7 @@ fn choose_scalar(
         Scalar::Signed => out_of(alloc, i31, AggregateInstr::I31GetS),
         Scalar::Unsigned => out_of(alloc, i31, AggregateInstr::I31GetU),
         Scalar::Test => choose_type_test(alloc, scope, draft, u),
+        Scalar::NonNullTest => choose_non_null_test(alloc, scope, draft, u),
     }
 }
 
@@ -210,6 +224,26 @@ fn choose_type_test(
         return Ok(None);
     };
     test_for(alloc, scope, to, draft, u)
+}
+
+/// Chooses a test of a reference for the type of a local without null.
+fn choose_non_null_test(
+    alloc: Global,
+    scope: &Scope<'_>,
+    draft: &Draft,
+    u: &mut Unstructured<'_>,
+) -> Result<Option<Node>, Error>
+    requires scope { IsScope (bare scope.now) }
+    ensures exact { IfOk result (λ chosen. non_null_test_at (where_stands scope.now draft.now) u.old ≡ (chosen, u.new)) }
+    ensures offer { IsOffer (where_stands scope.now draft.now) draft.now.set.items (I32 ∷ []) result }
+    ensures memory { IfErr result (λ e. e ≡ Error.Memory) }
+    ensures left { KeepsPieces u.old u.new }
+{
+    let Some(to) = choose_reference_local(scope, u) else {
+        return Ok(None);
+    };
+    let strict = without_null(scope, to);
+    test_for(alloc, scope, strict, draft, u)
 }
 
 /// Chooses a local of a reference type, and returns that type.
@@ -272,6 +306,19 @@ pub(crate) fn reference_or(value: ValType, other: RefType) -> RefType
     }
 }
 
+/// Returns the type `to` without null, if the feature of such types is on.
+fn without_null(scope: &Scope<'_>, to: RefType) -> RefType
+    requires to { IsValid (bare scope.now) (Ref to) }
+    ensures exact { result ≡ without_null (bare scope.now).features to }
+    ensures valid { IsValid (bare scope.now) (Ref result) }
+{
+    let has_null = !scope.features.contains(WasmFeatures::FUNCTION_REFERENCES);
+    RefType {
+        nullable: to.nullable && has_null,
+        heap_type: to.heap_type,
+    }
+}
+
 fn with_null(to: RefType) -> RefType
     ensures { result ≡ with_null to }
 {
@@ -302,6 +349,7 @@ fn choose_conversion(
         Conversion::I31 => choose_i31(alloc, scope, to, draft),
         Conversion::Outside => choose_converted(alloc, scope, to, draft),
         Conversion::Cast => cast_to(alloc, scope, to, draft, u),
+        Conversion::NonNullCast => cast_to_non_null(alloc, scope, to, draft, u),
     }
 }
 
@@ -409,6 +457,28 @@ fn cast_to(
 {
     let from = draw_above(scope, to, u);
     let instruction = Instr::Reference(ReferenceInstr::Cast(to));
+    let node = plain(alloc, &[ValType::Ref(from)], instruction, 0)?;
+    Ok(Some(node))
+}
+
+/// Chooses a cast to `to` without null.
+fn cast_to_non_null(
+    alloc: Global,
+    scope: &Scope<'_>,
+    to: RefType,
+    draft: &Draft,
+    u: &mut Unstructured<'_>,
+) -> Result<Option<Node>, Error>
+    requires scope { IsScope (bare scope.now) }
+    requires to { IsValid (bare scope.now) (Ref to) }
+    ensures exact { IfOk result (λ chosen. cast_at (where_stands scope.now draft.now) (without_null (bare scope.now).features to) u.old ≡ (chosen, u.new)) }
+    ensures offer { IsOffer (where_stands scope.now draft.now) draft.now.set.items (Ref to ∷ []) result }
+    ensures memory { IfErr result (λ e. e ≡ Error.Memory) }
+    ensures left { KeepsPieces u.old u.new }
+{
+    let strict = without_null(scope, to);
+    let from = draw_above(scope, strict, u);
+    let instruction = Instr::Reference(ReferenceInstr::Cast(strict));
     let node = plain(alloc, &[ValType::Ref(from)], instruction, 0)?;
     Ok(Some(node))
 }

@@ -50,6 +50,11 @@ fn creations<'a>() -> &'a [Creation]
         Creation::ArrayFixed,
         Creation::ArrayData,
         Creation::ArrayElem,
+        Creation::ArrayElem,
+        Creation::ArrayElem,
+        Creation::ArrayElem,
+        Creation::ArrayElem,
+        Creation::ArrayElem,
     ]
 }
 

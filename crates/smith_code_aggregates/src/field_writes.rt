@@ -43,6 +43,8 @@ fn field_writes<'a>() -> &'a [FieldWrite]
         FieldWrite::ArrayCopy,
         FieldWrite::InitData,
         FieldWrite::InitElem,
+        FieldWrite::InitElem,
+        FieldWrite::InitElem,
     ]
 }
 

@@ -1,4 +1,4 @@
-#![tactic(auto, unfolding(smith_code_aggregates::specs::CastBranchChoices::cast_branch_for, smith_code_aggregates::specs::CastBranchChoices::cast_value_at, smith_code_aggregates::specs::CastChoices::cast_at, smith_code_aggregates::specs::CastChoices::cast_choice_at, smith_code_aggregates::specs::CastChoices::cast_for, smith_code_aggregates::specs::CastChoices::conversion_at, smith_code_aggregates::specs::CastChoices::scalar_at, smith_code_aggregates::specs::CastChoices::type_test_at, smith_code_nodes::specs::Offered::offered, smith_draw::specs::Below::is_heap_below, smith_draw::specs::Choices::chosen_at, smith_draw::specs::Offered::ancestors, smith_bytes::specs::Draws::bool_at, smith_bytes::specs::Draws::choose_at, smith_bytes::specs::Draws::digit_count, smith_bytes::specs::Draws::range_at))]
+#![tactic(auto, unfolding(smith_code_aggregates::specs::CastBranchChoices::cast_branch_for, smith_code_aggregates::specs::CastBranchChoices::cast_value_at, smith_code_aggregates::specs::CastChoices::cast_at, smith_code_aggregates::specs::CastChoices::cast_choice_at, smith_code_aggregates::specs::CastChoices::cast_for, smith_code_aggregates::specs::CastChoices::conversion_at, smith_code_aggregates::specs::CastChoices::non_null_test_at, smith_code_aggregates::specs::CastChoices::scalar_at, smith_code_aggregates::specs::CastChoices::type_test_at, smith_code_nodes::specs::Offered::offered, smith_draw::specs::Below::is_heap_below, smith_draw::specs::Choices::chosen_at, smith_draw::specs::Offered::ancestors, smith_bytes::specs::Draws::bool_at, smith_bytes::specs::Draws::choose_at, smith_bytes::specs::Draws::digit_count, smith_bytes::specs::Draws::range_at))]
 
 ghost use Rattle.std.specs.Prelude.{◌≡◌, Some, None, [], ◌∷◌, true};
 ghost use Rattle.smith_types.specs.ExampleTypes.{not_null, nullable, plain};
@@ -28,6 +28,7 @@ fn tests()
     ensures from_another_hierarchy { ¬ (cast_choice_at (aggregates references) I32 (3 ∷ 0 ∷ 2 ∷ []) ≡ (Some (node_of (any_of heap.Extern ∷ []) (instr.Reference (reference.Test (not_null (Concrete 0)))) 0), [])) }
     ensures from_the_type_itself { cast_choice_at (aggregates references) I32 (3 ∷ 2 ∷ 9 ∷ []) ≡ (Some (node_of (any_of heap.Extern ∷ []) (instr.Reference (reference.Test (nullable (plain heap.Extern)))) 0), 9 ∷ []) }
     ensures without_a_reference { cast_choice_at (aggregates (I64 ∷ [])) I32 (3 ∷ 9 ∷ []) ≡ (None, 9 ∷ []) }
+    ensures without_null { cast_choice_at (aggregates references) I32 (4 ∷ 2 ∷ 9 ∷ []) ≡ (Some (node_of (any_of heap.Extern ∷ []) (instr.Reference (reference.Test (not_null (plain heap.Extern)))) 0), 9 ∷ []) }
 {}
 
 fn conversions()
@@ -38,12 +39,14 @@ fn conversions()
     ensures to_external { cast_choice_at (aggregates []) (some_of heap.Extern) (1 ∷ 9 ∷ []) ≡ (Some (aggregate_of (some_of heap.Any ∷ []) aggregate.ExternConvertAny), 9 ∷ []) }
     ensures null_becomes_something { ¬ (cast_choice_at (aggregates []) (some_of heap.Extern) (1 ∷ 9 ∷ []) ≡ (Some (aggregate_of (any_of heap.Any ∷ []) aggregate.ExternConvertAny), 9 ∷ [])) }
     ensures to_a_struct { cast_choice_at (aggregates []) (some 0) (1 ∷ 9 ∷ []) ≡ (None, 9 ∷ []) }
+    ensures to_internal_again { cast_choice_at (aggregates []) (any_of heap.Any) (4 ∷ 9 ∷ []) ≡ (Some (aggregate_of (any_of heap.Extern ∷ []) aggregate.AnyConvertExtern), 9 ∷ []) }
 {}
 
 fn casts()
     ensures from_a_local { cast_choice_at (aggregates references) (some 1) (2 ∷ 9 ∷ []) ≡ (Some (node_of (any_of heap.Struct ∷ []) (instr.Reference (reference.Cast (not_null (Concrete 1)))) 0), 9 ∷ []) }
     ensures from_another_hierarchy { ¬ (cast_choice_at (aggregates references) (some 1) (2 ∷ 9 ∷ []) ≡ (Some (node_of (any_of heap.Extern ∷ []) (instr.Reference (reference.Cast (not_null (Concrete 1)))) 0), 9 ∷ [])) }
     ensures without_a_local { cast_choice_at (aggregates []) (some 0) (2 ∷ 9 ∷ []) ≡ (Some (node_of (any 0 ∷ []) (instr.Reference (reference.Cast (not_null (Concrete 0)))) 0), 9 ∷ []) }
+    ensures without_null { cast_choice_at (aggregates []) (any 0) (3 ∷ 9 ∷ []) ≡ (Some (node_of (any 0 ∷ []) (instr.Reference (reference.Cast (not_null (Concrete 0)))) 0), 9 ∷ []) }
 {}
 
 fn branches()

@@ -57,7 +57,7 @@ test_at features locals bytes =
 
 -- a reference that is not null, from a nullable one
 abbrev pub non_null_node : RefType → Option Node
-non_null_node to = if to.nullable then None else Some (node_of (nullable_to to.heap_type ∷ []) (instr.Reference reference.AsNonNull) 0)
+non_null_node to = Some (node_of (nullable_to to.heap_type ∷ []) (instr.Reference reference.AsNonNull) 0)
 
 -- an instruction on references that produces a value of the wanted type
 unfoldable pub reference_value_at : BodyContext → ValType → List ℕ → Chosen

@@ -51,15 +51,12 @@ pub fn choose_reference_value(
     }
 }
 
-/// Chooses `ref.as_non_null`, if `to` is not nullable.
+/// Chooses `ref.as_non_null`, whose result is also of the nullable type.
 fn choose_non_null(alloc: Global, to: RefType) -> Result<Option<Node>, Error>
     ensures exact { IfOk result (λ chosen. chosen ≡ non_null_node to) }
     ensures offer { (context : BodyContext) (set : List ℕ) → IsValid context (Ref to) → IsOffer context set (Ref to ∷ []) result }
     ensures memory { IfErr result (λ e. e ≡ Error.Memory) }
 {
-    if to.nullable {
-        return Ok(None);
-    }
     let node = plain(
         alloc,
         &[nullable_to(to.heap_type)],

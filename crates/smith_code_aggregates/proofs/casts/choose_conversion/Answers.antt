@@ -13,3 +13,6 @@ returns-in-Outside-clause-exact c = ok_like _ c.choose_converted.result (convers
 
 pub returns-in-Cast-clause-exact : goal.returns-in-Cast-clause-exact
 returns-in-Cast-clause-exact c = ok_by c.cast_to.result _ _ _ (conversion_by (where_stands c.args.scope.now c.args.draft.now) c.args.to c.args.u.now _ c.conversions.result.now c.choose.result conversion.Cast c.conversions.ensures (c.choose.ensures.exact conversion.Cast) c.in-Cast.is) c.cast_to.ensures.exact
+
+pub returns-in-NonNullCast-clause-exact : goal.returns-in-NonNullCast-clause-exact
+returns-in-NonNullCast-clause-exact c = ok_by c.cast_to_non_null.result _ _ _ (conversion_by (where_stands c.args.scope.now c.args.draft.now) c.args.to c.args.u.now _ c.conversions.result.now c.choose.result conversion.NonNullCast c.conversions.ensures (c.choose.ensures.exact conversion.Cast) c.in-NonNullCast.is) c.cast_to_non_null.ensures.exact

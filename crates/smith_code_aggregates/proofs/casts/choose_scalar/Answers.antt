@@ -25,3 +25,6 @@ returns-in-Unsigned-clause-offer c = ok_like _ c.out_of-in-Unsigned.result (unsi
 
 pub returns-in-Test-clause-exact : goal.returns-in-Test-clause-exact
 returns-in-Test-clause-exact c = ok_by c.choose_type_test.result _ _ _ (scalar_by (where_stands c.args.scope.now c.args.draft.now) c.args.u.now _ c.scalars.result.now c.choose.result scalar.Test c.scalars.ensures (c.choose.ensures.exact scalar.Length) c.in-Test.is) c.choose_type_test.ensures.exact
+
+pub returns-in-NonNullTest-clause-exact : goal.returns-in-NonNullTest-clause-exact
+returns-in-NonNullTest-clause-exact c = ok_by c.choose_non_null_test.result _ _ _ (scalar_by (where_stands c.args.scope.now c.args.draft.now) c.args.u.now _ c.scalars.result.now c.choose.result scalar.NonNullTest c.scalars.ensures (c.choose.ensures.exact scalar.Length) c.in-NonNullTest.is) c.choose_non_null_test.ensures.exact
