@@ -27,7 +27,8 @@ fn numeric()
     ensures second_result_is_dropped { body_at default_config (function_of [] (I64 ∷ [])) 1 (0 ∷ 1 ∷ 32 ∷ wide 1 ++ wide 2 ++ wide 3 ++ wide 4)
         ≡ (wide_number 1 ∷ wide_number 2 ∷ wide_number 3 ∷ wide_number 4 ∷ instr.Numeric (numeric.Wide Add128) ∷ instr.Drop ∷ [], []) }
     ensures select { body_at default_config (function_of [] (I64 ∷ [])) 1 (0 ∷ 6 ∷ wide 1 ++ wide 2 ++ narrow 3) ≡ (wide_number 1 ∷ wide_number 2 ∷ number 3 ∷ instr.Select ∷ [], []) }
-    ensures select_of_a_reference { body_at default_config (function_of [] (Ref funcref ∷ [])) 1 (0 ∷ 6 ∷ 4 ∷ []) ≡ (instr.Reference (reference.Null (Abstract false heap.Func)) ∷ [], []) }
+    ensures select_of_a_reference { body_at default_config (function_of [] (Ref funcref ∷ [])) 1 (0 ∷ 17 ∷ 4 ∷ 4 ∷ narrow 3)
+        ≡ (instr.Reference (reference.Null (Abstract false heap.Func)) ∷ instr.Reference (reference.Null (Abstract false heap.Func)) ∷ number 3 ∷ instr.SelectTyped (Ref funcref) ∷ [], []) }
 {}
 
 fn locals()
