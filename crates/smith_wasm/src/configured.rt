@@ -1,7 +1,7 @@
 use crate::asked::Asked;
 use crate::failure::Failure;
 use crate::words::{ARBITRARY, CONFIG};
-use smith_bytes::Unstructured;
+use smith_bytes::{Error, Unstructured};
 use smith_config::{Config, MemoryOffsetChoices};
 use smith_json::{FIELDS, Field, FieldKind, read_text};
 use smith_output::OutputFault;
@@ -9,25 +9,29 @@ use smith_types::InstructionKinds;
 use std::alloc::Global;
 use std::str::FromStr;
 
-/// The configuration: the default, or the one that `u` gives first where a drawn one is wanted; over it the fields of the
-/// configuration file, and over these the fields that are words.
-pub(crate) fn config_of(
+/// Sets `config`, the default, to the configuration that `asked` requests: a drawn one from the first
+/// bytes of `u` if a word says so, overridden by the fields of the configuration file, and these by
+/// the fields that are words.
+pub(crate) fn set_config(
     alloc: Global,
     asked: &Asked<'_, '_>,
+    config: &mut Config,
     u: &mut Unstructured<'_>,
-) -> Result<Config, Failure> {
-    let mut config = begun(asked.matches.get_flag(ARBITRARY), u)?;
-    set_from_file(alloc, asked, &mut config)?;
-    set_from_words(alloc, asked, &mut config)?;
-    Ok(config)
+) -> Result<(), Failure> {
+    if asked.matches.get_flag(ARBITRARY) {
+        set_drawn(Config::arbitrary(u), config)?;
+    }
+    set_from_file(alloc, asked, config)?;
+    set_from_words(alloc, asked, config)
 }
 
-fn begun(drawn: bool, u: &mut Unstructured<'_>) -> Result<Config, Failure> {
-    if !drawn {
-        return Ok(Config::default());
-    }
-    match Config::arbitrary(u) {
-        Ok(config) => Ok(config),
+/// Sets `config` to the configuration `drawn`.
+fn set_drawn(drawn: Result<Config, Error>, config: &mut Config) -> Result<(), Failure> {
+    match drawn {
+        Ok(drawn) => {
+            *config = drawn;
+            Ok(())
+        }
         Err(refusal) => Err(Failure::Output(OutputFault::Refused(refusal))),
     }
 }
