@@ -102,18 +102,30 @@ pub fn output(
             form: Form::Binary,
             fuel: None,
         } => binary(alloc, config, u),
-        _ => counted(alloc, Program::new(alloc, config, u)?, manner),
+        _ => counted(alloc, Program::new(alloc, config, u), manner),
+    }
+}
+
+/// Writes the drawn program in the form of `manner`, after its calls and its turns of loops are counted where `manner` says so.
+fn counted(
+    alloc: Global,
+    drawn: Result<Program, Error>,
+    manner: Manner,
+) -> Result<Vec<u8>, OutputFault> {
+    match drawn {
+        Ok(mut program) => written(alloc, &mut program, manner),
+        Err(refusal) => Err(OutputFault::Refused(refusal)),
     }
 }
 
 /// Writes `program` in the form of `manner`, after its calls and its turns of loops are counted where `manner` says so.
-fn counted(alloc: Global, mut program: Program, manner: Manner) -> Result<Vec<u8>, OutputFault> {
+fn written(alloc: Global, program: &mut Program, manner: Manner) -> Result<Vec<u8>, OutputFault> {
     if let Some(fuel) = manner.fuel {
-        count(alloc, &mut program, fuel)?;
+        count(alloc, program, fuel)?;
     }
     match manner.form {
-        Form::Binary => encoded(alloc, &program),
-        Form::Text => Ok(text(alloc, &program)?.into_bytes()),
+        Form::Binary => encoded(alloc, program),
+        Form::Text => Ok(text(alloc, program)?.into_bytes()),
     }
 }
 

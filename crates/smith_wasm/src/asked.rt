@@ -1,4 +1,4 @@
-use crate::configured::config_of;
+use crate::configured::set_config;
 use crate::corpus::make_corpus;
 use crate::failure::Failure;
 use crate::files::{read_file, read_input, read_text, shows_output, write_file, write_output};
@@ -6,8 +6,10 @@ use crate::warnings::warn;
 use crate::words::{CONFIG, ENSURE_TERMINATION, FUEL, INPUT, OUTPUT, OUTPUT_DIR, WAT};
 use clap::ArgMatches;
 use smith_bytes::Unstructured;
+use smith_config::Config;
 use smith_output::{Form, Manner, output};
 use std::alloc::Global;
+use std::mem;
 
 // The number of calls that are allowed where none is given.
 const DEFAULT_FUEL: u32 = 100;
@@ -25,21 +27,30 @@ pub(crate) struct Asked<'m, 'w> {
 
 /// Does what `matches` asks for, and returns the status.
 pub(crate) fn answer(rt: &HostRuntime, matches: &ArgMatches<'_>) -> Result<u8, Failure> {
-    let file = match matches.get_str(CONFIG) {
-        Some(path) => Some(read_text(rt, path)?),
-        None => None,
-    };
     let asked = Asked {
         matches,
-        config: file,
+        config: config_text(rt, matches)?,
         manner: manner_of(matches),
     };
-    warn(rt, &asked)?;
-    match matches.get_str(OUTPUT_DIR) {
-        Some(folder) => make_corpus(rt, &asked, folder)?,
-        None => make_one(rt, &asked)?,
-    }
+    make(rt, &asked)?;
     Ok(0)
+}
+
+/// Reads the text of the configuration file, where there is one.
+fn config_text(rt: &HostRuntime, matches: &ArgMatches<'_>) -> Result<Option<String>, Failure> {
+    match matches.get_str(CONFIG) {
+        Some(path) => Ok(Some(read_text(rt, path)?)),
+        None => Ok(None),
+    }
+}
+
+/// Makes the module or the modules of `asked`, after the warnings.
+fn make(rt: &HostRuntime, asked: &Asked<'_, '_>) -> Result<(), Failure> {
+    warn(rt, asked)?;
+    match asked.matches.get_str(OUTPUT_DIR) {
+        Some(folder) => make_corpus(rt, asked, folder),
+        None => make_one(rt, asked),
+    }
 }
 
 /// Makes the module of the input, and writes it.
@@ -62,9 +73,25 @@ pub(crate) fn module_of(
     asked: &Asked<'_, '_>,
     input: &[u8],
 ) -> Result<Vec<u8>, Failure> {
+    let mut config = Config::default();
+    module_under(alloc, asked, input, &mut config)
+}
+
+/// The bytes of the module of `input`. Sets `config`, which is the default, to its configuration, and uses it up.
+fn module_under(
+    alloc: Global,
+    asked: &Asked<'_, '_>,
+    input: &[u8],
+    config: &mut Config,
+) -> Result<Vec<u8>, Failure> {
     let mut u = Unstructured::new(input);
-    let config = config_of(alloc, asked, &mut u)?;
-    Ok(output(alloc, config, asked.manner, &mut u)?)
+    set_config(alloc, asked, config, &mut u)?;
+    Ok(output(alloc, taken(config), asked.manner, &mut u)?)
+}
+
+/// Returns the configuration `config`, and leaves the default in its place.
+fn taken(config: &mut Config) -> Config {
+    mem::replace(config, Config::default())
 }
 
 fn input_of(rt: &HostRuntime, path: Option<&str>) -> Result<Vec<u8>, Failure> {

@@ -1,33 +1,36 @@
 use crate::asked::Asked;
 use crate::failure::Failure;
-use crate::words::{ARBITRARY, CONFIG};
-use smith_bytes::Unstructured;
+use crate::words::{ARBITRARY, CONFIG, fields};
+use smith_bytes::{Error, Unstructured};
 use smith_config::{Config, MemoryOffsetChoices};
-use smith_json::{FIELDS, Field, FieldKind, read_text};
+use smith_json::{Field, FieldKind, read_text};
 use smith_output::OutputFault;
 use smith_types::InstructionKinds;
 use std::alloc::Global;
 use std::str::FromStr;
 
-/// The configuration: the default, or the one that `u` gives first where a drawn one is wanted; over it the fields of the
-/// configuration file, and over these the fields that are words.
-pub(crate) fn config_of(
+/// Sets in `config`, which is the default: the configuration that `u` gives first where a drawn one is wanted; over it the fields of
+/// the configuration file, and over these the fields that are words.
+pub(crate) fn set_config(
     alloc: Global,
     asked: &Asked<'_, '_>,
+    config: &mut Config,
     u: &mut Unstructured<'_>,
-) -> Result<Config, Failure> {
-    let mut config = begun(asked.matches.get_flag(ARBITRARY), u)?;
-    set_from_file(alloc, asked, &mut config)?;
-    set_from_words(alloc, asked, &mut config)?;
-    Ok(config)
+) -> Result<(), Failure> {
+    if asked.matches.get_flag(ARBITRARY) {
+        set_drawn(Config::arbitrary(u), config)?;
+    }
+    set_from_file(alloc, asked, config)?;
+    set_from_words(alloc, asked, config)
 }
 
-fn begun(drawn: bool, u: &mut Unstructured<'_>) -> Result<Config, Failure> {
-    if !drawn {
-        return Ok(Config::default());
-    }
-    match Config::arbitrary(u) {
-        Ok(config) => Ok(config),
+/// Sets `config` to the configuration `drawn`.
+fn set_drawn(drawn: Result<Config, Error>, config: &mut Config) -> Result<(), Failure> {
+    match drawn {
+        Ok(drawn) => {
+            *config = drawn;
+            Ok(())
+        }
         Err(refusal) => Err(Failure::Output(OutputFault::Refused(refusal))),
     }
 }
@@ -52,7 +55,7 @@ fn set_from_words(
     asked: &Asked<'_, '_>,
     config: &mut Config,
 ) -> Result<(), Failure> {
-    for field in &FIELDS {
+    for field in fields() {
         if let Some(value) = asked.matches.get_str(field.name) {
             set_from_word(alloc, field, value, config)?;
         }

@@ -30,12 +30,25 @@ pub(crate) fn make_corpus(
     let mut refusals = Vec::new(rt.alloc());
     for number in 0..count {
         random.fill_bytes(input.as_mut_slice());
-        if let Some(refusal) = refusal_of(rt, asked, folder, number, input.as_slice())? {
-            refusals.push((number, refusal))?;
-        }
+        make_numbered(rt, asked, folder, number, input.as_slice(), &mut refusals)?;
         show_progress(rt, number, count)?;
     }
     show_refusals(rt, count, refusals.as_slice())
+}
+
+/// Writes the module of `input` as the file of the number `number`, or adds the refusal to `refusals`.
+fn make_numbered(
+    rt: &HostRuntime,
+    asked: &Asked<'_, '_>,
+    folder: &str,
+    number: u32,
+    input: &[u8],
+    refusals: &mut Vec<(u32, Error)>,
+) -> Result<(), Failure> {
+    if let Some(refusal) = refusal_of(rt, asked, folder, number, input)? {
+        refusals.push((number, refusal))?;
+    }
+    Ok(())
 }
 
 /// Shows each refused input with its refusal, and how many of `count` inputs were written and refused.

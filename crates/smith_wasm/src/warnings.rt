@@ -3,7 +3,7 @@ use crate::failure::Failure;
 
 // The fields by which the Rust crate chooses offsets and NaNs in bodies, and makes custom sections and components, of which there is none
 // here.
-const WITHOUT_EFFECT: [&str; 10] = [
+static WITHOUT_EFFECT: [&str; 10] = [
     "memory-offset-choices",
     "canonicalize-nans",
     "generate-custom-sections",
@@ -16,17 +16,27 @@ const WITHOUT_EFFECT: [&str; 10] = [
     "max-values",
 ];
 
+fn without_effect() -> &'static [&'static str] {
+    &WITHOUT_EFFECT
+}
+
 /// Whether the field `name` has no effect.
 pub(crate) fn has_no_effect(name: &str) -> bool {
-    WITHOUT_EFFECT.iter().any(|other| *other == name)
+    without_effect().iter().any(|other| *other == name)
 }
 
 /// Warns of each field that is set and has no effect.
 pub(crate) fn warn(rt: &HostRuntime, asked: &Asked<'_, '_>) -> Result<(), Failure> {
-    for name in WITHOUT_EFFECT {
-        if is_given(asked, name) {
-            eprintln!(rt; "smith_wasm: the field {name} has no effect here")?;
-        }
+    for name in without_effect() {
+        warn_of(rt, asked, name)?;
+    }
+    Ok(())
+}
+
+/// Warns of the field `name`, which has no effect, if it is set.
+fn warn_of(rt: &HostRuntime, asked: &Asked<'_, '_>, name: &str) -> Result<(), Failure> {
+    if is_given(asked, name) {
+        eprintln!(rt; "smith_wasm: the field {name} has no effect here")?;
     }
     Ok(())
 }

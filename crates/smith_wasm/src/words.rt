@@ -50,6 +50,11 @@ struct Word {
     about: &'static str,
 }
 
+/// Returns the words that are no fields.
+fn own_words() -> &'static [Word] {
+    &WORDS
+}
+
 static WORDS: [Word; 10] = [
     Word {
         name: OUTPUT,
@@ -133,6 +138,11 @@ static WORDS: [Word; 10] = [
     },
 ];
 
+/// Returns every field of the configuration.
+pub(crate) fn fields() -> &'static [Field] {
+    &FIELDS
+}
+
 /// Makes the command line of the program.
 pub(crate) fn command<'a>(alloc: Global) -> Result<Command<'a>, Failure> {
     let command = Command::new(alloc, "smith_wasm").version("0.1.0").about(
@@ -147,7 +157,7 @@ pub(crate) fn command<'a>(alloc: Global) -> Result<Command<'a>, Failure> {
 /// Adds the words that are no fields.
 fn with_words<'a>(alloc: Global, command: Command<'a>) -> Result<Command<'a>, Failure> {
     let mut command = command;
-    for word in &WORDS {
+    for word in own_words() {
         command = command.arg(arg_of(alloc, word)?)?;
     }
     Ok(command)
@@ -182,7 +192,7 @@ fn taking<'a>(arg: Arg<'a>, takes: Takes) -> Arg<'a> {
 /// Adds a word for each field of the configuration.
 fn with_fields<'a>(alloc: Global, command: Command<'a>) -> Result<Command<'a>, Failure> {
     let mut command = command;
-    for field in &FIELDS {
+    for field in fields() {
         if !matches!(field.kind, FieldKind::File) {
             command = command.arg(field_arg(alloc, field))?;
         }
