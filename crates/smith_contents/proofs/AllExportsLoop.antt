@@ -12,10 +12,10 @@ use Rattle.smith_bytes.specs.Source.{KeepsPieces}
 use Rattle.smith_types.specs.Imports.{IndexSpaces}
 use Rattle.smith_types.specs.declared.composite_type.SubType.{SubType}
 use Rattle.smith_config.specs.declared.config.Config.{Config}
-use Rattle.smith_contents.specs.ExportedItems.{Item, item_of}
+use Rattle.smith_rules.specs.ExportedItems.{Item, item_of, Export, item_size, exported_size, IsStanding}
 use Rattle.smith_contents.specs.AllExports.{exports_of}
-use Rattle.smith_contents.specs.Exporting.{Export, is_exported, export_name_at, HasNames, item_size, exported_size}
-use Rattle.smith_contents.specs.Exported.{IsStanding, AreExportsFit}
+use Rattle.smith_contents.specs.Exporting.{is_exported, export_name_at, HasNames}
+use Rattle.smith_contents.specs.Exported.{AreExportsFit}
 use Rattle.smith_contents.proofs.ExportsFitLemmas.{none_fit, fit_push}
 
 -- the items before a place are exported, and the draws from here on complete the whole

@@ -16,9 +16,9 @@ use Rattle.smith_types.specs.declared.segments.ElementSegment.{ElementSegment}
 use Rattle.smith_config.specs.declared.config.Config.{Config}
 use Rattle.smith_bytes.specs.Spelling.{SpellsEmpty}
 use Rattle.smith_contents.specs.ElementSegments.{KindChoice, table_kinds_at, kinds_at, element_segments_at, elements_at}
-use Rattle.smith_imports.specs.Steps.{Gives, ◌>>=◌}
+use Rattle.smith_bytes.specs.Steps.{Gives, ◌>>=◌}
 use Rattle.smith_contents.specs.declared.element_kinds.KindChoice.TheVariants.{Passive, Declared}
-use Rattle.smith_imports.proofs.GivenLemmas.{given_takes}
+use Rattle.smith_bytes.proofs.StepLemmas.{given_takes}
 
 -- a property of the next step after every result of a step holds after the step
 behind : {A B : Type 0} (P : B → Type 0) (first : Result A Why) (next : A → Result B Why) → ((x : A) → IfOk (next x) P) → IfOk (first >>= next) P

@@ -24,7 +24,7 @@ use Rattle.smith_types.specs.declared.value_type.ValType.TheVariants.{Ref}
 use Rattle.smith_config.specs.declared.config.Config.{Config}
 use Rattle.smith_config.specs.Features.{features_of}
 use Rattle.smith_draw.specs.Choices.{chosen_at}
-use Rattle.smith_draw.specs.ConstFloats.{GivesNoFloat}
+use Rattle.smith_types.specs.Floats.{GivesNoFloat}
 use Rattle.smith_draw.specs.TypeUses.{places_from}
 use Rattle.smith_draw.proofs.FloatLemmas.{stands_in}
 use Rattle.smith_draw.proofs.SupertypeLemmas.{chosen_of}

@@ -21,7 +21,7 @@ use Rattle.smith_draw.specs.MatchingTypes.{matching_ref_type_at}
 use Rattle.smith_draw.specs.declared.spaces.Spaces.{Spaces}
 use Rattle.smith_draw.proofs.ChosenLemmas.{references_without_gc}
 use Rattle.smith_draw.proofs.FilledLemmas.{ref_type_filled, matching_ref_ungrounded}
-use Rattle.smith_draw.specs.ConstBounds.{IsUngrounded}
+use Rattle.smith_config.specs.Granted.{IsUngrounded}
 use Rattle.smith_draw.specs.Grounding.{standing_in}
 use Rattle.smith_draw.proofs.MatchingLemmas.{matching_ref_below, matching_ref_valid}
 use Rattle.smith_draw.proofs.TableTypeLemmas.{element_enabled}

@@ -5,8 +5,8 @@ use Rattle.smith_bytes.specs.declared.error.Why.TheVariants.{TypeSize}
 use Rattle.smith_types.specs.Imports.{IndexSpaces}
 use Rattle.smith_types.specs.declared.composite_type.SubType.{SubType}
 use Rattle.smith_config.specs.declared.config.Config.{Config}
-use Rattle.smith_contents.specs.Exporting.{Export, export_name_at, exported_size, free_exports_at}
-use Rattle.smith_contents.specs.ExportedItems.{Item, every_item}
+use Rattle.smith_rules.specs.ExportedItems.{Export, exported_size, Item, every_item}
+use Rattle.smith_contents.specs.Exporting.{export_name_at, free_exports_at}
 
 -- exports of these items after others, each with a name; refused if imports and exports together
 -- exceed the type size

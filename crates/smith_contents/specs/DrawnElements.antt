@@ -8,7 +8,7 @@ use Rattle.smith_bytes.specs.declared.error.Why.TheVariants.{Unmet}
 use Rattle.smith_types.specs.Entities.{IsTableValid, most_elements}
 use Rattle.smith_types.specs.Expressions.{Context}
 use Rattle.smith_types.specs.Flags.{IsElementEnabled}
-use Rattle.smith_types.specs.Floats.{HasNoFloat}
+use Rattle.smith_types.specs.Floats.{HasNoFloat, GivesNoFloat}
 use Rattle.smith_types.specs.Segments.{table_index, AreItemsValid, IsOffsetValid, IsOffsetInside, IsElementValid, IsElementInside}
 use Rattle.smith_types.specs.Subtyping.{IsRefBelow}
 use Rattle.smith_types.specs.ValidTypes.{IsRefTypeValid}
@@ -25,13 +25,12 @@ use Rattle.smith_config.specs.declared.config.Config.{Config}
 use Rattle.smith_config.specs.Faults.{Passes}
 use Rattle.smith_config.specs.Features.{features_of}
 use Rattle.smith_config.specs.Sanitized.{IsSanitized}
-use Rattle.smith_draw.specs.ConstBounds.{IsUngrounded, HoldsUngroundedField, MayLack}
-use Rattle.smith_draw.specs.ConstFloats.{GivesNoFloat}
+use Rattle.smith_config.specs.Granted.{IsUngrounded, HasGroundedItems}
+use Rattle.smith_draw.specs.ConstBounds.{HoldsUngroundedField, MayLack}
 use Rattle.smith_draw.specs.ConstScopes.{AreSpacesValid}
 use Rattle.smith_draw.specs.Grounding.{without_globals}
 use Rattle.smith_draw.specs.declared.spaces.Spaces.{Spaces}
-use Rattle.smith_contents.specs.Held.{HasItems}
-use Rattle.smith_contents.specs.Held.{expressions_of}
+use Rattle.smith_rules.specs.Held.{HasItems, expressions_of}
 use Rattle.smith_contents.specs.declared.element_kinds.KindChoice.{KindChoice}
 use Rattle.smith_contents.specs.declared.element_kinds.KindChoice.TheVariants as choice
 
@@ -93,10 +92,6 @@ pub record AreItemsFit (config : Config) (context : Context) (ty : RefType) (ite
 -- off
 abbrev pub HasUngroundedElements : Config → Context → List TableType → Type 0
 HasUngroundedElements config context tables = Any (λ (table : TableType). IsUngrounded config context (Ref table.element_type)) tables
-
--- the items of a segment are nullable, or `non_nullable_enabled` is on and they are grounded
-abbrev pub HasGroundedItems : Config → Context → ElementSegment → Type 0
-HasGroundedItems config context segment = ¬ IsUngrounded config context (Ref segment.ty)
 
 -- a segment fits into the module: it is valid, has enough items, none with a float, with
 -- `disallow_traps` the items it copies fit, and its items are nullable or grounded if the elements

@@ -34,7 +34,7 @@ use Rattle.smith_draw.specs.MatchingTypes.{matching_ref_type_at}
 use Rattle.smith_draw.specs.Offsets.{offset_at}
 use Rattle.smith_draw.specs.TypeUses.{places_from}
 use Rattle.smith_draw.specs.ValueTypes.{ref_type_at}
-use Rattle.smith_imports.specs.Steps.{◌>>=◌}
+use Rattle.smith_bytes.specs.Steps.{◌>>=◌}
 pub use Rattle.smith_contents.specs.declared.element_kinds.KindChoice.{KindChoice}
 use Rattle.smith_contents.specs.declared.element_kinds.KindChoice.TheVariants as choice
 

@@ -10,7 +10,7 @@ ghost use Rattle.smith_config.specs.Faults.{Passes};
 ghost use Rattle.smith_config.specs.Features.{features_of};
 ghost use Rattle.smith_draw.specs.ConstScopes.{AreSpacesValid, seen_by};
 ghost use Rattle.smith_draw.specs.Drawing.{AlwaysDraws, Draws};
-ghost use Rattle.smith_imports.specs.Steps.{Gives};
+ghost use Rattle.smith_bytes.specs.Steps.{Gives};
 ghost use Rattle.smith_contents.specs.DataSegments.{HasPages, least_bytes, last_address, constant_offset, address_at, constant_at, placed_at, active_at, passive_at, segment_at, segments_at, data_at};
 ghost use Rattle.smith_contents.specs.DataTargets.{TellOffsets, AreTargets, IsDataFit, MayRefuseData};
 ghost use Rattle.smith_contents.specs.PassiveData.{SpellsPassive};

@@ -2,18 +2,17 @@ ghost use Rattle.std.specs.Prelude.{◌≡◌, ◌+◌, ◌<◌, ◌≤◌, true
 ghost use Rattle.std.specs.List.{flat_map};
 ghost use Rattle.smith_bytes.specs.Source.{KeepsPieces};
 ghost use Rattle.smith_bytes.specs.Takes.{Takes};
-ghost use Rattle.smith_types.specs.Floats.{HasNoFloat};
+ghost use Rattle.smith_types.specs.Floats.{HasNoFloat, GivesNoFloat};
 ghost use Rattle.smith_types.specs.Segments.{item_count, IsElementValid, IsElementInside};
 ghost use Rattle.smith_types.specs.declared.segments.ElementSegment.{ElementSegment};
 ghost use Rattle.smith_draw.specs.Grounding.{standing_in};
-ghost use Rattle.smith_draw.specs.ConstFloats.{GivesNoFloat};
 ghost use Rattle.smith_draw.specs.ConstScopes.{seen_by};
 ghost use Rattle.smith_bytes.specs.Spelling.{SpellsEmpty};
-ghost use Rattle.smith_imports.specs.Steps.{Gives};
-ghost use Rattle.smith_contents.specs.Held.{HasItems};
-ghost use Rattle.smith_contents.specs.DrawnElements.{HasGroundedItems, HasUngroundedElements, IsOffered, IsElementFit, MayDrawElements, MayRefuseSegment, MayRefuseElements};
+ghost use Rattle.smith_bytes.specs.Steps.{Gives};
+ghost use Rattle.smith_rules.specs.Held.{HasItems, expressions_of};
+ghost use Rattle.smith_config.specs.Granted.{HasGroundedItems};
+ghost use Rattle.smith_contents.specs.DrawnElements.{HasUngroundedElements, IsOffered, IsElementFit, MayDrawElements, MayRefuseSegment, MayRefuseElements};
 ghost use Rattle.smith_contents.specs.ElementSegments.{most_items, items_in, element_segment_at, element_segments_at, elements_at};
-ghost use Rattle.smith_contents.specs.Held.{expressions_of};
 ghost use Rattle.smith_bytes.specs.Spelling.{SpellsNone};
 
 use crate::element_items::{draw_item_type, draw_items};

@@ -9,7 +9,7 @@ ghost use Rattle.smith_contents.specs.Exporting.{is_func_below, candidates, cand
 ghost use Rattle.smith_contents.specs.Exported.{IsSized, IsFuncWithin, MayOffer, IsCandidate};
 
 use smith_bytes::Unstructured;
-use smith_imports::{choose_enabled, count_enabled};
+use smith_draw::{choose_enabled, count_enabled};
 use smith_types::{EntityType, ExportKind, IndexSpaces, TypeSpace};
 
 /// The size of a table, a memory or a global, plus 1.

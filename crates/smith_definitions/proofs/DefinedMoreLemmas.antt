@@ -17,16 +17,17 @@ use Rattle.smith_config.specs.declared.config.Config.{Config}
 use Rattle.smith_config.specs.Faults.{Passes}
 use Rattle.smith_config.specs.Features.{features_of}
 use Rattle.smith_config.specs.Sanitized.{IsSanitized}
-use Rattle.smith_contents.proofs.PlaceOfListLemmas.{slice_get-behind}
-use Rattle.smith_imports.specs.Imported.{HasNoFloatValue, HasGroundedElements, HasGroundedValue}
+use Rattle.smith_types.proofs.ListLemmas.{slice_get-behind}
+use Rattle.smith_types.specs.Floats.{HasNoFloatValue}
+use Rattle.smith_config.specs.Granted.{HasGroundedElements, HasGroundedValue}
 use Rattle.smith_definitions.specs.Defined.{nothing_defined, AreAdded, HasRoom, AreWithin, MayDefine, StandsBehind, AreFilled, AreDefinedMore, AreGlobalsDefined, HaveNoFloats, drawn_over, standing_in}
 use Rattle.smith_definitions.specs.DefinedTables.{IsTableFit, AreTablesDrawn}
 use Rattle.smith_definitions.specs.Definitions.{Standing, Table, standing_over, standing_among, context_at, table_scope}
-use Rattle.smith_definitions.specs.Module.{IsTableInitialised}
+use Rattle.smith_rules.specs.Module.{IsTableInitialised}
 use Rattle.smith_definitions.specs.declared.definitions.Definitions.{Definitions}
 use Rattle.smith_definitions.proofs.ExtensionLemmas.{all_kept}
 use Rattle.smith_definitions.proofs.DefinedTableLemmas.{initialised_at, tables_added}
-use Rattle.smith_definitions.proofs.InitialLemmas.{IsTableInitialised-grown}
+use Rattle.smith_rules.proofs.InitialLemmas.{IsTableInitialised-grown}
 use Rattle.smith_definitions.proofs.StandsBehindLemmas.{IsTablePlaced, defined_end, left_over, table_kept, global_kept}
 
 -- the parts that initialisers refer to after functions are defined

@@ -10,7 +10,7 @@ use Rattle.smith_bytes.specs.Takes.{Takes}
 use Rattle.smith_bytes.proofs.SpelledLemmas.{takes_by}
 use Rattle.smith_types.specs.Entities.{IsTableValid}
 use Rattle.smith_types.specs.Expressions.{IsConstExpr}
-use Rattle.smith_types.specs.Floats.{HasNoFloat}
+use Rattle.smith_types.specs.Floats.{HasNoFloat, GivesNoFloat}
 use Rattle.smith_types.specs.declared.const_instr.ConstInstr.{ConstInstr}
 use Rattle.smith_types.specs.declared.entity_type.TableType.{TableType}
 use Rattle.smith_types.specs.declared.value_type.ValType.TheVariants.{Ref}
@@ -19,18 +19,17 @@ use Rattle.smith_types.proofs.HeldValueLemmas.{all_of_parts}
 use Rattle.smith_config.specs.declared.config.Config.{Config}
 use Rattle.smith_config.specs.Features.{features_of}
 use Rattle.smith_config.specs.Sanitized.{IsSanitized}
-use Rattle.smith_draw.specs.Bounds.{IsTableWithin}
+use Rattle.smith_config.specs.EntityBounds.{IsTableWithin}
 use Rattle.smith_draw.specs.ConstExprs.{table_init_at}
-use Rattle.smith_draw.specs.ConstFloats.{GivesNoFloat}
 use Rattle.smith_draw.specs.ConstScopes.{AreSpacesValid, seen_by}
 use Rattle.smith_draw.specs.TableTypes.{table_type_at}
 use Rattle.smith_draw.specs.declared.spaces.Spaces.{Spaces}
 use Rattle.smith_bytes.specs.Spelling.{SpellsEmpty}
-use Rattle.smith_imports.specs.Imported.{HasGroundedElements}
+use Rattle.smith_config.specs.Granted.{HasGroundedElements}
 use Rattle.smith_definitions.specs.Defined.{IsFilled, AreAdded, MayInitialise, drawn_over, standing_of}
 use Rattle.smith_definitions.specs.DefinedTables.{IsTableFit, AreTablesDrawn}
 use Rattle.smith_definitions.specs.Definitions.{Standing, Table, table_at, tables_at, table_scope}
-use Rattle.smith_definitions.specs.Promises.{initial_of}
+use Rattle.smith_rules.specs.Promises.{initial_of}
 use Rattle.smith_bytes.specs.Spelling.{SpellsNone}
 use Rattle.smith_definitions.proofs.DefinedLemmas.{parts_filled, several_so, all_behind, defined_none}
 

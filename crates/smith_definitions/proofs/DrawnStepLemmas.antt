@@ -14,7 +14,8 @@ use Rattle.smith_types.specs.declared.composite_type.SubType.{SubType}
 use Rattle.smith_types.specs.declared.value_type.ValType.{ValType}
 use Rattle.smith_config.specs.declared.config.Config.{Config}
 use Rattle.smith_config.specs.Features.{features_of}
-use Rattle.smith_draw.specs.ConstBounds.{IsUngrounded, MayRefuseConstExpr}
+use Rattle.smith_config.specs.Granted.{IsUngrounded}
+use Rattle.smith_draw.specs.ConstBounds.{MayRefuseConstExpr}
 use Rattle.smith_draw.proofs.FilledLemmas.{fields_before}
 use Rattle.smith_definitions.specs.Defined.{MayDefine, MayInitialise, MayRefuseDrawn, MayRefuseDefined, drawn_over, drawn_beside}
 use Rattle.smith_definitions.specs.Definitions.{standing_among, standing_over}

@@ -9,7 +9,7 @@ use Rattle.smith_bytes.specs.Draws.{bool_at}
 use Rattle.smith_bytes.specs.Growth.{goes_at}
 use Rattle.smith_types.specs.Entities.{IsGlobalValid}
 use Rattle.smith_types.specs.Expressions.{Context, IsConstExpr}
-use Rattle.smith_types.specs.Floats.{HasNoFloat, IsNoFloat}
+use Rattle.smith_types.specs.Floats.{HasNoFloat, IsNoFloat, GivesNoFloat}
 use Rattle.smith_types.specs.Grown.{IsContextGrown}
 use Rattle.smith_types.specs.declared.entity_type.GlobalType.{GlobalType}
 use Rattle.smith_types.specs.declared.const_instr.ConstInstr.{ConstInstr}
@@ -17,9 +17,8 @@ use Rattle.smith_types.proofs.ListLemmas.{slice_get-grown, slice_get-last, slice
 use Rattle.smith_types.proofs.ExpressionGrowthLemmas.{IsConstExpr-grown}
 use Rattle.smith_config.specs.declared.config.Config.{Config}
 use Rattle.smith_config.specs.Features.{features_of}
-use Rattle.smith_draw.specs.ConstFloats.{GivesNoFloat}
 use Rattle.smith_definitions.specs.Definitions.{Standing, Global, context_at, global_scope, globals_of, initialised_at, global_at, globals_at}
-use Rattle.smith_imports.specs.Imported.{HasGroundedValue}
+use Rattle.smith_config.specs.Granted.{HasGroundedValue}
 use Rattle.smith_definitions.specs.Defined.{AreAdded, IsGlobalInitialised, AreGlobalsDefined, drawn_over}
 use Rattle.smith_definitions.proofs.ExtensionLemmas.{all_kept}
 use Rattle.smith_definitions.proofs.DefinedLoop.{IsDefining, defined_start, defined_go, defined_stop, defined_full}

@@ -1,7 +1,6 @@
 pub mod ExtensionLemmas
 pub mod FuncRefusalLemmas
 pub mod DrawnStepLemmas
-pub mod InitialLemmas
 pub mod DefinedLoop
 pub mod DefinedLemmas
 pub mod TypedLemmas
@@ -11,9 +10,6 @@ pub mod GlobalCountLemmas
 pub mod NumberedGlobalLemmas
 pub mod DefinedTablesLoop
 pub mod DefinedTableLemmas
-pub mod ConstantValueLemmas
-pub mod CollectedValueLemmas
-pub mod MergeLemmas
 pub mod RequiredEntityLemmas
 pub mod PlainEntityLemmas
 pub mod GroupedTypeLemmas

@@ -20,7 +20,7 @@ use Rattle.smith_draw.specs.SpelledGlobals.{mutable_i32, SpellsMutableI32}
 use Rattle.smith_draw.specs.SpelledConstants.{SpellsConstExpr}
 use Rattle.smith_draw.proofs.GlobalTypeLemmas.{global_type_taken}
 use Rattle.smith_draw.proofs.SpelledConstExprLemmas.{constant_read, mutable_not_read}
-use Rattle.smith_spell.specs.Spelling.{SpellsGlobal}
+use Rattle.smith_draw.specs.SpelledParts.{SpellsGlobal}
 use Rattle.smith_definitions.specs.NumberedGlobals.{SpellsGlobals}
 use Rattle.smith_definitions.specs.Definitions.{Standing, Global, globals_of, global_scope, initialised_at, global_at, globals_at}
 use Rattle.smith_definitions.proofs.DefinedLemmas.{defined_alone}

@@ -25,16 +25,17 @@ use Rattle.smith_types.proofs.ListLemmas.{slice_get-grown, AllZip-weaker}
 use Rattle.smith_config.specs.declared.config.Config.{Config}
 use Rattle.smith_config.specs.declared.shape.Shape.{Shape}
 use Rattle.smith_config.specs.Shapes.{most_listed, shape_types, shape_spaces, shape_values}
-use Rattle.smith_draw.specs.ConstBounds.{IsNonNullable, HoldsUngroundedField}
+use Rattle.smith_config.specs.Granted.{IsNonNullable}
+use Rattle.smith_draw.specs.ConstBounds.{HoldsUngroundedField}
 use Rattle.smith_draw.specs.FuncSizes.{HasFewValues}
-use Rattle.smith_definitions.specs.Bounds.{counts_as}
-use Rattle.smith_imports.specs.ShapeImports.{count_in}
-use Rattle.smith_contents.specs.Exported.{IsStanding}
+use Rattle.smith_rules.specs.Bounds.{counts_as}
+use Rattle.smith_rules.specs.ShapeImports.{count_in}
+use Rattle.smith_rules.specs.ExportedItems.{IsStanding, Export}
 use Rattle.smith_definitions.proofs.RequiredLimitLemmas.{no_limits, limits_both, no_types, types_both}
 use Rattle.smith_definitions.specs.Defined.{StandsBehind, drawn_beside}
 use Rattle.smith_definitions.specs.Required.{AddsLimitsOf, AddsTypesOf, IsKeptType, MayRequire, MayDefineMore, IsRequiredMore, AreRequired, MayLackIn, MayRefuseExported, MayRefuseRequired}
 use Rattle.smith_definitions.specs.RequiredExports.{Answers, Required, entity_of, standing_with, export_required_at, required_from, required_at}
-use Rattle.smith_definitions.specs.ShapesKept.{Export, IsSameExport, IsSameFuncType}
+use Rattle.smith_rules.specs.ShapesKept.{IsSameExport, IsSameFuncType}
 use Rattle.smith_definitions.specs.declared.definitions.Definitions.{Definitions}
 use Rattle.smith_definitions.proofs.ExtensionLemmas.{all_kept}
 

@@ -4,7 +4,7 @@ use Rattle.std.proofs.Common.{◌≡◌, ◌⊎◌, ℕ, Bool, true, false, List
 use Rattle.std.specs.Prelude.{All, Some, slice_get}
 use Rattle.std.specs.List.{Contains}
 use Rattle.std.proofs.lemmas.List.Elements.{All-nil, All-cons, All-append, All-contains, All-contains_itself, All-weaker}
-use Rattle.smith_types.specs.Exports.{IsEntityAt}
+use Rattle.smith_types.specs.Exports.{IsEntityAt, kind_of}
 use Rattle.smith_types.specs.Imports.{IndexSpaces}
 use Rattle.smith_types.specs.IndexSpaces.{with_entity}
 use Rattle.smith_types.specs.declared.composite_type.SubType.{SubType}
@@ -15,7 +15,6 @@ use Rattle.smith_types.specs.declared.entity_type.MemoryType.{MemoryType}
 use Rattle.smith_types.specs.declared.entity_type.TableType.{TableType}
 use Rattle.smith_config.specs.declared.shape.Shape.{Shape}
 use Rattle.smith_config.specs.Shapes.{shape_spaces, shape_types}
-use Rattle.smith_imports.specs.ImportedEntities.{kind_of}
 use Rattle.smith_definitions.specs.Required.{AddsLimitsOf, AddsTypesOf, IsKeptType}
 use Rattle.smith_definitions.proofs.PlainEntityLemmas.{all_at}
 

@@ -10,12 +10,12 @@ use Rattle.smith_bytes.specs.declared.error.Error.{Error}
 use Rattle.smith_bytes.specs.declared.error.Error.TheVariants as errors
 use Rattle.smith_bytes.specs.declared.error.Why.TheVariants.{SeveralMemories, SeveralTables}
 use Rattle.smith_types.specs.Entities.{IsTagValid, IsFuncValid, IsTableValid, IsMemoryValid, IsGlobalValid, AreEntitiesValid}
-use Rattle.smith_types.specs.Exports.{IsEntityAt}
+use Rattle.smith_types.specs.Exports.{IsEntityAt, kind_of}
 use Rattle.smith_types.specs.Expressions.{field_values}
 use Rattle.smith_types.specs.Features.{Features}
 use Rattle.smith_types.specs.Grown.{Extends, IsContextGrown}
 use Rattle.smith_types.specs.HeldValues.{values_in}
-use Rattle.smith_types.specs.Imports.{IndexSpaces, tag_of}
+use Rattle.smith_types.specs.Imports.{IndexSpaces, tag_of, entity_spaces}
 use Rattle.smith_types.specs.IndexSpaces.{with_entity}
 use Rattle.smith_types.specs.Space.{Space}
 use Rattle.smith_types.specs.Types.{next_group}
@@ -37,14 +37,13 @@ use Rattle.smith_config.specs.declared.config.Config.{Config}
 use Rattle.smith_config.specs.declared.shape.Shape.{Shape}
 use Rattle.smith_config.specs.Features.{features_of}
 use Rattle.smith_config.specs.Shapes.{most_listed, space_of, shape_types, shape_spaces, shape_values, IsTypePlain, ArePlain}
-use Rattle.smith_draw.specs.ConstBounds.{IsNonNullable, IsUngrounded, HoldsUngroundedField}
+use Rattle.smith_config.specs.Granted.{IsNonNullable, IsUngrounded}
+use Rattle.smith_draw.specs.ConstBounds.{HoldsUngroundedField}
 use Rattle.smith_draw.specs.ConstScopes.{fields_of}
 use Rattle.smith_draw.specs.FuncSizes.{HasFewValues}
-use Rattle.smith_contents.proofs.SizedLemmas.{shape_few}
-use Rattle.smith_definitions.specs.Bounds.{counts_as}
-use Rattle.smith_imports.specs.ShapeImports.{count_in}
-use Rattle.smith_imports.specs.Imported.{entity_spaces}
-use Rattle.smith_imports.specs.ImportedEntities.{kind_of}
+use Rattle.smith_draw.proofs.FuncSizeLemmas.{shape_few}
+use Rattle.smith_rules.specs.Bounds.{counts_as}
+use Rattle.smith_rules.specs.ShapeImports.{count_in}
 use Rattle.smith_definitions.proofs.RequiredLimitLemmas.{limits_more, no_types, type_more}
 use Rattle.smith_draw.proofs.FilledLemmas.{any_weaker, fields_before, later_ungrounded}
 use Rattle.smith_definitions.specs.Defined.{AreWithin, HasRoom, drawn_beside}
@@ -63,7 +62,8 @@ use Rattle.smith_definitions.specs.Required.{
   MayRefuseExported,
 }
 use Rattle.smith_definitions.specs.RequiredExports.{entity_of, next_index, with_table, with_global, types_over, entity_over, with_own_group}
-use Rattle.smith_definitions.specs.ShapesKept.{Export, IsSameFuncType, IsSameType}
+use Rattle.smith_rules.specs.ExportedItems.{Export}
+use Rattle.smith_rules.specs.ShapesKept.{IsSameFuncType, IsSameType}
 use Rattle.smith_definitions.specs.declared.definitions.Definitions.{Definitions}
 use Rattle.smith_definitions.proofs.ExtensionLemmas.{all_kept}
 use Rattle.smith_definitions.proofs.GroupedTypeLemmas.{behind}

@@ -7,7 +7,7 @@ use Rattle.smith_types.specs.Entities.{IsTagValid, IsFuncValid, IsTableValid, Is
 use Rattle.smith_types.specs.Expressions.{Context, IsConstExpr}
 use Rattle.smith_types.specs.Features.{Features}
 use Rattle.smith_types.specs.Grown.{Extends, IsContextGrown, AreSpacesGrown}
-use Rattle.smith_types.specs.Imports.{IndexSpaces, Defines, tag_of}
+use Rattle.smith_types.specs.Imports.{IndexSpaces, Defines, tag_of, entity_spaces}
 use Rattle.smith_types.specs.IndexSpaces.{with_entity}
 use Rattle.smith_types.specs.Space.{Space}
 use Rattle.smith_types.specs.ValidTypes.{AreTypesValid}
@@ -26,13 +26,12 @@ use Rattle.smith_config.specs.declared.config.Config.{Config}
 use Rattle.smith_config.specs.Features.{features_of}
 use Rattle.smith_definitions.specs.Defined.{StandsBehind, standing_in, IsGlobalInitialised}
 use Rattle.smith_definitions.specs.Definitions.{context_at}
-use Rattle.smith_imports.specs.Imported.{entity_spaces}
-use Rattle.smith_definitions.specs.Module.{IsTableInitialised}
+use Rattle.smith_rules.specs.Module.{IsTableInitialised}
 use Rattle.smith_definitions.specs.Required.{IsDefinedMore}
 use Rattle.smith_definitions.specs.RequiredExports.{several, scope_beside}
 use Rattle.smith_definitions.specs.declared.definitions.Definitions.{Definitions}
 use Rattle.smith_definitions.proofs.ExtensionLemmas.{all_kept}
-use Rattle.smith_definitions.proofs.InitialLemmas.{IsTableInitialised-grown}
+use Rattle.smith_rules.proofs.InitialLemmas.{IsTableInitialised-grown}
 
 pub one_more : {A : Type 0} (xs : List A) (x : A) → Extends xs (xs ++ x ∷ [])
 one_more xs x = record { more = x ∷ []; parts = refl }

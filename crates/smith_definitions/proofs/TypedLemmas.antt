@@ -14,21 +14,19 @@ use Rattle.smith_types.specs.declared.composite_type.SubType.{SubType}
 use Rattle.smith_config.specs.declared.config.Config.{Config}
 use Rattle.smith_draw.specs.Choices.{chosen_at}
 use Rattle.smith_draw.specs.Spelling.{SpellsPlace}
-use Rattle.smith_draw.specs.TypeUses.{is_tag_type, types_for}
+use Rattle.smith_draw.specs.TypeUses.{is_tag_type, types_for, func_types}
 use Rattle.smith_draw.specs.declared.type_use.TypeUse.TheVariants.{Tag, DefinedFunc}
 use Rattle.smith_draw.proofs.SpelledValueLemmas.{chosen_read}
 use Rattle.smith_draw.proofs.SupertypeLemmas.{chosen_of}
-use Rattle.smith_draw.proofs.TypeUseLemmas.{types_usable}
-use Rattle.smith_imports.specs.Steps.{Gives}
+use Rattle.smith_draw.proofs.TypeUseLemmas.{types_usable, places_any}
+use Rattle.smith_bytes.specs.Steps.{Gives}
 use Rattle.smith_bytes.specs.Spelling.{SpellsEmpty}
-use Rattle.smith_contents.proofs.PlaceOfListLemmas.{places_any}
 use Rattle.smith_definitions.specs.Defined.{IsFilled}
 use Rattle.smith_definitions.specs.Definitions.{defined_at, typed_at, tag_types, tags_at, funcs_at}
-use Rattle.smith_spell.specs.FuncTypes.{func_types}
-use Rattle.smith_spell.specs.Spelling.{SpellsNoTag, SpellsFuncs}
+use Rattle.smith_draw.specs.SpelledParts.{SpellsNoTag, SpellsFuncs}
 use Rattle.smith_definitions.proofs.ExtensionLemmas.{all_kept}
 use Rattle.smith_definitions.proofs.DefinedLemmas.{defined_all, defined_filled, defined_read, none_listed}
-use Rattle.smith_imports.proofs.GivenLemmas.{given_is}
+use Rattle.smith_bytes.proofs.StepLemmas.{given_is}
 
 -- properties of items whose types are chosen
 pub record AreTyped (Holds : ℕ → Type 0) (choices : List ℕ) (least most : ℕ) (imported items : List ℕ) : Type 0 where

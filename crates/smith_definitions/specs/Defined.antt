@@ -17,16 +17,16 @@ use Rattle.smith_config.specs.declared.config.Config.{Config}
 use Rattle.smith_config.specs.Faults.{Passes}
 use Rattle.smith_config.specs.Features.{features_of}
 use Rattle.smith_config.specs.Sanitized.{IsSanitized}
-use Rattle.smith_draw.specs.Bounds.{IsTableWithin, IsMemoryWithin}
+use Rattle.smith_config.specs.EntityBounds.{IsTableWithin, IsMemoryWithin}
 use Rattle.smith_draw.specs.ConstBounds.{HoldsUngroundedField}
-use Rattle.smith_draw.specs.ConstFloats.{GivesNoFloat}
+use Rattle.smith_types.specs.Floats.{GivesNoFloat, HasNoFloatValue}
 use Rattle.smith_draw.specs.Grounding.{without_globals}
 use Rattle.smith_draw.specs.declared.spaces.Spaces.{Spaces}
 use Rattle.smith_definitions.specs.Definitions.{Standing, standing_over, context_at, table_scope}
-use Rattle.smith_imports.specs.Imported.{HasNoFloatValue, HasGroundedElements, HasGroundedValue}
-use Rattle.smith_definitions.specs.Module.{IsTableInitialised}
-use Rattle.smith_definitions.specs.Promises.{initial_of}
-use Rattle.smith_definitions.specs.Refusals.{MayRefuse}
+use Rattle.smith_config.specs.Granted.{HasGroundedElements, HasGroundedValue}
+use Rattle.smith_rules.specs.Module.{IsTableInitialised}
+use Rattle.smith_rules.specs.Promises.{initial_of}
+use Rattle.smith_rules.specs.Refusals.{MayRefuse}
 use Rattle.smith_definitions.specs.declared.definitions.Definitions.{Definitions}
 
 -- the items before come first, and the number of items is within these bounds, or is the number

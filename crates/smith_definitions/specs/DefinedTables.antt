@@ -2,18 +2,17 @@
 -- project.
 use Rattle.std.specs.Prelude.{◌≡◌, Option, List, ◌++◌, map, All}
 use Rattle.smith_types.specs.Entities.{IsTableValid}
-use Rattle.smith_types.specs.Floats.{HasNoFloat}
+use Rattle.smith_types.specs.Floats.{HasNoFloat, GivesNoFloat}
 use Rattle.smith_types.specs.declared.const_instr.ConstInstr.{ConstInstr}
 use Rattle.smith_types.specs.declared.entity_type.TableType.{TableType}
 use Rattle.smith_config.specs.declared.config.Config.{Config}
 use Rattle.smith_config.specs.Features.{features_of}
-use Rattle.smith_draw.specs.Bounds.{IsTableWithin}
-use Rattle.smith_draw.specs.ConstFloats.{GivesNoFloat}
+use Rattle.smith_config.specs.EntityBounds.{IsTableWithin}
 use Rattle.smith_definitions.specs.Definitions.{Standing, Table, table_scope}
-use Rattle.smith_imports.specs.Imported.{HasGroundedElements}
+use Rattle.smith_config.specs.Granted.{HasGroundedElements}
 use Rattle.smith_definitions.specs.Defined.{drawn_over}
-use Rattle.smith_definitions.specs.Module.{IsTableInitialised}
-use Rattle.smith_definitions.specs.Promises.{initial_of}
+use Rattle.smith_rules.specs.Module.{IsTableInitialised}
+use Rattle.smith_rules.specs.Promises.{initial_of}
 
 -- a table may be defined with this initialiser, or with none
 pub record IsTableFit (config : Config) (standing : Standing) (one : Table) : Type 0 where

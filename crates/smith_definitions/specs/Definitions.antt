@@ -23,7 +23,7 @@ use Rattle.smith_draw.specs.GlobalTypes.{global_type_at}
 use Rattle.smith_draw.specs.Memories.{memtype_at}
 use Rattle.smith_draw.specs.TableTypes.{table_type_at}
 use Rattle.smith_draw.specs.TypeUses.{types_for}
-use Rattle.smith_imports.specs.Steps.{◌>>=◌}
+use Rattle.smith_bytes.specs.Steps.{◌>>=◌}
 use Rattle.smith_definitions.specs.declared.definitions.Definitions.{Definitions}
 use Rattle.smith_draw.specs.declared.type_use.TypeUse.TheVariants as uses
 

@@ -1,13 +1,6 @@
-pub mod Module
-pub mod Bounds
-pub mod ShapesKept
-pub mod Promises
 pub mod Definitions
 pub mod Defined
 pub mod DefinedTables
-pub mod InterestingValues
 pub mod NumberedGlobals
-pub mod Refusals
-pub mod CollectedValues
 pub mod RequiredExports
 pub mod Required

@@ -26,15 +26,17 @@ use Rattle.smith_config.specs.declared.shape.Shape.{Shape}
 use Rattle.smith_config.specs.Features.{features_of}
 use Rattle.smith_config.specs.Sanitized.{IsSanitized}
 use Rattle.smith_config.specs.Shapes.{most_listed, shape_types, shape_spaces, shape_values, IsShapeValid}
-use Rattle.smith_draw.specs.ConstBounds.{IsNonNullable, HoldsUngroundedField}
+use Rattle.smith_config.specs.Granted.{IsNonNullable}
+use Rattle.smith_draw.specs.ConstBounds.{HoldsUngroundedField}
 use Rattle.smith_draw.specs.FuncSizes.{HasFewValues}
-use Rattle.smith_definitions.specs.Bounds.{counts_as, exported_of}
-use Rattle.smith_imports.specs.ShapeImports.{count_in}
+use Rattle.smith_rules.specs.Bounds.{counts_as, exported_of}
+use Rattle.smith_rules.specs.ShapeImports.{count_in}
 use Rattle.smith_definitions.specs.Defined.{AreWithin, HasRoom, StandsBehind, drawn_beside}
-use Rattle.smith_imports.specs.ImportedEntities.{kind_of}
-use Rattle.smith_definitions.specs.Module.{IsTableInitialised}
+use Rattle.smith_types.specs.Exports.{kind_of}
+use Rattle.smith_rules.specs.Module.{IsTableInitialised}
 use Rattle.smith_definitions.specs.RequiredExports.{several, scope_beside, with_table, with_global}
-use Rattle.smith_definitions.specs.ShapesKept.{Export, IsSameExport, IsSameType}
+use Rattle.smith_rules.specs.ExportedItems.{Export}
+use Rattle.smith_rules.specs.ShapesKept.{IsSameExport, IsSameType}
 use Rattle.smith_definitions.specs.declared.definitions.Definitions.{Definitions}
 
 -- `more` entities may be defined after the existing ones

@@ -3,7 +3,7 @@ ghost use Rattle.smith_bytes.specs.Source.{KeepsPieces};
 ghost use Rattle.smith_types.specs.Floats.{HasNoFloat};
 ghost use Rattle.smith_types.specs.IndexSpaces.{spaces_in};
 ghost use Rattle.smith_definitions.specs.Definitions.{definitions_at};
-ghost use Rattle.smith_imports.specs.Steps.{Gives};
+ghost use Rattle.smith_bytes.specs.Steps.{Gives};
 ghost use Rattle.smith_definitions.specs.Defined.{nothing_defined, drawn_beside, MayDefine, MayRefuseDefined, AreDefinedMore, HaveNoFloats};
 
 use crate::funcs::define_funcs;

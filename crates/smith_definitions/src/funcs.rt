@@ -6,12 +6,12 @@ ghost use Rattle.smith_types.specs.ValidTypes.{AreTypesValid};
 ghost use Rattle.smith_config.specs.Faults.{Passes};
 ghost use Rattle.smith_config.specs.Features.{features_of};
 ghost use Rattle.smith_config.specs.Sanitized.{IsSanitized};
-ghost use Rattle.smith_imports.specs.Steps.{Gives};
+ghost use Rattle.smith_bytes.specs.Steps.{Gives};
 ghost use Rattle.smith_definitions.specs.Defined.{IsFilled};
 ghost use Rattle.smith_definitions.specs.Definitions.{funcs_at};
-ghost use Rattle.smith_spell.specs.FuncTypes.{func_types};
-ghost use Rattle.smith_spell.specs.Spelling.{SpellsFuncs};
-ghost use Rattle.smith_definitions.specs.Refusals.{MayRefuse};
+ghost use Rattle.smith_draw.specs.TypeUses.{func_types};
+ghost use Rattle.smith_draw.specs.SpelledParts.{SpellsFuncs};
+ghost use Rattle.smith_rules.specs.Refusals.{MayRefuse};
 
 use crate::typed::define_typed;
 use smith_bytes::{Count, Error, Unstructured, Why};

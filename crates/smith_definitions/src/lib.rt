@@ -5,7 +5,6 @@
 mod definitions;
 mod funcs;
 mod globals;
-mod interesting_values;
 mod memories;
 mod past_full;
 mod required_entities;
@@ -18,5 +17,4 @@ mod tags;
 mod typed;
 
 pub use definitions::{Definitions, define};
-pub use interesting_values::collect_interesting_values;
 pub use shape_exports::{make_required_exports, make_shape_exports};

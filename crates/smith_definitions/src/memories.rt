@@ -3,7 +3,7 @@ ghost use Rattle.smith_bytes.specs.Takes.{Takes};
 ghost use Rattle.smith_types.specs.Entities.{IsMemoryValid};
 ghost use Rattle.smith_config.specs.Faults.{Passes};
 ghost use Rattle.smith_config.specs.Features.{features_of};
-ghost use Rattle.smith_draw.specs.Bounds.{IsMemoryWithin};
+ghost use Rattle.smith_config.specs.EntityBounds.{IsMemoryWithin};
 ghost use Rattle.smith_draw.specs.Drawing.{DrawsInto};
 ghost use Rattle.smith_bytes.specs.Spelling.{SpellsEmpty};
 ghost use Rattle.smith_definitions.specs.Defined.{IsFilled, AreAdded};

@@ -8,7 +8,7 @@ ghost use Rattle.smith_config.specs.Features.{features_of};
 ghost use Rattle.smith_draw.specs.ConstBounds.{MayRefuseConstExpr};
 ghost use Rattle.smith_draw.specs.ConstScopes.{AreSpacesValid, seen_by};
 ghost use Rattle.smith_draw.specs.KeptOffers.{AreKeptOffers};
-ghost use Rattle.smith_imports.specs.Imported.{entity_spaces};
+ghost use Rattle.smith_types.specs.Imports.{entity_spaces};
 ghost use Rattle.smith_definitions.specs.Defined.{AreWithin, drawn_beside};
 ghost use Rattle.smith_definitions.specs.Required.{MayDefineMore, IsInitialised, IsDefinedMore, MayRefuseInitial, MayRefuseEntity};
 ghost use Rattle.smith_definitions.specs.RequiredExports.{Answers, next_index, several, scope_beside, defined_with_at, entity_required_at};

@@ -3,7 +3,7 @@ ghost use Rattle.smith_types.specs.Exports.{IsEntityAt};
 ghost use Rattle.smith_types.specs.Imports.{imported_spaces};
 ghost use Rattle.smith_types.specs.IndexSpaces.{spaces_in};
 ghost use Rattle.smith_config.specs.Shapes.{shape_imports, shape_spaces};
-ghost use Rattle.smith_contents.specs.Exported.{IsStanding};
+ghost use Rattle.smith_rules.specs.ExportedItems.{IsStanding};
 ghost use Rattle.smith_definitions.specs.RequiredExports.{entity_of};
 
 use smith_config::Shape;

@@ -12,14 +12,13 @@ ghost use Rattle.smith_config.specs.Shapes.{most_listed, shape_imports, shape_sp
 ghost use Rattle.smith_draw.specs.ConstBounds.{HoldsUngroundedField};
 ghost use Rattle.smith_draw.specs.KeptOffers.{AreKeptOffers};
 ghost use Rattle.smith_draw.specs.FuncSizes.{HasFewValues};
-ghost use Rattle.smith_definitions.specs.Bounds.{exported_of};
-ghost use Rattle.smith_imports.specs.ShapeImports.{count_in};
-ghost use Rattle.smith_contents.specs.Exported.{IsStanding};
-ghost use Rattle.smith_contents.specs.Exporting.{Export};
+ghost use Rattle.smith_rules.specs.Bounds.{exported_of};
+ghost use Rattle.smith_rules.specs.ShapeImports.{count_in};
+ghost use Rattle.smith_rules.specs.ExportedItems.{IsStanding, Export};
 ghost use Rattle.smith_definitions.specs.Defined.{StandsBehind, drawn_beside};
 ghost use Rattle.smith_definitions.specs.Required.{AddsLimitsOf, AddsTypesOf, MayDefineMore, MayRequire, IsRequiredMore, AreRequired, MayLackIn, MayRefuseRequired, MayRefuseExported};
 ghost use Rattle.smith_definitions.specs.RequiredExports.{Answers, entity_of, scope_beside, standing_with, export_required_at, required_at};
-ghost use Rattle.smith_definitions.specs.ShapesKept.{IsSameExport, IsSameType};
+ghost use Rattle.smith_rules.specs.ShapesKept.{IsSameExport, IsSameType};
 
 use crate::definitions::Definitions;
 use crate::required_entities::{define_entity, next_index};

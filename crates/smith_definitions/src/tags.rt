@@ -3,12 +3,12 @@ ghost use Rattle.smith_bytes.specs.Source.{KeepsPieces};
 ghost use Rattle.smith_bytes.specs.Takes.{Takes};
 ghost use Rattle.smith_types.specs.Entities.{IsTagValid};
 ghost use Rattle.smith_config.specs.Faults.{Passes};
-ghost use Rattle.smith_imports.specs.Steps.{Gives};
+ghost use Rattle.smith_bytes.specs.Steps.{Gives};
 ghost use Rattle.smith_bytes.specs.Spelling.{SpellsEmpty};
 ghost use Rattle.smith_definitions.specs.Defined.{IsFilled};
 ghost use Rattle.smith_definitions.specs.Definitions.{tag_types, tags_at};
-ghost use Rattle.smith_spell.specs.Spelling.{SpellsNoTag};
-ghost use Rattle.smith_definitions.specs.Refusals.{MayRefuse};
+ghost use Rattle.smith_draw.specs.SpelledParts.{SpellsNoTag};
+ghost use Rattle.smith_rules.specs.Refusals.{MayRefuse};
 
 use crate::typed::define_typed;
 use smith_bytes::{Count, Error, Unstructured};

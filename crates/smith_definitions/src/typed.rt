@@ -2,7 +2,7 @@ ghost use Rattle.std.specs.Prelude.{◌≡◌, ◌<◌, ◌⊎◌, length, IfErr
 ghost use Rattle.smith_bytes.specs.Source.{KeepsPieces};
 ghost use Rattle.smith_draw.specs.Choices.{chosen_at};
 ghost use Rattle.smith_draw.specs.Drawing.{DrawsInto};
-ghost use Rattle.smith_imports.specs.Steps.{Gives};
+ghost use Rattle.smith_bytes.specs.Steps.{Gives};
 ghost use Rattle.smith_definitions.specs.Definitions.{defined_at, behind, typed_at};
 
 use crate::past_full::ask_past_full;

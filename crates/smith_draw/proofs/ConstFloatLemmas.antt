@@ -9,7 +9,7 @@ use Rattle.std.proofs.lemmas.Option.{same_Some}
 use Rattle.smith_bytes.specs.Draws.{range_at, choose_at}
 use Rattle.smith_bytes.proofs.GrownLemmas.{cond_both}
 use Rattle.smith_types.specs.Expressions.{Context, field_values, unpacked}
-use Rattle.smith_types.specs.Floats.{IsNoFloat, HasNoFloat}
+use Rattle.smith_types.specs.Floats.{IsNoFloat, HasNoFloat, GivesNoFloat}
 use Rattle.smith_types.specs.ValidTypes.{values_of, values_of_storage}
 use Rattle.smith_types.specs.declared.value_type.AbstractHeapType.{AbstractHeapType}
 use Rattle.smith_types.specs.declared.value_type.AbstractHeapType.TheVariants as heap
@@ -30,7 +30,6 @@ use Rattle.smith_draw.specs.ConstOffers.{offers}
 use Rattle.smith_draw.specs.ConstNodes.{fields_there, field_operands, repeated, converted, is_extended, node_at}
 use Rattle.smith_draw.specs.ConstExprs.{State, state_of, behind, length_at, operand_at, operands_at, chosen_at, expression_at, expression_alone_at}
 use Rattle.smith_draw.specs.ConstSteps.{operand_type}
-use Rattle.smith_draw.specs.ConstFloats.{GivesNoFloat}
 use Rattle.smith_draw.specs.declared.const_expr.node_choice.Choice.{Choice}
 use Rattle.smith_draw.specs.declared.const_expr.node_choice.Choice.TheVariants as choice
 use Rattle.smith_draw.specs.declared.const_expr.extended.Operator.{Operator}

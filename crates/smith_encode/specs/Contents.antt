@@ -2,7 +2,7 @@
 use Rattle.std.specs.Prelude.{ℕ, ◌-◌, List, map, length, drop}
 use Rattle.std.specs.List.{zip}
 use Rattle.smith_types.specs.Imports.{flattened}
-use Rattle.smith_definitions.specs.Module.{Parts}
+use Rattle.smith_rules.specs.Module.{Parts}
 use Rattle.smith_sections.specs.Types.{group_at}
 use Rattle.smith_sections.specs.Definitions.{initialised_table, initialised_global}
 use Rattle.smith_sections.specs.Elements.{element_of}

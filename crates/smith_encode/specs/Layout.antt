@@ -1,7 +1,7 @@
 -- Which sections of a module are written.
 use Rattle.std.specs.Prelude.{ℕ, Bool, true, false, ◌&&◌, ◌||◌, nat_lt, is_some, List, [], ◌∷◌, ◌++◌, length}
 use Rattle.smith_binary.specs.Pieces.{Joined, Each, IsSection}
-use Rattle.smith_definitions.specs.Module.{Parts}
+use Rattle.smith_rules.specs.Module.{Parts}
 use Rattle.smith_sections.specs.Modules.{IsPreamble}
 use Rattle.smith_encode.specs.Contents.{defined}
 

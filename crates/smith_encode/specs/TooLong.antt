@@ -1,5 +1,5 @@
 -- What makes a module too long for the binary format.
-use Rattle.smith_definitions.specs.Module.{Parts}
+use Rattle.smith_rules.specs.Module.{Parts}
 use Rattle.smith_sections.specs.Types.{IsRecGroup}
 use Rattle.smith_sections.specs.Instructions.{IsIndex}
 use Rattle.smith_sections.specs.Entities.{IsMemoryType, IsTagType}

@@ -15,7 +15,7 @@ use Rattle.smith_config.specs.ShapeFaults.{AreTypesRight, IsFirstShapeFault, IsR
 use Rattle.smith_config.specs.Shapes.{IsShapeValid, IsShort}
 use Rattle.smith_config.proofs.FirstFaultLemmas.{first_bad_type}
 use Rattle.wasm_smith.specs.CheckedShapes.{ComesBefore, IsFaultOf, IsFirstFaulty}
-use Rattle.smith_definitions.specs.Refusals.{shape_for}
+use Rattle.smith_rules.specs.Refusals.{shape_for}
 use Rattle.smith_examples.specs.ExampleShapes.{untyped}
 
 -- what is asked of the uses that come before

@@ -10,9 +10,9 @@ use Rattle.smith_types.specs.ExampleTypes.{plain, not_null}
 use Rattle.smith_types.specs.Expressions.{Context}
 use Rattle.smith_types.specs.Features.{Features}
 use Rattle.smith_types.specs.Grounded.{IsGrounded}
-use Rattle.smith_draw.specs.Granted.{IsGranted}
+use Rattle.smith_config.specs.Granted.{IsGranted}
 use Rattle.smith_spell.specs.ExampleMembers.{final, taking}
-use Rattle.smith_definitions.specs.Module.{Parts, module_features, module_imports}
+use Rattle.smith_rules.specs.Module.{Parts, module_features, module_imports}
 use Rattle.smith_examples.specs.ExampleReferences.{with_references}
 
 -- a reference to anything

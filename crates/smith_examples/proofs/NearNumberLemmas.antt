@@ -5,7 +5,7 @@ use Rattle.std.specs.List.{All, Any, Contains, list_any}
 use Rattle.std.proofs.lemmas.List.Folds.{list_any-from_Any}
 use Rattle.smith_types.specs.declared.entity_type.TableType.{TableType}
 use Rattle.smith_types.specs.declared.entity_type.MemoryType.{MemoryType}
-use Rattle.smith_definitions.specs.InterestingValues.{IsNearPower, float_edges, IsNearTable, IsNearMemory, IsInteresting64}
+use Rattle.smith_rules.specs.InterestingValues.{IsNearPower, float_edges, IsNearTable, IsNearMemory, IsInteresting64}
 
 power_kind : (i : ℕ) → (2 ^ i ≡ 1) ⊎ ((2 ^ i ≡ 2) ⊎ ((m : ℕ) × (2 ^ i ≡ 4 * m)))
 power_kind zero = inl refl

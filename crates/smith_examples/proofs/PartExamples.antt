@@ -21,7 +21,7 @@ use Rattle.smith_types.proofs.GrowthLemmas.{IsRefBelow-refl}
 use Rattle.smith_types.proofs.ConstStepLemmas.{alone as one_instruction}
 use Rattle.smith_spell.specs.ExampleMembers.{taking_a_number, a_type, bytes_array, plain_function}
 use Rattle.smith_spell.proofs.EachPlaceLemmas.{EachFrom, each_place}
-use Rattle.smith_definitions.specs.Module.{Parts, IsValid, IsGlobalDefined}
+use Rattle.smith_rules.specs.Module.{Parts, IsValid, IsGlobalDefined}
 use Rattle.smith_examples.specs.ExampleModules.{group_of, one_function}
 use Rattle.smith_examples.specs.ExampleParts.{no_function}
 

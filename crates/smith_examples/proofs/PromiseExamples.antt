@@ -6,7 +6,7 @@ use Rattle.smith_types.specs.Flags.{funcref}
 use Rattle.smith_types.specs.Segments.{IsElementInside}
 use Rattle.smith_types.specs.declared.entity_type.TableType.{TableType}
 use Rattle.smith_types.specs.declared.segments.Offset.TheVariants.{Const32}
-use Rattle.smith_definitions.specs.Promises.{HasDistinctImports, IsInside}
+use Rattle.smith_rules.specs.Promises.{HasDistinctImports, IsInside}
 use Rattle.smith_examples.specs.ExampleParts.{table, into_a_table}
 use Rattle.smith_examples.specs.ExampleModules.{named_imports, filled_table}
 

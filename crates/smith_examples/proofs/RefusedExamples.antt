@@ -13,7 +13,7 @@ use Rattle.smith_types.specs.declared.segments.Elements.TheVariants.{Expressions
 use Rattle.smith_types.specs.declared.segments.DataSegmentKind.TheVariants as data_kind
 use Rattle.smith_config.specs.declared.config.Config.{Config}
 use Rattle.smith_config.specs.Config.{default_config}
-use Rattle.smith_definitions.specs.Module.{AreDefinitionsValid, module_spaces, segment_context}
+use Rattle.smith_rules.specs.Module.{AreDefinitionsValid, module_spaces, segment_context}
 use Rattle.smith_examples.specs.ExampleParts.{table, no_function, passive_elements}
 use Rattle.smith_examples.specs.ExampleModules.{exported_twice, null_of_no_null, two_elements, passive_bytes}
 

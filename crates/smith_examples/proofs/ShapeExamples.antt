@@ -16,9 +16,9 @@ use Rattle.smith_config.specs.Config.{default_config}
 use Rattle.smith_config.specs.InUse.{FixesExports, FixesImports}
 use Rattle.smith_config.specs.Shapes.{shape_types, shape_spaces}
 use Rattle.smith_spell.specs.ExampleMembers.{a_type, foo_type, quux_type}
-use Rattle.smith_definitions.specs.Module.{Parts, module_spaces}
-use Rattle.smith_definitions.specs.ShapesKept.{IsSameExport, IsSameType, IsSameFuncType, KeepsAvailableImports, KeepsExports}
-use Rattle.smith_imports.specs.ShapeImports.{is_fitting}
+use Rattle.smith_rules.specs.Module.{Parts, module_spaces}
+use Rattle.smith_rules.specs.ShapesKept.{IsSameExport, IsSameType, IsSameFuncType, KeepsAvailableImports, KeepsExports}
+use Rattle.smith_rules.specs.ShapeImports.{is_fitting}
 use Rattle.smith_examples.specs.ExampleParts.{memory, table, global}
 use Rattle.smith_examples.specs.ExampleModules.{one_of_each}
 use Rattle.smith_examples.specs.ExampleShapes.{environment, with_environment, five_exports}

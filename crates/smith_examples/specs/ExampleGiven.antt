@@ -18,7 +18,7 @@ use Rattle.smith_types.specs.declared.code.Instructions.TheVariants.{Arbitrary}
 use Rattle.smith_config.specs.declared.config.Config.{Config}
 use Rattle.smith_config.specs.Config.{default_config}
 use Rattle.smith_spell.specs.ExampleMembers.{final, struct_of, taking_a_number, one_of_each_without_gc, nothing_may_be, a_type, bytes_array}
-use Rattle.smith_definitions.specs.Module.{Parts}
+use Rattle.smith_rules.specs.Module.{Parts}
 use Rattle.smith_examples.specs.ExampleParts.{memory, shared_memory, table, global, number, import_named, no_function, passive_elements, trapping}
 use Rattle.smith_examples.specs.ExampleModules.{empty_module, group_of, types_together, types_apart, two_imports, last_bytes}
 

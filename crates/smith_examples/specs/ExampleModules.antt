@@ -25,7 +25,7 @@ use Rattle.smith_types.specs.declared.segments.DataSegmentKind.TheVariants as da
 use Rattle.smith_config.specs.declared.config.Config.{Config}
 use Rattle.smith_config.specs.Config.{default_config}
 use Rattle.smith_spell.specs.ExampleMembers.{a_type, bytes_array, plain_function, foo_type, quux_type}
-use Rattle.smith_definitions.specs.Module.{Parts}
+use Rattle.smith_rules.specs.Module.{Parts}
 use Rattle.smith_examples.specs.ExampleParts.{memory, shared_memory, table, global, number, import_named, no_function, passive_elements, into_a_table, active_data, trapping}
 
 -- a module without anything

@@ -9,7 +9,7 @@ use Rattle.smith_types.specs.declared.composite_type.SubType.{SubType}
 use Rattle.smith_types.specs.ExampleTypes.{nullable, not_null}
 use Rattle.smith_config.specs.declared.config.Config.{Config}
 use Rattle.smith_config.specs.Config.{default_config}
-use Rattle.smith_definitions.specs.Module.{Parts}
+use Rattle.smith_rules.specs.Module.{Parts}
 use Rattle.smith_examples.specs.ExampleModules.{empty_module, one_function, one_import}
 use Rattle.smith_examples.specs.ExampleParts.{global, number, import_named}
 

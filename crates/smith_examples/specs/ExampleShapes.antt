@@ -15,7 +15,7 @@ use Rattle.smith_config.specs.Config.{default_config}
 pub use Rattle.smith_config.specs.ExampleShapes.{empty_shape}
 use Rattle.smith_config.specs.declared.shape.Shape.{Shape}
 use Rattle.smith_spell.specs.ExampleMembers.{alone, final, taking_a_number, foo_type, quux_type, taking}
-use Rattle.smith_definitions.specs.Module.{Parts}
+use Rattle.smith_rules.specs.Module.{Parts}
 use Rattle.smith_examples.specs.ExampleParts.{import_named, memory, table, global, trapping}
 use Rattle.smith_examples.specs.ExampleModules.{empty_module, group_of, three_memories}
 

@@ -6,7 +6,7 @@ ghost use Rattle.smith_config.specs.Config.{default_config};
 ghost use Rattle.smith_config.specs.Shapes.{space_of};
 ghost use Rattle.wasm_smith.specs.Begun.{begun_at, nothing_begun};
 ghost use Rattle.smith_definitions.specs.Defined.{nothing_defined};
-ghost use Rattle.smith_definitions.specs.Module.{module_spaces};
+ghost use Rattle.smith_rules.specs.Module.{module_spaces};
 ghost use Rattle.smith_examples.specs.ExampleParts.{memory};
 ghost use Rattle.smith_examples.specs.ExampleModules.{three_memories};
 ghost use Rattle.smith_examples.specs.ExampleShapes.{for_module, for_imports, imported_memories, memories_in_and_out, environment};

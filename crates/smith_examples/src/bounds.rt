@@ -5,8 +5,8 @@ ghost use Rattle.smith_types.specs.declared.segments.Elements.TheVariants.{Funct
 ghost use Rattle.smith_types.specs.declared.const_instr.ConstInstr.TheVariants.{GlobalGet};
 ghost use Rattle.smith_config.specs.Config.{default_config};
 ghost use Rattle.smith_spell.specs.ExampleMembers.{plain_function, foo_type};
-ghost use Rattle.smith_contents.specs.Held.{HasNoCandidates};
-ghost use Rattle.smith_definitions.specs.Bounds.{count_of, export_size, imports_size, exports_size, brought, added, HasMost, HasLeast, HasEnough, KeepsBounds, MeetsMinimums};
+ghost use Rattle.smith_rules.specs.Held.{HasNoCandidates};
+ghost use Rattle.smith_rules.specs.Bounds.{count_of, export_size, imports_size, exports_size, brought, added, HasMost, HasLeast, HasEnough, KeepsBounds, MeetsMinimums};
 ghost use Rattle.smith_examples.specs.ExampleParts.{memory, no_function, passive_elements};
 ghost use Rattle.smith_examples.specs.ExampleModules.{empty_module, arrays, three_arrays, one_function, one_table, one_tag, one_of_each, passive_bytes, one_import, two_imports, two_exports, two_memories, two_segments, three_memories, elements_asked_for};
 ghost use Rattle.smith_examples.specs.ExampleGiven.{nothing_allowed, two_singles, exported_number, three_numbers, forced_page, full_memory, null_table, last_byte, sixty_elements};

@@ -14,7 +14,7 @@ ghost use Rattle.smith_draw.specs.ExampleConstExprs.{context_of_types};
 ghost use Rattle.smith_config.specs.Config.{default_config};
 ghost use Rattle.smith_spell.specs.ExampleMembers.{final, plain_function};
 ghost use Rattle.smith_definitions.specs.Definitions.{table_scope};
-ghost use Rattle.smith_contents.specs.Held.{HasItems};
+ghost use Rattle.smith_rules.specs.Held.{HasItems};
 ghost use Rattle.smith_contents.specs.DrawnElements.{MayRefuseElements};
 ghost use Rattle.smith_contents.specs.ElementSegments.{elements_at, constant_offset_at, are_functions_at, most_items, unshared_funcs};
 ghost use Rattle.smith_examples.specs.ExampleDefinitions.{beside_globals};

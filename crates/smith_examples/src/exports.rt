@@ -6,7 +6,8 @@ ghost use Rattle.smith_types.specs.declared.entity_type.EntityType.TheVariants a
 ghost use Rattle.smith_types.specs.declared.entity_type.ExportKind.TheVariants.{Func, Memory, Global, Tag};
 ghost use Rattle.smith_config.specs.Config.{default_config};
 ghost use Rattle.smith_spell.specs.ExampleMembers.{final, taking_a_number, plain_function};
-ghost use Rattle.smith_contents.specs.Exporting.{is_exported, export_name_at, candidates, offered_kinds, exported_size, free_exports_at};
+ghost use Rattle.smith_contents.specs.Exporting.{is_exported, export_name_at, candidates, offered_kinds, free_exports_at};
+ghost use Rattle.smith_rules.specs.ExportedItems.{exported_size};
 ghost use Rattle.smith_contents.specs.AllExports.{exports_at};
 ghost use Rattle.smith_contents.specs.Exported.{IsSized, IsFuncWithin};
 ghost use Rattle.smith_types.specs.declared.composite_type.CompositeInnerType.TheVariants as inner;

@@ -1,5 +1,5 @@
 ghost use Rattle.smith_types.specs.declared.value_type.HeapType.TheVariants.{Concrete, Exact};
-ghost use Rattle.smith_definitions.specs.Module.{IsValid};
+ghost use Rattle.smith_rules.specs.Module.{IsValid};
 ghost use Rattle.smith_examples.specs.ExampleReferences.{imported_read, refers_to_function};
 
 fn numbers()

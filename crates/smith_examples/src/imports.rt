@@ -11,7 +11,8 @@ ghost use Rattle.smith_types.specs.declared.imports.Imports.TheVariants.{Single,
 ghost use Rattle.smith_config.specs.Config.{default_config};
 ghost use Rattle.smith_draw.specs.Choices.{enabled};
 ghost use Rattle.smith_spell.specs.ExampleMembers.{final, taking_a_number, giving_two, plain_function};
-ghost use Rattle.smith_imports.specs.ImportNames.{is_taken, new_name, import_name_at};
+ghost use Rattle.smith_imports.specs.ImportNames.{is_taken, import_name_at};
+ghost use Rattle.smith_bytes.specs.Names.{new_name};
 ghost use Rattle.smith_imports.specs.ImportedEntities.{kind_rows, entity_at, fits, again, sizes};
 ghost use Rattle.smith_imports.specs.Imported.{MayEnd};
 ghost use Rattle.smith_imports.specs.Importing.{with_filled, imports_at};

@@ -1,7 +1,7 @@
 ghost use Rattle.std.specs.Prelude.{true, pos};
 ghost use Rattle.smith_types.specs.declared.segments.Offset.TheVariants.{Const32};
 ghost use Rattle.smith_config.specs.Config.{default_config};
-ghost use Rattle.smith_definitions.specs.Module.{IsValid};
+ghost use Rattle.smith_rules.specs.Module.{IsValid};
 ghost use Rattle.smith_examples.specs.ExampleModules.{
   empty_module,
   empty_group,

@@ -12,7 +12,7 @@ ghost use Rattle.smith_types.specs.declared.code.Instructions.TheVariants.{Unrea
 ghost use Rattle.smith_types.specs.ExampleTypes.{struct, constant, empty_struct, plain, not_null};
 ghost use Rattle.smith_config.specs.Config.{default_config};
 ghost use Rattle.smith_spell.specs.ExampleMembers.{final, taking};
-ghost use Rattle.smith_definitions.specs.Promises.{HasDistinctImports, HasNoFloats, HoldsGranted, HasGrantedLocals, ExportsEverything, HasNoStart, HasNoFuel, IsInside, WritesSections, KeepsPromises};
+ghost use Rattle.smith_rules.specs.Promises.{HasDistinctImports, HasNoFloats, HoldsGranted, HasGrantedLocals, ExportsEverything, HasNoStart, HasNoFuel, IsInside, WritesSections, KeepsPromises};
 ghost use Rattle.smith_examples.specs.ExampleShapes.{for_module, for_imports, for_exports, environment, exporting, memories_in_and_out, non_nullable};
 ghost use Rattle.smith_examples.specs.ExampleParts.{global, table, number, import_named, passive_elements};
 ghost use Rattle.smith_examples.specs.ExampleReferences.{with_references, holding_reference};

@@ -6,7 +6,7 @@ ghost use Rattle.smith_bytes.specs.declared.error.Which.TheVariants.{Exports, Mo
 ghost use Rattle.smith_bytes.specs.declared.error.Count.TheVariants as counts;
 ghost use Rattle.smith_bytes.specs.declared.error.Why.TheVariants.{Unmet, TypeSize, SeveralMemories, SeveralTables, Loop, RawBody};
 ghost use Rattle.smith_config.specs.Config.{default_config};
-ghost use Rattle.smith_definitions.specs.Refusals.{MayRefuse, MayGive, AsksNothingImpossible};
+ghost use Rattle.smith_rules.specs.Refusals.{MayRefuse, MayGive, AsksNothingImpossible};
 ghost use Rattle.smith_examples.specs.ExampleShapes.{for_module, for_imports, for_exports, imported_memories, exporting, environment, non_nullable, table_exported, twice_exported, empty_shape, taking_non_nullable, memory_available, room_for_two};
 
 fn refusals()

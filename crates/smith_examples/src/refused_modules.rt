@@ -17,7 +17,7 @@ ghost use Rattle.smith_types.specs.declared.segments.Offset.TheVariants.{Const32
 ghost use Rattle.smith_config.specs.Config.{default_config};
 ghost use Rattle.smith_config.specs.Features.{features_of};
 ghost use Rattle.smith_spell.specs.ExampleMembers.{a_type, bytes_array, taking};
-ghost use Rattle.smith_definitions.specs.Module.{IsValid, AreDefinitionsValid, AreBodiesValid, AreSpacesMade, module_features, module_types, module_spaces, segment_context};
+ghost use Rattle.smith_rules.specs.Module.{IsValid, AreDefinitionsValid, AreBodiesValid, AreSpacesMade, module_features, module_types, module_spaces, segment_context};
 ghost use Rattle.smith_examples.specs.ExampleParts.{memory, table, global, number, no_function};
 ghost use Rattle.smith_examples.specs.ExampleModules.{empty_module, referring_to, types_together, types_apart, table_from_import, table_from_definition, table_without_gc, table_behind, null_of_no_null, one_table, one_memory, one_number, one_tag, one_of_each, two_memories, two_elements, two_imports, memories_behind, filled_table, table_from_a_number, passive_bytes, exported_twice, bodiless, imported_counter, out_of_order, one_function, one_import};
 ghost use Rattle.smith_examples.specs.ExampleGiven.{without_gc, raw_body, counting_once, counting_behind, last_byte, three_numbers};

@@ -4,9 +4,9 @@ ghost use Rattle.smith_types.specs.declared.entity_type.ExportKind.TheVariants a
 ghost use Rattle.smith_types.specs.declared.imports.Imports.TheVariants.{Single};
 ghost use Rattle.smith_config.specs.Config.{default_config};
 ghost use Rattle.smith_spell.specs.ExampleMembers.{final, taking_a_number, foo_type, quux_type};
-ghost use Rattle.smith_definitions.specs.Module.{shown_config};
-ghost use Rattle.smith_definitions.specs.ShapesKept.{KeepsTypes, KeepsModuleShape, KeepsAvailableImports, KeepsExports, KeepsShapes, IsSameType};
-ghost use Rattle.smith_imports.specs.ShapeImports.{kept_groups, taken_from};
+ghost use Rattle.smith_rules.specs.Module.{shown_config};
+ghost use Rattle.smith_rules.specs.ShapesKept.{KeepsTypes, KeepsModuleShape, KeepsAvailableImports, KeepsExports, KeepsShapes, IsSameType};
+ghost use Rattle.smith_rules.specs.ShapeImports.{kept_groups, taken_from};
 ghost use Rattle.smith_examples.specs.ExampleParts.{memory};
 ghost use Rattle.smith_examples.specs.ExampleModules.{group_of, one_function, one_of_each, three_memories};
 ghost use Rattle.smith_examples.specs.ExampleGiven.{memories_one_by_one};

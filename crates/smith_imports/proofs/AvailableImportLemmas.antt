@@ -26,10 +26,10 @@ use Rattle.smith_config.specs.declared.shape.Shape.{Shape}
 use Rattle.smith_config.specs.Faults.{maximum_of}
 use Rattle.smith_config.specs.Features.{features_of}
 use Rattle.smith_config.specs.Shapes.{IsInnerShort, IsShapeValid, shape_types, shape_imports, shape_spaces}
-use Rattle.smith_imports.specs.ShapeImports.{count_in}
-use Rattle.smith_imports.specs.ImportedEntities.{has_room, kind_of}
+use Rattle.smith_rules.specs.ShapeImports.{count_in, count_for, is_allowed, is_fitting, is_picked, sizes_of, taken_from}
+use Rattle.smith_imports.specs.ImportedEntities.{has_room}
+use Rattle.smith_types.specs.Exports.{kind_of}
 use Rattle.smith_imports.specs.Imported.{spaces_of}
-use Rattle.smith_imports.specs.ShapeImports.{count_for, is_allowed, is_fitting, is_picked, sizes_of, taken_from}
 use Rattle.smith_imports.specs.AvailableImports.{picked_at, fits_beside, CountsTaken, IsSized, AreImportsWithin, AreTakenFit}
 use Rattle.smith_imports.specs.declared.imported.Imported.{Imported}
 use Rattle.smith_imports.proofs.ImportedEntityLemmas.{first_holds, second_holds}

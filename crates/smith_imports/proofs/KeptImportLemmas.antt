@@ -20,7 +20,7 @@ use Rattle.smith_config.specs.declared.shape.Shape.{Shape}
 use Rattle.smith_config.specs.Features.{features_of}
 use Rattle.smith_config.specs.Shapes.{IsShapeValid, shape_types, shape_imports}
 use Rattle.smith_imports.specs.KeptImports.{kept_of}
-use Rattle.smith_imports.specs.ShapeImports.{is_filled}
+use Rattle.smith_rules.specs.ShapeImports.{is_filled}
 
 -- one more group is kept
 pub kept_more : (compact : Bool) (all : List Imports) (place : ℕ) (group : Imports) (groups longer : List Imports) → place < length all → group ≡ get_or all place group → groups ≡ flat_map (kept_of compact) (take place all)

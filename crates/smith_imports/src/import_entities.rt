@@ -3,7 +3,8 @@ ghost use Rattle.smith_types.specs.Sizes.{size_in};
 ghost use Rattle.smith_draw.specs.Drawing.{Draws};
 ghost use Rattle.smith_imports.specs.Imported.{MayImport, IsEntityFit, IsFitBeside, IsNext, MayEndAt, spaces_of};
 ghost use Rattle.smith_draw.specs.KeptGrounds.{AreKeptGrounds};
-ghost use Rattle.smith_imports.specs.ImportedEntities.{kind_of, has_room, may_import, import_scope, entity_of_kind_at, fits, entity_at, again};
+ghost use Rattle.smith_types.specs.Exports.{kind_of};
+ghost use Rattle.smith_imports.specs.ImportedEntities.{has_room, may_import, import_scope, entity_of_kind_at, fits, entity_at, again};
 
 use crate::import_kinds::{draw_kind, has_room};
 use crate::import_types::ImportTypes;

@@ -2,7 +2,7 @@ ghost use Rattle.std.specs.Prelude.{◌≡◌, ◌<◌, ◌+◌, ◌++◌, ◌�
 ghost use Rattle.smith_types.specs.Sizes.{IsTyped, size_in};
 ghost use Rattle.smith_draw.specs.Drawing.{Draws};
 ghost use Rattle.smith_imports.specs.AvailableImports.{picked_at, fits_beside, CountsTaken, IsSized};
-ghost use Rattle.smith_imports.specs.ShapeImports.{is_allowed, is_fitting};
+ghost use Rattle.smith_rules.specs.ShapeImports.{is_allowed, is_fitting};
 
 use crate::import_entities::kind_of;
 use crate::import_kinds::has_room;

@@ -24,8 +24,8 @@ use Rattle.smith_types.specs.declared.value_type.ValType.{ValType}
 use Rattle.smith_types.proofs.ValidityLemmas.{ends_within, group_at}
 use Rattle.smith_types.proofs.EntityGrowthLemmas.{IsValTypeValid-later}
 use Rattle.smith_draw.proofs.ConstScopeLemmas.{fields_valid}
-use Rattle.smith_contents.specs.Held.{IsRaw}
-use Rattle.smith_definitions.specs.Module.{Parts, IsValid, module_features, module_imports, module_types, segment_context}
+use Rattle.smith_rules.specs.Held.{IsRaw}
+use Rattle.smith_rules.specs.Module.{Parts, IsValid, module_features, module_imports, module_types, segment_context}
 use Rattle.smith_instr.specs.Enabled.{IsEnabled}
 use Rattle.smith_instr.specs.Sequences.{IsBodyTyped}
 use Rattle.smith_instr.specs.declared.instr.Instr.{Instr}

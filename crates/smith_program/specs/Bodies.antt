@@ -6,8 +6,8 @@ use Rattle.smith_types.specs.declared.code.Code.{Code}
 use Rattle.smith_types.specs.declared.composite_type.FuncType.{FuncType}
 use Rattle.smith_types.specs.declared.segments.ElementSegment.{ElementSegment}
 use Rattle.smith_types.specs.declared.value_type.ValType.{ValType}
-use Rattle.smith_contents.specs.Held.{IsRaw}
-use Rattle.smith_definitions.specs.Module.{Parts, module_features, module_imports}
+use Rattle.smith_rules.specs.Held.{IsRaw}
+use Rattle.smith_rules.specs.Module.{Parts, module_features, module_imports}
 use Rattle.smith_instr.specs.Contexts.{BodyContext}
 use Rattle.smith_instr.specs.Enabled.{IsEnabled}
 use Rattle.smith_instr.specs.Sequences.{IsBodyTyped}

@@ -4,7 +4,7 @@ use Rattle.smith_types.specs.declared.code.Code.{Code}
 use Rattle.smith_types.specs.declared.code.Instructions.{Instructions}
 use Rattle.smith_types.specs.declared.code.Instructions.TheVariants.{Arbitrary, Unreachable}
 use Rattle.smith_types.specs.declared.composite_type.FuncType.{FuncType}
-use Rattle.smith_definitions.specs.Module.{Parts, module_imports}
+use Rattle.smith_rules.specs.Module.{Parts, module_imports}
 use Rattle.smith_code.specs.Bodies.{body_at}
 use Rattle.smith_code_nodes.specs.Offered.{function_in}
 use Rattle.smith_program.specs.Bodies.{function_context}

@@ -1,7 +1,7 @@
 -- The parts of the context of bodies that are made from a module once.
 use Rattle.std.specs.Prelude.{◌≡◌, map}
 use Rattle.smith_types.specs.declared.segments.ElementSegment.{ElementSegment}
-use Rattle.smith_definitions.specs.Module.{Parts}
+use Rattle.smith_rules.specs.Module.{Parts}
 use Rattle.smith_program.specs.References.{references_of}
 use Rattle.smith_program.specs.declared.bodies.Named.{Named}
 

@@ -6,7 +6,7 @@ use Rattle.smith_binary.specs.Numbers.{IsUnsigned}
 use Rattle.smith_binary.specs.Pieces.{Is, Joined, Each, IsList, IsSection}
 use Rattle.smith_types.specs.declared.code.Code.{Code}
 use Rattle.smith_types.specs.declared.value_type.ValType.{ValType}
-use Rattle.smith_definitions.specs.Module.{Parts}
+use Rattle.smith_rules.specs.Module.{Parts}
 use Rattle.smith_sections.specs.Codes.{IsBody, IsLocals}
 use Rattle.smith_sections.specs.Data.{IsData}
 use Rattle.smith_sections.specs.Modules.{Contents}

@@ -3,7 +3,7 @@ use Rattle.std.specs.Prelude.{ℕ, ◌⊎◌, List, Any}
 use Rattle.std.specs.List.{zip}
 use Rattle.smith_types.specs.declared.code.Code.{Code}
 use Rattle.smith_types.specs.declared.value_type.ValType.{ValType}
-use Rattle.smith_definitions.specs.Module.{Parts}
+use Rattle.smith_rules.specs.Module.{Parts}
 use Rattle.smith_sections.specs.Codes.{body_of}
 use Rattle.smith_sections.specs.Long.{IsLongBody, IsLongContent, IsLongList, IsNeverLong}
 use Rattle.smith_encode.specs.TooLong.{IsTooLong}

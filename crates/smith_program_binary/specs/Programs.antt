@@ -3,7 +3,7 @@ use Rattle.std.specs.Prelude.{ℕ, List, map}
 use Rattle.std.specs.List.{AllZip, zip}
 use Rattle.smith_types.specs.declared.code.Code.{Code}
 use Rattle.smith_types.specs.declared.value_type.ValType.{ValType}
-use Rattle.smith_definitions.specs.Module.{Parts}
+use Rattle.smith_rules.specs.Module.{Parts}
 use Rattle.smith_sections.specs.Modules.{Contents, IsModule}
 use Rattle.smith_encode.specs.Contents.{contents_of}
 use Rattle.smith_program.specs.declared.program.Body.{Body}

@@ -9,7 +9,7 @@ use Rattle.smith_types.specs.declared.imports.Imports.TheVariants.{Single}
 use Rattle.smith_types.specs.declared.value_type.ValType.TheVariants.{I32}
 use Rattle.smith_config.specs.declared.config.Config.{Config}
 use Rattle.smith_config.specs.Config.{default_config}
-use Rattle.smith_definitions.specs.Module.{Parts}
+use Rattle.smith_rules.specs.Module.{Parts}
 use Rattle.smith_examples.specs.ExampleModules.{empty_module, group_of}
 use Rattle.smith_examples.specs.ExampleParts.{import_named, trapping}
 use Rattle.smith_instr_examples.specs.ExampleBodies.{number}

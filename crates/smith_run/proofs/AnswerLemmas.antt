@@ -6,7 +6,7 @@ use Rattle.smith_bytes.specs.declared.error.Error.{Error}
 use Rattle.smith_bytes.specs.declared.error.Error.TheVariants.{Memory}
 use Rattle.smith_config.specs.Config.{default_config}
 use Rattle.wasm_smith.specs.Generated.{IsGenerated}
-use Rattle.smith_definitions.specs.Module.{Parts}
+use Rattle.smith_rules.specs.Module.{Parts}
 use Rattle.smith_run.specs.declared.run.Outcome.{Outcome}
 use Rattle.smith_run.specs.declared.run.RunFault.{RunFault}
 use Rattle.smith_run.specs.declared.run.RunFault.TheVariants as fault

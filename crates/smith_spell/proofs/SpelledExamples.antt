@@ -12,7 +12,8 @@ use Rattle.smith_draw.specs.ValueTypes.{value_classes}
 use Rattle.smith_draw.specs.Spelling.{SpellsPlace, SpellsNullable, SpellsRefType, SpellsUnshared, SpellsGroups, SpellsGroup, SpellsSubTypes, SpellsFuncType}
 use Rattle.smith_draw.specs.SpelledConstants.{SpellsI32, SpellsConstant}
 use Rattle.smith_draw.specs.TypeUses.{is_tag_type, is_unshared_function}
-use Rattle.smith_spell.specs.Spelling.{SpellsMember, SpellsGlobal}
+use Rattle.smith_spell.specs.Spelling.{SpellsMember}
+use Rattle.smith_draw.specs.SpelledParts.{SpellsGlobal}
 use Rattle.smith_spell.specs.ExampleMembers.{one_function_type}
 
 -- one piece after another

@@ -1,6 +1,4 @@
-pub mod FuncTypes
 pub mod Family
-pub mod Minimums
 pub mod Decided
 pub mod Spelling
 pub mod SpellAnswers

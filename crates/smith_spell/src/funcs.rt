@@ -2,9 +2,8 @@ ghost use Rattle.std.specs.Prelude.{◌≡◌, ◌≤◌, false, OnOk, IfOk, IfE
 ghost use Rattle.smith_bytes.specs.declared.error.Error.TheVariants.{Memory};
 ghost use Rattle.smith_types.specs.Entities.{IsFuncValid};
 ghost use Rattle.smith_types.specs.declared.composite_type.SubType.{SubType as Sub};
-ghost use Rattle.smith_draw.specs.TypeUses.{is_unshared_function};
-ghost use Rattle.smith_spell.specs.FuncTypes.{func_types};
-ghost use Rattle.smith_spell.specs.Spelling.{SpellsFuncs};
+ghost use Rattle.smith_draw.specs.TypeUses.{is_unshared_function, func_types};
+ghost use Rattle.smith_draw.specs.SpelledParts.{SpellsFuncs};
 ghost use Rattle.smith_spell.specs.Written.{Writes, ArePlaces};
 
 use crate::pieces::{write_bool, write_end, write_number};

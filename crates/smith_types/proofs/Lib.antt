@@ -31,3 +31,4 @@ pub mod ExpressionGrowthLemmas
 pub mod SegmentGrowthLemmas
 pub mod ExportGrowthLemmas
 pub mod ConstStepLemmas
+pub mod DistinctLemmas

@@ -38,3 +38,11 @@ abbrev pub IsStartValid : List SubType → List ℕ → Option ℕ → Type 0
 IsStartValid types funcs None = Unit {0}
 IsStartValid types funcs (Some function) =
     (index : ℕ) × (slice_get funcs function ≡ Some index) × IsFuncAt types index (record { params = []; results = [] })
+
+-- the kind of an entity
+abbrev pub kind_of : EntityType → ExportKind
+kind_of (entity.Tag index) = kind.Tag
+kind_of (entity.Func index) = kind.Func
+kind_of (entity.Global global) = kind.Global
+kind_of (entity.Memory memory) = kind.Memory
+kind_of (entity.Table table) = kind.Table

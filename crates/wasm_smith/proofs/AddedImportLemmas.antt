@@ -12,15 +12,16 @@ use Rattle.smith_config.specs.declared.shape.Shape.{Shape}
 use Rattle.smith_config.specs.Faults.{Passes}
 use Rattle.smith_config.specs.InUse.{FixesImports}
 use Rattle.smith_config.specs.Sanitized.{IsSanitized}
-use Rattle.smith_imports.specs.Imported.{HasNoFloatValue, HasGroundedElements, HasGroundedValue, IsImported, MayImport}
+use Rattle.smith_types.specs.Floats.{HasNoFloatValue}
+use Rattle.smith_config.specs.Granted.{HasGroundedElements, HasGroundedValue, AreTypesGranted}
+use Rattle.smith_imports.specs.Imported.{IsImported, MayImport}
 use Rattle.smith_imports.specs.ImportedEntities.{import_scope}
 use Rattle.smith_draw.specs.ConstBounds.{HoldsUngroundedField}
-use Rattle.smith_draw.specs.Granted.{AreTypesGranted}
 use Rattle.smith_draw.proofs.FilledLemmas.{fields_imported}
 use Rattle.smith_imports.proofs.ImportsGrownLemmas.{ungrounded_imported}
 use Rattle.smith_imports.specs.declared.imported.Imported.{Imported}
 use Rattle.wasm_smith.specs.Begun.{begun_of}
-use Rattle.smith_definitions.specs.Bounds.{brought}
+use Rattle.smith_rules.specs.Bounds.{brought}
 use Rattle.wasm_smith.specs.DrawnSteps.{AreImportsDrawn, AreTypesDrawn, HoldsGrounded, IsBeyond, drawn_next}
 use Rattle.wasm_smith.specs.declared.build.drawn.Drawn.{Drawn}
 use Rattle.smith_definitions.proofs.ExtensionLemmas.{all_kept}

@@ -21,11 +21,11 @@ use Rattle.smith_config.specs.Features.{features_of}
 use Rattle.smith_config.specs.Sanitized.{IsSanitized}
 use Rattle.smith_config.specs.Shapes.{IsShapeValid, shape_imports, shape_spaces, shape_types, space_of}
 use Rattle.smith_imports.specs.Imported.{AreNumbersWithin}
-use Rattle.smith_imports.specs.ShapeImports.{count_in}
+use Rattle.smith_rules.specs.ShapeImports.{count_in}
 use Rattle.smith_definitions.specs.Defined.{nothing_defined}
-use Rattle.smith_definitions.specs.Bounds.{brought_by_module, exported_of}
+use Rattle.smith_rules.specs.Bounds.{brought_by_module, exported_of}
 use Rattle.smith_definitions.specs.Defined.{HasRoom}
-use Rattle.smith_definitions.specs.Refusals.{AreShapesValid, shape_for}
+use Rattle.smith_rules.specs.Refusals.{AreShapesValid, shape_for}
 use Rattle.smith_definitions.specs.Defined.{StandsBehind}
 use Rattle.smith_definitions.specs.Required.{AddsLimitsOf, MayDefineMore}
 use Rattle.smith_definitions.specs.RequiredExports.{Answers, then_with}

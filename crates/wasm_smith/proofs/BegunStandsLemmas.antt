@@ -18,9 +18,9 @@ use Rattle.smith_config.specs.Faults.{maximum_of}
 use Rattle.smith_config.specs.Features.{features_of}
 use Rattle.smith_config.specs.Shapes.{shape_spaces}
 use Rattle.smith_imports.specs.Imported.{AreNumbersWithin}
-use Rattle.smith_imports.specs.ShapeImports.{count_in}
+use Rattle.smith_rules.specs.ShapeImports.{count_in}
 use Rattle.wasm_smith.specs.Begun.{Begun, HasNothing, IsBegun, IsBegunByModule, IsBegunByImports, IsOfEntities, IsTableKept, IsMemoryKept, StandsSoFar}
-use Rattle.smith_definitions.specs.Bounds.{brought, brought_by_module, brought_by_imports}
+use Rattle.smith_rules.specs.Bounds.{brought, brought_by_module, brought_by_imports}
 use Rattle.wasm_smith.specs.declared.build.drawn.Drawn.{Drawn}
 use Rattle.wasm_smith.proofs.BegunLemmas.{stands_alone}
 

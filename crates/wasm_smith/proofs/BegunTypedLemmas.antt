@@ -23,15 +23,14 @@ use Rattle.smith_config.specs.InUse.{FixesImports}
 use Rattle.smith_config.specs.Shapes.{most_listed, shape_spaces, shape_types, space_of}
 use Rattle.smith_draw.specs.ConstBounds.{HoldsUngroundedField}
 use Rattle.smith_draw.specs.FuncSizes.{HasFewValues, IsSmall}
-use Rattle.smith_draw.specs.Granted.{AreTypesGranted, HasGranted}
+use Rattle.smith_config.specs.Granted.{AreTypesGranted, HasGranted, HasGroundedElements, HasGroundedValue}
 use Rattle.smith_draw.specs.Grounding.{over}
 use Rattle.smith_draw.proofs.FilledLemmas.{ungrounded_before}
-use Rattle.smith_imports.specs.Imported.{HasGroundedElements, HasGroundedValue}
-use Rattle.smith_contents.proofs.SizedLemmas.{shape_few}
+use Rattle.smith_draw.proofs.FuncSizeLemmas.{shape_few}
 use Rattle.wasm_smith.specs.Begun.{Begun, HasNothing, IsBegun, IsBegunByModule, IsBegunByImports}
 use Rattle.wasm_smith.specs.DrawnSteps.{AreTypesDrawn, HoldsGrounded, drawn_next}
 use Rattle.smith_definitions.proofs.ExtensionLemmas.{all_kept}
-use Rattle.smith_definitions.specs.Refusals.{AreShapesValid, HoldsNonNullable}
+use Rattle.smith_rules.specs.Refusals.{AreShapesValid, HoldsNonNullable}
 use Rattle.wasm_smith.specs.declared.build.drawn.Drawn.{Drawn}
 use Rattle.wasm_smith.proofs.BegunLemmas.{module_used, imports_used}
 use Rattle.wasm_smith.proofs.BegunStandsLemmas.{begun_stands}

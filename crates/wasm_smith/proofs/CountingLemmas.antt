@@ -1,38 +1,31 @@
 -- A valid module stays valid with one more global, which counts fuel.
-use Rattle.std.proofs.Common.{rules, arith, ◌≡◌, ℕ, ◌+◌, ◌≤◌, Bool, true, false, ℤ, List, [], ◌∷◌, ◌++◌, Some, length, inl, inr, refl, sym, subst, ap, ◌∙◌}
+use Rattle.std.proofs.Common.{rules, arith, ◌≡◌, ℕ, ◌+◌, ◌≤◌, Bool, true, false, List, [], ◌∷◌, ◌++◌, Some, length, inl, inr, refl, sym, subst, ap, ◌∙◌}
 use Rattle.std.specs.Prelude.{slice_get, if◌then◌else◌, Result, Ok, Err}
 use Rattle.smith_bytes.specs.declared.error.Error.{Error}
 use Rattle.std.specs.Int.{cast_signed, w32}
 use Rattle.std.specs.List.{All}
 use Rattle.std.proofs.lemmas.List.{length-append, append_assoc}
 use Rattle.std.proofs.lemmas.List.Elements.{All-nil, All-cons, All-append, All-weaker}
-use Rattle.smith_types.specs.Flags.{IsInstrEnabled}
 use Rattle.smith_types.specs.Grown.{IsContextGrown, AreSpacesGrown}
 use Rattle.smith_types.specs.Imports.{Defines}
 use Rattle.smith_types.specs.Entities.{IsGlobalValid}
-use Rattle.smith_types.specs.Expressions.{Context, IsConstExpr, seeing, seen_by_tables, seen_by_global, seen_by_segments}
+use Rattle.smith_types.specs.Expressions.{seeing, seen_by_tables, seen_by_global, seen_by_segments}
 use Rattle.smith_types.specs.Segments.{IsElementValid, IsDataValid}
 use Rattle.smith_types.specs.Bodies.{IsFuel}
-use Rattle.smith_types.specs.declared.value_type.ValType.TheVariants.{I32}
 use Rattle.smith_types.specs.declared.const_instr.ConstInstr.{ConstInstr}
 use Rattle.smith_types.specs.declared.const_instr.ConstInstr.TheVariants.{I32Const}
 use Rattle.smith_types.specs.declared.segments.ElementSegment.{ElementSegment}
 use Rattle.smith_types.specs.declared.segments.DataSegment.{DataSegment}
-use Rattle.smith_types.proofs.ConstStepLemmas.{alone}
+use Rattle.smith_types.proofs.ConstStepLemmas.{number_given}
 use Rattle.smith_types.proofs.ListLemmas.{slice_get-grown, slice_get-last, slice_get-push}
 use Rattle.smith_types.proofs.EntityGrowthLemmas.{no_fewer}
 use Rattle.smith_types.proofs.ExpressionGrowthLemmas.{IsConstExpr-grown}
 use Rattle.smith_types.proofs.SegmentGrowthLemmas.{IsElementValid-grown, IsDataValid-grown}
 use Rattle.smith_types.proofs.ExportGrowthLemmas.{AreExportsValid-grown}
-use Rattle.smith_definitions.specs.Module.{module_context, Parts, IsValid, IsGlobalDefined, module_features, module_spaces, module_imports, table_context, global_context, segment_context}
+use Rattle.smith_rules.specs.Module.{module_context, Parts, IsValid, IsGlobalDefined, module_features, module_spaces, module_imports, table_context, global_context, segment_context}
 use Rattle.wasm_smith.specs.Termination.{counter, AddsFuel, AnswersFuel}
 use Rattle.smith_definitions.proofs.ExtensionLemmas.{all_kept}
-use Rattle.smith_definitions.proofs.InitialLemmas.{IsTableInitialised-grown}
-
--- a constant number leaves a number
-pub number_given : (context : Context) (value : ℤ) → IsConstExpr context I32 (I32Const value ∷ [])
-number_given context value = alone context (I32Const value) I32 I32 (refl, refl) tt
-    (All-cons (IsInstrEnabled context.features context.imported_globals) (I32Const value) [] tt (All-nil (IsInstrEnabled context.features context.imported_globals)))
+use Rattle.smith_rules.proofs.InitialLemmas.{IsTableInitialised-grown}
 
 -- a module with a counter of this index
 abbrev counted : ℕ → ℕ → Parts → Parts

@@ -9,7 +9,7 @@ use Rattle.smith_types.specs.declared.entity_type.ExportKind.TheVariants as kind
 use Rattle.smith_config.specs.declared.config.Config.{Config}
 use Rattle.smith_config.specs.declared.shape.Shape.{Shape}
 use Rattle.smith_config.specs.Faults.{minimum_of, maximum_of}
-use Rattle.smith_definitions.specs.Bounds.{KeepsBounds, MeetsMinimums, HasMost, HasLeast, count_of, brought, added, export_size, imports_size, exports_size}
+use Rattle.smith_rules.specs.Bounds.{KeepsBounds, MeetsMinimums, HasMost, HasLeast, count_of, brought, added, export_size, imports_size, exports_size}
 use Rattle.smith_types.specs.Imports.{IndexSpaces}
 use Rattle.smith_types.specs.IndexSpaces.{spaces_in}
 use Rattle.smith_types.specs.declared.composite_type.SubType.{SubType}
@@ -18,8 +18,8 @@ use Rattle.wasm_smith.specs.Begun.{size_of_imports}
 use Rattle.wasm_smith.specs.Build.{parts_of}
 use Rattle.wasm_smith.specs.DrawnContents.{AreExportsMade}
 use Rattle.wasm_smith.specs.DrawnParts.{IsDrawnFor}
-use Rattle.smith_contents.specs.Exporting.{Export, item_size, exported_size}
-use Rattle.smith_definitions.specs.Module.{Parts, module_spaces}
+use Rattle.smith_rules.specs.ExportedItems.{Export, item_size, exported_size}
+use Rattle.smith_rules.specs.Module.{Parts, module_spaces}
 use Rattle.wasm_smith.specs.declared.build.drawn.Drawn.{Drawn}
 use Rattle.wasm_smith.proofs.MadeExportsLemmas.{exports_free}
 

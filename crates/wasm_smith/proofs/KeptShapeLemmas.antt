@@ -14,11 +14,12 @@ use Rattle.smith_config.specs.declared.shape.Shape.{Shape}
 use Rattle.smith_config.specs.Faults.{maximum_of}
 use Rattle.smith_config.specs.InUse.{shapes_of}
 use Rattle.smith_config.specs.Shapes.{shape_imports, shape_spaces, shape_types}
-use Rattle.smith_imports.specs.ShapeImports.{count_for, is_allowed, is_fitting, is_picked, taken_from}
+use Rattle.smith_rules.specs.ShapeImports.{count_for, is_allowed, is_fitting, is_picked, taken_from}
 use Rattle.wasm_smith.specs.Begun.{Begun, begun_of}
 use Rattle.wasm_smith.specs.Build.{parts_of}
 use Rattle.wasm_smith.specs.DrawnSteps.{BeginsWithTypes, IsBeyond, KeepsBegun, KeepsImportsSoFar, KeepsModuleSoFar}
-use Rattle.smith_definitions.specs.ShapesKept.{Export, IsSameExport, IsSameType, KeepsAvailableImports, KeepsModuleShape, KeepsShapes}
+use Rattle.smith_rules.specs.ExportedItems.{Export}
+use Rattle.smith_rules.specs.ShapesKept.{IsSameExport, IsSameType, KeepsAvailableImports, KeepsModuleShape, KeepsShapes}
 use Rattle.wasm_smith.specs.declared.build.drawn.Drawn.{Drawn}
 use Rattle.wasm_smith.proofs.ExportsGrownLemmas.{same_exports_grown}
 use Rattle.smith_definitions.proofs.RequiredExportsLoop.{extends_both}

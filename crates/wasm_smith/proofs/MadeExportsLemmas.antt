@@ -24,20 +24,19 @@ use Rattle.smith_config.specs.Sanitized.{IsSanitized}
 use Rattle.smith_config.specs.Shapes.{IsShapeValid, most_listed, shape_spaces, shape_types}
 use Rattle.smith_draw.specs.ConstBounds.{HoldsUngroundedField}
 use Rattle.smith_draw.specs.FuncSizes.{HasFewValues}
-use Rattle.smith_draw.specs.Granted.{HasGranted}
+use Rattle.smith_config.specs.Granted.{HasGranted, HasGroundedElements, HasGroundedValue}
 use Rattle.smith_draw.proofs.FilledLemmas.{ungrounded_before}
-use Rattle.smith_imports.specs.Imported.{HasGroundedElements, HasGroundedValue}
-use Rattle.smith_imports.specs.ShapeImports.{count_in}
-use Rattle.smith_contents.specs.Exporting.{Export, exported_size}
+use Rattle.smith_rules.specs.ShapeImports.{count_in}
+use Rattle.smith_rules.specs.ExportedItems.{Export, exported_size}
 use Rattle.smith_contents.specs.declared.exported.Exports.{Exports}
 use Rattle.smith_contents.proofs.SizedLemmas.{few_sized}
 use Rattle.wasm_smith.specs.Begun.{Begun, IsOfEntities, StandsSoFar, begun_of, size_of_imports}
-use Rattle.smith_definitions.specs.Bounds.{exported_of}
+use Rattle.smith_rules.specs.Bounds.{exported_of}
 use Rattle.wasm_smith.specs.Build.{begun_size, exports_of}
 use Rattle.wasm_smith.specs.Contents.{MayHoldContents}
 use Rattle.smith_definitions.specs.Defined.{StandsBehind, drawn_beside}
 use Rattle.wasm_smith.specs.DrawnSteps.{AreEntitiesDrawn, AreExportsDrawn, HoldsGrounded, IsBeyond, MayGoOn, drawn_next}
-use Rattle.smith_definitions.specs.Refusals.{AreShapesValid, HoldsNonNullable, MayRefuse, shape_for}
+use Rattle.smith_rules.specs.Refusals.{AreShapesValid, HoldsNonNullable, MayRefuse, shape_for}
 use Rattle.smith_definitions.specs.Required.{AddsLimitsOf, AddsTypesOf, MayDefineMore, MayLackIn, MayRefuseRequired}
 use Rattle.smith_definitions.specs.declared.definitions.Definitions.{Definitions}
 use Rattle.wasm_smith.specs.declared.build.drawn.Drawn.{Drawn}

@@ -8,7 +8,7 @@ use Rattle.smith_types.specs.Imports.{flattened, imported_spaces}
 use Rattle.smith_types.specs.IndexSpaces.{spaces_in}
 use Rattle.smith_config.specs.declared.config.Config.{Config}
 use Rattle.smith_config.specs.InUse.{FixesImports, HasNoShapes}
-use Rattle.smith_imports.specs.Steps.{section_flag_at}
+use Rattle.smith_bytes.specs.Steps.{section_flag_at}
 use Rattle.smith_imports.specs.declared.imported.Imported.{Imported}
 use Rattle.smith_contents.specs.declared.exported.Exports.{Exports}
 use Rattle.wasm_smith.specs.Begun.{Begun, StandsWhole}
@@ -16,8 +16,8 @@ use Rattle.wasm_smith.specs.Build.{GivesOrLacks, begun_typed_at, defined_at, exp
 use Rattle.wasm_smith.specs.DrawnContents.{AreContents, HasGrantedContents, HasNoFloatContents, behind_exports_at, imported_in}
 use Rattle.wasm_smith.specs.DrawnParts.{IsDrawnFor}
 use Rattle.wasm_smith.specs.DrawnSteps.{AreExportsDrawn, AreFreeImports, HasSameImports, drawn_next}
-use Rattle.smith_definitions.specs.Module.{Parts}
-use Rattle.smith_definitions.specs.InterestingValues.{AreAll, IsInteresting32, IsInteresting64}
+use Rattle.smith_rules.specs.Module.{Parts}
+use Rattle.smith_rules.specs.InterestingValues.{AreAll, IsInteresting32, IsInteresting64}
 use Rattle.wasm_smith.specs.declared.build.contents.Contents.{Contents}
 use Rattle.wasm_smith.specs.declared.build.drawn.Drawn.{Drawn}
 

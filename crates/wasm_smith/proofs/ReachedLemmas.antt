@@ -24,9 +24,10 @@ use Rattle.smith_config.specs.Shapes.{space_of}
 use Rattle.smith_draw.specs.SpelledGlobals.{mutable_i32}
 use Rattle.smith_draw.proofs.SpelledGroupLemmas.{types_read}
 use Rattle.smith_spell.specs.Family.{IsInFamily}
-use Rattle.smith_spell.specs.Minimums.{HasNoMinimums}
+use Rattle.smith_config.specs.Minimums.{HasNoMinimums}
 use Rattle.smith_spell.specs.SpellAnswers.{IsSpellable}
-use Rattle.smith_spell.specs.Spelling.{SpellsMember, SpellsRest, SpellsNoTag, SpellsFuncs, SpellsGlobal, SpellsNoStart, SpellsSegments}
+use Rattle.smith_spell.specs.Spelling.{SpellsMember, SpellsRest, SpellsSegments}
+use Rattle.smith_draw.specs.SpelledParts.{SpellsNoTag, SpellsFuncs, SpellsGlobal, SpellsNoStart}
 use Rattle.smith_spell.proofs.FamilyFitLemmas.{family_fits}
 use Rattle.wasm_smith.specs.Begun.{Begun, begun_at, nothing_begun}
 use Rattle.wasm_smith.specs.Build.{GivesOrLacks, IsGiven, as_drawn, begun_size, begun_typed_at, defined_at, exported_at, exported_for, exports_of, functions_begun, imported_at, in_full, module_at, module_of, typed_at}
@@ -34,16 +35,16 @@ use Rattle.smith_definitions.specs.Defined.{nothing_defined}
 use Rattle.smith_definitions.specs.Definitions.{defined_in, definitions_at, standing_over, tables_at, memories_at, globals_at}
 use Rattle.wasm_smith.specs.DrawnContents.{segment_scope, all_segments_at, behind_exports_at}
 use Rattle.wasm_smith.specs.Members.{HasMember, HasRest}
-use Rattle.smith_definitions.specs.Module.{Parts}
+use Rattle.smith_rules.specs.Module.{Parts}
 use Rattle.smith_contents.specs.PassiveData.{passive_data}
 use Rattle.wasm_smith.specs.Reached.{ReachesMembers, ReachesRests}
-use Rattle.smith_definitions.specs.Refusals.{AsksNothingImpossible}
+use Rattle.smith_rules.specs.Refusals.{AsksNothingImpossible}
 use Rattle.smith_definitions.specs.RequiredExports.{then_with}
 use Rattle.smith_contents.specs.AllExports.{exports_at}
-use Rattle.smith_contents.specs.Exporting.{Export}
+use Rattle.smith_rules.specs.ExportedItems.{Export}
 use Rattle.smith_contents.specs.declared.exported.Exports.{Exports}
 use Rattle.smith_imports.specs.Importing.{imports_at}
-use Rattle.smith_imports.specs.Steps.{◌>>=◌, section_flag_at}
+use Rattle.smith_bytes.specs.Steps.{◌>>=◌, section_flag_at}
 use Rattle.wasm_smith.specs.declared.build.contents.Contents.{Contents}
 use Rattle.smith_definitions.specs.declared.definitions.Definitions.{Definitions}
 use Rattle.smith_definitions.proofs.DefinedMemoryLemmas.{no_memory_read}

@@ -16,9 +16,9 @@ use Rattle.smith_types.proofs.HeldValueLemmas.{all_apart}
 use Rattle.smith_config.specs.declared.config.Config.{Config}
 use Rattle.smith_config.specs.declared.shape.Shape.{Shape}
 use Rattle.smith_config.specs.Shapes.{shape_spaces}
-use Rattle.smith_imports.specs.ShapeImports.{count_in}
+use Rattle.smith_rules.specs.ShapeImports.{count_in}
 use Rattle.wasm_smith.specs.Begun.{IsMemoryKept, IsOfEntities, IsTableKept, StandsSoFar, StandsWhole}
-use Rattle.smith_definitions.specs.Bounds.{added, exported_of}
+use Rattle.smith_rules.specs.Bounds.{added, exported_of}
 use Rattle.smith_definitions.specs.Defined.{StandsBehind}
 use Rattle.smith_definitions.specs.Required.{AddsLimitsOf}
 use Rattle.smith_definitions.specs.declared.definitions.Definitions.{Definitions}

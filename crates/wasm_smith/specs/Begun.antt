@@ -21,16 +21,16 @@ use Rattle.smith_config.specs.InUse.{FixesImports}
 use Rattle.smith_config.specs.Shapes.{shape_imports, shape_spaces, shape_types, space_of}
 use Rattle.smith_imports.specs.AvailableImports.{AreImportsWithin, available_at}
 use Rattle.smith_imports.specs.Imported.{HasNoImports}
-use Rattle.smith_imports.specs.ShapeImports.{kept_groups, sizes_of, count_in, taken_from}
+use Rattle.smith_rules.specs.ShapeImports.{kept_groups, sizes_of, count_in, taken_from}
 use Rattle.smith_bytes.specs.declared.error.Count.{Count}
 use Rattle.smith_bytes.specs.declared.error.Count.TheVariants as counts
-use Rattle.smith_draw.specs.Bounds.{IsTableWithin, IsMemoryWithin}
-use Rattle.smith_contents.specs.Exporting.{Export}
-use Rattle.smith_definitions.specs.Bounds.{added, brought, brought_by_module, of_shapes}
+use Rattle.smith_config.specs.EntityBounds.{IsTableWithin, IsMemoryWithin}
+use Rattle.smith_rules.specs.ExportedItems.{Export}
+use Rattle.smith_rules.specs.Bounds.{added, brought, brought_by_module, of_shapes}
 use Rattle.smith_definitions.specs.Defined.{StandsBehind, drawn_beside, nothing_defined}
 use Rattle.smith_definitions.specs.Required.{MayRefuseRequired}
 use Rattle.smith_definitions.specs.RequiredExports.{Required, required_at, then_with}
-use Rattle.smith_definitions.specs.ShapesKept.{IsSameExport}
+use Rattle.smith_rules.specs.ShapesKept.{IsSameExport}
 use Rattle.smith_definitions.specs.declared.definitions.Definitions.{Definitions}
 use Rattle.wasm_smith.specs.declared.build.drawn.Drawn.{Drawn}
 

@@ -12,15 +12,15 @@ use Rattle.smith_config.specs.declared.shape.Shape.{Shape}
 use Rattle.smith_config.specs.Features.{features_of}
 use Rattle.smith_draw.specs.RecGroups.{types_at}
 use Rattle.smith_imports.specs.Importing.{imports_at}
-use Rattle.smith_imports.specs.Steps.{◌>>=◌, section_flag_at}
+use Rattle.smith_bytes.specs.Steps.{◌>>=◌, section_flag_at}
 use Rattle.smith_contents.specs.AllExports.{exports_at}
-use Rattle.smith_contents.specs.Exporting.{exported_size}
+use Rattle.smith_rules.specs.ExportedItems.{exported_size}
 use Rattle.smith_contents.specs.declared.exported.Exports.{Exports}
 use Rattle.wasm_smith.specs.Begun.{Begun, begun_at, begun_of, size_of_imports}
 use Rattle.smith_definitions.specs.Definitions.{definitions_at}
 use Rattle.wasm_smith.specs.DrawnContents.{behind_exports_at}
-use Rattle.smith_definitions.specs.Module.{Parts}
-use Rattle.smith_definitions.specs.Refusals.{MayGive}
+use Rattle.smith_rules.specs.Module.{Parts}
+use Rattle.smith_rules.specs.Refusals.{MayGive}
 use Rattle.smith_definitions.specs.RequiredExports.{Required, required_at, then_with}
 use Rattle.wasm_smith.specs.declared.build.contents.Contents.{Contents}
 use Rattle.smith_definitions.specs.declared.definitions.Definitions.{Definitions}

@@ -18,7 +18,7 @@ use Rattle.smith_draw.specs.FuncSizes.{IsSmall}
 use Rattle.smith_draw.specs.declared.spaces.Spaces.{Spaces}
 use Rattle.smith_contents.specs.DrawnElements.{MayLackItem}
 use Rattle.smith_contents.specs.Exported.{IsIndexed, IsSized}
-use Rattle.smith_definitions.specs.Refusals.{MayRefuse}
+use Rattle.smith_rules.specs.Refusals.{MayRefuse}
 
 -- contents may be drawn over these index spaces, if the imports add a number to the type size: all
 -- is valid, sizes and indices have 32 bits, and the minimums of tables, memories and globals are

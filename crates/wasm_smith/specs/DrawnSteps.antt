@@ -16,14 +16,14 @@ use Rattle.smith_config.specs.InUse.{HasNoShapes, FixesImports, shapes_of}
 use Rattle.smith_config.specs.Shapes.{most_listed, shape_imports, shape_spaces, shape_types, space_of}
 use Rattle.smith_draw.specs.ConstBounds.{HoldsUngroundedField}
 use Rattle.smith_draw.specs.FuncSizes.{HasFewValues, IsSmall}
-use Rattle.smith_draw.specs.Granted.{AreTypesGranted}
-use Rattle.smith_imports.specs.Imported.{HasNoImports, HasGroundedElements, HasGroundedValue}
-use Rattle.smith_imports.specs.ShapeImports.{kept_groups, taken_from, count_in}
+use Rattle.smith_config.specs.Granted.{AreTypesGranted, HasGroundedElements, HasGroundedValue}
+use Rattle.smith_imports.specs.Imported.{HasNoImports}
+use Rattle.smith_rules.specs.ShapeImports.{kept_groups, taken_from, count_in}
 use Rattle.smith_imports.specs.declared.imported.Imported.{Imported}
 use Rattle.wasm_smith.specs.Begun.{Begun, StandsSoFar, StandsWhole, IsOfEntities}
 use Rattle.smith_definitions.specs.Defined.{HaveNoFloats, drawn_beside, nothing_defined}
-use Rattle.smith_definitions.specs.Refusals.{HoldsNonNullable}
-use Rattle.smith_definitions.specs.ShapesKept.{IsSameExport}
+use Rattle.smith_rules.specs.Refusals.{HoldsNonNullable}
+use Rattle.smith_rules.specs.ShapesKept.{IsSameExport}
 use Rattle.wasm_smith.specs.declared.build.drawn.Drawn.{Drawn}
 
 -- the context of the next draw: the types and functions so far

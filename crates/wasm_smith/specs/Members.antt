@@ -7,7 +7,7 @@ use Rattle.smith_types.specs.declared.const_instr.ConstInstr.TheVariants.{I32Con
 use Rattle.smith_types.specs.declared.segments.DataSegmentKind.TheVariants.{Passive}
 use Rattle.smith_config.specs.Shapes.{space_of}
 use Rattle.smith_draw.specs.SpelledGlobals.{mutable_i32}
-use Rattle.smith_definitions.specs.Module.{Parts}
+use Rattle.smith_rules.specs.Module.{Parts}
 
 -- a module has these types and functions
 pub record HasMember (groups : List (List SubType)) (funcs : List ℕ) (m : Parts) : Type 0 where

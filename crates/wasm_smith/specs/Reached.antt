@@ -8,7 +8,7 @@ use Rattle.smith_config.specs.declared.config.Config.{Config}
 use Rattle.smith_spell.specs.SpellAnswers.{IsSpellable}
 use Rattle.smith_spell.specs.Spelling.{SpellsMember, SpellsRest, IsRest}
 use Rattle.wasm_smith.specs.Members.{HasMember, HasRest}
-use Rattle.smith_definitions.specs.Module.{Parts}
+use Rattle.smith_rules.specs.Module.{Parts}
 
 -- a source is bytes that spell these lists, which can be spelled, followed by this rest
 pub record BeginsWithMember (config : Config) (groups : List (List SubType)) (funcs bytes behind : List ℕ) : Type 0 where

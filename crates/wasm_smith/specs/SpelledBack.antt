@@ -7,7 +7,7 @@ use Rattle.smith_config.specs.declared.config.Config.{Config}
 use Rattle.smith_spell.specs.SpellAnswers.{AnswersSpelling}
 use Rattle.wasm_smith.specs.Generated.{IsGenerated}
 use Rattle.wasm_smith.specs.Members.{HasMember}
-use Rattle.smith_definitions.specs.Module.{Parts}
+use Rattle.smith_rules.specs.Module.{Parts}
 
 -- if `spell` returns these bytes for lists of types and functions, a module that is drawn from
 -- them, whatever follows, has these lists, unless memory runs out

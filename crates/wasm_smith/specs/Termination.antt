@@ -9,8 +9,8 @@ use Rattle.smith_types.specs.declared.value_type.ValType.TheVariants.{I32}
 use Rattle.smith_types.specs.declared.entity_type.GlobalType.{GlobalType}
 use Rattle.smith_types.specs.declared.const_instr.ConstInstr.TheVariants.{I32Const}
 use Rattle.smith_types.specs.declared.code.Code.{Code}
-use Rattle.smith_contents.specs.Held.{IsRaw}
-use Rattle.smith_definitions.specs.Module.{Parts, IsValid}
+use Rattle.smith_rules.specs.Held.{IsRaw}
+use Rattle.smith_rules.specs.Module.{Parts, IsValid}
 
 -- some body of a module is raw bytes
 abbrev pub HasRawBody : Parts → Type 0

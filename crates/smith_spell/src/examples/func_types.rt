@@ -1,6 +1,5 @@
 ghost use Rattle.std.specs.Prelude.{[], ◌∷◌, ◌≡◌, true, false};
-ghost use Rattle.smith_draw.specs.TypeUses.{is_tag_type};
-ghost use Rattle.smith_spell.specs.FuncTypes.{func_types};
+ghost use Rattle.smith_draw.specs.TypeUses.{is_tag_type, func_types};
 ghost use Rattle.smith_spell.specs.ExampleMembers.{final, bytes_array, plain_function, foo_type, quux_type};
 
 fn chosen_types()

@@ -8,7 +8,7 @@ ghost use Rattle.smith_config.specs.Shapes.{IsShapeValid, shape_imports, shape_t
 ghost use Rattle.wasm_smith.specs.Begun.{begun_of, HasNothing, begun_by_module_at, begun_by_imports_at, begun_at, IsBegunByModule, IsBegunByImports, IsBegun, MayRefuseBegun};
 ghost use Rattle.smith_types.specs.Imports.{imported_spaces};
 ghost use Rattle.smith_definitions.specs.Defined.{drawn_beside, nothing_defined};
-ghost use Rattle.smith_definitions.specs.Refusals.{AreShapesValid};
+ghost use Rattle.smith_rules.specs.Refusals.{AreShapesValid};
 ghost use Rattle.smith_definitions.specs.Required.{MayRefuseRequired};
 ghost use Rattle.smith_definitions.specs.RequiredExports.{Answers};
 

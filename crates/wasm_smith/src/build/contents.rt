@@ -9,11 +9,11 @@ ghost use Rattle.smith_config.specs.Sanitized.{IsSanitized};
 ghost use Rattle.wasm_smith.specs.Build.{GivesOrLacks, in_full};
 ghost use Rattle.wasm_smith.specs.DrawnSteps.{AreExportsDrawn, drawn_next};
 ghost use Rattle.smith_definitions.specs.Defined.{drawn_beside};
-ghost use Rattle.smith_definitions.specs.Refusals.{AreShapesValid, MayRefuse};
+ghost use Rattle.smith_rules.specs.Refusals.{AreShapesValid, MayRefuse};
 ghost use Rattle.wasm_smith.specs.Contents.{MayHoldContents, MayRefuseContents};
 ghost use Rattle.wasm_smith.specs.DrawnContents.{TellsImported, AreExportsMade, AreContents, HasGrantedContents, HasNoFloatContents, imported_in, behind_exports_at};
 ghost use Rattle.smith_imports.specs.Imported.{spaces_of};
-ghost use Rattle.smith_imports.specs.Steps.{Gives};
+ghost use Rattle.smith_bytes.specs.Steps.{Gives};
 
 use crate::build::drawn::Drawn;
 use crate::build::section_flag::draw_section_flag;

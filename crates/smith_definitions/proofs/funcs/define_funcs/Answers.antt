@@ -1,9 +1,9 @@
 use Rattle.std.proofs.lemmas.Result.{on_ok_weaker}
 use Rattle.smith_bytes.specs.declared.error.Count.TheVariants.{Funcs}
 use Rattle.smith_definitions.specs.Definitions.{funcs_at}
-use Rattle.smith_spell.specs.Spelling.{SpellsFuncs}
+use Rattle.smith_draw.specs.SpelledParts.{SpellsFuncs}
 use Rattle.smith_definitions.proofs.FuncRefusalLemmas.{funcs_refuse}
-use Rattle.smith_imports.proofs.GivenLemmas.{given_takes}
+use Rattle.smith_bytes.proofs.StepLemmas.{given_takes}
 use Rattle.smith_definitions.proofs.TypedLemmas.{funcs_are, funcs_read}
 use Rattle.smith_definitions.proofs.funcs.define_funcs.Goals as goal
 

@@ -2,7 +2,7 @@ use Rattle.std.proofs.Common.{rules}
 use Rattle.std.proofs.lemmas.List.Elements.{All-push}
 use Rattle.smith_types.specs.Entities.{IsMemoryValid}
 use Rattle.smith_config.specs.Features.{features_of}
-use Rattle.smith_draw.specs.Bounds.{IsMemoryWithin}
+use Rattle.smith_config.specs.EntityBounds.{IsMemoryWithin}
 use Rattle.smith_draw.specs.Memories.{memtype_at}
 use Rattle.smith_draw.proofs.CallerLemmas.{passes_but_imports}
 use Rattle.smith_definitions.specs.Definitions.{memories_at}

@@ -1,7 +1,7 @@
 use Rattle.std.specs.List.{All}
 use Rattle.smith_types.specs.Entities.{IsMemoryValid}
 use Rattle.smith_config.specs.Features.{features_of}
-use Rattle.smith_draw.specs.Bounds.{IsMemoryWithin}
+use Rattle.smith_config.specs.EntityBounds.{IsMemoryWithin}
 use Rattle.smith_draw.specs.Memories.{memtype_at}
 use Rattle.smith_definitions.specs.Defined.{AreAdded}
 use Rattle.smith_definitions.proofs.DefinedLoop.{IsBehind}

@@ -1,7 +1,7 @@
 use Rattle.std.proofs.Common.{arith, true, [], ◌∷◌, ◌++◌}
 use Rattle.smith_types.specs.IndexSpaces.{spaces_in}
 use Rattle.smith_draw.proofs.ConstStepLemmas.{passed_on}
-use Rattle.smith_contents.specs.Exporting.{Export}
+use Rattle.smith_rules.specs.ExportedItems.{Export}
 use Rattle.smith_definitions.specs.RequiredExports.{scope_beside, standing_with}
 use Rattle.smith_definitions.proofs.RequiredExportsLoop.{none_required, one_stands, room_for_one, required_more, required_refused, required_full, all_required, refused_for, refused_by}
 use Rattle.smith_definitions.proofs.shape_exports.push_exports.Goals as goal

@@ -2,7 +2,7 @@ use Rattle.std.proofs.lemmas.Result.{on_ok_weaker}
 use Rattle.smith_bytes.specs.declared.error.Count.TheVariants.{Tables}
 use Rattle.smith_types.specs.Entities.{IsTableValid}
 use Rattle.smith_config.specs.Features.{features_of}
-use Rattle.smith_draw.specs.Bounds.{IsTableWithin}
+use Rattle.smith_config.specs.EntityBounds.{IsTableWithin}
 use Rattle.smith_definitions.specs.Defined.{standing_of}
 use Rattle.smith_definitions.proofs.DefinedTableLemmas.{tables_fill, several_tables, tables_added, tables_all, tables_no_float, no_table_taken}
 use Rattle.smith_definitions.proofs.tables.define_tables.Goals as goal

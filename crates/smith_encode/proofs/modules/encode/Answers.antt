@@ -1,6 +1,6 @@
 use Rattle.std.proofs.Common.{◌⊎◌, inl, inr}
 use Rattle.std.proofs.lemmas.Result.{IfOk-weaker}
-use Rattle.smith_definitions.specs.Module.{Parts}
+use Rattle.smith_rules.specs.Module.{Parts}
 use Rattle.smith_sections.specs.Codes.{IsBody, body_of}
 use Rattle.smith_sections.specs.Long.{IsLongBody, IsLongContent, IsLongList}
 use Rattle.smith_sections.specs.Modules.{IsModule}

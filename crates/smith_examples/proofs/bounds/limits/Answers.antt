@@ -7,7 +7,7 @@ use Rattle.smith_types.specs.declared.entity_type.MemoryType.{MemoryType}
 use Rattle.smith_types.specs.declared.entity_type.TableType.{TableType}
 use Rattle.smith_config.specs.declared.config.Config.{Config}
 use Rattle.smith_config.specs.Config.{default_config}
-use Rattle.smith_draw.specs.Bounds.{IsTableWithin, IsMemoryWithin}
+use Rattle.smith_config.specs.EntityBounds.{IsTableWithin, IsMemoryWithin}
 use Rattle.smith_examples.specs.ExampleParts.{memory, shared_memory, table}
 use Rattle.smith_examples.specs.ExampleShapes.{for_module, for_exports, empty_shape, exporting}
 use Rattle.smith_examples.proofs.bounds.limits.Goals as goal

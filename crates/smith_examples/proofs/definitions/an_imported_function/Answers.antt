@@ -24,7 +24,7 @@ use Rattle.smith_imports.specs.ImportNames.{import_name_at}
 use Rattle.smith_imports.specs.ImportedEntities.{kind_at, entity_of_kind_at, entity_at}
 use Rattle.smith_imports.specs.Importing.{imports_at, groups_at, group_at, group_of_kind_at}
 use Rattle.smith_contents.specs.Start.{start_at, start_wanted_at}
-use Rattle.smith_imports.specs.Steps.{section_flag_at}
+use Rattle.smith_bytes.specs.Steps.{section_flag_at}
 use Rattle.smith_examples.proofs.definitions.an_imported_function.Goals as goal
 
 pub returns : goal.returns

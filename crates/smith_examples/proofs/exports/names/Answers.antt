@@ -4,8 +4,7 @@ use Rattle.std.specs.Fmt.{digits}
 use Rattle.std.specs.Str.{is_utf8, chars}
 use Rattle.std.specs.Str.Lossy.{utf8_valid_len}
 use Rattle.smith_bytes.specs.Draws.{range_at, digit_count, len_at}
-use Rattle.smith_bytes.specs.Names.{text_at}
-use Rattle.smith_imports.specs.ImportNames.{new_name}
+use Rattle.smith_bytes.specs.Names.{text_at, new_name}
 use Rattle.smith_contents.specs.Exporting.{export_name_at}
 use Rattle.smith_examples.proofs.exports.names.Goals as goal
 

@@ -1,7 +1,7 @@
 use Rattle.std.proofs.Common.{rules, pos, negsuc, true, refl}
 use Rattle.smith_types.specs.declared.value_type.ValType.TheVariants.{I32}
-use Rattle.smith_definitions.specs.Module.{global_context}
-use Rattle.wasm_smith.proofs.CountingLemmas.{number_given}
+use Rattle.smith_rules.specs.Module.{global_context}
+use Rattle.smith_types.proofs.ConstStepLemmas.{number_given}
 use Rattle.smith_examples.specs.ExampleParts.{global}
 use Rattle.smith_examples.specs.ExampleGiven.{counting_once, counting_fuel, counting_behind}
 use Rattle.smith_examples.proofs.PartExamples.{taking_types, taking_functions, globals_defined}

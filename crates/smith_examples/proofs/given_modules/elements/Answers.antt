@@ -4,7 +4,7 @@ use Rattle.smith_types.specs.Flags.{funcref}
 use Rattle.smith_types.specs.Expressions.{IsConstExpr}
 use Rattle.smith_types.specs.Segments.{IsElementValid}
 use Rattle.smith_types.specs.declared.value_type.ValType.TheVariants.{Ref}
-use Rattle.smith_definitions.specs.Module.{IsValid, segment_context}
+use Rattle.smith_rules.specs.Module.{IsValid, segment_context}
 use Rattle.smith_examples.specs.ExampleParts.{no_function}
 use Rattle.smith_examples.specs.ExampleGiven.{sixty_elements}
 use Rattle.smith_examples.proofs.PartExamples.{no_function_given}

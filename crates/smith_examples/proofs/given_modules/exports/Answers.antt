@@ -6,7 +6,7 @@ use Rattle.smith_types.specs.Exports.{IsEntityAt, AreDistinct}
 use Rattle.smith_types.specs.declared.entity_type.EntityType.{EntityType}
 use Rattle.smith_types.specs.declared.entity_type.EntityType.TheVariants as entity
 use Rattle.smith_types.specs.declared.entity_type.ExportKind.{ExportKind}
-use Rattle.smith_definitions.specs.Module.{IsValid, module_features, module_spaces}
+use Rattle.smith_rules.specs.Module.{IsValid, module_features, module_spaces}
 use Rattle.smith_examples.specs.ExampleModules.{two_exports}
 use Rattle.smith_examples.proofs.PartExamples.{function_types, function_at}
 use Rattle.smith_examples.proofs.given_modules.exports.Goals as goal

@@ -7,8 +7,8 @@ use Rattle.smith_types.specs.declared.entity_type.EntityType.TheVariants as enti
 use Rattle.smith_types.specs.declared.entity_type.ExportKind.{ExportKind}
 use Rattle.smith_types.specs.declared.const_instr.ConstInstr.TheVariants.{I32Const, GlobalGet}
 use Rattle.smith_spell.proofs.EachPlaceLemmas.{distinct_alone}
-use Rattle.smith_definitions.specs.Module.{module_spaces, global_context}
-use Rattle.wasm_smith.proofs.CountingLemmas.{number_given}
+use Rattle.smith_rules.specs.Module.{module_spaces, global_context}
+use Rattle.smith_types.proofs.ConstStepLemmas.{number_given}
 use Rattle.smith_examples.specs.ExampleParts.{global, number}
 use Rattle.smith_examples.specs.ExampleGiven.{exported_number, three_numbers}
 use Rattle.smith_examples.proofs.PartExamples.{first_read, globals_defined}

@@ -3,7 +3,7 @@ use Rattle.std.proofs.lemmas.List.Elements.{All-from_recursion}
 use Rattle.smith_types.specs.Flags.{funcref}
 use Rattle.smith_types.specs.Segments.{IsDataValid}
 use Rattle.smith_spell.proofs.EachPlaceLemmas.{each_place}
-use Rattle.smith_definitions.specs.Module.{IsTableDefined, segment_context}
+use Rattle.smith_rules.specs.Module.{IsTableDefined, segment_context}
 use Rattle.smith_examples.specs.ExampleParts.{memory, table}
 use Rattle.smith_examples.specs.ExampleGiven.{null_table, last_byte}
 use Rattle.smith_examples.proofs.given_modules.tables_and_memories.Goals as goal

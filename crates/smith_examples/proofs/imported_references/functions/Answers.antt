@@ -10,7 +10,7 @@ use Rattle.smith_types.specs.declared.value_type.ValType.TheVariants.{Ref}
 use Rattle.smith_types.specs.declared.entity_type.GlobalType.{GlobalType}
 use Rattle.smith_types.specs.declared.const_instr.ConstInstr.TheVariants.{RefFunc}
 use Rattle.smith_types.proofs.WalkLemmas.{concrete_not_below_exact}
-use Rattle.smith_definitions.specs.Module.{global_context}
+use Rattle.smith_rules.specs.Module.{global_context}
 use Rattle.smith_examples.specs.ExampleModules.{one_function}
 use Rattle.smith_examples.specs.ExampleParts.{global}
 use Rattle.smith_examples.specs.ExampleReferences.{refers_to_function}

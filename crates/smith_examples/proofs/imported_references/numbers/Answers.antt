@@ -1,5 +1,5 @@
 use Rattle.std.proofs.Common.{rules, arith, ◌≤◌, refl}
-use Rattle.smith_definitions.specs.Module.{global_context}
+use Rattle.smith_rules.specs.Module.{global_context}
 use Rattle.smith_examples.specs.ExampleParts.{number}
 use Rattle.smith_examples.specs.ExampleReferences.{imported_read}
 use Rattle.smith_examples.proofs.PartExamples.{first_read, globals_defined}

@@ -4,12 +4,12 @@ use Rattle.std.specs.Fmt.{digits}
 use Rattle.std.specs.Str.{is_utf8, chars}
 use Rattle.std.specs.Str.Lossy.{utf8_valid_len}
 use Rattle.smith_bytes.specs.Draws.{whole_at, bool_at, range_at, digit_count, len_at}
-use Rattle.smith_bytes.specs.Names.{text_at}
+use Rattle.smith_bytes.specs.Names.{text_at, new_name}
 use Rattle.smith_draw.specs.Choices.{chosen_at}
 use Rattle.smith_draw.specs.GlobalTypes.{global_type_at}
 use Rattle.smith_draw.specs.ValueTypes.{sharedness_at, val_type_at}
 use Rattle.smith_imports.specs.ImportGroups.{group_kind_at}
-use Rattle.smith_imports.specs.ImportNames.{new_name, import_name_at}
+use Rattle.smith_imports.specs.ImportNames.{import_name_at}
 use Rattle.smith_imports.specs.ImportedEntities.{kind_at, entity_of_kind_at, entity_at}
 use Rattle.smith_imports.specs.Importing.{fill_at, filled_at, group_of_kind_at, group_at, groups_at, imports_at}
 use Rattle.smith_examples.proofs.imports.drawn_imports.Goals as goal

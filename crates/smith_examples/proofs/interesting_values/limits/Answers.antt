@@ -3,7 +3,7 @@ use Rattle.std.specs.Prelude.{slice_index_or}
 use Rattle.std.specs.List.{Any}
 use Rattle.std.proofs.lemmas.List.Elements.{All-nil, All-cons}
 use Rattle.smith_types.specs.Flags.{funcref}
-use Rattle.smith_definitions.specs.InterestingValues.{IsNearTable, IsNearMemory, bytes_of}
+use Rattle.smith_rules.specs.InterestingValues.{IsNearTable, IsNearMemory, bytes_of}
 use Rattle.smith_examples.specs.ExampleParts.{memory, table}
 use Rattle.smith_examples.proofs.NearNumberLemmas.{none_of, not_in, not_interesting}
 use Rattle.smith_examples.proofs.interesting_values.limits.Goals as goal

@@ -15,7 +15,7 @@ use Rattle.smith_types.specs.declared.const_instr.ConstInstr.TheVariants.{F32Con
 use Rattle.smith_types.proofs.GrowthLemmas.{IsRefBelow-refl}
 use Rattle.smith_spell.specs.ExampleMembers.{foo_type, quux_type}
 use Rattle.smith_spell.proofs.EachPlaceLemmas.{each_place}
-use Rattle.smith_definitions.specs.Module.{IsValid, IsTableDefined, IsGlobalDefined, module_features, module_types, module_spaces, table_context, global_context}
+use Rattle.smith_rules.specs.Module.{IsValid, IsTableDefined, IsGlobalDefined, module_features, module_types, module_spaces, table_context, global_context}
 use Rattle.smith_examples.specs.ExampleParts.{memory, table, global}
 use Rattle.smith_examples.specs.ExampleModules.{one_of_each, group_of}
 use Rattle.smith_examples.proofs.PartExamples.{alone, group_valid}

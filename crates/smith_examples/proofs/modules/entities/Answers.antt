@@ -4,7 +4,7 @@ use Rattle.smith_types.specs.declared.value_type.ValType.TheVariants.{I32}
 use Rattle.smith_types.specs.declared.const_instr.ConstInstr.{ConstInstr}
 use Rattle.smith_types.specs.declared.const_instr.ConstInstr.TheVariants.{I32Const}
 use Rattle.smith_spell.proofs.EachPlaceLemmas.{each_place}
-use Rattle.smith_definitions.specs.Module.{AreDefinitionsValid, IsTableDefined, IsGlobalDefined, table_context, global_context}
+use Rattle.smith_rules.specs.Module.{AreDefinitionsValid, IsTableDefined, IsGlobalDefined, table_context, global_context}
 use Rattle.smith_examples.specs.ExampleParts.{table, global}
 use Rattle.smith_examples.specs.ExampleModules.{one_table, one_number}
 use Rattle.smith_examples.proofs.PartExamples.{alone, no_function_given}

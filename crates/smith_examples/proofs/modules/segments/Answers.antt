@@ -10,7 +10,7 @@ use Rattle.smith_types.specs.declared.entity_type.EntityType.TheVariants as enti
 use Rattle.smith_types.specs.declared.entity_type.ExportKind.{ExportKind}
 use Rattle.smith_types.specs.declared.value_type.ValType.TheVariants.{Ref}
 use Rattle.smith_spell.proofs.EachPlaceLemmas.{distinct_alone}
-use Rattle.smith_definitions.specs.Module.{module_spaces, segment_context}
+use Rattle.smith_rules.specs.Module.{module_spaces, segment_context}
 use Rattle.smith_examples.specs.ExampleParts.{no_function, shared_memory}
 use Rattle.smith_examples.specs.ExampleModules.{two_elements, one_data_segment, one_tag}
 use Rattle.smith_examples.proofs.PartExamples.{no_function_given, function_types, functions_valid, function_at}

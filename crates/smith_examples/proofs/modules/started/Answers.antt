@@ -10,8 +10,8 @@ use Rattle.smith_types.proofs.GrowthLemmas.{IsRefBelow-refl}
 use Rattle.smith_types.proofs.PathLemmas.{below_kind}
 use Rattle.smith_spell.specs.ExampleMembers.{final, plain_function}
 use Rattle.smith_spell.proofs.EachPlaceLemmas.{each_place}
-use Rattle.smith_definitions.specs.Module.{IsTableDefined, module_features, global_context, segment_context}
-use Rattle.wasm_smith.proofs.CountingLemmas.{number_given}
+use Rattle.smith_rules.specs.Module.{IsTableDefined, module_features, global_context, segment_context}
+use Rattle.smith_types.proofs.ConstStepLemmas.{number_given}
 use Rattle.smith_examples.specs.ExampleParts.{table, number}
 use Rattle.smith_examples.specs.ExampleModules.{one_function, filled_table, table_from_a_number}
 use Rattle.smith_examples.proofs.PartExamples.{function_types, functions_valid, function_at, globals_defined}

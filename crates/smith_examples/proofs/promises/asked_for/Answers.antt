@@ -5,10 +5,10 @@ use Rattle.smith_types.specs.declared.value_type.AbstractHeapType.TheVariants as
 use Rattle.smith_types.specs.ExampleTypes.{plain}
 use Rattle.smith_config.specs.Config.{default_config}
 use Rattle.smith_config.specs.InUse.{FixesImports}
-use Rattle.smith_draw.specs.Granted.{IsGranted}
-use Rattle.smith_definitions.specs.Module.{module_context}
-use Rattle.smith_definitions.specs.Promises.{HoldsGranted}
-use Rattle.smith_definitions.specs.Refusals.{HoldsNonNullable}
+use Rattle.smith_config.specs.Granted.{IsGranted}
+use Rattle.smith_rules.specs.Module.{module_context}
+use Rattle.smith_rules.specs.Promises.{HoldsGranted}
+use Rattle.smith_rules.specs.Refusals.{HoldsNonNullable}
 use Rattle.smith_examples.specs.ExampleModules.{one_number}
 use Rattle.smith_examples.specs.ExampleReferences.{with_references, holding_reference}
 use Rattle.smith_examples.specs.ExampleShapes.{for_exports, exporting, memories_in_and_out}

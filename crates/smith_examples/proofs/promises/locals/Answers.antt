@@ -5,9 +5,9 @@ use Rattle.smith_types.specs.declared.value_type.ValType.{ValType}
 use Rattle.smith_types.specs.declared.value_type.ValType.TheVariants.{Ref}
 use Rattle.smith_types.specs.ExampleTypes.{plain, not_null}
 use Rattle.smith_types.proofs.PathLemmas.{below_kind}
-use Rattle.smith_draw.specs.Granted.{IsGranted}
+use Rattle.smith_config.specs.Granted.{IsGranted}
 use Rattle.smith_spell.specs.ExampleMembers.{a_type, plain_function}
-use Rattle.smith_definitions.specs.Module.{module_context}
+use Rattle.smith_rules.specs.Module.{module_context}
 use Rattle.smith_examples.specs.ExampleModules.{one_function, one_number}
 use Rattle.smith_examples.specs.ExampleReferences.{with_references}
 use Rattle.smith_examples.proofs.GrantedExamples.{any_not_granted, to_any}

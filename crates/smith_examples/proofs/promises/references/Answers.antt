@@ -9,10 +9,9 @@ use Rattle.smith_types.specs.declared.segments.Elements.TheVariants.{Expressions
 use Rattle.smith_types.specs.ExampleTypes.{empty_struct, plain, not_null}
 use Rattle.smith_types.proofs.GroundedLemmas.{grounded_at}
 use Rattle.smith_config.specs.Config.{default_config}
-use Rattle.smith_draw.specs.Granted.{IsGranted}
-use Rattle.smith_contents.specs.DrawnElements.{HasGroundedItems}
+use Rattle.smith_config.specs.Granted.{IsGranted, HasGroundedItems}
 use Rattle.smith_spell.specs.ExampleMembers.{final, taking}
-use Rattle.smith_definitions.specs.Module.{Parts, module_context}
+use Rattle.smith_rules.specs.Module.{Parts, module_context}
 use Rattle.smith_examples.specs.ExampleModules.{one_number, one_table}
 use Rattle.smith_examples.specs.ExampleParts.{passive_elements}
 use Rattle.smith_examples.specs.ExampleReferences.{with_references, holding_reference}

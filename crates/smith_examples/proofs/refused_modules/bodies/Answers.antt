@@ -1,7 +1,7 @@
 use Rattle.std.proofs.Common.{[], false}
 use Rattle.std.proofs.lemmas.List.Elements.{All-head}
 use Rattle.smith_types.specs.Bodies.{IsBodyValid}
-use Rattle.smith_definitions.specs.Module.{module_features}
+use Rattle.smith_rules.specs.Module.{module_features}
 use Rattle.smith_examples.specs.ExampleGiven.{without_gc, raw_bytes}
 use Rattle.smith_examples.proofs.refused_modules.bodies.Goals as goal
 

@@ -5,7 +5,7 @@ use Rattle.smith_types.specs.ExampleTypes.{nullable}
 use Rattle.smith_types.specs.Entities.{IsTableValid, IsMemoryValid, IsGlobalValid}
 use Rattle.smith_types.specs.declared.value_type.HeapType.TheVariants.{Concrete}
 use Rattle.smith_types.specs.declared.value_type.ValType.TheVariants.{Ref}
-use Rattle.smith_definitions.specs.Module.{module_features}
+use Rattle.smith_rules.specs.Module.{module_features}
 use Rattle.smith_examples.specs.ExampleParts.{memory, table, global}
 use Rattle.smith_examples.specs.ExampleModules.{one_of_each}
 use Rattle.smith_examples.proofs.refused_modules.entities.Goals as goal

@@ -6,7 +6,7 @@ use Rattle.smith_types.specs.declared.entity_type.EntityType.{EntityType}
 use Rattle.smith_types.specs.declared.entity_type.EntityType.TheVariants as entity
 use Rattle.smith_types.specs.declared.entity_type.ExportKind.{ExportKind}
 use Rattle.smith_types.specs.declared.entity_type.ExportKind.TheVariants as kind
-use Rattle.smith_definitions.specs.Module.{module_spaces}
+use Rattle.smith_rules.specs.Module.{module_spaces}
 use Rattle.smith_examples.specs.ExampleModules.{exported_twice, one_number}
 use Rattle.smith_examples.proofs.RefusedExamples.{name_refused}
 use Rattle.smith_examples.proofs.refused_modules.exports.Goals as goal

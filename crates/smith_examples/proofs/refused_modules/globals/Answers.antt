@@ -5,7 +5,7 @@ use Rattle.smith_types.specs.declared.entity_type.GlobalType.{GlobalType}
 use Rattle.smith_types.specs.declared.const_instr.ConstInstr.TheVariants.{I32Const, F64Const, GlobalGet}
 use Rattle.std.proofs.lemmas.Grind.{common_steps}
 use Rattle.smith_types.specs.Expressions.{IsConstExpr}
-use Rattle.smith_definitions.specs.Module.{global_context}
+use Rattle.smith_rules.specs.Module.{global_context}
 use Rattle.smith_examples.specs.ExampleParts.{global}
 use Rattle.smith_examples.specs.ExampleModules.{one_number}
 use Rattle.smith_examples.proofs.refused_modules.globals.Goals as goal

@@ -6,7 +6,7 @@ use Rattle.smith_types.specs.declared.entity_type.EntityType.TheVariants as enti
 use Rattle.smith_types.specs.declared.imports.Imports.TheVariants.{Compact2}
 use Rattle.smith_config.specs.Config.{default_config}
 use Rattle.smith_config.specs.Features.{features_of}
-use Rattle.smith_definitions.specs.Module.{module_features}
+use Rattle.smith_rules.specs.Module.{module_features}
 use Rattle.smith_examples.specs.ExampleParts.{number}
 use Rattle.smith_examples.specs.ExampleModules.{two_imports}
 use Rattle.smith_examples.proofs.refused_modules.imports.Goals as goal

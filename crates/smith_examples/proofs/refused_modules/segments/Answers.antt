@@ -2,7 +2,7 @@ use Rattle.std.proofs.Common.{arith, [], ◌∷◌, pos, negsuc, false}
 use Rattle.std.proofs.lemmas.List.Elements.{All-head}
 use Rattle.smith_types.specs.Segments.{IsElementValid, IsDataValid}
 use Rattle.smith_types.specs.declared.segments.Offset.TheVariants.{Const32, Global}
-use Rattle.smith_definitions.specs.Module.{segment_context}
+use Rattle.smith_rules.specs.Module.{segment_context}
 use Rattle.smith_examples.specs.ExampleParts.{into_a_table, active_data}
 use Rattle.smith_examples.specs.ExampleModules.{one_function, table_from_a_number}
 use Rattle.smith_examples.specs.ExampleGiven.{last_byte}

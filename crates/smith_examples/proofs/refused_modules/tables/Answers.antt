@@ -11,7 +11,7 @@ use Rattle.smith_types.specs.declared.const_instr.ConstInstr.TheVariants.{I32Con
 use Rattle.smith_types.proofs.GrowthLemmas.{IsRefBelow-refl}
 use Rattle.smith_types.proofs.WalkLemmas.{by_cases_from_below}
 use Rattle.smith_spell.proofs.EachPlaceLemmas.{each_place}
-use Rattle.smith_definitions.specs.Module.{IsTableDefined, table_context}
+use Rattle.smith_rules.specs.Module.{IsTableDefined, table_context}
 use Rattle.smith_examples.specs.ExampleParts.{table, global, no_function}
 use Rattle.smith_examples.specs.ExampleModules.{table_from_import, table_behind, one_table}
 use Rattle.smith_examples.proofs.PartExamples.{alone, pushed_alone, no_function_given}

@@ -9,7 +9,7 @@ use Rattle.smith_types.specs.ExampleTypes.{plain, nullable, anyref, eqref}
 use Rattle.smith_types.specs.ValidTypes.{IsValTypeValid, IsGroupValid, IsSupertypeValid}
 use Rattle.smith_types.proofs.WalkLemmas.{by_cases_from_below}
 use Rattle.smith_spell.specs.ExampleMembers.{a_type, bytes_array, taking}
-use Rattle.smith_definitions.specs.Module.{module_features}
+use Rattle.smith_rules.specs.Module.{module_features}
 use Rattle.smith_examples.specs.ExampleModules.{referring_to, types_together, group_of}
 use Rattle.smith_examples.proofs.refused_modules.types.Goals as goal
 

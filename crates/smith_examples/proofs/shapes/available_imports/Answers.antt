@@ -1,5 +1,5 @@
 use Rattle.std.proofs.Common.{[], refl}
-use Rattle.smith_imports.specs.ShapeImports.{is_fitting}
+use Rattle.smith_rules.specs.ShapeImports.{is_fitting}
 use Rattle.smith_examples.proofs.ShapeExamples.{both_kept}
 use Rattle.smith_examples.proofs.shapes.available_imports.Goals as goal
 

@@ -1,5 +1,5 @@
 use Rattle.std.proofs.Common.{refl}
-use Rattle.smith_imports.specs.ShapeImports.{is_fitting}
+use Rattle.smith_rules.specs.ShapeImports.{is_fitting}
 use Rattle.smith_examples.proofs.shapes.full_kinds.Goals as goal
 
 pub returns-clause-none : goal.returns-clause-none

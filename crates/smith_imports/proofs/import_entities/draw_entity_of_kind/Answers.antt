@@ -7,7 +7,8 @@ use Rattle.smith_draw.specs.Choices.{chosen_at}
 use Rattle.smith_draw.specs.TypeUses.{types_for}
 use Rattle.smith_draw.specs.declared.type_use.TypeUse.TheVariants.{Tag, ImportedFunc}
 use Rattle.smith_draw.proofs.CallerLemmas.{passes_but_imports}
-use Rattle.smith_imports.specs.Imported.{HasGroundedElements, HasGroundedValue, spaces_of}
+use Rattle.smith_config.specs.Granted.{HasGroundedElements, HasGroundedValue}
+use Rattle.smith_imports.specs.Imported.{spaces_of}
 use Rattle.smith_imports.specs.ImportedEntities.{import_scope}
 use Rattle.smith_imports.proofs.ImportedEntityLemmas.{first_holds, second_holds, chosen_usable, fit_without_references, tag_fit, func_fit, global_fit, memory_fit, table_fit}
 use Rattle.smith_imports.proofs.import_entities.draw_entity_of_kind.Goals as goal

@@ -6,11 +6,11 @@ use Rattle.smith_types.proofs.GroupsAddedLemmas.{valid_following}
 use Rattle.smith_config.specs.Features.{features_of}
 use Rattle.smith_config.specs.Shapes.{shape_imports, space_of}
 use Rattle.smith_draw.proofs.ConstStepLemmas.{passed_on}
-use Rattle.smith_contents.specs.Exporting.{Export}
-use Rattle.smith_imports.specs.ShapeImports.{count_in, kept_groups}
+use Rattle.smith_rules.specs.ExportedItems.{Export}
+use Rattle.smith_rules.specs.ShapeImports.{count_in, kept_groups}
 use Rattle.wasm_smith.specs.Begun.{Begun, begun_by_module_at}
 use Rattle.smith_definitions.specs.Defined.{nothing_defined}
-use Rattle.smith_definitions.specs.Bounds.{exported_of}
+use Rattle.smith_rules.specs.Bounds.{exported_of}
 use Rattle.smith_definitions.specs.declared.definitions.Definitions.{Definitions}
 use Rattle.smith_definitions.specs.RequiredExports.{Required, standing_with, then_with}
 use Rattle.wasm_smith.proofs.BegunLemmas.{stands_alone, may_begin, brought_so, tables_of_shape, memories_of_shape, globals_of_shape, refused_with}

@@ -10,8 +10,8 @@ use Rattle.smith_config.specs.Sanitized.{IsSanitized, sanitized}
 use Rattle.wasm_smith.specs.Build.{GivesOrLacks, IsGiven, as_drawn, module_at}
 use Rattle.wasm_smith.specs.CheckedShapes.{IsFirstFaulty}
 use Rattle.wasm_smith.specs.Generated.{IsFaulted, IsGenerated, is_distinct}
-use Rattle.smith_definitions.specs.Module.{Parts}
-use Rattle.smith_definitions.specs.Refusals.{AreShapesValid, AsksNothingImpossible, MayGive, MayRefuse}
+use Rattle.smith_rules.specs.Module.{Parts}
+use Rattle.smith_rules.specs.Refusals.{AreShapesValid, AsksNothingImpossible, MayGive, MayRefuse}
 use Rattle.wasm_smith.proofs.NeedlessLemmas.{memory_alone, first_faulty_refuses, first_faulty_memory}
 use Rattle.wasm_smith.proofs.ReachedLemmas.{members_reached, rests_reached}
 use Rattle.wasm_smith.proofs.module.Module.new_internal.Goals as goal
