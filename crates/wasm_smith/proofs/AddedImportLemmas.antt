@@ -24,8 +24,8 @@ use Rattle.wasm_smith.specs.Begun.{begun_of}
 use Rattle.smith_rules.specs.Bounds.{brought}
 use Rattle.wasm_smith.specs.DrawnSteps.{AreImportsDrawn, AreTypesDrawn, HoldsGrounded, IsBeyond, drawn_next}
 use Rattle.wasm_smith.specs.declared.build.drawn.Drawn.{Drawn}
-use Rattle.smith_definitions.proofs.ExtensionLemmas.{all_kept}
-use Rattle.smith_definitions.proofs.DefinedMoreLemmas.{none_float}
+use Rattle.smith_defined.proofs.ExtensionLemmas.{all_kept}
+use Rattle.smith_defined.proofs.DefinedMoreLemmas.{none_float}
 use Rattle.wasm_smith.proofs.FreelyImportedLemmas.{freely_stands}
 use Rattle.wasm_smith.proofs.GrantedLaterLemmas.{types_later}
 

@@ -22,14 +22,14 @@ use Rattle.smith_config.specs.Sanitized.{IsSanitized}
 use Rattle.smith_config.specs.Shapes.{IsShapeValid, shape_imports, shape_spaces, shape_types, space_of}
 use Rattle.smith_imports.specs.Imported.{AreNumbersWithin}
 use Rattle.smith_rules.specs.ShapeImports.{count_in}
-use Rattle.smith_definitions.specs.Defined.{nothing_defined}
+use Rattle.smith_defined.specs.Defined.{nothing_defined}
 use Rattle.smith_rules.specs.Bounds.{brought_by_module, exported_of}
-use Rattle.smith_definitions.specs.Defined.{HasRoom}
+use Rattle.smith_defined.specs.Defined.{HasRoom}
 use Rattle.smith_rules.specs.Refusals.{AreShapesValid, shape_for}
-use Rattle.smith_definitions.specs.Defined.{StandsBehind}
-use Rattle.smith_definitions.specs.Required.{AddsLimitsOf, MayDefineMore}
-use Rattle.smith_definitions.specs.RequiredExports.{Answers, then_with}
-use Rattle.smith_definitions.proofs.RequiredExportsLoop.{refused_by}
+use Rattle.smith_defined.specs.Defined.{StandsBehind}
+use Rattle.smith_defined.specs.Required.{AddsLimitsOf, MayDefineMore}
+use Rattle.smith_defined.specs.RequiredExports.{Answers, then_with}
+use Rattle.smith_defined.proofs.RequiredExportsLoop.{refused_by}
 
 -- there are no more of one kind than imports
 none_more : {A : Type 0} (of_kind : EntityType → List A) → ((one : EntityType) → length (of_kind one) ≤ 1) → (imports : List Import) → length (imported of_kind imports) ≤ length imports

@@ -29,7 +29,7 @@ use Rattle.smith_draw.proofs.FilledLemmas.{ungrounded_before}
 use Rattle.smith_draw.proofs.FuncSizeLemmas.{shape_few}
 use Rattle.wasm_smith.specs.Begun.{Begun, HasNothing, IsBegun, IsBegunByModule, IsBegunByImports}
 use Rattle.wasm_smith.specs.DrawnSteps.{AreTypesDrawn, HoldsGrounded, drawn_next}
-use Rattle.smith_definitions.proofs.ExtensionLemmas.{all_kept}
+use Rattle.smith_defined.proofs.ExtensionLemmas.{all_kept}
 use Rattle.smith_rules.specs.Refusals.{AreShapesValid, HoldsNonNullable}
 use Rattle.wasm_smith.specs.declared.build.drawn.Drawn.{Drawn}
 use Rattle.wasm_smith.proofs.BegunLemmas.{module_used, imports_used}

@@ -14,7 +14,7 @@ use Rattle.smith_config.specs.declared.shape.Shape.{Shape}
 use Rattle.smith_config.specs.Shapes.{IsShapeValid, IsShort, in_use, shape_imports}
 use Rattle.smith_rules.specs.ShapeImports.{count_in}
 use Rattle.smith_rules.specs.Bounds.{added, brought, brought_by_imports, brought_by_module, counts_as, exported_of, where_given}
-use Rattle.smith_definitions.specs.Defined.{HasRoom}
+use Rattle.smith_defined.specs.Defined.{HasRoom}
 use Rattle.smith_rules.specs.Refusals.{AreShapesValid, shape_for}
 use Rattle.smith_rules.specs.ExportedItems.{Export}
 use Rattle.wasm_smith.proofs.BegunLemmas.{imported_room}

@@ -24,7 +24,7 @@ use Rattle.smith_types.proofs.SegmentGrowthLemmas.{IsElementValid-grown, IsDataV
 use Rattle.smith_types.proofs.ExportGrowthLemmas.{AreExportsValid-grown}
 use Rattle.smith_rules.specs.Module.{module_context, Parts, IsValid, IsGlobalDefined, module_features, module_spaces, module_imports, table_context, global_context, segment_context}
 use Rattle.wasm_smith.specs.Termination.{counter, AddsFuel, AnswersFuel}
-use Rattle.smith_definitions.proofs.ExtensionLemmas.{all_kept}
+use Rattle.smith_defined.proofs.ExtensionLemmas.{all_kept}
 use Rattle.smith_rules.proofs.InitialLemmas.{IsTableInitialised-grown}
 
 -- a module with a counter of this index

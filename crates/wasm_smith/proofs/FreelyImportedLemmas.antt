@@ -10,7 +10,7 @@ use Rattle.smith_config.specs.EntityBounds.{IsTableWithin, IsMemoryWithin}
 use Rattle.smith_imports.specs.Imported.{AreNumbersWithin, AreSpacesWithin, IsImported, spaces_of}
 use Rattle.smith_imports.specs.declared.imported.Imported.{Imported}
 use Rattle.wasm_smith.specs.Begun.{IsMemoryKept, IsTableKept, StandsSoFar}
-use Rattle.smith_definitions.specs.Defined.{nothing_defined}
+use Rattle.smith_defined.specs.Defined.{nothing_defined}
 use Rattle.wasm_smith.specs.declared.build.drawn.Drawn.{Drawn}
 use Rattle.wasm_smith.proofs.BegunLemmas.{stands_alone, taken_enabled}
 use Rattle.wasm_smith.proofs.BegunStandsLemmas.{taken_most}

@@ -22,7 +22,7 @@ use Rattle.smith_rules.specs.ExportedItems.{Export}
 use Rattle.smith_rules.specs.ShapesKept.{IsSameExport, IsSameType, KeepsAvailableImports, KeepsModuleShape, KeepsShapes}
 use Rattle.wasm_smith.specs.declared.build.drawn.Drawn.{Drawn}
 use Rattle.wasm_smith.proofs.ExportsGrownLemmas.{same_exports_grown}
-use Rattle.smith_definitions.proofs.RequiredExportsLoop.{extends_both}
+use Rattle.smith_defined.proofs.RequiredExportsLoop.{extends_both}
 
 -- the configuration that a module returns
 abbrev shown : Config → Config

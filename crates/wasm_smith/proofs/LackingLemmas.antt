@@ -39,9 +39,9 @@ use Rattle.smith_draw.proofs.NullableLemmas.{ungrounded_not_null}
 use Rattle.wasm_smith.specs.Begun.{MayRefuseBegun}
 use Rattle.smith_rules.specs.Bounds.{brought_by_module}
 use Rattle.wasm_smith.specs.DrawnSteps.{HoldsGrounded}
-use Rattle.smith_definitions.specs.Defined.{drawn_beside, nothing_defined}
+use Rattle.smith_defined.specs.Defined.{drawn_beside, nothing_defined}
 use Rattle.smith_rules.specs.Refusals.{Brings, HoldsNonNullable, MayRefuse, shape_for}
-use Rattle.smith_definitions.specs.Required.{MayLackIn, MayRefuseRequired}
+use Rattle.smith_defined.specs.Required.{MayLackIn, MayRefuseRequired}
 use Rattle.wasm_smith.proofs.NonNullableLemmas.{holds_or_not}
 
 -- not a non-nullable reference

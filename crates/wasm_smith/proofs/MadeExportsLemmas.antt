@@ -34,16 +34,16 @@ use Rattle.wasm_smith.specs.Begun.{Begun, IsOfEntities, StandsSoFar, begun_of, s
 use Rattle.smith_rules.specs.Bounds.{exported_of}
 use Rattle.wasm_smith.specs.Build.{begun_size, exports_of}
 use Rattle.wasm_smith.specs.Contents.{MayHoldContents}
-use Rattle.smith_definitions.specs.Defined.{StandsBehind, drawn_beside}
+use Rattle.smith_defined.specs.Defined.{StandsBehind, drawn_beside}
 use Rattle.wasm_smith.specs.DrawnSteps.{AreEntitiesDrawn, AreExportsDrawn, HoldsGrounded, IsBeyond, MayGoOn, drawn_next}
 use Rattle.smith_rules.specs.Refusals.{AreShapesValid, HoldsNonNullable, MayRefuse, shape_for}
-use Rattle.smith_definitions.specs.Required.{AddsLimitsOf, AddsTypesOf, MayDefineMore, MayLackIn, MayRefuseRequired}
-use Rattle.smith_definitions.specs.declared.definitions.Definitions.{Definitions}
+use Rattle.smith_defined.specs.Required.{AddsLimitsOf, AddsTypesOf, MayDefineMore, MayLackIn, MayRefuseRequired}
+use Rattle.smith_defined.specs.declared.definitions.Definitions.{Definitions}
 use Rattle.wasm_smith.specs.declared.build.drawn.Drawn.{Drawn}
 use Rattle.wasm_smith.proofs.BroughtLemmas.{few_added, few_brought}
-use Rattle.smith_definitions.proofs.ExtensionLemmas.{all_kept}
-use Rattle.smith_definitions.proofs.DefinedMoreLemmas.{stands_within}
-use Rattle.smith_definitions.proofs.StandsBehindLemmas.{defined_end}
+use Rattle.smith_defined.proofs.ExtensionLemmas.{all_kept}
+use Rattle.smith_defined.proofs.DefinedMoreLemmas.{stands_within}
+use Rattle.smith_defined.proofs.StandsBehindLemmas.{defined_end}
 use Rattle.wasm_smith.proofs.GrantedLaterLemmas.{elements_later, globals_later, types_later}
 use Rattle.wasm_smith.proofs.LackingLemmas.{shape_granted}
 use Rattle.wasm_smith.proofs.NonNullableLemmas.{holds_or_not}

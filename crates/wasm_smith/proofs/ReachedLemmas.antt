@@ -31,32 +31,32 @@ use Rattle.smith_draw.specs.SpelledParts.{SpellsNoTag, SpellsFuncs, SpellsGlobal
 use Rattle.smith_spell.proofs.FamilyFitLemmas.{family_fits}
 use Rattle.wasm_smith.specs.Begun.{Begun, begun_at, nothing_begun}
 use Rattle.wasm_smith.specs.Build.{GivesOrLacks, IsGiven, as_drawn, begun_size, begun_typed_at, defined_at, exported_at, exported_for, exports_of, functions_begun, imported_at, in_full, module_at, module_of, typed_at}
-use Rattle.smith_definitions.specs.Defined.{nothing_defined}
-use Rattle.smith_definitions.specs.Definitions.{defined_in, definitions_at, standing_over, tables_at, memories_at, globals_at}
+use Rattle.smith_defined.specs.Defined.{nothing_defined}
+use Rattle.smith_defined.specs.Definitions.{defined_in, definitions_at, standing_over, tables_at, memories_at, globals_at}
 use Rattle.wasm_smith.specs.DrawnContents.{segment_scope, all_segments_at, behind_exports_at}
 use Rattle.wasm_smith.specs.Members.{HasMember, HasRest}
 use Rattle.smith_rules.specs.Module.{Parts}
 use Rattle.smith_contents.specs.PassiveData.{passive_data}
 use Rattle.wasm_smith.specs.Reached.{ReachesMembers, ReachesRests}
 use Rattle.smith_rules.specs.Refusals.{AsksNothingImpossible}
-use Rattle.smith_definitions.specs.RequiredExports.{then_with}
+use Rattle.smith_defined.specs.RequiredExports.{then_with}
 use Rattle.smith_contents.specs.AllExports.{exports_at}
 use Rattle.smith_rules.specs.ExportedItems.{Export}
 use Rattle.smith_contents.specs.declared.exported.Exports.{Exports}
 use Rattle.smith_imports.specs.Importing.{imports_at}
 use Rattle.smith_bytes.specs.Steps.{◌>>=◌, section_flag_at}
 use Rattle.wasm_smith.specs.declared.build.contents.Contents.{Contents}
-use Rattle.smith_definitions.specs.declared.definitions.Definitions.{Definitions}
-use Rattle.smith_definitions.proofs.DefinedMemoryLemmas.{no_memory_read}
-use Rattle.smith_definitions.proofs.DefinedTableLemmas.{no_table_read}
+use Rattle.smith_defined.specs.declared.definitions.Definitions.{Definitions}
+use Rattle.smith_defined.proofs.DefinedMemoryLemmas.{no_memory_read}
+use Rattle.smith_defined.proofs.DefinedTableLemmas.{no_table_read}
 use Rattle.wasm_smith.proofs.NoShapeLemmas.{no_shapes_valid, none_used}
 use Rattle.smith_contents.proofs.ElementCountLemmas.{elements_none}
 use Rattle.smith_contents.proofs.ExportRefusalLemmas.{exports_free, no_export_read}
 use Rattle.smith_imports.proofs.NoImportLemmas.{no_import_read}
-use Rattle.smith_definitions.proofs.NumberedGlobalLemmas.{listed_read}
+use Rattle.smith_defined.proofs.NumberedGlobalLemmas.{listed_read}
 use Rattle.smith_contents.proofs.PassiveDataLemmas.{data_read}
 use Rattle.smith_contents.proofs.StartLemmas.{start_none}
-use Rattle.smith_definitions.proofs.TypedLemmas.{no_tag_read, funcs_read}
+use Rattle.smith_defined.proofs.TypedLemmas.{no_tag_read, funcs_read}
 
 -- whether an empty section is written is one byte
 flag_by : (empty : Bool) (piece after : List ℕ) → Where empty SpellsAnyByte piece → (cond empty (bool_at (piece ++ after)) (true, piece ++ after)).1 ≡ after

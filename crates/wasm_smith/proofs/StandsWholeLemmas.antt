@@ -19,9 +19,9 @@ use Rattle.smith_config.specs.Shapes.{shape_spaces}
 use Rattle.smith_rules.specs.ShapeImports.{count_in}
 use Rattle.wasm_smith.specs.Begun.{IsMemoryKept, IsOfEntities, IsTableKept, StandsSoFar, StandsWhole}
 use Rattle.smith_rules.specs.Bounds.{added, exported_of}
-use Rattle.smith_definitions.specs.Defined.{StandsBehind}
-use Rattle.smith_definitions.specs.Required.{AddsLimitsOf}
-use Rattle.smith_definitions.specs.declared.definitions.Definitions.{Definitions}
+use Rattle.smith_defined.specs.Defined.{StandsBehind}
+use Rattle.smith_defined.specs.Required.{AddsLimitsOf}
+use Rattle.smith_defined.specs.declared.definitions.Definitions.{Definitions}
 use Rattle.wasm_smith.specs.declared.build.drawn.Drawn.{Drawn}
 use Rattle.wasm_smith.proofs.GrownSizeLemmas.{imports_grown}
 

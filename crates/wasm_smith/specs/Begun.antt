@@ -27,11 +27,11 @@ use Rattle.smith_bytes.specs.declared.error.Count.TheVariants as counts
 use Rattle.smith_config.specs.EntityBounds.{IsTableWithin, IsMemoryWithin}
 use Rattle.smith_rules.specs.ExportedItems.{Export}
 use Rattle.smith_rules.specs.Bounds.{added, brought, brought_by_module, of_shapes}
-use Rattle.smith_definitions.specs.Defined.{StandsBehind, drawn_beside, nothing_defined}
-use Rattle.smith_definitions.specs.Required.{MayRefuseRequired}
-use Rattle.smith_definitions.specs.RequiredExports.{Required, required_at, then_with}
+use Rattle.smith_defined.specs.Defined.{StandsBehind, drawn_beside, nothing_defined}
+use Rattle.smith_defined.specs.Required.{MayRefuseRequired}
+use Rattle.smith_defined.specs.RequiredExports.{Required, required_at, then_with}
 use Rattle.smith_rules.specs.ShapesKept.{IsSameExport}
-use Rattle.smith_definitions.specs.declared.definitions.Definitions.{Definitions}
+use Rattle.smith_defined.specs.declared.definitions.Definitions.{Definitions}
 use Rattle.wasm_smith.specs.declared.build.drawn.Drawn.{Drawn}
 
 -- the state of a module: types, groups of imports, index spaces, their definitions, and exports

@@ -17,13 +17,13 @@ use Rattle.smith_contents.specs.AllExports.{exports_at}
 use Rattle.smith_rules.specs.ExportedItems.{exported_size}
 use Rattle.smith_contents.specs.declared.exported.Exports.{Exports}
 use Rattle.wasm_smith.specs.Begun.{Begun, begun_at, begun_of, size_of_imports}
-use Rattle.smith_definitions.specs.Definitions.{definitions_at}
+use Rattle.smith_defined.specs.Definitions.{definitions_at}
 use Rattle.wasm_smith.specs.DrawnContents.{behind_exports_at}
 use Rattle.smith_rules.specs.Module.{Parts}
 use Rattle.smith_rules.specs.Refusals.{MayGive}
-use Rattle.smith_definitions.specs.RequiredExports.{Required, required_at, then_with}
+use Rattle.smith_defined.specs.RequiredExports.{Required, required_at, then_with}
 use Rattle.wasm_smith.specs.declared.build.contents.Contents.{Contents}
-use Rattle.smith_definitions.specs.declared.definitions.Definitions.{Definitions}
+use Rattle.smith_defined.specs.declared.definitions.Definitions.{Definitions}
 use Rattle.wasm_smith.specs.declared.build.drawn.Drawn.{Drawn}
 
 -- the context of functions, of which this number is imported, without types and globals

@@ -21,15 +21,15 @@ use Rattle.smith_draw.specs.Grounding.{without_globals}
 use Rattle.smith_rules.specs.Held.{HasItems, expressions_of}
 use Rattle.smith_rules.specs.ExportedItems.{AreAllExported, exported_size}
 use Rattle.smith_contents.specs.DataSegments.{data_at}
-use Rattle.smith_definitions.specs.Defined.{standing_in}
-use Rattle.smith_definitions.specs.Definitions.{global_scope}
+use Rattle.smith_defined.specs.Defined.{standing_in}
+use Rattle.smith_defined.specs.Definitions.{global_scope}
 use Rattle.smith_contents.specs.DrawnBodies.{bodies_at}
 use Rattle.smith_contents.specs.ElementSegments.{elements_at, items_in}
 use Rattle.smith_contents.specs.Start.{start_at}
 use Rattle.smith_contents.specs.declared.exported.Exports.{Exports}
 use Rattle.smith_bytes.specs.Steps.{◌>>=◌, section_flag_at}
 use Rattle.wasm_smith.specs.declared.build.contents.Contents.{Contents}
-use Rattle.smith_definitions.specs.declared.definitions.Definitions.{Definitions}
+use Rattle.smith_defined.specs.declared.definitions.Definitions.{Definitions}
 use Rattle.smith_imports.specs.declared.imported.Imported.{Imported}
 use Rattle.wasm_smith.specs.declared.build.segments.Segments.{Segments}
 

@@ -8,7 +8,7 @@ use Rattle.smith_config.specs.Faults.{minimum_of}
 use Rattle.smith_config.specs.InUse.{HasNoShapes, FixesImports}
 use Rattle.smith_rules.specs.ShapeImports.{count_in}
 use Rattle.wasm_smith.specs.Begun.{StandsWhole, IsOfEntities}
-use Rattle.smith_definitions.specs.Defined.{HaveNoFloats}
+use Rattle.smith_defined.specs.Defined.{HaveNoFloats}
 use Rattle.wasm_smith.specs.DrawnContents.{AreContents, HasGrantedContents, HasNoFloatContents, imported_in}
 use Rattle.wasm_smith.specs.DrawnSteps.{AreFreeImports, HoldsGrounded, drawn_next}
 use Rattle.smith_rules.specs.Refusals.{HoldsNonNullable}

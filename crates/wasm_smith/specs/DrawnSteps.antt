@@ -21,7 +21,7 @@ use Rattle.smith_imports.specs.Imported.{HasNoImports}
 use Rattle.smith_rules.specs.ShapeImports.{kept_groups, taken_from, count_in}
 use Rattle.smith_imports.specs.declared.imported.Imported.{Imported}
 use Rattle.wasm_smith.specs.Begun.{Begun, StandsSoFar, StandsWhole, IsOfEntities}
-use Rattle.smith_definitions.specs.Defined.{HaveNoFloats, drawn_beside, nothing_defined}
+use Rattle.smith_defined.specs.Defined.{HaveNoFloats, drawn_beside, nothing_defined}
 use Rattle.smith_rules.specs.Refusals.{HoldsNonNullable}
 use Rattle.smith_rules.specs.ShapesKept.{IsSameExport}
 use Rattle.wasm_smith.specs.declared.build.drawn.Drawn.{Drawn}

@@ -20,7 +20,7 @@ use crate::build::section_flag::draw_section_flag;
 use crate::build::steps::{add_definitions, add_imports, begin_with_types};
 use smith_bytes::{Error, Unstructured};
 use smith_config::Config;
-use smith_definitions::Definitions;
+use smith_defined::Definitions;
 use smith_rules::collect_interesting_values;
 use smith_imports::Imported;
 use smith_types::{Items, TypeSpace};

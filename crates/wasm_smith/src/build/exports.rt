@@ -19,7 +19,7 @@ use crate::build::drawn::Drawn;
 use smith_bytes::{Error, Unstructured};
 use smith_config::Config;
 use smith_contents::{Exports, arbitrary_exports};
-use smith_definitions::make_required_exports;
+use smith_defined::make_required_exports;
 use smith_types::Items;
 use std::alloc::Global;
 use std::mem;

@@ -15,7 +15,7 @@ use crate::build::drawn::Drawn;
 use crate::build::types::add_more_types;
 use smith_bytes::{Error, Unstructured};
 use smith_config::Config;
-use smith_definitions::define;
+use smith_defined::define;
 use smith_imports::arbitrary_imports;
 use std::alloc::Global;
 

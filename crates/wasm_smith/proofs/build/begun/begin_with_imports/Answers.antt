@@ -4,7 +4,7 @@ use Rattle.std.specs.List.{Contains}
 use Rattle.smith_types.specs.Imports.{IndexSpaces, flattened, imported_spaces}
 use Rattle.smith_config.specs.Shapes.{shape_imports, shape_spaces, space_of}
 use Rattle.wasm_smith.specs.Begun.{Begun}
-use Rattle.smith_definitions.specs.Defined.{nothing_defined}
+use Rattle.smith_defined.specs.Defined.{nothing_defined}
 use Rattle.wasm_smith.proofs.BegunLemmas.{stands_alone, taken_enabled, offered_all}
 use Rattle.wasm_smith.proofs.build.begun.begin_with_imports.Goals as goal
 

@@ -9,10 +9,10 @@ use Rattle.smith_draw.proofs.ConstStepLemmas.{passed_on}
 use Rattle.smith_rules.specs.ExportedItems.{Export}
 use Rattle.smith_rules.specs.ShapeImports.{count_in, kept_groups}
 use Rattle.wasm_smith.specs.Begun.{Begun, begun_by_module_at}
-use Rattle.smith_definitions.specs.Defined.{nothing_defined}
+use Rattle.smith_defined.specs.Defined.{nothing_defined}
 use Rattle.smith_rules.specs.Bounds.{exported_of}
-use Rattle.smith_definitions.specs.declared.definitions.Definitions.{Definitions}
-use Rattle.smith_definitions.specs.RequiredExports.{Required, standing_with, then_with}
+use Rattle.smith_defined.specs.declared.definitions.Definitions.{Definitions}
+use Rattle.smith_defined.specs.RequiredExports.{Required, standing_with, then_with}
 use Rattle.wasm_smith.proofs.BegunLemmas.{stands_alone, may_begin, brought_so, tables_of_shape, memories_of_shape, globals_of_shape, refused_with}
 use Rattle.wasm_smith.proofs.build.begun.begin_with_module.Goals as goal
 
