@@ -41,9 +41,9 @@ pub record IsTarget (config : Config) (types : List SubType) (tables : List Tabl
   pub named : IsSome index → IsTrue config.bulk_memory_enabled
 
 -- a kind that is offered with these tables
-abbrev pub IsOffered : Config → List SubType → List TableType → KindChoice → Type 0
-IsOffered config types tables (choice.Active index table) = IsTarget config types tables index table
-IsOffered config types tables _ = IsTrue config.bulk_memory_enabled
+abbrev pub IsKindOffered : Config → List SubType → List TableType → KindChoice → Type 0
+IsKindOffered config types tables (choice.Active index table) = IsTarget config types tables index table
+IsKindOffered config types tables _ = IsTrue config.bulk_memory_enabled
 
 -- element segments may be drawn over these spaces: all of them are valid
 pub record MayDrawElements (config : Config) (spaces : Spaces) : Type 0 where

@@ -4,7 +4,7 @@ use Rattle.smith_bytes.specs.declared.error.Error.{Error}
 use Rattle.smith_bytes.specs.declared.error.Error.TheVariants as errors
 use Rattle.smith_bytes.specs.declared.error.Why.TheVariants.{Unmet, TypeSize}
 use Rattle.smith_bytes.specs.declared.error.Count.TheVariants as counts
-use Rattle.smith_types.specs.Entities.{IsFuncValid}
+use Rattle.smith_types.specs.Entities.{IsFuncTypeIndex}
 use Rattle.smith_types.specs.Exports.{AreExportsValid}
 use Rattle.smith_types.specs.Imports.{IndexSpaces}
 use Rattle.smith_types.specs.Sizes.{size_in, value_count}
@@ -26,14 +26,14 @@ pub record IsIndexed (spaces : IndexSpaces) : Type 0 where
   pub tags : length spaces.tags < 2 ^ 32
 
 -- a type whose functions have a size that, plus 1, has 32 bits
-abbrev pub IsSized : SubType → Type 0
-IsSized t = value_count t.composite_type.inner + 2 < 2 ^ 32
+abbrev pub HasSizeIn32Bits : SubType → Type 0
+HasSizeIn32Bits t = value_count t.composite_type.inner + 2 < 2 ^ 32
 
 -- items of index spaces may be exported over these types: sizes of functions, and indices, have 32
 -- bits
 pub record MayExport (types : List SubType) (spaces : IndexSpaces) : Type 0 where
-  pub sized : All IsSized types
-  pub funcs : All (IsFuncValid types) spaces.funcs
+  pub sized : All HasSizeIn32Bits types
+  pub funcs : All (IsFuncTypeIndex types) spaces.funcs
   pub few : IsIndexed spaces
 
 -- the size of a function, plus 1, is at most `most`

@@ -13,7 +13,7 @@ ghost use Rattle.smith_draw.specs.ConstScopes.{AreSpacesValid, seen_by};
 ghost use Rattle.smith_draw.specs.Drawing.{AlwaysDraws, Draws};
 ghost use Rattle.smith_draw.specs.KeptOffers.{AreKeptOffers};
 ghost use Rattle.smith_bytes.specs.Steps.{Gives};
-ghost use Rattle.smith_contents.specs.DrawnElements.{IsOffered, FitsTable, AreItemsFit, MayDrawElements, MayHoldItems, MayRefuseFunctions, MayRefuseItems, HasUngroundedElements};
+ghost use Rattle.smith_contents.specs.DrawnElements.{IsKindOffered, FitsTable, AreItemsFit, MayDrawElements, MayHoldItems, MayRefuseFunctions, MayRefuseItems, HasUngroundedElements};
 ghost use Rattle.smith_contents.specs.ElementSegments.{
   item_type_at,
   is_funcref,
@@ -68,7 +68,7 @@ pub(crate) fn draw_item_type(
 ) -> Result<RefType, Error>
     requires may { MayDrawElements config.now spaces.now }
     requires standing { standing.now ≡ standing_in config.now spaces.now }
-    requires offered { IsOffered config.now spaces.now.types.now.types spaces.now.entities.tables.now choice }
+    requires offered { IsKindOffered config.now spaces.now.types.now.types spaces.now.entities.tables.now choice }
     ensures draws { Draws (item_type_at config.now (standing_in config.now spaces.now) choice u.old) result u.old u.new }
     ensures may { IfOk result (MayHoldItems config.now spaces.now) }
     ensures fits { IfOk result (FitsTable spaces.now.types.now.types choice) }

@@ -8,7 +8,7 @@ use Rattle.smith_bytes.specs.Growth.{goes_at, grow_at}
 use Rattle.smith_bytes.specs.Source.{KeepsPieces}
 use Rattle.smith_bytes.proofs.GrowingLoop.{IsGrowing, grow_go, grow_stop, grow_full}
 use Rattle.smith_bytes.proofs.GrownLemmas.{grow_most}
-use Rattle.smith_defined.specs.Definitions.{defined_at, behind}
+use Rattle.smith_defined.specs.Definitions.{items_defined_at, behind}
 
 -- the items that are defined so far, after a number of imported ones
 pub record IsDefining {A : Type 0} (draw : List A → List ℕ → A × List ℕ) (least most imported n : ℕ) (made : List A) (start bytes : List ℕ) : Type 0 where
@@ -29,8 +29,8 @@ defined_go now lt go odd drawn longer p q = record { growing = grow_go now.growi
 -- the drawn bool ends the items, though more are allowed
 pub defined_stop : {A : Type 0} {draw : List A → List ℕ → A × List ℕ} {least most imported n : ℕ} {made : List A} {start bytes : List ℕ} {b : Bool} {after : List ℕ}
     → IsDefining draw least most imported n made start bytes → n < most - imported → goes_at (nat_lt n (least - imported)) bytes ≡ (b, after) → b ≡ false
-    → defined_at draw least most imported start ≡ (made, after)
-unfolding defined_at
+    → items_defined_at draw least most imported start ≡ (made, after)
+unfolding items_defined_at
 defined_stop {least = least} {most = most} {imported = imported} {made = made} now lt go even =
     let grown = grow_stop now.growing lt go even in
     let len = now.growing.len in
@@ -44,8 +44,8 @@ full_turn false made bytes after is = rw is refl
 -- no more are allowed: after items that existed before, the bool is drawn once more
 pub defined_full : {A : Type 0} {draw : List A → List ℕ → A × List ℕ} {least most imported n : ℕ} {made : List A} {start bytes after : List ℕ}
     → IsDefining draw least most imported n made start bytes → most - imported ≤ n → after ≡ (if nat_lt 0 imported && nat_lt 0 most then (bool_at bytes).1 else bytes)
-    → defined_at draw least most imported start ≡ (made, after)
-unfolding defined_at
+    → items_defined_at draw least most imported start ≡ (made, after)
+unfolding items_defined_at
 defined_full {draw = draw} {least = least} {most = most} {imported = imported} {made = made} {start = start} {bytes = bytes} {after = after} now le is =
     let grown = grow_full now.growing le in
     let len = now.growing.len in
@@ -74,10 +74,10 @@ behind_go {imported = imported} {x = x} now lt go odd drawn longer p q = record 
 
 pub behind_stop : {A : Type 0} {draw : List A → List ℕ → A × List ℕ} {least most n : ℕ} {imported space : List A} {start bytes : List ℕ} {b : Bool} {after : List ℕ}
     → IsBehind draw least most imported space n start bytes → n < most - length imported → goes_at (nat_lt n (least - length imported)) bytes ≡ (b, after) → b ≡ false
-    → behind imported (defined_at draw least most (length imported) start) ≡ (space, after)
+    → behind imported (items_defined_at draw least most (length imported) start) ≡ (space, after)
 behind_stop now lt go even = rw (defined_stop now.defining lt go even, now.parts) refl
 
 pub behind_full : {A : Type 0} {draw : List A → List ℕ → A × List ℕ} {least most n : ℕ} {imported space : List A} {start bytes after : List ℕ}
     → IsBehind draw least most imported space n start bytes → most - length imported ≤ n → after ≡ (if nat_lt 0 (length imported) && nat_lt 0 most then (bool_at bytes).1 else bytes)
-    → behind imported (defined_at draw least most (length imported) start) ≡ (space, after)
+    → behind imported (items_defined_at draw least most (length imported) start) ≡ (space, after)
 behind_full now le is = rw (defined_full now.defining le is, now.parts) refl

@@ -26,9 +26,9 @@ use Rattle.smith_draw.specs.TableTypes.{table_type_at}
 use Rattle.smith_draw.specs.declared.spaces.Spaces.{Spaces}
 use Rattle.smith_bytes.specs.Spelling.{SpellsEmpty}
 use Rattle.smith_config.specs.Granted.{HasGroundedElements}
-use Rattle.smith_defined.specs.Defined.{IsFilled, AreAdded, MayInitialise, drawn_over, standing_of}
+use Rattle.smith_defined.specs.Defined.{IsFilled, AreAdded, MayInitialise, drawn_over, scope_of_spaces}
 use Rattle.smith_defined.specs.DefinedTables.{IsTableFit, AreTablesDrawn}
-use Rattle.smith_defined.specs.Definitions.{Standing, Table, table_at, tables_at, table_scope}
+use Rattle.smith_defined.specs.Definitions.{InitialiserScope, Table, table_at, tables_at, table_scope}
 use Rattle.smith_rules.specs.Promises.{initial_of}
 use Rattle.smith_bytes.specs.Spelling.{SpellsNone}
 use Rattle.smith_defined.proofs.DefinedLemmas.{parts_filled, several_so, all_behind, defined_none}
@@ -39,10 +39,10 @@ imported_seen on globals imported = rw (and_right on false refl) refl
 
 -- over spaces whose globals are all imported, an expression sees the scope of the initialiser of a
 -- table
-seen_by_table : (config : Config) (spaces : Spaces) → spaces.entities.imported_globals ≡ length spaces.entities.globals.now → seen_by config spaces false ≡ table_scope config (standing_of spaces)
+seen_by_table : (config : Config) (spaces : Spaces) → spaces.entities.imported_globals ≡ length spaces.entities.globals.now → seen_by config spaces false ≡ table_scope config (scope_of_spaces spaces)
 seen_by_table config spaces all = rw (imported_seen config.gc_enabled (length spaces.entities.globals.now) spaces.entities.imported_globals, all) refl
 
-pub spaces_valid : (config : Config) (spaces : Spaces) → MayInitialise config spaces.types.now (standing_of spaces) → spaces.entities.imported_globals ≡ length spaces.entities.globals.now → AreSpacesValid config spaces
+pub spaces_valid : (config : Config) (spaces : Spaces) → MayInitialise config spaces.types.now (scope_of_spaces spaces) → spaces.entities.imported_globals ≡ length spaces.entities.globals.now → AreSpacesValid config spaces
 spaces_valid config spaces may all = record {
   types = may.valid;
   funcs = may.funcs;
@@ -54,7 +54,7 @@ spaces_valid config spaces may all = record {
 
 -- a table is that of its draws
 pub table_is : (config : Config) (spaces : Spaces) (bytes mid after : List ℕ) (table : TableType) (initial : Option (List ConstInstr)) → spaces.entities.imported_globals ≡ length spaces.entities.globals.now
-    → table_type_at config (drawn_over config (standing_of spaces)) bytes ≡ (table, mid) → table_init_at config (seen_by config spaces false) table.element_type mid ≡ Some (initial, after) → table_at config (standing_of spaces) bytes ≡ ((table, initial), after)
+    → table_type_at config (drawn_over config (scope_of_spaces spaces)) bytes ≡ (table, mid) → table_init_at config (seen_by config spaces false) table.element_type mid ≡ Some (initial, after) → table_at config (scope_of_spaces spaces) bytes ≡ ((table, initial), after)
 unfolding table_at
 table_is config spaces bytes mid after table initial all type_drawn init_drawn = rw (type_drawn, ← seen_by_table config spaces all, init_drawn) refl
 
@@ -71,9 +71,9 @@ pub needs_gc : (config : Config) (element : RefType) → IsSanitized config → 
 needs_gc config element sanitized nullable not_null = on_where config.non_nullable_enabled (config.gc_enabled ≡ true) sanitized.non_nullable (λ off. let null = nullable off in cc)
 
 pub table_fit : (config : Config) (spaces : Spaces) (table : TableType) (initial : Option (List ConstInstr)) → spaces.entities.imported_globals ≡ length spaces.entities.globals.now
-    → IsTableValid (features_of config) spaces.types.now.types table → IsTableWithin config table → HasGroundedElements config (drawn_over config (standing_of spaces)) table → (table.element_type.nullable ≡ false → IsSome initial)
+    → IsTableValid (features_of config) spaces.types.now.types table → IsTableWithin config table → HasGroundedElements config (drawn_over config (scope_of_spaces spaces)) table → (table.element_type.nullable ≡ false → IsSome initial)
     → IfSome initial (IsConstExpr (seen_by config spaces false) (Ref table.element_type)) → (IsSome initial → IsTrue config.gc_enabled) → (All HasNoFloat spaces.types.now.types → IfSome initial (All GivesNoFloat))
-    → IsTableFit config (standing_of spaces) (table, initial)
+    → IsTableFit config (scope_of_spaces spaces) (table, initial)
 table_fit config spaces table None all valid within grounded needed typed gc floats = record {
   valid = valid;
   within = within;
@@ -90,7 +90,7 @@ table_fit config spaces table (Some expression) all valid within grounded needed
 }
 
 -- a property of the drawn tables is one of the added ones and, with the imported ones, of all
-pub tables_added : (P : TableType → Type 0) {config : Config} {standing : Standing} {imported space : List TableType} {old initials : List (Option (List ConstInstr))}
+pub tables_added : (P : TableType → Type 0) {config : Config} {standing : InitialiserScope} {imported space : List TableType} {old initials : List (Option (List ConstInstr))}
     → ((one : Table) → IsTableFit config standing one → P one.0) → AreTablesDrawn config standing imported space old initials → AreAdded P imported space
 tables_added P {config = config} {standing = standing} {imported = imported} fits so_far =
     let of_table = λ (one : Table). one.0 in
@@ -100,7 +100,7 @@ tables_added P {config = config} {standing = standing} {imported = imported} fit
       each = All-map P of_table so_far.drawn (All-weaker (IsTableFit config standing) (λ (one : Table). P one.0) fits so_far.drawn so_far.fit);
     }
 
-pub tables_all : (P : TableType → Type 0) {config : Config} {standing : Standing} {imported space : List TableType} {old initials : List (Option (List ConstInstr))}
+pub tables_all : (P : TableType → Type 0) {config : Config} {standing : InitialiserScope} {imported space : List TableType} {old initials : List (Option (List ConstInstr))}
     → ((one : Table) → IsTableFit config standing one → P one.0) → AreTablesDrawn config standing imported space old initials → All P imported → All P space
 tables_all P fits so_far all = all_behind P all (tables_added P fits so_far)
 
@@ -113,7 +113,7 @@ initialised_at P (one ∷ drawn) each zero initial at = let same : one.1 ≡ ini
 initialised_at P (one ∷ drawn) each (suc place) initial at = initialised_at P drawn each.1 place initial at
 
 -- if no type has a float, no constant is a float
-pub tables_no_float : {config : Config} {standing : Standing} {imported space : List TableType} {old initials : List (Option (List ConstInstr))} → All HasNoFloat standing.types → All (All GivesNoFloat) (flat_map initial_of old)
+pub tables_no_float : {config : Config} {standing : InitialiserScope} {imported space : List TableType} {old initials : List (Option (List ConstInstr))} → All HasNoFloat standing.types → All (All GivesNoFloat) (flat_map initial_of old)
     → AreTablesDrawn config standing imported space old initials → All (All GivesNoFloat) (flat_map initial_of initials)
 tables_no_float {config = config} {standing = standing} {old = old} calm before so_far =
     let of_initial = λ (one : Table). one.1 in
@@ -128,7 +128,7 @@ abbrev tables_alone : (List TableType × List (Option (List ConstInstr))) × Lis
 tables_alone drawn = (drawn.0.0, drawn.1)
 
 -- after imported tables there are at least the minimum, and at most the maximum
-pub tables_fill : (config : Config) (standing : Standing) (imported space : List TableType) (old initials : List (Option (List ConstInstr))) (start new : List ℕ) → config.min_tables ≤ config.max_tables
+pub tables_fill : (config : Config) (standing : InitialiserScope) (imported space : List TableType) (old initials : List (Option (List ConstInstr))) (start new : List ℕ) → config.min_tables ≤ config.max_tables
     → tables_at config standing imported old start ≡ ((space, initials), new) → IsFilled config.min_tables config.max_tables imported space
 unfolding tables_at
 tables_fill config standing imported space old initials start new ordered exact =
@@ -140,7 +140,7 @@ pub several_tables : (config : Config) (imported space : List TableType) → IsS
     → config.reference_types_enabled ≡ true
 several_tables config imported space sanitized stood filled several = several_so config.reference_types_enabled config.max_tables (length imported) (length space) sanitized.one_table filled.within stood several
 
-pub no_table_read : (config : Config) (standing : Standing) (imported : List TableType) (old : List (Option (List ConstInstr))) (piece after : List ℕ) → config.min_tables ≡ 0 → imported ≡ [] → SpellsNone config.max_tables piece
+pub no_table_read : (config : Config) (standing : InitialiserScope) (imported : List TableType) (old : List (Option (List ConstInstr))) (piece after : List ℕ) → config.min_tables ≡ 0 → imported ≡ [] → SpellsNone config.max_tables piece
     → tables_at config standing imported old (piece ++ after) ≡ (([], old), after)
 unfolding tables_at
 no_table_read config standing imported old piece after asked none spelled =
@@ -148,7 +148,7 @@ no_table_read config standing imported old piece after asked none spelled =
     rw (drawn, none, append-nil old) refl
 
 -- a piece that spells that there is no table is taken
-pub no_table_taken : (config : Config) (standing : Standing) (imported space : List TableType) (old initials : List (Option (List ConstInstr))) (start new : List ℕ) → config.min_tables ≡ 0 → imported ≡ []
+pub no_table_taken : (config : Config) (standing : InitialiserScope) (imported space : List TableType) (old initials : List (Option (List ConstInstr))) (start new : List ℕ) → config.min_tables ≡ 0 → imported ≡ []
     → tables_at config standing imported old start ≡ ((space, initials), new) → Takes (SpellsEmpty (SpellsNone config.max_tables)) start space new
 no_table_taken config standing imported space old initials start new asked none exact =
     takes_by (λ bytes. tables_alone (tables_at config standing imported old bytes)) (λ value piece after h. rw (no_table_read config standing imported old piece after asked none h.spelled, h.none) refl) (ap tables_alone exact)

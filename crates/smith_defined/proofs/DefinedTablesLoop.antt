@@ -10,22 +10,22 @@ use Rattle.smith_types.specs.declared.const_instr.ConstInstr.{ConstInstr}
 use Rattle.smith_types.specs.declared.entity_type.TableType.{TableType}
 use Rattle.smith_config.specs.declared.config.Config.{Config}
 use Rattle.smith_defined.specs.DefinedTables.{IsTableFit, AreTablesDrawn}
-use Rattle.smith_defined.specs.Definitions.{Standing, Table, table_at, tables_at}
+use Rattle.smith_defined.specs.Definitions.{InitialiserScope, Table, table_at, tables_at}
 use Rattle.smith_defined.proofs.DefinedLoop.{IsDefining, defined_start, defined_go, defined_stop, defined_full}
 
 -- the tables that are defined so far, and their initialisers
-pub record IsDefiningTables (config : Config) (standing : Standing) (imported space : List TableType) (old initials : List (Option (List ConstInstr))) (n : ℕ) (start bytes : List ℕ) : Type 0 where
+pub record IsDefiningTables (config : Config) (standing : InitialiserScope) (imported space : List TableType) (old initials : List (Option (List ConstInstr))) (n : ℕ) (start bytes : List ℕ) : Type 0 where
   pub so_far : AreTablesDrawn config standing imported space old initials
   pub defining : IsDefining (λ _. table_at config standing) config.min_tables config.max_tables (length imported) n so_far.drawn start bytes
 
 -- none is defined yet
-pub tables_start : (config : Config) (standing : Standing) (imported : List TableType) (old : List (Option (List ConstInstr))) (start : List ℕ) → IsDefiningTables config standing imported imported old old 0 start start
+pub tables_start : (config : Config) (standing : InitialiserScope) (imported : List TableType) (old : List (Option (List ConstInstr))) (start : List ℕ) → IsDefiningTables config standing imported imported old old 0 start start
 tables_start config standing imported old start = record {
   so_far = record { drawn = []; tables = rw append-nil refl; initialisers = rw append-nil refl; fit = All-nil (IsTableFit config standing) };
   defining = defined_start (λ _. table_at config standing) config.min_tables config.max_tables (length imported) start;
 }
 
-module _ {config : Config} {standing : Standing} {imported space : List TableType} {old initials : List (Option (List ConstInstr))} {n : ℕ} {start bytes : List ℕ} where
+module _ {config : Config} {standing : InitialiserScope} {imported space : List TableType} {old initials : List (Option (List ConstInstr))} {n : ℕ} {start bytes : List ℕ} where
   -- one more was defined
   pub tables_go : {mid after : List ℕ} {b : Bool} {one : Table} {more : List TableType} {longer : List (Option (List ConstInstr))}
       → IsDefiningTables config standing imported space old initials n start bytes

@@ -5,7 +5,7 @@ use Rattle.smith_bytes.specs.declared.error.Error.{Error}
 use Rattle.smith_bytes.specs.declared.error.Count.TheVariants as counts
 use Rattle.std.proofs.lemmas.List.{length-take}
 use Rattle.std.proofs.lemmas.List.Elements.{All-take}
-use Rattle.smith_types.specs.Entities.{IsFuncValid, IsGlobalValid}
+use Rattle.smith_types.specs.Entities.{IsFuncTypeIndex, IsGlobalValid}
 use Rattle.smith_types.specs.Expressions.{Context}
 use Rattle.smith_types.specs.Grown.{Extends, IsContextGrown}
 use Rattle.smith_types.specs.Imports.{IndexSpaces}
@@ -18,13 +18,13 @@ use Rattle.smith_config.specs.Granted.{IsUngrounded}
 use Rattle.smith_draw.specs.ConstBounds.{MayRefuseConstExpr}
 use Rattle.smith_draw.proofs.FilledLemmas.{fields_before}
 use Rattle.smith_defined.specs.Defined.{MayDefine, MayInitialise, MayRefuseDrawn, MayRefuseDefined, drawn_over, drawn_beside}
-use Rattle.smith_defined.specs.Definitions.{standing_among, standing_over}
+use Rattle.smith_defined.specs.Definitions.{scope_among, scope_over}
 use Rattle.smith_defined.specs.declared.definitions.Definitions.{Definitions}
 use Rattle.smith_defined.proofs.ExtensionLemmas.{all_kept}
 
 -- the parts that initialisers refer to are valid after functions are defined
-pub may_initialise : (config : Config) (space : Space) (before : IndexSpaces) (so_far : Definitions) (funcs : List ℕ) → MayDefine config space before so_far → All (IsFuncValid space.types) funcs → length funcs ≤ max config.max_funcs (length before.funcs)
-    → MayInitialise config space (standing_among space.types funcs (length before.funcs - so_far.num_funcs) (length before.globals - length so_far.globals) before.globals)
+pub may_initialise : (config : Config) (space : Space) (before : IndexSpaces) (so_far : Definitions) (funcs : List ℕ) → MayDefine config space before so_far → All (IsFuncTypeIndex space.types) funcs → length funcs ≤ max config.max_funcs (length before.funcs)
+    → MayInitialise config space (scope_among space.types funcs (length before.funcs - so_far.num_funcs) (length before.globals - length so_far.globals) before.globals)
 may_initialise config space before so_far funcs may valid few =
     let imported = length before.globals - length so_far.globals in
     record {
@@ -46,11 +46,11 @@ drawn_refused config context value e grounded (inr (empty, inr holds)) = inr (em
 
 -- a refusal after functions are defined is one over the entities before
 pub refused_before : (config : Config) (types : List SubType) (before : IndexSpaces) (so_far : Definitions) (funcs : List ℕ) (e : Error) → Extends before.funcs funcs
-    → MayRefuseDrawn config (drawn_over config (standing_over types funcs (length before.funcs - so_far.num_funcs) [])) e → MayRefuseDefined config (drawn_beside config types before so_far) e
+    → MayRefuseDrawn config (drawn_over config (scope_over types funcs (length before.funcs - so_far.num_funcs) [])) e → MayRefuseDefined config (drawn_beside config types before so_far) e
 refused_before config types before so_far funcs e extends (inl memory) = inr (inl memory)
 refused_before config types before so_far funcs e extends (inr (empty, holds)) =
     let old = drawn_beside config types before so_far in
-    let new = drawn_over config (standing_over types funcs (length before.funcs - so_far.num_funcs) []) in
+    let new = drawn_over config (scope_over types funcs (length before.funcs - so_far.num_funcs) []) in
     let growth : IsContextGrown old new = record {
       features = refl;
       types = all_kept types;

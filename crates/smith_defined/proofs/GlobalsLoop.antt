@@ -17,7 +17,7 @@ use Rattle.smith_types.proofs.ListLemmas.{slice_get-grown, slice_get-last, slice
 use Rattle.smith_types.proofs.ExpressionGrowthLemmas.{IsConstExpr-grown}
 use Rattle.smith_config.specs.declared.config.Config.{Config}
 use Rattle.smith_config.specs.Features.{features_of}
-use Rattle.smith_defined.specs.Definitions.{Standing, Global, context_at, global_scope, globals_of, initialised_at, global_at, globals_at}
+use Rattle.smith_defined.specs.Definitions.{InitialiserScope, Global, context_at, global_scope, globals_of, initialised_at, global_at, globals_at}
 use Rattle.smith_config.specs.Granted.{HasGroundedValue}
 use Rattle.smith_defined.specs.Defined.{AreAdded, IsGlobalInitialised, AreGlobalsDefined, drawn_over}
 use Rattle.smith_defined.proofs.ExtensionLemmas.{all_kept}
@@ -32,7 +32,7 @@ abbrev AreNoFloats : List GlobalType → Type 0
 AreNoFloats globals = All (λ (global : GlobalType). IsNoFloat global.val_type) globals
 
 -- properties of the globals so far, n of them defined
-pub record AreDefining (config : Config) (standing : Standing) (before : List GlobalType) (old : List (ℕ × List ConstInstr)) (n : ℕ) (globals : List GlobalType) (initials : List (ℕ × List ConstInstr)) (start bytes : List ℕ) : Type 0 where
+pub record AreDefining (config : Config) (standing : InitialiserScope) (before : List GlobalType) (old : List (ℕ × List ConstInstr)) (n : ℕ) (globals : List GlobalType) (initials : List (ℕ × List ConstInstr)) (start bytes : List ℕ) : Type 0 where
   pub made : List Global
   pub globals_are : globals ≡ globals_of before made
   pub initials_are : initials ≡ old ++ map (λ (one : Global). one.1) made
@@ -44,7 +44,7 @@ pub record AreDefining (config : Config) (standing : Standing) (before : List Gl
   pub constants : config.allow_floats ≡ false → All HasNoFloat standing.types → All (All GivesNoFloat) (expressions old) → All (All GivesNoFloat) (expressions initials)
 
 -- the number of globals
-pub count_is : {config : Config} {standing : Standing} {before : List GlobalType} {old : List (ℕ × List ConstInstr)} {n : ℕ} {globals : List GlobalType} {initials : List (ℕ × List ConstInstr)} {start bytes : List ℕ}
+pub count_is : {config : Config} {standing : InitialiserScope} {before : List GlobalType} {old : List (ℕ × List ConstInstr)} {n : ℕ} {globals : List GlobalType} {initials : List (ℕ × List ConstInstr)} {start bytes : List ℕ}
     → AreDefining config standing before old n globals initials start bytes → length globals ≡ length before + n
 count_is {before = before} now =
     let lens = length-append before (map (λ (one : Global). one.0) now.made) in
@@ -52,7 +52,7 @@ count_is {before = before} now =
     ap length now.globals_are ∙ lens ∙ ap (λ (k : ℕ). length before + k) (length-map now.made (λ (one : Global). one.0) ∙ len)
 
 -- before the first iteration
-pub none_made : (config : Config) (standing : Standing) (before : List GlobalType) (old : List (ℕ × List ConstInstr)) (start : List ℕ) → All (IsGlobalValid (features_of config) standing.types) before → AreDefining config standing before old 0 before old start start
+pub none_made : (config : Config) (standing : InitialiserScope) (before : List GlobalType) (old : List (ℕ × List ConstInstr)) (start : List ℕ) → All (IsGlobalValid (features_of config) standing.types) before → AreDefining config standing before old 0 before old start start
 none_made config standing before old start valid = record {
   made = [];
   globals_are = sym (append-nil before);
@@ -65,7 +65,7 @@ none_made config standing before old start valid = record {
   constants = λ off calm plain. plain;
 }
 
-module _ (config : Config) (standing : Standing) (globals : List GlobalType) (global : GlobalType) where
+module _ (config : Config) (standing : InitialiserScope) (globals : List GlobalType) (global : GlobalType) where
   -- a context stays as large when a global is added
   context_grown : (visible : ℕ) → IsContextGrown (context_at config standing globals visible) (context_at config standing (globals ++ global ∷ []) visible)
   context_grown visible = record {
@@ -110,7 +110,7 @@ module _ (config : Config) (standing : Standing) (globals : List GlobalType) (gl
       }
 
 -- a global is drawn in the context of those so far
-drawn_in : (config : Config) (standing : Standing) (before : List GlobalType) (made : List Global) (globals : List GlobalType) (bytes : List ℕ) → globals ≡ globals_of before made
+drawn_in : (config : Config) (standing : InitialiserScope) (before : List GlobalType) (made : List Global) (globals : List GlobalType) (bytes : List ℕ) → globals ≡ globals_of before made
     → global_at config standing before made bytes ≡ initialised_at config (global_scope config standing globals) bytes
 unfolding global_at
 drawn_in config standing before made globals bytes are = ap (λ (standing_globals : List GlobalType). initialised_at config (global_scope config standing standing_globals) bytes) (sym are)
@@ -121,7 +121,7 @@ unfolding initialised_at
 index_is config context bytes one after drawn = sym (ap (λ (r : Global × List ℕ). r.0.1.0) drawn)
 
 -- one more global was drawn
-pub define_more : {config : Config} {standing : Standing} {before : List GlobalType} {old : List (ℕ × List ConstInstr)} {n : ℕ} {globals more : List GlobalType} {initials longer : List (ℕ × List ConstInstr)} {start bytes mid after : List ℕ} {b : Bool} {one : Global}
+pub define_more : {config : Config} {standing : InitialiserScope} {before : List GlobalType} {old : List (ℕ × List ConstInstr)} {n : ℕ} {globals more : List GlobalType} {initials longer : List (ℕ × List ConstInstr)} {start bytes mid after : List ℕ} {b : Bool} {one : Global}
     → AreDefining config standing before old n globals initials start bytes → n < config.max_globals - length before
     → goes_at (nat_lt n (config.min_globals - length before)) bytes ≡ (b, mid) → b ≡ true → initialised_at config (global_scope config standing globals) mid ≡ (one, after)
     → IsGlobalValid (features_of config) standing.types one.0 → IsConstExpr (global_scope config standing globals) one.0.val_type one.1.1
@@ -148,7 +148,7 @@ define_more {config = config} {standing = standing} {before = before} {old = old
     })
 
 -- the globals that were drawn are added
-pub globals_added : {config : Config} {standing : Standing} {before : List GlobalType} {old : List (ℕ × List ConstInstr)} {n : ℕ} {globals : List GlobalType} {initials : List (ℕ × List ConstInstr)} {start bytes : List ℕ}
+pub globals_added : {config : Config} {standing : InitialiserScope} {before : List GlobalType} {old : List (ℕ × List ConstInstr)} {n : ℕ} {globals : List GlobalType} {initials : List (ℕ × List ConstInstr)} {start bytes : List ℕ}
     → AreDefining config standing before old n globals initials start bytes → AreAdded (HasGroundedValue config (drawn_over config standing)) before globals
 globals_added {config = config} {standing = standing} now = record {
   more = map (λ (one : Global). one.0) now.made;
@@ -157,14 +157,14 @@ globals_added {config = config} {standing = standing} now = record {
 }
 
 -- no global was drawn
-pub define_stop : {config : Config} {standing : Standing} {before : List GlobalType} {old : List (ℕ × List ConstInstr)} {n : ℕ} {globals : List GlobalType} {initials : List (ℕ × List ConstInstr)} {start bytes after : List ℕ} {b : Bool}
+pub define_stop : {config : Config} {standing : InitialiserScope} {before : List GlobalType} {old : List (ℕ × List ConstInstr)} {n : ℕ} {globals : List GlobalType} {initials : List (ℕ × List ConstInstr)} {start bytes after : List ℕ} {b : Bool}
     → AreDefining config standing before old n globals initials start bytes → n < config.max_globals - length before
     → goes_at (nat_lt n (config.min_globals - length before)) bytes ≡ (b, after) → b ≡ false → globals_at config standing before old start ≡ ((globals, initials), after)
 unfolding globals_at
 define_stop now fewer go even = rw (defined_stop now.defining fewer go even, now.globals_are, now.initials_are) refl
 
 -- no more globals may be drawn
-pub define_full : {config : Config} {standing : Standing} {before : List GlobalType} {old : List (ℕ × List ConstInstr)} {n : ℕ} {globals : List GlobalType} {initials : List (ℕ × List ConstInstr)} {start bytes after : List ℕ}
+pub define_full : {config : Config} {standing : InitialiserScope} {before : List GlobalType} {old : List (ℕ × List ConstInstr)} {n : ℕ} {globals : List GlobalType} {initials : List (ℕ × List ConstInstr)} {start bytes after : List ℕ}
     → AreDefining config standing before old n globals initials start bytes → config.max_globals - length before ≤ n
     → after ≡ (if nat_lt 0 (length before) && nat_lt 0 config.max_globals then (bool_at bytes).1 else bytes) → globals_at config standing before old start ≡ ((globals, initials), after)
 unfolding globals_at

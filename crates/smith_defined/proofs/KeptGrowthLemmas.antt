@@ -4,7 +4,7 @@ use Rattle.std.specs.Prelude.{All, not, ◌&&◌, nat_le, if◌then◌else◌}
 use Rattle.std.proofs.lemmas.List.{length-append, take-append-le}
 use Rattle.std.proofs.lemmas.List.Elements.{All-head, All-tail, All-take, All-weaker}
 use Rattle.std.proofs.lemmas.Option.{slice_get_within}
-use Rattle.smith_types.specs.Entities.{IsFuncValid, IsGlobalValid}
+use Rattle.smith_types.specs.Entities.{IsFuncTypeIndex, IsGlobalValid}
 use Rattle.smith_types.specs.Expressions.{Context, reference_to, function_reference}
 use Rattle.smith_types.specs.Grown.{Extends}
 use Rattle.smith_types.specs.Subtyping.{IsValInRange}
@@ -24,7 +24,7 @@ use Rattle.smith_defined.proofs.BelowGrowthLemmas.{value_longer, value_same}
 -- the globals and functions of a context are valid over its types, which are orderly
 pub record AreValidOver (context : Context) : Type 0 where
   pub orderly : IsOrderly context.types
-  pub funcs : All (IsFuncValid context.types) context.funcs
+  pub funcs : All (IsFuncTypeIndex context.types) context.funcs
   pub globals : All (IsGlobalValid context.features context.types) context.globals
 
 -- a context with more types, functions and globals at their ends, of the same features, and with
@@ -53,7 +53,7 @@ seen_same n xs ys longer inside = sym (ap (take n) longer.parts ∙ take-append-
 no_shorter : {A : Type 0} (n : ℕ) (xs ys : List A) → Extends xs ys → n ≤ length xs → n ≤ length ys
 no_shorter n xs ys longer inside = let longer = ap length longer.parts ∙ length-append xs longer.more in omega (arith, longer, inside)
 
-func_in_range : (types : List SubType) (index : ℕ) → IsFuncValid types index → index < length types
+func_in_range : (types : List SubType) (index : ℕ) → IsFuncTypeIndex types index → index < length types
 func_in_range types index (function, (t, at, is)) = slice_get_within types index t at
 
 module _ (old new : Context) (valid : AreValidOver old) (more : HasMore old new) where
@@ -68,7 +68,7 @@ module _ (old new : Context) (valid : AreValidOver old) (more : HasMore old new)
       let below = sym (below_same global.val_type wanted (value_in_range old.features old.types global.val_type is.value) upper) in
       offered_same (not global.mutable && is_val_below old.types global.val_type wanted) (not global.mutable && is_val_below new.types global.val_type wanted) _ (ap (λ (yes : Bool). not global.mutable && yes) below)
 
-  function_same : (wanted : ValType) → IsValInRange old.types wanted → (i index : ℕ) → IsFuncValid old.types index → function_offers old wanted i index ≡ function_offers new wanted i index
+  function_same : (wanted : ValType) → IsValInRange old.types wanted → (i index : ℕ) → IsFuncTypeIndex old.types index → function_offers old wanted i index ≡ function_offers new wanted i index
   function_same wanted upper i index is =
       let lower = within_reference old.types index (nat_le old.imported_funcs i) old.features.custom_descriptors (func_in_range old.types index is) in
       let below = ap (λ (reference : ValType). is_val_below new.types reference wanted) (reference_same i index) ∙ below_same (function_reference old i index) wanted lower upper in
@@ -86,8 +86,8 @@ module _ (old new : Context) (valid : AreValidOver old) (more : HasMore old new)
     funcs_seen = no_shorter offer.funcs_seen old.funcs new.funcs more.funcs kept.funcs_seen;
     funcs =
         kept.funcs
-        ∙ each_same (IsFuncValid old.types) (function_offers old offer.wanted) (function_offers new offer.wanted) (function_same offer.wanted kept.wanted) 0 (take offer.funcs_seen old.funcs)
-        (All-take (IsFuncValid old.types) offer.funcs_seen old.funcs valid.funcs)
+        ∙ each_same (IsFuncTypeIndex old.types) (function_offers old offer.wanted) (function_offers new offer.wanted) (function_same offer.wanted kept.wanted) 0 (take offer.funcs_seen old.funcs)
+        (All-take (IsFuncTypeIndex old.types) offer.funcs_seen old.funcs valid.funcs)
         ∙ ap (λ (xs : List ℕ). each_from (function_offers new offer.wanted) 0 xs) (seen_same offer.funcs_seen old.funcs new.funcs more.funcs kept.funcs_seen);
   }
 

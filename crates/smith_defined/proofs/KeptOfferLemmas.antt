@@ -2,7 +2,7 @@
 use Rattle.std.proofs.Common.{◌≡◌, Bool, List, [], ◌∷◌, ◌++◌, refl}
 use Rattle.std.specs.Prelude.{All}
 use Rattle.std.proofs.lemmas.List.Elements.{All-weaker}
-use Rattle.smith_types.specs.Entities.{IsFuncValid, IsGlobalValid}
+use Rattle.smith_types.specs.Entities.{IsFuncTypeIndex, IsGlobalValid}
 use Rattle.smith_types.specs.Grown.{Extends}
 use Rattle.smith_types.specs.Imports.{IndexSpaces}
 use Rattle.smith_types.specs.IndexSpaces.{with_entity}
@@ -15,17 +15,17 @@ use Rattle.smith_config.specs.declared.config.Config.{Config}
 use Rattle.smith_config.specs.Features.{features_of}
 use Rattle.smith_draw.specs.KeptOffers.{IsKeptOffer}
 use Rattle.smith_draw.specs.declared.const_expr.kept_offers.KeptOffer.{KeptOffer}
-use Rattle.smith_defined.specs.Definitions.{Standing, global_scope}
+use Rattle.smith_defined.specs.Definitions.{InitialiserScope, global_scope}
 use Rattle.smith_defined.specs.Required.{MayDefineMore, IsInitialised}
 use Rattle.smith_defined.specs.RequiredExports.{scope_beside}
 use Rattle.smith_defined.specs.declared.definitions.Definitions.{Definitions}
 use Rattle.smith_defined.proofs.ExtensionLemmas.{all_kept}
 use Rattle.smith_defined.proofs.KeptGrowthLemmas.{AreValidOver, HasMore, kept_grown}
-use Rattle.smith_defined.proofs.RequiredMoreLemmas.{still_imported}
+use Rattle.smith_defined.proofs.RequiredExportLemmas.{still_imported}
 use Rattle.smith_defined.proofs.StandsBehindLemmas.{spaces_grown}
 
 -- with one more defined global
-pub kept_pushed : (config : Config) (standing : Standing) (globals more : List GlobalType) (one : GlobalType) (offers : List KeptOffer) → IsOrderly standing.types → All (IsFuncValid standing.types) standing.funcs → All (IsGlobalValid (features_of config) standing.types) globals → more ≡ globals ++ one ∷ []
+pub kept_pushed : (config : Config) (standing : InitialiserScope) (globals more : List GlobalType) (one : GlobalType) (offers : List KeptOffer) → IsOrderly standing.types → All (IsFuncTypeIndex standing.types) standing.funcs → All (IsGlobalValid (features_of config) standing.types) globals → more ≡ globals ++ one ∷ []
     → All (IsKeptOffer (global_scope config standing globals)) offers → All (IsKeptOffer (global_scope config standing more)) offers
 kept_pushed config standing globals more one offers orderly funcs valid longer =
     let sound : AreValidOver (global_scope config standing globals) = record { orderly = orderly; funcs = funcs; globals = valid } in

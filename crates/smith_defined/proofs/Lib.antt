@@ -15,9 +15,9 @@ pub mod PlainEntityLemmas
 pub mod GroupedTypeLemmas
 pub mod StandsBehindLemmas
 pub mod RequiredLimitLemmas
-pub mod DefinedMoreLemmas
-pub mod RequiredMoreLemmas
 pub mod BelowGrowthLemmas
 pub mod KeptGrowthLemmas
 pub mod KeptOfferLemmas
 pub mod RequiredExportsLoop
+pub mod DefinedGrowthLemmas
+pub mod RequiredExportLemmas

@@ -22,7 +22,7 @@ use Rattle.smith_draw.proofs.GlobalTypeLemmas.{global_type_taken}
 use Rattle.smith_draw.proofs.SpelledConstExprLemmas.{constant_read, mutable_not_read}
 use Rattle.smith_draw.specs.SpelledParts.{SpellsGlobal}
 use Rattle.smith_defined.specs.NumberedGlobals.{SpellsGlobals}
-use Rattle.smith_defined.specs.Definitions.{Standing, Global, globals_of, global_scope, initialised_at, global_at, globals_at}
+use Rattle.smith_defined.specs.Definitions.{InitialiserScope, Global, globals_of, global_scope, initialised_at, global_at, globals_at}
 use Rattle.smith_defined.proofs.DefinedLemmas.{defined_alone}
 
 -- each global is mutable
@@ -46,7 +46,7 @@ type_read config context piece after h =
     (takes.left mutable_i32 piece after (record { holds = refl; spelled = h }) refl)
 
 -- after mutable globals a spelled one is read
-global_read : (config : Config) (standing : Standing) (before : List GlobalType) (made : List Global) (number : ℤ) (piece after : List ℕ) → AreMutable (globals_of before made) → SpellsGlobal config number piece
+global_read : (config : Config) (standing : InitialiserScope) (before : List GlobalType) (made : List Global) (number : ℤ) (piece after : List ℕ) → AreMutable (globals_of before made) → SpellsGlobal config number piece
     → global_at config standing before made (piece ++ after) ≡ (numbered (length (globals_of before made)) number, after)
 unfolding global_at initialised_at SpellsGlobal
 global_read config standing before made number piece after mutable h =
@@ -65,7 +65,7 @@ record AreRead (numbers : List ℤ) (made : List Global) (after : List ℕ) (gro
   types : map (λ (one : Global). one.0) more ≡ map (λ number. mutable_i32) numbers
   constants : map (λ (one : ℕ × List ConstInstr). one.1) (map (λ (one : Global). one.1) more) ≡ map (λ number. I32Const number ∷ []) numbers
 
-globals_read : (config : Config) (standing : Standing) (before : List GlobalType) (most : ℕ) (made : List Global) (numbers : List ℤ) (piece after : List ℕ) → AreMutable (globals_of before made) → Listed (SpellsGlobal config) most numbers piece
+globals_read : (config : Config) (standing : InitialiserScope) (before : List GlobalType) (most : ℕ) (made : List Global) (numbers : List ℤ) (piece after : List ℕ) → AreMutable (globals_of before made) → Listed (SpellsGlobal config) most numbers piece
     → AreRead numbers made after (grow_at (global_at config standing before) 0 most made (piece ++ after))
 unfolding grow_at Listed
 globals_read config standing before zero made [] piece after mutable h = record { more = []; all = rw (h, append-nil) refl; types = refl; constants = refl }
@@ -91,10 +91,10 @@ globals_read config standing before (suc most) made (number ∷ numbers) piece a
     }
 
 -- the globals and the initialisers, without their indices, if there are none before
-abbrev pub listed_at : Config → Standing → List ℕ → (List GlobalType × List (List ConstInstr)) × List ℕ
+abbrev pub listed_at : Config → InitialiserScope → List ℕ → (List GlobalType × List (List ConstInstr)) × List ℕ
 listed_at config standing bytes = let drawn = globals_at config standing [] [] bytes in ((drawn.0.0, map (λ (one : ℕ × List ConstInstr). one.1) drawn.0.1), drawn.1)
 
-pub listed_read : (config : Config) (standing : Standing) → config.min_globals ≡ 0 → (globals : List GlobalType × List (List ConstInstr)) (piece after : List ℕ) → SpellsGlobals config globals piece
+pub listed_read : (config : Config) (standing : InitialiserScope) → config.min_globals ≡ 0 → (globals : List GlobalType × List (List ConstInstr)) (piece after : List ℕ) → SpellsGlobals config globals piece
     → listed_at config standing (piece ++ after) ≡ (globals, after)
 unfolding globals_at
 listed_read config standing least globals piece after h =
@@ -104,7 +104,7 @@ listed_read config standing least globals piece after h =
     let constants : map (λ (one : ℕ × List ConstInstr). one.1) (map (λ (one : Global). one.1) read.more) ≡ globals.1 = read.constants ∙ sym h.initials in
     rw drawn (λ i. ((types i, constants i), after))
 
-pub globals_taken : (config : Config) (standing : Standing) {before : List GlobalType} {before_initials : List (ℕ × List ConstInstr)} {old new : List ℕ} {globals : List GlobalType} {initials : List (ℕ × List ConstInstr)}
+pub globals_taken : (config : Config) (standing : InitialiserScope) {before : List GlobalType} {before_initials : List (ℕ × List ConstInstr)} {old new : List ℕ} {globals : List GlobalType} {initials : List (ℕ × List ConstInstr)}
     → config.min_globals ≡ 0 → before ≡ [] → before_initials ≡ [] → globals_at config standing before before_initials old ≡ ((globals, initials), new)
     → Takes (SpellsGlobals config) old (globals, map (λ (one : ℕ × List ConstInstr). one.1) initials) new
 globals_taken config standing {old = old} {new = new} {globals = globals} {initials = initials} least none unmade drawn =

@@ -4,7 +4,7 @@ use Rattle.std.proofs.Common.{◌≡◌, ◌⊎◌, ℕ, Bool, true, false, List
 use Rattle.std.specs.Prelude.{All, Some, slice_get}
 use Rattle.std.specs.List.{Contains}
 use Rattle.std.proofs.lemmas.List.Elements.{All-nil, All-cons, All-append, All-contains, All-contains_itself, All-weaker}
-use Rattle.smith_types.specs.Exports.{IsEntityAt, kind_of}
+use Rattle.smith_types.specs.Exports.{IsEntityAt, entity_kind}
 use Rattle.smith_types.specs.Imports.{IndexSpaces}
 use Rattle.smith_types.specs.IndexSpaces.{with_entity}
 use Rattle.smith_types.specs.declared.composite_type.SubType.{SubType}
@@ -78,7 +78,7 @@ same_global false ours theirs global other same = same
 
 -- an entity of a shape is added
 pub limits_more : (own_types : Bool) (ours : List SubType) (shape : Shape) (spaces : IndexSpaces) (index : ℕ) (theirs added : EntityType) → IsKeptType own_types ours (shape_types shape) added theirs
-    → IsEntityAt (shape_spaces shape) (kind_of added) index theirs → AddsLimitsOf shape spaces (with_entity spaces added)
+    → IsEntityAt (shape_spaces shape) (entity_kind added) index theirs → AddsLimitsOf shape spaces (with_entity spaces added)
 limits_more own_types ours shape spaces index theirs (entity.Table table) same (other, at, is) =
     let one : table ≡ other = let whole = same_table own_types ours (shape_types shape) table theirs same in cc in
     record {

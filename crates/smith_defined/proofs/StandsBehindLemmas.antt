@@ -3,7 +3,7 @@ use Rattle.std.proofs.Common.{◌≡◌, ◌∙◌, ℕ, ◌+◌, ◌-◌, ◌<�
 use Rattle.std.specs.Prelude.{Option, Some, None, slice_get, IsTrue, if◌then◌else◌}
 use Rattle.std.proofs.lemmas.Bool.{and_right, leb-false}
 use Rattle.std.proofs.lemmas.List.Elements.{All-head, All-push}
-use Rattle.smith_types.specs.Entities.{IsTagValid, IsFuncValid, IsTableValid, IsMemoryValid, IsGlobalValid, AreEntitiesValid}
+use Rattle.smith_types.specs.Entities.{IsTagValid, IsFuncTypeIndex, IsTableValid, IsMemoryValid, IsGlobalValid, AreEntitiesValid}
 use Rattle.smith_types.specs.Expressions.{Context, IsConstExpr}
 use Rattle.smith_types.specs.Features.{Features}
 use Rattle.smith_types.specs.Grown.{Extends, IsContextGrown, AreSpacesGrown}
@@ -24,7 +24,7 @@ use Rattle.smith_types.proofs.ListLemmas.{slice_get-grown, slice_get-last, slice
 use Rattle.smith_types.proofs.EntityGrowthLemmas.{AreEntitiesValid-grown}
 use Rattle.smith_config.specs.declared.config.Config.{Config}
 use Rattle.smith_config.specs.Features.{features_of}
-use Rattle.smith_defined.specs.Defined.{StandsBehind, standing_in, IsGlobalInitialised}
+use Rattle.smith_defined.specs.Defined.{StandsBehind, scope_in, IsGlobalInitialised}
 use Rattle.smith_defined.specs.Definitions.{context_at}
 use Rattle.smith_rules.specs.Module.{IsTableInitialised}
 use Rattle.smith_defined.specs.Required.{IsDefinedMore}
@@ -56,7 +56,7 @@ entities_more features types spaces (entity.Tag index) h one = record {
 }
 entities_more features types spaces (entity.Func index) h one = record {
   tags = h.tags;
-  funcs = All-push (IsFuncValid types) spaces.funcs index h.funcs (All-head (IsFuncValid types) index [] one.funcs);
+  funcs = All-push (IsFuncTypeIndex types) spaces.funcs index h.funcs (All-head (IsFuncTypeIndex types) index [] one.funcs);
   tables = h.tables;
   memories = h.memories;
   globals = h.globals;
@@ -138,7 +138,7 @@ all_seen false all imported = refl
 module _ (config : Config) (imported : IndexSpaces) where
   -- the context of an initialiser after these imports
   abbrev context : List SubType → IndexSpaces → ℕ → Context
-  context types spaces visible = context_at config (standing_in types imported spaces) spaces.globals visible
+  context types spaces visible = context_at config (scope_in types imported spaces) spaces.globals visible
 
   -- the same over types and entities, by the numbers of imported functions and globals
   abbrev around : List SubType → IndexSpaces → ℕ → ℕ → ℕ → Context
@@ -183,7 +183,7 @@ module _ (config : Config) (imported : IndexSpaces) where
       (table : TableType) × (slice_get spaces.tables (length imported.tables + place) ≡ Some table) × IsTableInitialised (context types spaces (length imported.globals)) table initial
 
   abbrev IsGlobalPlaced : List SubType → IndexSpaces → ℕ → ℕ → List ConstInstr → Type 0
-  IsGlobalPlaced types spaces place index initial = IsGlobalInitialised config (standing_in types imported spaces) spaces.globals place index initial
+  IsGlobalPlaced types spaces place index initial = IsGlobalInitialised config (scope_in types imported spaces) spaces.globals place index initial
 
   module _ (types more_types : List SubType) (spaces more_spaces : IndexSpaces) (longer : Extends types more_types) (grown : AreSpacesGrown spaces more_spaces) where
     -- it stays there

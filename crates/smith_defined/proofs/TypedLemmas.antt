@@ -9,7 +9,7 @@ use Rattle.smith_bytes.specs.declared.error.Count.{Count}
 use Rattle.smith_bytes.specs.declared.error.Why.{Why}
 use Rattle.smith_bytes.specs.declared.error.Count.TheVariants as counts
 use Rattle.smith_bytes.specs.declared.error.Error.{Error}
-use Rattle.smith_types.specs.Entities.{IsTagValid, IsFuncValid}
+use Rattle.smith_types.specs.Entities.{IsTagValid, IsFuncTypeIndex}
 use Rattle.smith_types.specs.declared.composite_type.SubType.{SubType}
 use Rattle.smith_config.specs.declared.config.Config.{Config}
 use Rattle.smith_draw.specs.Choices.{chosen_at}
@@ -22,7 +22,7 @@ use Rattle.smith_draw.proofs.TypeUseLemmas.{types_usable, places_any}
 use Rattle.smith_bytes.specs.Steps.{Gives}
 use Rattle.smith_bytes.specs.Spelling.{SpellsEmpty}
 use Rattle.smith_defined.specs.Defined.{IsFilled}
-use Rattle.smith_defined.specs.Definitions.{defined_at, typed_at, tag_types, tags_at, funcs_at}
+use Rattle.smith_defined.specs.Definitions.{items_defined_at, type_indices_at, tag_types, tags_at, funcs_at}
 use Rattle.smith_draw.specs.SpelledParts.{SpellsNoTag, SpellsFuncs}
 use Rattle.smith_defined.proofs.ExtensionLemmas.{all_kept}
 use Rattle.smith_defined.proofs.DefinedLemmas.{defined_all, defined_filled, defined_read, none_listed}
@@ -35,7 +35,7 @@ pub record AreTyped (Holds : ℕ → Type 0) (choices : List ℕ) (least most : 
   pub none : length choices ≡ 0 → items ≡ imported
 
 module _ (Holds : ℕ → Type 0) (count : Count) (choices : List ℕ) (least most : ℕ) (imported : List ℕ) where
-  some_typed : (bytes : List ℕ) → least ≤ most → All Holds choices → 0 < length choices → AreTyped Holds choices least most imported (imported ++ (defined_at (λ _. chosen_at 0 choices) least most (length imported) bytes).0)
+  some_typed : (bytes : List ℕ) → least ≤ most → All Holds choices → 0 < length choices → AreTyped Holds choices least most imported (imported ++ (items_defined_at (λ _. chosen_at 0 choices) least most (length imported) bytes).0)
   some_typed bytes le each some = record {
     filled = defined_filled (λ _. chosen_at 0 choices) least most imported bytes le;
     valid = λ before. All-append Holds imported _ before (defined_all Holds (λ _. chosen_at 0 choices) (λ made rest. chosen_of Holds 0 choices rest some each) least most (length imported) bytes);
@@ -45,8 +45,8 @@ module _ (Holds : ℕ → Type 0) (count : Count) (choices : List ℕ) (least mo
   none_typed : least ≤ length imported → AreTyped Holds choices least most imported imported
   none_typed enough = record { filled = record { extends = all_kept imported; enough = enough; within = omega arith }; valid = λ before. before; none = λ no. refl }
 
-  typed_are : (bytes : List ℕ) → least ≤ most → All Holds choices → IfOk (typed_at count choices least most imported bytes) (λ drawn. AreTyped Holds choices least most imported drawn.0)
-  unfolding typed_at
+  typed_are : (bytes : List ℕ) → least ≤ most → All Holds choices → IfOk (type_indices_at count choices least most imported bytes) (λ drawn. AreTyped Holds choices least most imported drawn.0)
+  unfolding type_indices_at
   typed_are bytes le each =
       let Are = λ (r : Result (List ℕ × List ℕ) Why). IfOk r (λ drawn. AreTyped Holds choices least most imported drawn.0) in
       cond_both (eqb (length choices) 0) _ _ Are
@@ -54,8 +54,8 @@ module _ (Holds : ℕ → Type 0) (count : Count) (choices : List ℕ) (least mo
       (λ off. let apart = eqb-false (length choices) 0 off in some_typed bytes le each (omega arith))
 
 -- if no tag or function is imported, the spelled ones are defined
-typed_read : (count : Count) (choices : List ℕ) (most : ℕ) (items piece after : List ℕ) → Listed (SpellsPlace choices) (if nat_lt 0 (length choices) then most else 0) items piece → typed_at count choices 0 most [] (piece ++ after) ≡ Ok (items, after)
-unfolding typed_at Listed
+typed_read : (count : Count) (choices : List ℕ) (most : ℕ) (items piece after : List ℕ) → Listed (SpellsPlace choices) (if nat_lt 0 (length choices) then most else 0) items piece → type_indices_at count choices 0 most [] (piece ++ after) ≡ Ok (items, after)
+unfolding type_indices_at Listed
 typed_read count [] most [] piece after h = rw h refl
 typed_read count [] most (x ∷ items) piece after h = absurd h
 typed_read count (choice ∷ others) most items piece after h =
@@ -98,11 +98,11 @@ no_tag_read config types imported items piece after none empty h =
     rw (none, empty, h.none) (typed_read counts.Tags (tag_types config types) config.max_tags [] piece after (no_tag_turn config.exceptions_enabled (list_any is_tag_type types) config.max_tags (types_for Tag types) piece (places_any is_tag_type 0 types) h.spelled))
 
 pub funcs_are : (config : Config) (types : List SubType) (imported items bytes after : List ℕ) (result : Result (Unit {0}) Error) → config.min_funcs ≤ config.max_funcs → Gives (λ _. (items, after)) result (funcs_at config types imported bytes)
-    → OnOk result (AreTyped (IsFuncValid types) (func_types types) config.min_funcs config.max_funcs imported items)
+    → OnOk result (AreTyped (IsFuncTypeIndex types) (func_types types) config.min_funcs config.max_funcs imported items)
 unfolding funcs_at
 funcs_are config types imported items bytes after result le given =
-    given_is (AreTyped (IsFuncValid types) (func_types types) config.min_funcs config.max_funcs imported) (λ _. items) (funcs_at config types imported bytes) after result
-    (typed_are (IsFuncValid types) counts.Funcs (func_types types) config.min_funcs config.max_funcs imported bytes le (types_usable DefinedFunc types)) given
+    given_is (AreTyped (IsFuncTypeIndex types) (func_types types) config.min_funcs config.max_funcs imported) (λ _. items) (funcs_at config types imported bytes) after result
+    (typed_are (IsFuncTypeIndex types) counts.Funcs (func_types types) config.min_funcs config.max_funcs imported bytes le (types_usable DefinedFunc types)) given
 
 pub funcs_read : (config : Config) (types : List SubType) (imported funcs piece after : List ℕ) → config.min_funcs ≡ 0 → imported ≡ [] → SpellsFuncs config types funcs piece → funcs_at config types imported (piece ++ after) ≡ Ok (funcs, after)
 unfolding funcs_at

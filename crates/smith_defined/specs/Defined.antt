@@ -3,7 +3,7 @@ use Rattle.std.specs.Prelude.{◌≡◌, ℕ, ◌+◌, ◌-◌, ◌<◌, ◌≤�
 use Rattle.std.specs.List.{flat_map}
 use Rattle.smith_bytes.specs.declared.error.Error.{Error}
 use Rattle.smith_bytes.specs.declared.error.Error.TheVariants as errors
-use Rattle.smith_types.specs.Entities.{IsFuncValid, IsGlobalValid, AreEntitiesValid, AreCountsEnabled}
+use Rattle.smith_types.specs.Entities.{IsFuncTypeIndex, IsGlobalValid, AreEntitiesValid, AreCountsEnabled}
 use Rattle.smith_types.specs.Expressions.{Context, IsConstExpr}
 use Rattle.smith_types.specs.Grown.{Extends}
 use Rattle.smith_types.specs.Imports.{IndexSpaces, Defines}
@@ -22,7 +22,7 @@ use Rattle.smith_draw.specs.ConstBounds.{HoldsUngroundedField}
 use Rattle.smith_types.specs.Floats.{GivesNoFloat, HasNoFloatValue}
 use Rattle.smith_draw.specs.Grounding.{without_globals}
 use Rattle.smith_draw.specs.declared.spaces.Spaces.{Spaces}
-use Rattle.smith_defined.specs.Definitions.{Standing, standing_over, context_at, table_scope}
+use Rattle.smith_defined.specs.Definitions.{InitialiserScope, scope_over, context_at, table_scope}
 use Rattle.smith_config.specs.Granted.{HasGroundedElements, HasGroundedValue}
 use Rattle.smith_rules.specs.Module.{IsTableInitialised}
 use Rattle.smith_rules.specs.Promises.{initial_of}
@@ -51,18 +51,18 @@ pub record HasRoom (spaces : IndexSpaces) (more : ℕ) : Type 0 where
   pub globals : length spaces.globals + more < 2 ^ 32
 
 -- the types, functions and globals that initialisers may refer to are valid
-pub record MayInitialise (config : Config) (space : Space) (standing : Standing) : Type 0 where
+pub record MayInitialise (config : Config) (space : Space) (standing : InitialiserScope) : Type 0 where
   pub passes : Passes config
   pub sanitized : IsSanitized config
   pub valid : AreTypesValid (features_of config) space
   pub types : standing.types ≡ space.types
-  pub funcs : All (IsFuncValid space.types) standing.funcs
+  pub funcs : All (IsFuncTypeIndex space.types) standing.funcs
   pub globals : All (IsGlobalValid (features_of config) space.types) standing.imported_globals
   pub few_funcs : length standing.funcs < 2 ^ 32
   pub few_globals : length standing.imported_globals < 2 ^ 32
 
 -- the context of drawn entities over these types and functions
-abbrev pub drawn_over : Config → Standing → Context
+abbrev pub drawn_over : Config → InitialiserScope → Context
 drawn_over config standing = without_globals (table_scope config standing)
 
 -- the same with entities; the functions that are not defined are imported
@@ -83,8 +83,8 @@ MayRefuseDrawn config context e = (e ≡ errors.Memory) ⊎ ((e ≡ errors.Empty
 
 -- the types, functions and globals that initialisers of tables may refer to, over spaces whose
 -- globals are the imported ones
-abbrev pub standing_of : Spaces → Standing
-standing_of spaces = record {
+abbrev pub scope_of_spaces : Spaces → InitialiserScope
+scope_of_spaces spaces = record {
   types = spaces.types.now.types;
   funcs = spaces.entities.funcs.now;
   imported_funcs = spaces.entities.imported_funcs;
@@ -92,14 +92,14 @@ standing_of spaces = record {
 }
 
 -- an initialiser is that of the global of this index, which comes after the imported ones
-pub record IsGlobalInitialised (config : Config) (standing : Standing) (globals : List GlobalType) (place index : ℕ) (initial : List ConstInstr) : Type 0 where
+pub record IsGlobalInitialised (config : Config) (standing : InitialiserScope) (globals : List GlobalType) (place index : ℕ) (initial : List ConstInstr) : Type 0 where
   pub in_order : index ≡ length standing.imported_globals + place
   pub global : GlobalType
   pub stands : slice_get globals index ≡ Some global
   pub initialised : IsConstExpr (context_at config standing globals (if config.gc_enabled then index else length standing.imported_globals)) global.val_type initial
 
 -- each initialiser is that of a global after the imported ones
-pub record AreGlobalsDefined (config : Config) (standing : Standing) (globals : List GlobalType) (initials : List (ℕ × List ConstInstr)) : Type 0 where
+pub record AreGlobalsDefined (config : Config) (standing : InitialiserScope) (globals : List GlobalType) (initials : List (ℕ × List ConstInstr)) : Type 0 where
   pub count : length globals ≡ length standing.imported_globals + length initials
   pub each : (place index : ℕ) (initial : List ConstInstr) → slice_get initials place ≡ Some (index, initial) → IsGlobalInitialised config standing globals place index initial
 
@@ -131,8 +131,8 @@ abbrev pub MayRefuseDefined : Config → Context → Error → Type 0
 MayRefuseDefined config context e = MayRefuse config e ⊎ MayRefuseDrawn config context e
 
 -- the types, functions and globals that initialisers refer to, after functions are defined
-abbrev pub standing_in : List SubType → IndexSpaces → IndexSpaces → Standing
-standing_in types imported spaces = standing_over types spaces.funcs (length imported.funcs) imported.globals
+abbrev pub scope_in : List SubType → IndexSpaces → IndexSpaces → InitialiserScope
+scope_in types imported spaces = scope_over types spaces.funcs (length imported.funcs) imported.globals
 
 -- the parts of a module after these imports are valid: types, entities, and initialisers, each at
 -- its place
@@ -147,9 +147,9 @@ pub record StandsBehind (config : Config) (imported : IndexSpaces) (space : Spac
   pub globals : Defines imported.globals (length defined.globals) spaces.globals
   pub each_table : (place : ℕ) (initial : Option (List ConstInstr)) → slice_get defined.tables place ≡ Some initial
       → (table : TableType) × (slice_get spaces.tables (length imported.tables + place) ≡ Some table)
-      × IsTableInitialised (context_at config (standing_in space.types imported spaces) spaces.globals (length imported.globals)) table initial
+      × IsTableInitialised (context_at config (scope_in space.types imported spaces) spaces.globals (length imported.globals)) table initial
   pub each_global : (place index : ℕ) (initial : List ConstInstr) → slice_get defined.globals place ≡ Some (index, initial)
-      → IsGlobalInitialised config (standing_in space.types imported spaces) spaces.globals place index initial
+      → IsGlobalInitialised config (scope_in space.types imported spaces) spaces.globals place index initial
 
 -- index spaces have, after the items before, as many as the configuration requires and allows
 pub record AreFilled (config : Config) (before spaces : IndexSpaces) : Type 0 where

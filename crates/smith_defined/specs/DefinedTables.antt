@@ -8,14 +8,14 @@ use Rattle.smith_types.specs.declared.entity_type.TableType.{TableType}
 use Rattle.smith_config.specs.declared.config.Config.{Config}
 use Rattle.smith_config.specs.Features.{features_of}
 use Rattle.smith_config.specs.EntityBounds.{IsTableWithin}
-use Rattle.smith_defined.specs.Definitions.{Standing, Table, table_scope}
+use Rattle.smith_defined.specs.Definitions.{InitialiserScope, Table, table_scope}
 use Rattle.smith_config.specs.Granted.{HasGroundedElements}
 use Rattle.smith_defined.specs.Defined.{drawn_over}
 use Rattle.smith_rules.specs.Module.{IsTableInitialised}
 use Rattle.smith_rules.specs.Promises.{initial_of}
 
 -- a table may be defined with this initialiser, or with none
-pub record IsTableFit (config : Config) (standing : Standing) (one : Table) : Type 0 where
+pub record IsTableFit (config : Config) (standing : InitialiserScope) (one : Table) : Type 0 where
   pub valid : IsTableValid (features_of config) standing.types one.0
   pub within : IsTableWithin config one.0
   pub grounded : HasGroundedElements config (drawn_over config standing) one.0
@@ -23,7 +23,7 @@ pub record IsTableFit (config : Config) (standing : Standing) (one : Table) : Ty
   pub floats : All HasNoFloat standing.types → All (All GivesNoFloat) (initial_of one.1)
 
 -- the tables before are followed by those that were drawn, each with its initialiser, if it has one
-pub record AreTablesDrawn (config : Config) (standing : Standing) (before space : List TableType) (old initials : List (Option (List ConstInstr))) : Type 0 where
+pub record AreTablesDrawn (config : Config) (standing : InitialiserScope) (before space : List TableType) (old initials : List (Option (List ConstInstr))) : Type 0 where
   pub drawn : List Table
   pub tables : space ≡ before ++ map (λ (one : Table). one.0) drawn
   pub initialisers : initials ≡ old ++ map (λ (one : Table). one.1) drawn

@@ -29,10 +29,10 @@ use Rattle.smith_config.specs.Shapes.{most_listed, shape_types, shape_spaces, sh
 use Rattle.smith_config.specs.Granted.{IsNonNullable}
 use Rattle.smith_draw.specs.ConstBounds.{HoldsUngroundedField}
 use Rattle.smith_draw.specs.FuncSizes.{HasFewValues}
-use Rattle.smith_rules.specs.Bounds.{counts_as, exported_of}
+use Rattle.smith_rules.specs.Bounds.{counts_as, items_of_exports}
 use Rattle.smith_rules.specs.ShapeImports.{count_in}
 use Rattle.smith_defined.specs.Defined.{AreWithin, HasRoom, StandsBehind, drawn_beside}
-use Rattle.smith_types.specs.Exports.{kind_of}
+use Rattle.smith_types.specs.Exports.{entity_kind}
 use Rattle.smith_rules.specs.Module.{IsTableInitialised}
 use Rattle.smith_defined.specs.RequiredExports.{several, scope_beside, with_table, with_global}
 use Rattle.smith_rules.specs.ExportedItems.{Export}
@@ -87,8 +87,8 @@ MayRefuseInitial config context added e = (e ≡ errors.Memory) ⊎ ((e ≡ erro
 -- errors of an entity: those of its initialiser, and a second memory or a second table without its
 -- feature
 abbrev pub MayRefuseEntity : Config → Context → EntityType → Error → Type 0
-MayRefuseEntity config context added (errors.IncorrectFormat SeveralMemories) = (counts_as counts.Memories (kind_of added) ≡ 1) × (config.max_memories ≤ 1)
-MayRefuseEntity config context added (errors.IncorrectFormat SeveralTables) = (counts_as counts.Tables (kind_of added) ≡ 1) × (config.reference_types_enabled ≡ false)
+MayRefuseEntity config context added (errors.IncorrectFormat SeveralMemories) = (counts_as counts.Memories (entity_kind added) ≡ 1) × (config.max_memories ≤ 1)
+MayRefuseEntity config context added (errors.IncorrectFormat SeveralTables) = (counts_as counts.Tables (entity_kind added) ≡ 1) × (config.reference_types_enabled ≡ false)
 MayRefuseEntity config context added e = MayRefuseInitial config context added e
 
 -- the use of the shape of a module, by whether an entity has its own type
@@ -135,8 +135,8 @@ pub record AreRequired (own_types : Bool) (config : Config) (shape : Shape) (old
   pub types_grown : Extends old_types.types types.types
   pub groups_grown : Extends old_types.groups types.groups
   pub spaces_grown : AreSpacesGrown old spaces
-  pub counted : (count : Count) → (count ≡ counts.Types → ⊥) → count_in spaces count ≡ count_in old count + exported_of count shape
-  pub types_counted : length types.types ≤ length old_types.types + exported_of counts.Types shape
+  pub counted : (count : Count) → (count ≡ counts.Types → ⊥) → count_in spaces count ≡ count_in old count + items_of_exports count shape
+  pub types_counted : length types.types ≤ length old_types.types + items_of_exports counts.Types shape
   pub limits : AddsLimitsOf shape old spaces
   pub unchanged : own_types ≡ false → types ≡ old_types
   pub lacking : HoldsUngroundedField config (drawn_beside config types.types spaces defined) → HoldsUngroundedField config (drawn_beside config old_types.types old old_defined)
@@ -158,6 +158,6 @@ MayRefuseExported config context shape one e = (e ≡ errors.Memory) ⊎ ((e ≡
 -- errors of the exports of a shape, over these types and functions: there is such a reference, or
 -- the shape has a memory or a table that may not follow others
 abbrev pub MayRefuseRequired : Config → Context → Shape → Error → Type 0
-MayRefuseRequired config context shape (errors.IncorrectFormat SeveralMemories) = (0 < exported_of counts.Memories shape) × (config.max_memories ≤ 1)
-MayRefuseRequired config context shape (errors.IncorrectFormat SeveralTables) = (0 < exported_of counts.Tables shape) × (config.reference_types_enabled ≡ false)
+MayRefuseRequired config context shape (errors.IncorrectFormat SeveralMemories) = (0 < items_of_exports counts.Memories shape) × (config.max_memories ≤ 1)
+MayRefuseRequired config context shape (errors.IncorrectFormat SeveralTables) = (0 < items_of_exports counts.Tables shape) × (config.reference_types_enabled ≡ false)
 MayRefuseRequired config context shape e = (e ≡ errors.Memory) ⊎ ((e ≡ errors.EmptyChoose) × MayLackIn config context shape)

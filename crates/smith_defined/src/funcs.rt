@@ -1,7 +1,7 @@
 ghost use Rattle.std.specs.Prelude.{◌≡◌, ◌<◌, ◌≤◌, ◌^◌, ◌⊎◌, [], length, IfErr, OnOk, All};
 ghost use Rattle.smith_bytes.specs.Source.{KeepsPieces};
 ghost use Rattle.smith_bytes.specs.Takes.{Takes};
-ghost use Rattle.smith_types.specs.Entities.{IsFuncValid};
+ghost use Rattle.smith_types.specs.Entities.{IsFuncTypeIndex};
 ghost use Rattle.smith_types.specs.ValidTypes.{AreTypesValid};
 ghost use Rattle.smith_config.specs.Faults.{Passes};
 ghost use Rattle.smith_config.specs.Features.{features_of};
@@ -62,7 +62,7 @@ pub(crate) fn define_funcs(
     requires few_types { length types.now.types < 2 ^ 32 }
     ensures exact { Gives (λ _. (funcs.new, u.new)) result (funcs_at config.now types.now.types funcs.old u.old) }
     ensures filled { OnOk result (IsFilled config.now.min_funcs config.now.max_funcs funcs.old funcs.new) }
-    ensures valid { All (IsFuncValid types.now.types) funcs.old → OnOk result (All (IsFuncValid types.now.types) funcs.new) }
+    ensures valid { All (IsFuncTypeIndex types.now.types) funcs.old → OnOk result (All (IsFuncTypeIndex types.now.types) funcs.new) }
     ensures refusal { IfErr result (MayRefuse config.now) }
     ensures reach { config.now.min_funcs ≡ 0 → funcs.old ≡ [] → OnOk result (Takes (SpellsFuncs config.now types.now.types) u.old funcs.new u.new) }
     ensures left { KeepsPieces u.old u.new }

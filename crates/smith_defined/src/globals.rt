@@ -13,10 +13,10 @@ ghost use Rattle.smith_draw.specs.Grounding.{standing_in};
 ghost use Rattle.smith_draw.specs.KeptOffers.{AreKeptOffers};
 ghost use Rattle.smith_config.specs.Granted.{HasGroundedValue};
 ghost use Rattle.smith_defined.specs.Defined.{IsFilled, AreAdded, MayInitialise, MayRefuseDrawn, AreGlobalsDefined, drawn_over};
-ghost use Rattle.smith_defined.specs.Definitions.{standing_among, initialised_at, globals_at};
+ghost use Rattle.smith_defined.specs.Definitions.{scope_among, initialised_at, globals_at};
 ghost use Rattle.smith_defined.specs.NumberedGlobals.{SpellsGlobals};
 
-use crate::past_full::ask_past_full;
+use crate::past_maximum::discard_past_maximum;
 use smith_bytes::{Error, Unstructured, goes_on};
 use smith_config::Config;
 use smith_draw::{Entities, KeptOffers, Spaces, Standing, draw_const_expr, draw_global_type};
@@ -66,20 +66,20 @@ fn push_globals<'a>(
     initials: &mut Items<(u32, Items<ConstInstr>)>,
     u: &mut Unstructured<'_>,
 ) -> Result<(), Error>
-    requires may { MayInitialise config.now types.now (standing_among types.now.types funcs.now imported_funcs imported_globals globals.old) }
-    requires standing { standing.now ≡ drawn_over config.now (standing_among types.now.types funcs.now imported_funcs imported_globals globals.old) }
+    requires may { MayInitialise config.now types.now (scope_among types.now.types funcs.now imported_funcs imported_globals globals.old) }
+    requires standing { standing.now ≡ drawn_over config.now (scope_among types.now.types funcs.now imported_funcs imported_globals globals.old) }
     requires valid { All (IsGlobalValid (features_of config.now) types.now.types) globals.old }
     requires imported { imported_globals ≤ length globals.old }
     requires few { length globals.old < 2 ^ 32 }
-    ensures exact { OnOk result (globals_at config.now (standing_among types.now.types funcs.now imported_funcs imported_globals globals.old) globals.old initials.old u.old ≡ ((globals.new, initials.new), u.new)) }
+    ensures exact { OnOk result (globals_at config.now (scope_among types.now.types funcs.now imported_funcs imported_globals globals.old) globals.old initials.old u.old ≡ ((globals.new, initials.new), u.new)) }
     ensures valid { OnOk result (All (IsGlobalValid (features_of config.now) types.now.types) globals.new) }
-    ensures defined { AreGlobalsDefined config.now (standing_among types.now.types funcs.now imported_funcs imported_globals globals.old) globals.old initials.old
-        → OnOk result (AreGlobalsDefined config.now (standing_among types.now.types funcs.now imported_funcs imported_globals globals.old) globals.new initials.new) }
-    ensures grounded { OnOk result (AreAdded (HasGroundedValue config.now (drawn_over config.now (standing_among types.now.types funcs.now imported_funcs imported_globals globals.old))) globals.old globals.new) }
+    ensures defined { AreGlobalsDefined config.now (scope_among types.now.types funcs.now imported_funcs imported_globals globals.old) globals.old initials.old
+        → OnOk result (AreGlobalsDefined config.now (scope_among types.now.types funcs.now imported_funcs imported_globals globals.old) globals.new initials.new) }
+    ensures grounded { OnOk result (AreAdded (HasGroundedValue config.now (drawn_over config.now (scope_among types.now.types funcs.now imported_funcs imported_globals globals.old))) globals.old globals.new) }
     ensures floats { config.now.allow_floats ≡ false → All (λ (global : GlobalType). IsNoFloat global.val_type) globals.old → OnOk result (All (λ (global : GlobalType). IsNoFloat global.val_type) globals.new) }
     ensures constants { config.now.allow_floats ≡ false → All HasNoFloat types.now.types → All (All GivesNoFloat) (map (λ (one : ℕ × List ConstInstr). one.1) initials.old)
         → OnOk result (All (All GivesNoFloat) (map (λ (one : ℕ × List ConstInstr). one.1) initials.new)) }
-    ensures refusal { IfErr result (MayRefuseDrawn config.now (drawn_over config.now (standing_among types.now.types funcs.now imported_funcs imported_globals globals.old))) }
+    ensures refusal { IfErr result (MayRefuseDrawn config.now (drawn_over config.now (scope_among types.now.types funcs.now imported_funcs imported_globals globals.old))) }
     ensures left { KeepsPieces u.old u.new }
 {
     let before = globals.len();
@@ -107,7 +107,7 @@ fn push_globals<'a>(
         globals.push(global)?;
         initials.push(initial)?;
     }
-    ask_past_full(before, config.max_globals, u);
+    discard_past_maximum(before, config.max_globals, u);
     Ok(())
 }
 
@@ -125,23 +125,23 @@ pub(crate) fn define_globals<'a>(
     initials: &mut Items<(u32, Items<ConstInstr>)>,
     u: &mut Unstructured<'_>,
 ) -> Result<(), Error>
-    requires may { MayInitialise config.now types.now (standing_among types.now.types funcs.now imported_funcs imported_globals globals.old) }
-    requires standing { standing.now ≡ drawn_over config.now (standing_among types.now.types funcs.now imported_funcs imported_globals globals.old) }
+    requires may { MayInitialise config.now types.now (scope_among types.now.types funcs.now imported_funcs imported_globals globals.old) }
+    requires standing { standing.now ≡ drawn_over config.now (scope_among types.now.types funcs.now imported_funcs imported_globals globals.old) }
     requires valid { All (IsGlobalValid (features_of config.now) types.now.types) globals.old }
     requires imported { imported_globals ≤ length globals.old }
     requires few { length globals.old < 2 ^ 32 }
-    ensures exact { OnOk result (globals_at config.now (standing_among types.now.types funcs.now imported_funcs imported_globals globals.old) globals.old initials.old u.old ≡ ((globals.new, initials.new), u.new)) }
+    ensures exact { OnOk result (globals_at config.now (scope_among types.now.types funcs.now imported_funcs imported_globals globals.old) globals.old initials.old u.old ≡ ((globals.new, initials.new), u.new)) }
     ensures filled { OnOk result (IsFilled config.now.min_globals config.now.max_globals globals.old globals.new) }
     ensures valid { OnOk result (All (IsGlobalValid (features_of config.now) types.now.types) globals.new) }
-    ensures defined { AreGlobalsDefined config.now (standing_among types.now.types funcs.now imported_funcs imported_globals globals.old) globals.old initials.old
-        → OnOk result (AreGlobalsDefined config.now (standing_among types.now.types funcs.now imported_funcs imported_globals globals.old) globals.new initials.new) }
-    ensures grounded { OnOk result (AreAdded (HasGroundedValue config.now (drawn_over config.now (standing_among types.now.types funcs.now imported_funcs imported_globals globals.old))) globals.old globals.new) }
+    ensures defined { AreGlobalsDefined config.now (scope_among types.now.types funcs.now imported_funcs imported_globals globals.old) globals.old initials.old
+        → OnOk result (AreGlobalsDefined config.now (scope_among types.now.types funcs.now imported_funcs imported_globals globals.old) globals.new initials.new) }
+    ensures grounded { OnOk result (AreAdded (HasGroundedValue config.now (drawn_over config.now (scope_among types.now.types funcs.now imported_funcs imported_globals globals.old))) globals.old globals.new) }
     ensures floats { config.now.allow_floats ≡ false → All (λ (global : GlobalType). IsNoFloat global.val_type) globals.old → OnOk result (All (λ (global : GlobalType). IsNoFloat global.val_type) globals.new) }
     ensures constants { config.now.allow_floats ≡ false → All HasNoFloat types.now.types → All (All GivesNoFloat) (map (λ (one : ℕ × List ConstInstr). one.1) initials.old)
         → OnOk result (All (All GivesNoFloat) (map (λ (one : ℕ × List ConstInstr). one.1) initials.new)) }
     ensures reach { config.now.min_globals ≡ 0 → globals.old ≡ [] → initials.old ≡ []
         → OnOk result (Takes (SpellsGlobals config.now) u.old (globals.new, map (λ (one : ℕ × List ConstInstr). one.1) initials.new) u.new) }
-    ensures refusal { IfErr result (MayRefuseDrawn config.now (drawn_over config.now (standing_among types.now.types funcs.now imported_funcs imported_globals globals.old))) }
+    ensures refusal { IfErr result (MayRefuseDrawn config.now (drawn_over config.now (scope_among types.now.types funcs.now imported_funcs imported_globals globals.old))) }
     ensures left { KeepsPieces u.old u.new }
 {
     push_globals(

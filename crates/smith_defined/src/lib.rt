@@ -6,7 +6,7 @@ mod definitions;
 mod funcs;
 mod globals;
 mod memories;
-mod past_full;
+mod past_maximum;
 mod required_entities;
 mod required_types;
 mod shape_entities;

@@ -10,7 +10,7 @@ ghost use Rattle.smith_defined.specs.Defined.{IsFilled, AreAdded};
 ghost use Rattle.smith_defined.specs.Definitions.{memories_at};
 ghost use Rattle.smith_bytes.specs.Spelling.{SpellsNone};
 
-use crate::past_full::ask_past_full;
+use crate::past_maximum::discard_past_maximum;
 use smith_bytes::{Error, Unstructured, goes_on};
 use smith_config::Config;
 use smith_draw::arbitrary_memtype;
@@ -37,7 +37,7 @@ fn push_memories(
         let memory = arbitrary_memtype(config, u)?;
         memories.push(memory)?;
     }
-    ask_past_full(before, config.max_memories, u);
+    discard_past_maximum(before, config.max_memories, u);
     Ok(())
 }
 

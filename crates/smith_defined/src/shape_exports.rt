@@ -12,7 +12,7 @@ ghost use Rattle.smith_config.specs.Shapes.{most_listed, shape_imports, shape_sp
 ghost use Rattle.smith_draw.specs.ConstBounds.{HoldsUngroundedField};
 ghost use Rattle.smith_draw.specs.KeptOffers.{AreKeptOffers};
 ghost use Rattle.smith_draw.specs.FuncSizes.{HasFewValues};
-ghost use Rattle.smith_rules.specs.Bounds.{exported_of};
+ghost use Rattle.smith_rules.specs.Bounds.{items_of_exports};
 ghost use Rattle.smith_rules.specs.ShapeImports.{count_in};
 ghost use Rattle.smith_rules.specs.ExportedItems.{IsStanding, Export};
 ghost use Rattle.smith_defined.specs.Defined.{StandsBehind, drawn_beside};
@@ -141,13 +141,13 @@ pub fn make_required_exports(
     ensures stands { (imported : Spaces) → StandsBehind config.now imported types.old (spaces_in spaces.old) definitions.old → OnOk result (StandsBehind config.now imported types.new (spaces_in spaces.new) definitions.new) }
     ensures types { OnOk result (Extends types.old.types types.new.types) }
     ensures groups { OnOk result (Extends types.old.groups types.new.groups) }
-    ensures types_most { OnOk result (length types.new.types ≤ length types.old.types + exported_of Types shape.now) }
+    ensures types_most { OnOk result (length types.new.types ≤ length types.old.types + items_of_exports Types shape.now) }
     ensures lacking { OnOk result (HoldsUngroundedField config.now (drawn_beside config.now types.new.types (spaces_in spaces.new) definitions.new) → HoldsUngroundedField config.now (drawn_beside config.now types.old.types (spaces_in spaces.old) definitions.old)) }
     ensures types_of { OnOk result (AddsTypesOf shape.now types.old.types types.new.types) }
     ensures few_values { All (HasFewValues most_listed) types.old.types → OnOk result (All (HasFewValues most_listed) types.new.types) }
     ensures spaces { OnOk result (AreSpacesGrown (spaces_in spaces.old) (spaces_in spaces.new)) }
     ensures limits { OnOk result (AddsLimitsOf shape.now (spaces_in spaces.old) (spaces_in spaces.new)) }
-    ensures counted { (count : Count) → (count ≡ Types → ⊥) → OnOk result (count_in (spaces_in spaces.new) count ≡ count_in (spaces_in spaces.old) count + exported_of count shape.now) }
+    ensures counted { (count : Count) → (count ≡ Types → ⊥) → OnOk result (count_in (spaces_in spaces.new) count ≡ count_in (spaces_in spaces.old) count + items_of_exports count shape.now) }
     ensures refusal { IfErr result (MayRefuseRequired config.now (drawn_beside config.now types.old.types (spaces_in spaces.old) definitions.old) shape.now) }
     ensures memory { (MayLackIn config.now (drawn_beside config.now types.old.types (spaces_in spaces.old) definitions.old) shape.now → ⊥) → IsTrue config.now.reference_types_enabled → 2 ≤ config.now.max_memories → IfErr result (λ e. e ≡ Error.Memory) }
     ensures left { KeepsPieces u.old u.new }
@@ -180,7 +180,7 @@ pub fn make_shape_exports(
     ensures types { OnOk result (types.new ≡ types.old) }
     ensures spaces { OnOk result (AreSpacesGrown (spaces_in spaces.old) (spaces_in spaces.new)) }
     ensures limits { OnOk result (AddsLimitsOf shape.now (spaces_in spaces.old) (spaces_in spaces.new)) }
-    ensures counted { (count : Count) → (count ≡ Types → ⊥) → OnOk result (count_in (spaces_in spaces.new) count ≡ count_in (spaces_in spaces.old) count + exported_of count shape.now) }
+    ensures counted { (count : Count) → (count ≡ Types → ⊥) → OnOk result (count_in (spaces_in spaces.new) count ≡ count_in (spaces_in spaces.old) count + items_of_exports count shape.now) }
     ensures refusal { IfErr result (MayRefuseRequired config.now (drawn_beside config.now types.old.types (spaces_in spaces.old) definitions.old) shape.now) }
     ensures memory { (MayLackIn config.now (drawn_beside config.now types.old.types (spaces_in spaces.old) definitions.old) shape.now → ⊥) → IsTrue config.now.reference_types_enabled → 2 ≤ config.now.max_memories → IfErr result (λ e. e ≡ Error.Memory) }
     ensures left { KeepsPieces u.old u.new }

@@ -4,7 +4,7 @@ use Rattle.std.specs.List.{list_any}
 use Rattle.smith_types.specs.declared.composite_type.CompositeInnerType.{CompositeInnerType}
 use Rattle.smith_types.specs.declared.composite_type.CompositeInnerType.TheVariants.{Func}
 use Rattle.smith_types.specs.declared.composite_type.SubType.{SubType}
-use Rattle.smith_types.specs.Entities.{IsTagValid, IsFuncValid}
+use Rattle.smith_types.specs.Entities.{IsTagValid, IsFuncTypeIndex}
 use Rattle.smith_draw.specs.declared.type_use.TypeUse.{TypeUse}
 use Rattle.smith_draw.specs.declared.type_use.TypeUse.TheVariants.{Tag, ImportedFunc, DefinedFunc}
 
@@ -44,8 +44,8 @@ types_for for_use types = places_from (may_be_used for_use) 0 types
 -- the type at this index is suitable for a use
 abbrev pub IsUsable : TypeUse → List SubType → ℕ → Type 0
 IsUsable Tag types index = IsTagValid types index
-IsUsable ImportedFunc types index = IsFuncValid types index
-IsUsable DefinedFunc types index = IsFuncValid types index
+IsUsable ImportedFunc types index = IsFuncTypeIndex types index
+IsUsable DefinedFunc types index = IsFuncTypeIndex types index
 
 -- the indices of the types that a function may be defined with: only unshared ones, unlike those of
 -- imported functions

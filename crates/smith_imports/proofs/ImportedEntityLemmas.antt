@@ -4,7 +4,7 @@ use Rattle.std.proofs.lemmas.Option.{slice_get_within}
 use Rattle.std.specs.Prelude.{IsTrue, All}
 use Rattle.std.specs.List.{AllByRecursion as ByRecursion}
 use Rattle.std.proofs.lemmas.List.Elements.{All-nil, All-cons, All-from_recursion}
-use Rattle.smith_types.specs.Entities.{IsTagValid, IsFuncValid, IsTableValid, IsMemoryValid, IsGlobalValid}
+use Rattle.smith_types.specs.Entities.{IsTagValid, IsFuncTypeIndex, IsTableValid, IsMemoryValid, IsGlobalValid}
 use Rattle.smith_types.specs.Imports.{IndexSpaces, table_of, global_of}
 use Rattle.smith_types.specs.Space.{Space}
 use Rattle.smith_types.specs.declared.composite_type.SubType.{SubType}
@@ -24,23 +24,23 @@ use Rattle.smith_draw.specs.declared.type_use.TypeUse.{TypeUse}
 use Rattle.smith_draw.proofs.EnabledLemmas.{enabled_all}
 use Rattle.smith_draw.proofs.SupertypeLemmas.{chosen_of}
 use Rattle.smith_draw.proofs.TypeUseLemmas.{types_usable}
-use Rattle.smith_imports.specs.Imported.{MayImport, IsEntityFit, IsFitBeside, IsOffered}
+use Rattle.smith_imports.specs.Imported.{MayImport, IsEntityFit, IsFitBeside, MayImportKind}
 use Rattle.smith_types.specs.Floats.{HasNoFloatValue}
 use Rattle.smith_config.specs.Granted.{HasGroundedElements, HasGroundedValue}
 use Rattle.smith_draw.proofs.FuncSizeLemmas.{small_at}
 use Rattle.smith_imports.specs.ImportedEntities.{import_scope, kind_rows}
 
 kind_offered : (config : Config) (types : List SubType) (spaces : IndexSpaces) (bytes : List ℕ) (of_kind : ExportKind) (after : List ℕ) → 0 < length (enabled (kind_rows config types spaces)) → chosen_at kind.Memory (enabled (kind_rows config types spaces)) bytes ≡ (of_kind, after)
-    → IsOffered config types spaces of_kind
+    → MayImportKind config types spaces of_kind
 kind_offered config types spaces bytes of_kind after some chosen =
-    let P = IsOffered config types spaces in
+    let P = MayImportKind config types spaces in
     let rows : ByRecursion (λ (r : ExportKind × Bool). IsTrue r.1 → P r.0) (kind_rows config types spaces) = ((λ on. on), ((λ on. on), ((λ on. on), ((λ on. on), ((λ on. on), tt))))) in
     let each = enabled_all P (kind_rows config types spaces) (All-from_recursion (λ (r : ExportKind × Bool). IsTrue r.1 → P r.0) (kind_rows config types spaces) rows) in
     subst (λ (drawn : ExportKind × List ℕ). P drawn.0) chosen (chosen_of P kind.Memory (enabled (kind_rows config types spaces)) bytes some each)
 
 -- the kind chosen from a table with the rows of the kinds may be imported
 pub row_offered : (config : Config) (types : List SubType) (spaces : IndexSpaces) (table : List (ExportKind × Bool)) (bytes after : List ℕ) (of_kind : ExportKind) (count : ℕ) → table ≡ kind_rows config types spaces → count ≡ length (enabled table) → (count ≡ 0 → ⊥)
-    → chosen_at kind.Memory (enabled table) bytes ≡ (of_kind, after) → IsOffered config types spaces of_kind
+    → chosen_at kind.Memory (enabled table) bytes ≡ (of_kind, after) → MayImportKind config types spaces of_kind
 row_offered config types spaces table bytes after of_kind count is size some chosen =
     let filled : 0 < length (enabled table) = omega arith in
     kind_offered config types spaces bytes of_kind after (subst (λ (t : List (ExportKind × Bool)). 0 < length (enabled t)) is filled)
@@ -70,7 +70,7 @@ module _ (config : Config) (space : Space) (may : MayImport config space) where
   tag_fit index on valid = record {
     valid = record {
       tags = All-cons (IsTagValid space.types) index [] valid (All-nil (IsTagValid space.types));
-      funcs = All-nil (IsFuncValid space.types);
+      funcs = All-nil (IsFuncTypeIndex space.types);
       tables = All-nil (IsTableValid (features_of config) space.types);
       memories = All-nil (IsMemoryValid (features_of config));
       globals = All-nil (IsGlobalValid (features_of config) space.types);
@@ -83,11 +83,11 @@ module _ (config : Config) (space : Space) (may : MayImport config space) where
     typed = tt;
   }
 
-  pub func_fit : (index : ℕ) → IsFuncValid space.types index → IsEntityFit config space.types (entity.Func index)
+  pub func_fit : (index : ℕ) → IsFuncTypeIndex space.types index → IsEntityFit config space.types (entity.Func index)
   func_fit index (function, (t, at, is)) = record {
     valid = record {
       tags = All-nil (IsTagValid space.types);
-      funcs = All-cons (IsFuncValid space.types) index [] (function, (t, at, is)) (All-nil (IsFuncValid space.types));
+      funcs = All-cons (IsFuncTypeIndex space.types) index [] (function, (t, at, is)) (All-nil (IsFuncTypeIndex space.types));
       tables = All-nil (IsTableValid (features_of config) space.types);
       memories = All-nil (IsMemoryValid (features_of config));
       globals = All-nil (IsGlobalValid (features_of config) space.types);
@@ -104,7 +104,7 @@ module _ (config : Config) (space : Space) (may : MayImport config space) where
   global_fit global valid floats = record {
     valid = record {
       tags = All-nil (IsTagValid space.types);
-      funcs = All-nil (IsFuncValid space.types);
+      funcs = All-nil (IsFuncTypeIndex space.types);
       tables = All-nil (IsTableValid (features_of config) space.types);
       memories = All-nil (IsMemoryValid (features_of config));
       globals = All-cons (IsGlobalValid (features_of config) space.types) global [] valid (All-nil (IsGlobalValid (features_of config) space.types));
@@ -121,7 +121,7 @@ module _ (config : Config) (space : Space) (may : MayImport config space) where
   memory_fit memory valid within = record {
     valid = record {
       tags = All-nil (IsTagValid space.types);
-      funcs = All-nil (IsFuncValid space.types);
+      funcs = All-nil (IsFuncTypeIndex space.types);
       tables = All-nil (IsTableValid (features_of config) space.types);
       memories = All-cons (IsMemoryValid (features_of config)) memory [] valid (All-nil (IsMemoryValid (features_of config)));
       globals = All-nil (IsGlobalValid (features_of config) space.types);
@@ -138,7 +138,7 @@ module _ (config : Config) (space : Space) (may : MayImport config space) where
   table_fit table valid within = record {
     valid = record {
       tags = All-nil (IsTagValid space.types);
-      funcs = All-nil (IsFuncValid space.types);
+      funcs = All-nil (IsFuncTypeIndex space.types);
       tables = All-cons (IsTableValid (features_of config) space.types) table [] valid (All-nil (IsTableValid (features_of config) space.types));
       memories = All-nil (IsMemoryValid (features_of config));
       globals = All-nil (IsGlobalValid (features_of config) space.types);

@@ -10,8 +10,8 @@ use Rattle.std.proofs.lemmas.Grind.{flat_map-append}
 use Rattle.std.proofs.lemmas.Bool.{ltb-true, ltb-false}
 use Rattle.std.proofs.lemmas.Map.Keys.{any_passes_from_place}
 use Rattle.std.proofs.lemmas.Slice.Eq.{bytes_eq-Decides}
-use Rattle.smith_types.specs.Entities.{AreEntitiesValid, IsTagValid, IsFuncValid, IsTableValid, IsMemoryValid, IsGlobalValid}
-use Rattle.smith_types.specs.Exports.{kind_of}
+use Rattle.smith_types.specs.Entities.{AreEntitiesValid, IsTagValid, IsFuncTypeIndex, IsTableValid, IsMemoryValid, IsGlobalValid}
+use Rattle.smith_types.specs.Exports.{entity_kind}
 use Rattle.smith_types.specs.Features.{Features}
 use Rattle.smith_types.specs.Grown.{AreImportsGrown}
 use Rattle.smith_types.specs.Expressions.{Context}
@@ -62,7 +62,7 @@ sizes_more types imports one = let parts = sum_by-append (λ (each : Import). si
 entities_more : (features : Features) (types : List SubType) (a b : IndexSpaces) → AreEntitiesValid features types a → AreEntitiesValid features types b → AreEntitiesValid features types (joined a b)
 entities_more features types a b old new = record {
   tags = All-append (IsTagValid types) a.tags b.tags old.tags new.tags;
-  funcs = All-append (IsFuncValid types) a.funcs b.funcs old.funcs new.funcs;
+  funcs = All-append (IsFuncTypeIndex types) a.funcs b.funcs old.funcs new.funcs;
   tables = All-append (IsTableValid features types) a.tables b.tables old.tables new.tables;
   memories = All-append (IsMemoryValid features) a.memories b.memories old.memories new.memories;
   globals = All-append (IsGlobalValid features types) a.globals b.globals old.globals new.globals;
@@ -75,14 +75,14 @@ pushed xs x most room = let lt = ltb-true (length xs) most room in omega (arith,
 same : {A : Type 0} (xs : List A) (most : ℕ) → length xs ≤ most → length (xs ++ []) ≤ most
 same xs most le = rw append-nil le
 
-pub numbers_more : (config : Config) (spaces : IndexSpaces) (one : EntityType) → AreNumbersWithin config spaces → has_room config spaces (kind_of one) ≡ true → AreNumbersWithin config (joined spaces (entity_spaces one))
+pub numbers_more : (config : Config) (spaces : IndexSpaces) (one : EntityType) → AreNumbersWithin config spaces → has_room config spaces (entity_kind one) ≡ true → AreNumbersWithin config (joined spaces (entity_spaces one))
 numbers_more config spaces (entity.Tag x) w room = record { tags = pushed spaces.tags x _ room; funcs = same _ _ w.funcs; tables = same _ _ w.tables; memories = same _ _ w.memories; globals = same _ _ w.globals }
 numbers_more config spaces (entity.Func x) w room = record { tags = same _ _ w.tags; funcs = pushed spaces.funcs x _ room; tables = same _ _ w.tables; memories = same _ _ w.memories; globals = same _ _ w.globals }
 numbers_more config spaces (entity.Table x) w room = record { tags = same _ _ w.tags; funcs = same _ _ w.funcs; tables = pushed spaces.tables x _ room; memories = same _ _ w.memories; globals = same _ _ w.globals }
 numbers_more config spaces (entity.Memory x) w room = record { tags = same _ _ w.tags; funcs = same _ _ w.funcs; tables = same _ _ w.tables; memories = pushed spaces.memories x _ room; globals = same _ _ w.globals }
 numbers_more config spaces (entity.Global x) w room = record { tags = same _ _ w.tags; funcs = same _ _ w.funcs; tables = same _ _ w.tables; memories = same _ _ w.memories; globals = pushed spaces.globals x _ room }
 
-within_more : (config : Config) (types : List SubType) (spaces : IndexSpaces) (one : EntityType) → AreSpacesWithin config spaces → IsEntityFit config types one → has_room config spaces (kind_of one) ≡ true → AreSpacesWithin config (joined spaces (entity_spaces one))
+within_more : (config : Config) (types : List SubType) (spaces : IndexSpaces) (one : EntityType) → AreSpacesWithin config spaces → IsEntityFit config types one → has_room config spaces (entity_kind one) ≡ true → AreSpacesWithin config (joined spaces (entity_spaces one))
 within_more config types spaces one w fit room =
     let old : AreNumbersWithin config spaces = record { tags = w.tags; funcs = w.funcs; tables = w.tables; memories = w.memories; globals = w.globals } in
     let numbers = numbers_more config spaces one old room in

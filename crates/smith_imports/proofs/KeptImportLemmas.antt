@@ -7,7 +7,7 @@ use Rattle.std.proofs.lemmas.Grind.{flat_map-append}
 use Rattle.std.proofs.lemmas.List.{map-append, take_more}
 use Rattle.std.proofs.lemmas.List.Elements.{All-nil, All-cons}
 use Rattle.smith_bytes.specs.declared.error.Which.TheVariants.{ModuleShape}
-use Rattle.smith_types.specs.Entities.{IsTagValid, IsFuncValid, IsTableValid, IsMemoryValid, IsGlobalValid, AreEntitiesValid, AreCountsEnabled}
+use Rattle.smith_types.specs.Entities.{IsTagValid, IsFuncTypeIndex, IsTableValid, IsMemoryValid, IsGlobalValid, AreEntitiesValid, AreCountsEnabled}
 use Rattle.smith_types.specs.Features.{Features}
 use Rattle.smith_types.specs.Flags.{IsImportsEnabled}
 use Rattle.smith_types.specs.Imports.{IsImportsValid, imports_of, flattened, imported_spaces}
@@ -93,7 +93,7 @@ imported_valid config shape valid =
     let h = valid.consistent.entities in
     record {
       tags = (all_apart (IsTagValid types) spaces.tags shape.tags h.tags).0;
-      funcs = (all_apart (IsFuncValid types) spaces.funcs shape.funcs h.funcs).0;
+      funcs = (all_apart (IsFuncTypeIndex types) spaces.funcs shape.funcs h.funcs).0;
       tables = (all_apart (IsTableValid features types) spaces.tables shape.tables h.tables).0;
       memories = (all_apart (IsMemoryValid features) spaces.memories shape.memories h.memories).0;
       globals = (all_apart (IsGlobalValid features types) spaces.globals shape.globals h.globals).0;

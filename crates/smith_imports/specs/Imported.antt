@@ -6,7 +6,7 @@ use Rattle.smith_bytes.specs.declared.error.Error.TheVariants as errors
 use Rattle.smith_bytes.specs.declared.error.Why.TheVariants.{Unmet}
 use Rattle.smith_bytes.specs.declared.error.Count.TheVariants as counts
 use Rattle.smith_types.specs.Entities.{AreEntitiesValid}
-use Rattle.smith_types.specs.Exports.{AreDistinct, kind_of}
+use Rattle.smith_types.specs.Exports.{AreDistinct, entity_kind}
 use Rattle.smith_types.specs.Flags.{IsImportsEnabled}
 use Rattle.smith_types.specs.Floats.{HasNoFloatValue}
 use Rattle.smith_types.specs.Imports.{IndexSpaces, IsImportsValid, flattened, imported_spaces, tag_of, table_of, memory_of, global_of, entity_spaces}
@@ -122,13 +122,13 @@ pub record IsFitBeside (config : Config) (types : List SubType) (spaces : IndexS
 -- an entity may be imported after these index spaces and this type size
 pub record IsNext (config : Config) (types : List SubType) (spaces : IndexSpaces) (size : ℕ) (added : EntityType) : Type 0 where
   pub fit : IsFitBeside config types spaces added
-  pub room : has_room config spaces (kind_of added) ≡ true
+  pub room : has_room config spaces (entity_kind added) ≡ true
   pub fits : size + (size_in types added + 1) ≤ config.max_type_size
   pub sum : size + (size_in types added + 1) < 2 ^ 32
 
 -- one more of a kind may be imported
-abbrev pub IsOffered : Config → List SubType → IndexSpaces → ExportKind → Type 0
-IsOffered config types spaces of_kind = (may_import config types of_kind && has_room config spaces of_kind) ≡ true
+abbrev pub MayImportKind : Config → List SubType → IndexSpaces → ExportKind → Type 0
+MayImportKind config types spaces of_kind = (may_import config types of_kind && has_room config spaces of_kind) ≡ true
 
 -- imports may end at these index spaces and this type size: an import may be too large, or a kind
 -- is full

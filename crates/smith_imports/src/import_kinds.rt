@@ -1,6 +1,6 @@
 ghost use Rattle.std.specs.Prelude.{◌≡◌, ◌<◌, false, None, IfSome};
 ghost use Rattle.smith_draw.specs.Drawing.{AlwaysDraws};
-ghost use Rattle.smith_imports.specs.Imported.{IsOffered, spaces_of};
+ghost use Rattle.smith_imports.specs.Imported.{MayImportKind, spaces_of};
 ghost use Rattle.smith_imports.specs.ImportedEntities.{has_room, may_import, kind_row, kind_at};
 
 use crate::import_types::ImportTypes;
@@ -55,7 +55,7 @@ pub(crate) fn draw_kind(
     u: &mut Unstructured<'_>,
 ) -> Option<ExportKind>
     ensures draws { AlwaysDraws (kind_at config.now types.now.types (spaces_of imported.now) u.old) result u.old u.new }
-    ensures offered { IfSome result (IsOffered config.now types.now.types (spaces_of imported.now)) }
+    ensures offered { IfSome result (MayImportKind config.now types.now.types (spaces_of imported.now)) }
     ensures full { result ≡ None → has_room config.now (spaces_of imported.now) ExportKind.Table ≡ false }
 {
     let table = [

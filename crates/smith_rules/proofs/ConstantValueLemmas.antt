@@ -9,7 +9,7 @@ use Rattle.std.proofs.lemmas.List.Folds.{Any-from_list_any}
 use Rattle.std.proofs.lemmas.List.FromFn.{length-range_with_len, get_or-range_with_len}
 use Rattle.std.proofs.lemmas.List.Sums.{AllPass-from_list_all}
 use Rattle.smith_rules.specs.InterestingValues.{IsNearPower, IsPattern, float_edges}
-use Rattle.smith_rules.specs.CollectedValues.{AreExactly, Wide, IsConstant}
+use Rattle.smith_rules.specs.CollectedValues.{AreExactly, Wide, IsConstantValue}
 
 -- whether a number is in a list
 abbrev has : List ℕ → ℕ → Bool
@@ -80,7 +80,7 @@ powers_near from zero small = All-nil IsNearPower
 powers_near from (suc count) small = All-append IsNearPower (edges from) (powers (from + 1) count) (edges_near from (omega (arith, small))) (powers_near (from + 1) count (omega (arith, small)))
 
 -- the reason why a number is in the list
-reason : (n : ℕ) → Contains constants n → IsConstant n
+reason : (n : ℕ) → Contains constants n → IsConstantValue n
 reason n inside = elim (Contains-append_cases (powers 0 64) (map repeated patterns ++ (float_edges 11 52 ++ float_edges 8 23)) n inside) [
   | inl power ↦ inl (All-contains IsNearPower (powers 0 64) n (powers_near 0 64 (omega arith)) power)
   | inr other ↦ elim (Contains-append_cases (map repeated patterns) (float_edges 11 52 ++ float_edges 8 23) n other) [
@@ -98,7 +98,7 @@ near_edges n i (inr (inr (inl e))) = (2, omega arith, omega (arith, e))
 near_edges n i (inr (inr (inr e))) = (3, omega arith, omega (arith, e))
 
 -- each is in the list
-listed : (n : ℕ) → IsConstant n → Contains constants n
+listed : (n : ℕ) → IsConstantValue n → Contains constants n
 listed n (inl (i, small, edge)) = members (edges i) constants (below (λ k. list_all (has constants) (edges k)) 64 refl i small) n (near_edges n i edge)
 listed n (inr (inl (k, byte, inside, at, pattern))) =
     let found = All-contains (λ b. has constants (repeated b) ≡ true) patterns byte (AllPass-from_list_all (λ b. has constants (repeated b)) patterns refl) (k, inside, at) in
@@ -106,9 +106,9 @@ listed n (inr (inl (k, byte, inside, at, pattern))) =
 listed n (inr (inr (inl edge))) = members (float_edges 11 52) constants refl n edge
 listed n (inr (inr (inr edge))) = members (float_edges 8 23) constants refl n edge
 
-pub constants_exactly : AreExactly (Wide IsConstant) constants
+pub constants_exactly : AreExactly (Wide IsConstantValue) constants
 constants_exactly = record {
-  each = All-weaker (Contains constants) (Wide IsConstant) (λ n inside. (fits n inside, reason n inside)) constants (All-contains_itself constants);
+  each = All-weaker (Contains constants) (Wide IsConstantValue) (λ n inside. (fits n inside, reason n inside)) constants (All-contains_itself constants);
   whole = λ n h. listed n h.1;
 }
   where

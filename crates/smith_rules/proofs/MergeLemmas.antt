@@ -9,7 +9,7 @@ use Rattle.std.proofs.lemmas.List.Sorted.{searched}
 use Rattle.std.proofs.lemmas.List.{append_assoc, append-nil, take_all, take_more, length-drop, length-take-le, get_or-take, get_or-drop, get_or_default, take-append-drop, drop-drop}
 use Rattle.std.proofs.lemmas.List.Elements.{All-nil, All-cons, All-append, All-weaker, All-contains, All-contains_itself, Contains-append_left, Contains-append_right, Contains-append_cases, Contains-push_cases}
 use Rattle.std.proofs.lemmas.List.Kept.{AllPairs-cons, AllPairs-from_increasing}
-use Rattle.smith_rules.specs.CollectedValues.{IsInOrder, IsPlaceOf, IsPut}
+use Rattle.smith_rules.specs.CollectedValues.{IsSortedSet, IsPlaceOf, IsInserted}
 
 -- each number is below all later ones
 abbrev pub Rises : List ℕ → Type 0
@@ -108,7 +108,7 @@ place_missing numbers number at ascending found =
 
 -- a place in a list divides it
 pub put : (made rest : List ℕ) (number before after : ℕ) (new left : List ℕ) → IsPlaceOf rest number before after → left ≡ drop after rest
-    → new ≡ (made ++ take before rest) ++ number ∷ [] → IsPut made rest number new left
+    → new ≡ (made ++ take before rest) ++ number ∷ [] → IsInserted made rest number new left
 put made rest number before after new left place is_left is_new = record {
   front = take before rest;
   same = middle;
@@ -156,7 +156,7 @@ pub rest_rises : (constants near : List ℕ) (k : ℕ) (made rest : List ℕ) �
 rest_rises constants near k made rest merging = increasing rest (rises_right made rest merging.rises)
 
 pub merging_goes_on : (constants near : List ℕ) (k : ℕ) (made rest new left : List ℕ) → IsStrictlyIncreasing near → k < length near
-    → IsMerging constants near k made rest → IsPut made rest (get_or near k 0) new left → IsMerging constants near (k + 1) new left
+    → IsMerging constants near k made rest → IsInserted made rest (get_or near k 0) new left → IsMerging constants near (k + 1) new left
 merging_goes_on constants near k made rest new left near_rises inside merging put = record {
   rises = subst Rises (sym whole) (rises_joined made (front ++ number ∷ left) (rises_left made tail rises)
       (rises_joined front (number ∷ left) (rises_left front (put.same ++ left) tail_rises)
@@ -252,7 +252,7 @@ merging_goes_on constants near k made rest new left near_rises inside merging pu
 
 -- nothing is left to put
 pub merging_ends : (constants near : List ℕ) (k : ℕ) (made rest : List ℕ) → length near ≤ k → IsMerging constants near k made rest
-    → IsInOrder (constants ++ near) (made ++ rest)
+    → IsSortedSet (constants ++ near) (made ++ rest)
 merging_ends constants near k made rest ended merging = record {
   ascending = increasing (made ++ rest) merging.rises;
   keeps = λ n there. merging.keeps n (subst (λ xs. Contains (constants ++ xs) n) (sym (take_all k near ended)) there);
@@ -260,7 +260,7 @@ merging_ends constants near k made rest ended merging = record {
 }
 
 -- numbers in order, and then in order with others
-pub order_after : (others numbers ordered made : List ℕ) → IsInOrder numbers ordered → IsInOrder (others ++ ordered) made → IsInOrder (others ++ numbers) made
+pub order_after : (others numbers ordered made : List ℕ) → IsSortedSet numbers ordered → IsSortedSet (others ++ ordered) made → IsSortedSet (others ++ numbers) made
 order_after others numbers ordered made first second = record {
   ascending = second.ascending;
   keeps = λ n there. second.keeps n (elim (Contains-append_cases others numbers n there) [

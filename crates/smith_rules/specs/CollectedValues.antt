@@ -20,14 +20,14 @@ abbrev pub Narrow : (ℕ → Type 0) → ℕ → Type 0
 Narrow Holds n = (n < 2 ^ 32) × ((high : ℕ) × Wide Holds (high * 2 ^ 32 + n))
 
 -- `new` is `old` followed by those of 64 bits with this property, and nothing else
-pub record Adds (Holds : ℕ → Type 0) (old new : List ℕ) : Type 0 where
+pub record AddsNumbers (Holds : ℕ → Type 0) (old new : List ℕ) : Type 0 where
   pub more : List ℕ
   pub parts : new ≡ old ++ more
   pub exactly : AreExactly (Wide Holds) more
 
 -- interesting in each module
-abbrev pub IsConstant : ℕ → Type 0
-IsConstant n = IsNearPower n ⊎ (IsPattern n ⊎ IsFloatEdge n)
+abbrev pub IsConstantValue : ℕ → Type 0
+IsConstantValue n = IsNearPower n ⊎ (IsPattern n ⊎ IsFloatEdge n)
 
 -- near a limit of elements: the limit, or one more
 abbrev pub IsNearElements : ℕ → ℕ → Type 0
@@ -49,7 +49,7 @@ abbrev pub IsNearLimit : List TableType → List MemoryType → ℕ → Type 0
 IsNearLimit tables memories n = Any (IsNearTable n) tables ⊎ Any (IsNearMemory n) memories
 
 -- `made` holds the numbers of `numbers`, each once, in ascending order
-pub record IsInOrder (numbers made : List ℕ) : Type 0 where
+pub record IsSortedSet (numbers made : List ℕ) : Type 0 where
   pub ascending : IsStrictlyIncreasing made
   pub keeps : (n : ℕ) → Contains numbers n → Contains made n
   pub adds_none : (n : ℕ) → Contains made n → Contains numbers n
@@ -65,7 +65,7 @@ pub record IsPlaceOf (numbers : List ℕ) (number before after : ℕ) : Type 0 w
   pub above : (k : ℕ) → after ≤ k → k < length numbers → number < get_or numbers k 0
 
 -- a number is added to `made`, after those of the rest that are below it; those above it are left
-pub record IsPut (made rest : List ℕ) (number : ℕ) (new left : List ℕ) : Type 0 where
+pub record IsInserted (made rest : List ℕ) (number : ℕ) (new left : List ℕ) : Type 0 where
   pub front : List ℕ
   pub same : List ℕ
   pub parts : rest ≡ front ++ (same ++ left)

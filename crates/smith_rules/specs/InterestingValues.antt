@@ -6,7 +6,7 @@ use Rattle.std.specs.List.Sorted.{IsStrictlyIncreasing}
 use Rattle.smith_types.specs.Entities.{page_log2}
 use Rattle.smith_types.specs.declared.entity_type.TableType.{TableType}
 use Rattle.smith_types.specs.declared.entity_type.MemoryType.{MemoryType}
-use Rattle.smith_rules.specs.Module.{Parts}
+use Rattle.smith_rules.specs.Module.{ModuleParts}
 
 -- a power of two below 2^64, or 2^64 less such a power, which is its negative of 64 bits; or one
 -- less than either
@@ -78,6 +78,6 @@ pub record AreAll (Holds : ℕ → Type 0) (numbers : List ℕ) : Type 0 where
   pub whole : (n : ℕ) → Holds n → Contains numbers n
 
 -- the interesting values of a module
-pub record HasInterestingValues (m : Parts) : Type 0 where
+pub record HasInterestingValues (m : ModuleParts) : Type 0 where
   pub wide : AreAll (IsInteresting64 m.tables m.memories) m.interesting_values64
   pub narrow : AreAll (IsInteresting32 m.tables m.memories) m.interesting_values32

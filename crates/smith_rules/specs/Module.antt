@@ -28,7 +28,7 @@ use Rattle.smith_config.specs.Features.{features_of}
 use Rattle.smith_config.specs.Sanitized.{sanitized}
 
 -- The parts of a module. Each index space is complete, with imported items first.
-pub record Parts : Type 0 where
+pub record ModuleParts : Type 0 where
   pub config : Config
   pub types : List SubType
   pub groups : List (Range ℕ)
@@ -62,23 +62,23 @@ abbrev pub shown_config : Config → Config
 shown_config config = record (sanitized config) { available_imports = None }
 
 -- the features of a module's configuration
-abbrev pub module_features : Parts → Features
+abbrev pub module_features : ModuleParts → Features
 module_features m = features_of m.config
 
 -- a module's types in their groups
-abbrev pub module_types : Parts → Space
+abbrev pub module_types : ModuleParts → Space
 module_types m = record { types = m.types; groups = m.groups }
 
 -- a module's index spaces
-abbrev pub module_spaces : Parts → IndexSpaces
+abbrev pub module_spaces : ModuleParts → IndexSpaces
 module_spaces m = record { tags = m.tags; funcs = m.funcs; tables = m.tables; memories = m.memories; globals = m.globals }
 
 -- the index spaces of a module's imports, which come first in its index spaces
-abbrev pub module_imports : Parts → IndexSpaces
+abbrev pub module_imports : ModuleParts → IndexSpaces
 module_imports m = imported_spaces (flattened m.imports)
 
 -- the context of a module's expressions with no global visible
-abbrev pub module_context : Parts → Context
+abbrev pub module_context : ModuleParts → Context
 module_context m = record {
   features = module_features m;
   types = m.types;
@@ -90,18 +90,18 @@ module_context m = record {
 }
 
 -- the context of the initialiser of a table, and of the global of this index
-abbrev pub table_context : Parts → Context
+abbrev pub table_context : ModuleParts → Context
 table_context m = seeing (module_context m) (seen_by_tables (module_context m))
 
-abbrev pub global_context : Parts → ℕ → Context
+abbrev pub global_context : ModuleParts → ℕ → Context
 global_context m index = seeing (module_context m) (seen_by_global (module_context m) index)
 
 -- the context of the offset or an item of a segment
-abbrev pub segment_context : Parts → Context
+abbrev pub segment_context : ModuleParts → Context
 segment_context m = seeing (module_context m) (seen_by_segments (module_context m))
 
 -- imports come first in each index space, then definitions (Structure, Indices)
-pub record AreSpacesMade (m : Parts) : Type 0 where
+pub record AreSpacesMade (m : ModuleParts) : Type 0 where
   pub imports : m.num_imports ≡ length (flattened m.imports)
   pub tags : Defines (module_imports m).tags m.num_defined_tags m.tags
   pub funcs : Defines (module_imports m).funcs m.num_defined_funcs m.funcs
@@ -116,25 +116,25 @@ IsTableInitialised context table None = IsTrue table.element_type.nullable
 IsTableInitialised context table (Some expression) = IsTrue context.features.gc × IsConstExpr context (Ref table.element_type) expression
 
 -- a definition of a table
-abbrev pub IsTableDefined : Parts → ℕ → Option (List ConstInstr) → Type 0
+abbrev pub IsTableDefined : ModuleParts → ℕ → Option (List ConstInstr) → Type 0
 IsTableDefined m place initial =
     (table : TableType) × (slice_get m.tables (length (module_imports m).tables + place) ≡ Some table) × IsTableInitialised (table_context m) table initial
 
 -- a definition of a global, which holds its index (Validation, Globals)
-pub record IsGlobalDefined (m : Parts) (place index : ℕ) (initial : List ConstInstr) : Type 0 where
+pub record IsGlobalDefined (m : ModuleParts) (place index : ℕ) (initial : List ConstInstr) : Type 0 where
   pub in_order : index ≡ length (module_imports m).globals + place
   pub global : GlobalType
   pub stands : slice_get m.globals index ≡ Some global
   pub initialised : IsConstExpr (global_context m index) global.val_type initial
 
 -- definitions of tables and globals
-pub record AreDefinitionsValid (m : Parts) : Type 0 where
+pub record AreDefinitionsValid (m : ModuleParts) : Type 0 where
   pub tables : (place : ℕ) (initial : Option (List ConstInstr)) → slice_get m.defined_tables place ≡ Some initial → IsTableDefined m place initial
   pub globals : (place index : ℕ) (initial : List ConstInstr) → slice_get m.defined_globals place ≡ Some (index, initial) → IsGlobalDefined m place index initial
 
 -- each function that is defined has a body (Validation, Functions), and each counter of fuel is a
 -- global that may be one (own rule)
-pub record AreBodiesValid (m : Parts) : Type 0 where
+pub record AreBodiesValid (m : ModuleParts) : Type 0 where
   pub each : length m.code ≡ m.num_defined_funcs
   pub bodies : All (IsBodyValid (module_features m) (length m.types) m.config.allow_invalid_funcs) m.code
   pub fuel : All (IsFuel m.globals (length (module_imports m).globals)) m.fuel_globals
@@ -142,7 +142,7 @@ pub record AreBodiesValid (m : Parts) : Type 0 where
 -- a valid module, under the features of its configuration, except for raw bodies (Validation,
 -- Modules); the rules for features, shared and exact types, and that equal groups are different
 -- types, are own rules
-pub record IsValid (m : Parts) : Type 0 where
+pub record IsValid (m : ModuleParts) : Type 0 where
   pub types : AreTypesValid (module_features m) (module_types m)
   pub imports : All (IsImportsValid (module_features m)) m.imports
   pub spaces : AreSpacesMade m

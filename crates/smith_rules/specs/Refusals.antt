@@ -11,13 +11,13 @@ use Rattle.smith_bytes.specs.declared.error.Which.{Which}
 use Rattle.smith_bytes.specs.declared.error.Which.TheVariants as which
 use Rattle.smith_config.specs.declared.config.Config.{Config}
 use Rattle.smith_config.specs.declared.shape.Shape.{Shape}
-use Rattle.smith_config.specs.Faults.{IsBounded, IsFirstFault, Passes, minimum_of}
+use Rattle.smith_config.specs.Faults.{BoundsApply, IsFirstFault, Passes, minimum_of}
 use Rattle.smith_config.specs.InUse.{shapes_of, FixesExports}
 use Rattle.smith_config.specs.Shapes.{IsShapeValid, shape_values}
 use Rattle.smith_config.specs.ShapeFaults.{HasShapeFault}
 use Rattle.smith_config.specs.Granted.{IsNonNullable}
 use Rattle.smith_config.specs.Minimums.{HasNoMinimums}
-use Rattle.smith_rules.specs.Bounds.{where_given, exported_of, brought_by_module}
+use Rattle.smith_rules.specs.Bounds.{where_given, items_of_exports, items_of_module_shape}
 
 -- imports may end below the minimum: they may be too large together, or the maximum of some kind is
 -- lower
@@ -70,12 +70,12 @@ MayBeShort config counts.Elements = Unit {0}
 -- a minimum does not apply if a shape replaces it, or if it is that of exports and everything is
 -- exported
 abbrev pub MayBeUnmet : Config → Count → Type 0
-MayBeUnmet config count = IsBounded config count × ((0 < minimum_of config count) × MayBeShort config count)
+MayBeUnmet config count = BoundsApply config count × ((0 < minimum_of config count) × MayBeShort config count)
 
 -- the exports of a shape, or a module shape, add a memory, or a table
 abbrev pub Brings : Config → Count → Type 0
 Brings config count =
-    (0 < where_given (exported_of count) (shapes_of config).exports) ⊎ (0 < where_given (brought_by_module count) (shapes_of config).module_shape)
+    (0 < where_given (items_of_exports count) (shapes_of config).exports) ⊎ (0 < where_given (items_of_module_shape count) (shapes_of config).module_shape)
 
 -- the reasons why a module may be out of shape
 abbrev pub MayBeOutOfShape : Config → Why → Type 0

@@ -12,11 +12,11 @@ use Rattle.smith_config.specs.declared.shape.Shape.{Shape}
 use Rattle.smith_config.specs.InUse.{shapes_of}
 use Rattle.smith_config.specs.Shapes.{space_of, shape_types, shape_imports, shape_spaces}
 use Rattle.smith_rules.specs.ShapeImports.{kept_groups, taken_from}
-use Rattle.smith_rules.specs.Module.{Parts, module_spaces}
+use Rattle.smith_rules.specs.Module.{ModuleParts, module_spaces}
 use Rattle.smith_rules.specs.ExportedItems.{Export}
 
 -- the types and groups of a shape come first in the module's
-pub record KeepsTypes (shape : Shape) (m : Parts) : Type 0 where
+pub record KeepsTypes (shape : Shape) (m : ModuleParts) : Type 0 where
   pub types : Extends (shape_types shape) m.types
   pub groups : Extends (space_of shape.groups).groups m.groups
 
@@ -31,7 +31,7 @@ pub record IsSameExport (IsSame : EntityType → EntityType → Type 0) (ours th
   pub same : IsSame mine yours
 
 -- a module shape: its types first, its imports and exports and no other, in order
-pub record KeepsModuleShape (shape : Shape) (m : Parts) : Type 0 where
+pub record KeepsModuleShape (shape : Shape) (m : ModuleParts) : Type 0 where
   pub types : KeepsTypes shape m
   pub imports : m.imports ≡ kept_groups m.config shape
   pub exports : AllZip (IsSameExport (λ mine yours. mine ≡ yours) (module_spaces m) (shape_spaces shape)) m.exports shape.exports
@@ -54,17 +54,17 @@ IsSameType ours theirs (entity.Tag index) (entity.Tag other) = IsSameFuncType ou
 IsSameType ours theirs one other = one ≡ other
 
 -- the exports of a shape and no other, in order
-abbrev pub KeepsExports : Shape → Parts → Type 0
+abbrev pub KeepsExports : Shape → ModuleParts → Type 0
 KeepsExports shape m = AllZip (IsSameExport (IsSameType m.types (shape_types shape)) (module_spaces m) (shape_spaces shape)) m.exports shape.exports
 
 -- available imports: the types of their shape first, and those of its imports that the bytes pick
 -- and that fit, in order
-pub record KeepsAvailableImports (bytes : List ℕ) (shape : Shape) (m : Parts) : Type 0 where
+pub record KeepsAvailableImports (bytes : List ℕ) (shape : Shape) (m : ModuleParts) : Type 0 where
   pub types : KeepsTypes shape m
   pub imports : flattened m.imports ≡ taken_from m.config (shape_types shape) bytes 0 [] (shape_imports shape)
 
 -- a module from these bytes has the properties of each shape that its configuration uses
-pub record KeepsShapes (config : Config) (bytes : List ℕ) (m : Parts) : Type 0 where
+pub record KeepsShapes (config : Config) (bytes : List ℕ) (m : ModuleParts) : Type 0 where
   pub module_shape : IfSome (shapes_of config).module_shape (λ shape. KeepsModuleShape shape m)
   pub available_imports : IfSome (shapes_of config).available_imports (λ shape. KeepsAvailableImports bytes shape m)
   pub exports : IfSome (shapes_of config).exports (λ shape. KeepsExports shape m)

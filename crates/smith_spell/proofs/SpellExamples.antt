@@ -1,7 +1,7 @@
 -- Facts that the examples of spelled lists share.
 use Rattle.std.proofs.Common.{rules, arith, List, [], ◌∷◌, take, refl, inr, false}
 use Rattle.std.proofs.lemmas.List.Elements.{All-from_recursion}
-use Rattle.smith_types.specs.Entities.{IsFuncValid}
+use Rattle.smith_types.specs.Entities.{IsFuncTypeIndex}
 use Rattle.smith_types.specs.declared.value_type.HeapType.TheVariants.{Concrete}
 use Rattle.smith_types.specs.declared.value_type.ValType.TheVariants.{Ref}
 use Rattle.smith_types.specs.declared.composite_type.StorageType.TheVariants.{Val}
@@ -25,7 +25,7 @@ function_in_family = record {
   few_types = omega arith;
   each_type = each_place (λ index t. IsMemberType default_config (take index (alone plain_function)) t) (alone plain_function) (function_member, tt);
   few_funcs = omega arith;
-  each_func = All-from_recursion (IsFuncValid (final plain_function ∷ [])) (0 ∷ []) ((record { params = []; results = [] }, (final plain_function, refl, refl)), tt);
+  each_func = All-from_recursion (IsFuncTypeIndex (final plain_function ∷ [])) (0 ∷ []) ((record { params = []; results = [] }, (final plain_function, refl, refl)), tt);
 }
 
 -- the types of a struct, and of one that holds a reference to it

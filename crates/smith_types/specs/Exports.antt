@@ -40,9 +40,9 @@ IsStartValid types funcs (Some function) =
     (index : ℕ) × (slice_get funcs function ≡ Some index) × IsFuncAt types index (record { params = []; results = [] })
 
 -- the kind of an entity
-abbrev pub kind_of : EntityType → ExportKind
-kind_of (entity.Tag index) = kind.Tag
-kind_of (entity.Func index) = kind.Func
-kind_of (entity.Global global) = kind.Global
-kind_of (entity.Memory memory) = kind.Memory
-kind_of (entity.Table table) = kind.Table
+abbrev pub entity_kind : EntityType → ExportKind
+entity_kind (entity.Tag index) = kind.Tag
+entity_kind (entity.Func index) = kind.Func
+entity_kind (entity.Global global) = kind.Global
+entity_kind (entity.Memory memory) = kind.Memory
+entity_kind (entity.Table table) = kind.Table

@@ -13,7 +13,7 @@ ghost use Rattle.smith_types.specs.Entities.{
   IsMemoryValid,
   IsTableValid,
   IsGlobalValid,
-  IsFuncValid,
+  IsFuncTypeIndex,
   IsTagValid,
   AreEntitiesValid,
   AreCountsEnabled,
@@ -87,9 +87,9 @@ fn globals()
 {}
 
 fn functions_and_tags()
-    ensures function { IsFuncValid (final_type (giving (I32 ∷ [])) ∷ []) 0 }
-    ensures function_of_a_struct { ¬ IsFuncValid (final_type empty_struct ∷ []) 0 }
-    ensures function_of_no_type { ¬ IsFuncValid [] 0 }
+    ensures function { IsFuncTypeIndex (final_type (giving (I32 ∷ [])) ∷ []) 0 }
+    ensures function_of_a_struct { ¬ IsFuncTypeIndex (final_type empty_struct ∷ []) 0 }
+    ensures function_of_no_type { ¬ IsFuncTypeIndex [] 0 }
     ensures tag { IsTagValid (final_type plain_func ∷ []) 0 }
     ensures tag_with_a_value { IsTagValid (final_type (taking (I32 ∷ [])) ∷ []) 0 }
     ensures tag_of_a_struct { ¬ IsTagValid (final_type empty_struct ∷ []) 0 }

@@ -21,11 +21,11 @@ use Rattle.smith_draw.proofs.FilledLemmas.{fields_imported}
 use Rattle.smith_imports.proofs.ImportsGrownLemmas.{ungrounded_imported}
 use Rattle.smith_imports.specs.declared.imported.Imported.{Imported}
 use Rattle.wasm_smith.specs.Begun.{begun_of}
-use Rattle.smith_rules.specs.Bounds.{brought}
+use Rattle.smith_rules.specs.Bounds.{items_of_shapes}
 use Rattle.wasm_smith.specs.DrawnSteps.{AreImportsDrawn, AreTypesDrawn, HoldsGrounded, IsBeyond, drawn_next}
 use Rattle.wasm_smith.specs.declared.build.drawn.Drawn.{Drawn}
 use Rattle.smith_defined.proofs.ExtensionLemmas.{all_kept}
-use Rattle.smith_defined.proofs.DefinedMoreLemmas.{none_float}
+use Rattle.smith_defined.proofs.DefinedGrowthLemmas.{none_float}
 use Rattle.wasm_smith.proofs.FreelyImportedLemmas.{freely_stands}
 use Rattle.wasm_smith.proofs.GrantedLaterLemmas.{types_later}
 
@@ -60,7 +60,7 @@ module _ (config : Config) (drawn : Drawn) (passes : Passes config) (sanitized :
     sanitized = sanitized;
     free = free_of config free none;
     valid = old.may.so_far.stands.types;
-    few = let brings : brought config counts.Types ≡ 0 = rw (none, free) refl in omega (arith, brings, old.may.so_far.most_types, passes.few counts.Types);
+    few = let brings : items_of_shapes config counts.Types ≡ 0 = rw (none, free) refl in omega (arith, brings, old.may.so_far.most_types, passes.few counts.Types);
     small = (old.free (free_of config free none)).small;
   }
 

@@ -23,7 +23,7 @@ use Rattle.smith_config.specs.Shapes.{IsShapeValid, shape_imports, shape_spaces,
 use Rattle.smith_imports.specs.Imported.{AreNumbersWithin}
 use Rattle.smith_rules.specs.ShapeImports.{count_in}
 use Rattle.smith_defined.specs.Defined.{nothing_defined}
-use Rattle.smith_rules.specs.Bounds.{brought_by_module, exported_of}
+use Rattle.smith_rules.specs.Bounds.{items_of_module_shape, items_of_exports}
 use Rattle.smith_defined.specs.Defined.{HasRoom}
 use Rattle.smith_rules.specs.Refusals.{AreShapesValid, shape_for}
 use Rattle.smith_defined.specs.Defined.{StandsBehind}
@@ -107,7 +107,7 @@ may_begin config shape sanitized valid entities = record {
 }
 
 -- a module shape adds as many of a kind as it imports and exports
-pub brought_so : (count : Count) (shape : Shape) → (count ≡ counts.Types → ⊥) → (count ≡ counts.Imports → ⊥) → count_in (imported_spaces (shape_imports shape)) count + exported_of count shape ≡ brought_by_module count shape
+pub brought_so : (count : Count) (shape : Shape) → (count ≡ counts.Types → ⊥) → (count ≡ counts.Imports → ⊥) → count_in (imported_spaces (shape_imports shape)) count + items_of_exports count shape ≡ items_of_module_shape count shape
 brought_so counts.Types shape types imports = absurd (types refl)
 brought_so counts.Imports shape types imports = absurd (imports refl)
 brought_so counts.Tags shape types imports = refl

@@ -22,13 +22,13 @@ use Rattle.smith_types.proofs.EntityGrowthLemmas.{no_fewer}
 use Rattle.smith_types.proofs.ExpressionGrowthLemmas.{IsConstExpr-grown}
 use Rattle.smith_types.proofs.SegmentGrowthLemmas.{IsElementValid-grown, IsDataValid-grown}
 use Rattle.smith_types.proofs.ExportGrowthLemmas.{AreExportsValid-grown}
-use Rattle.smith_rules.specs.Module.{module_context, Parts, IsValid, IsGlobalDefined, module_features, module_spaces, module_imports, table_context, global_context, segment_context}
+use Rattle.smith_rules.specs.Module.{module_context, ModuleParts, IsValid, IsGlobalDefined, module_features, module_spaces, module_imports, table_context, global_context, segment_context}
 use Rattle.wasm_smith.specs.Termination.{counter, AddsFuel, AnswersFuel}
 use Rattle.smith_defined.proofs.ExtensionLemmas.{all_kept}
 use Rattle.smith_rules.proofs.InitialLemmas.{IsTableInitialised-grown}
 
 -- a module with a counter of this index
-abbrev counted : ℕ → ℕ → Parts → Parts
+abbrev counted : ℕ → ℕ → ModuleParts → ModuleParts
 counted fuel index m = record m {
   globals = m.globals ++ counter ∷ [];
   defined_globals = m.defined_globals ++ (index, I32Const (cast_signed w32 fuel) ∷ []) ∷ [];
@@ -39,8 +39,8 @@ counted fuel index m = record m {
 no_more : {A : Type 0} (xs : List A) → xs ++ [] ≡ xs
 no_more xs = search rules
 
-module _ (fuel : ℕ) (old : Parts) (valid : IsValid old) where
-  abbrev new : Parts
+module _ (fuel : ℕ) (old : ModuleParts) (valid : IsValid old) where
+  abbrev new : ModuleParts
   new = counted fuel (length old.globals) old
 
   -- a context of the old module grows into one of the new, if at least as much is visible
@@ -163,10 +163,10 @@ module _ (fuel : ℕ) (old : Parts) (valid : IsValid old) where
     bodies = record { each = valid.bodies.each; bodies = valid.bodies.bodies; fuel = fuel_valid };
   }
 
-pub adds_valid : (fuel index : ℕ) (old new : Parts) → AddsFuel fuel index old new → IsValid old → IsValid new
+pub adds_valid : (fuel index : ℕ) (old new : ModuleParts) → AddsFuel fuel index old new → IsValid old → IsValid new
 adds_valid fuel index old after adds valid = subst IsValid (sym adds.added) (subst (λ n. IsValid (counted fuel n old)) (sym adds.last) (counted_valid fuel old valid))
 
 -- a valid module stays valid, whatever the answer
-pub answered_valid : (fuel : ℕ) (old new : Parts) (result : Result ℕ Error) → AnswersFuel fuel old new result → IsValid old → IsValid new
+pub answered_valid : (fuel : ℕ) (old new : ModuleParts) (result : Result ℕ Error) → AnswersFuel fuel old new result → IsValid old → IsValid new
 answered_valid fuel old after (Ok index) (no_bytes, adds) valid = adds_valid fuel index old after adds valid
 answered_valid fuel old after (Err error) (reason, kept) valid = subst IsValid (sym kept) valid

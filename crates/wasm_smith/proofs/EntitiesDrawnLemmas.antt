@@ -28,7 +28,7 @@ use Rattle.wasm_smith.proofs.BroughtLemmas.{few_brought}
 use Rattle.smith_defined.proofs.ExtensionLemmas.{all_kept}
 use Rattle.smith_defined.proofs.StandsBehindLemmas.{defined_end}
 use Rattle.smith_defined.proofs.DefinedLemmas.{all_behind}
-use Rattle.smith_defined.proofs.DefinedMoreLemmas.{filled_grown, may_define_behind}
+use Rattle.smith_defined.proofs.DefinedGrowthLemmas.{filled_grown, may_define_behind}
 use Rattle.wasm_smith.proofs.ExportsGrownLemmas.{exports_grown}
 use Rattle.wasm_smith.proofs.GrantedLaterLemmas.{elements_later, globals_later, types_later}
 use Rattle.wasm_smith.proofs.NonNullableLemmas.{holds_or_not}

@@ -13,7 +13,7 @@ use Rattle.smith_types.specs.declared.value_type.ValType.TheVariants as vals
 use Rattle.smith_types.proofs.HeldValueLemmas.{all_values_joined}
 use Rattle.smith_config.specs.declared.config.Config.{Config}
 use Rattle.smith_config.specs.Granted.{IsUngrounded, IsGranted, HasGroundedItems}
-use Rattle.smith_rules.specs.Module.{Parts, module_context}
+use Rattle.smith_rules.specs.Module.{ModuleParts, module_context}
 use Rattle.smith_rules.specs.Promises.{HasGrantedLocals, HoldsGranted}
 use Rattle.smith_defined.proofs.StandsBehindLemmas.{left_over}
 use Rattle.wasm_smith.specs.Begun.{StandsWhole}
@@ -24,7 +24,7 @@ use Rattle.wasm_smith.specs.declared.build.drawn.Drawn.{Drawn}
 use Rattle.wasm_smith.proofs.GrantedLaterLemmas.{elements_later, globals_later, types_later, value_later}
 
 module _ (config : Config) (drawn : Drawn) (whole : StandsWhole config drawn) where
-  abbrev m : Parts
+  abbrev m : ModuleParts
   m = parts_of config drawn
 
   abbrev before : Context

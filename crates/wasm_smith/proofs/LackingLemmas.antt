@@ -37,7 +37,7 @@ use Rattle.smith_draw.specs.Grounding.{over}
 use Rattle.smith_draw.proofs.FilledLemmas.{any_weaker}
 use Rattle.smith_draw.proofs.NullableLemmas.{ungrounded_not_null}
 use Rattle.wasm_smith.specs.Begun.{MayRefuseBegun}
-use Rattle.smith_rules.specs.Bounds.{brought_by_module}
+use Rattle.smith_rules.specs.Bounds.{items_of_module_shape}
 use Rattle.wasm_smith.specs.DrawnSteps.{HoldsGrounded}
 use Rattle.smith_defined.specs.Defined.{drawn_beside, nothing_defined}
 use Rattle.smith_rules.specs.Refusals.{Brings, HoldsNonNullable, MayRefuse, shape_for}
@@ -137,7 +137,7 @@ module_lacks config shape e given (inl memory) = subst (MayRefuse config) (sym m
 module_lacks config shape e given (inr (empty, lacks)) = subst (MayRefuse config) (sym empty) (shape_lacks config shape given lacks)
 
 -- a module shape adds its exports
-module_brings : (config : Config) (shape : Shape) (count : Count) → config.module_shape ≡ Some shape → 0 < brought_by_module count shape → Brings config count
+module_brings : (config : Config) (shape : Shape) (count : Count) → config.module_shape ≡ Some shape → 0 < items_of_module_shape count shape → Brings config count
 module_brings config shape count given some = inr (rw given some)
 
 module_refused : (config : Config) (shape : Shape) (e : Error) → config.module_shape ≡ Some shape → MayRefuseRequired config (beside_shape config shape) shape e → MayRefuse config e

@@ -21,7 +21,7 @@ use Rattle.smith_draw.specs.Grounding.{without_globals}
 use Rattle.smith_rules.specs.Held.{HasItems, expressions_of}
 use Rattle.smith_rules.specs.ExportedItems.{AreAllExported, exported_size}
 use Rattle.smith_contents.specs.DataSegments.{data_at}
-use Rattle.smith_defined.specs.Defined.{standing_in}
+use Rattle.smith_defined.specs.Defined.{scope_in}
 use Rattle.smith_defined.specs.Definitions.{global_scope}
 use Rattle.smith_contents.specs.DrawnBodies.{bodies_at}
 use Rattle.smith_contents.specs.ElementSegments.{elements_at, items_in}
@@ -44,7 +44,7 @@ pub record TellsImported (imported spaces : IndexSpaces) (defined : Definitions)
 
 -- the context of a segment
 abbrev pub segment_scope : Config → List SubType → IndexSpaces → IndexSpaces → Context
-segment_scope config types imported spaces = global_scope config (standing_in types imported spaces) spaces.globals
+segment_scope config types imported spaces = global_scope config (scope_in types imported spaces) spaces.globals
 
 -- the element segments, then the data segments
 unfoldable pub all_segments_at : Config → List SubType → IndexSpaces → IndexSpaces → List ℕ → Result (Segments × List ℕ) Why

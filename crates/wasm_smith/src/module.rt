@@ -46,9 +46,9 @@ pub struct Module {
 }
 
 impl Model for Module {
-    ghost use Rattle.smith_rules.specs.Module.{Parts};
+    ghost use Rattle.smith_rules.specs.Module.{ModuleParts};
 
-    ghost Value = { Parts };
+    ghost Value = { ModuleParts };
 
     ghost view = { λ m. record {
       config = m.config.value;

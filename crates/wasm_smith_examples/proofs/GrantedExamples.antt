@@ -12,7 +12,7 @@ use Rattle.smith_types.specs.Features.{Features}
 use Rattle.smith_types.specs.Grounded.{IsGrounded}
 use Rattle.smith_config.specs.Granted.{IsGranted}
 use Rattle.smith_spell.specs.ExampleMembers.{final, taking}
-use Rattle.smith_rules.specs.Module.{Parts, module_features, module_imports}
+use Rattle.smith_rules.specs.Module.{ModuleParts, module_features, module_imports}
 use Rattle.wasm_smith_examples.specs.ExampleReferences.{with_references}
 
 -- a reference to anything
@@ -60,11 +60,11 @@ module _ (features : Features) (globals : List GlobalType) (imported_funcs impor
   taken_ungranted granted = granted (refl, λ on. nothing_beside)
 
 -- the same over the globals of a module
-abbrev in_module : Parts → List SubType → Context
+abbrev in_module : ModuleParts → List SubType → Context
 in_module m types = over (module_features m) types m.globals (length (module_imports m).funcs) (length (module_imports m).globals)
 
-pub any_not_granted : (m : Parts) → ¬ IsGranted with_references (in_module m []) to_any
+pub any_not_granted : (m : ModuleParts) → ¬ IsGranted with_references (in_module m []) to_any
 any_not_granted m = any_ungranted (module_features m) m.globals (length (module_imports m).funcs) (length (module_imports m).globals)
 
-pub any_taken : (m : Parts) → ¬ IsGranted with_references (in_module m taken) to_any
+pub any_taken : (m : ModuleParts) → ¬ IsGranted with_references (in_module m taken) to_any
 any_taken m = taken_ungranted (module_features m) m.globals (length (module_imports m).funcs) (length (module_imports m).globals)

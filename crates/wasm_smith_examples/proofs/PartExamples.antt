@@ -9,7 +9,7 @@ use Rattle.smith_types.specs.Features.{Features}
 use Rattle.smith_types.specs.Flags.{funcref, IsInstrEnabled}
 use Rattle.smith_types.specs.Subtyping.{IsValBelow}
 use Rattle.smith_types.specs.ValidTypes.{IsValTypeValid, IsSupertypeValid, IsTypeValid, IsGroupValid, AreTypesValid}
-use Rattle.smith_types.specs.Entities.{IsFuncAt, IsFuncValid}
+use Rattle.smith_types.specs.Entities.{IsFuncAt, IsFuncTypeIndex}
 use Rattle.smith_types.specs.Expressions.{Context, HasType, IsVisible, IsConstExpr}
 use Rattle.smith_types.specs.declared.value_type.ValType.{ValType}
 use Rattle.smith_types.specs.declared.value_type.ValType.TheVariants.{I32, Ref}
@@ -21,7 +21,7 @@ use Rattle.smith_types.proofs.GrowthLemmas.{IsRefBelow-refl}
 use Rattle.smith_types.proofs.ConstStepLemmas.{alone as one_instruction}
 use Rattle.smith_spell.specs.ExampleMembers.{taking_a_number, a_type, bytes_array, plain_function}
 use Rattle.smith_spell.proofs.EachPlaceLemmas.{EachFrom, each_place}
-use Rattle.smith_rules.specs.Module.{Parts, IsValid, IsGlobalDefined}
+use Rattle.smith_rules.specs.Module.{ModuleParts, IsValid, IsGlobalDefined}
 use Rattle.wasm_smith_examples.specs.ExampleModules.{group_of, one_function}
 use Rattle.wasm_smith_examples.specs.ExampleParts.{no_function}
 
@@ -77,17 +77,17 @@ function_types features = type_alone features plain_function (function_valid fea
 pub function_at : IsFuncAt (a_type plain_function true None ∷ []) 0 (record { params = []; results = [] })
 function_at = (a_type plain_function true None, refl, refl)
 
-pub functions_valid : All (IsFuncValid (a_type plain_function true None ∷ [])) (0 ∷ [])
-functions_valid = All-cons (IsFuncValid (a_type plain_function true None ∷ [])) 0 [] (record { params = []; results = [] }, function_at) (All-nil (IsFuncValid (a_type plain_function true None ∷ [])))
+pub functions_valid : All (IsFuncTypeIndex (a_type plain_function true None ∷ [])) (0 ∷ [])
+functions_valid = All-cons (IsFuncTypeIndex (a_type plain_function true None ∷ [])) 0 [] (record { params = []; results = [] }, function_at) (All-nil (IsFuncTypeIndex (a_type plain_function true None ∷ [])))
 
 -- the function type that takes a number alone, and a function of it
 pub taking_types : (features : Features) → AreTypesValid features (record { types = a_type taking_a_number true None ∷ []; groups = group_of 0 1 ∷ [] })
 taking_types features = type_alone features taking_a_number
     (record { enabled = search rules; values = All-cons (IsValTypeValid features 1) I32 [] tt (All-nil (IsValTypeValid features 1)); declared = λ s up. cc; shareable = λ never. cc })
 
-pub taking_functions : All (IsFuncValid (a_type taking_a_number true None ∷ [])) (0 ∷ [])
-taking_functions = All-cons (IsFuncValid (a_type taking_a_number true None ∷ [])) 0 []
-    (record { params = I32 ∷ []; results = [] }, (a_type taking_a_number true None, refl, refl)) (All-nil (IsFuncValid (a_type taking_a_number true None ∷ [])))
+pub taking_functions : All (IsFuncTypeIndex (a_type taking_a_number true None ∷ [])) (0 ∷ [])
+taking_functions = All-cons (IsFuncTypeIndex (a_type taking_a_number true None ∷ [])) 0 []
+    (record { params = I32 ∷ []; results = [] }, (a_type taking_a_number true None, refl, refl)) (All-nil (IsFuncTypeIndex (a_type taking_a_number true None ∷ [])))
 
 -- an array type that is not final, and one below it
 pub array_valid : (features : Features) (types : List SubType) (end : ℕ) → IsTrue features.gc → IsTypeValid features types end (a_type bytes_array false None)
@@ -111,7 +111,7 @@ pub first_read : (context : Context) → IsVisible context 0 I32 → IsInstrEnab
 first_read context visible enabled = alone context (GlobalGet 0) I32 I32 (refl, visible) tt enabled
 
 -- the globals of a module, given one by one
-pub globals_defined : (m : Parts) → EachFrom (λ place (one : ℕ × List ConstInstr). IsGlobalDefined m place one.0 one.1) 0 m.defined_globals
+pub globals_defined : (m : ModuleParts) → EachFrom (λ place (one : ℕ × List ConstInstr). IsGlobalDefined m place one.0 one.1) 0 m.defined_globals
     → (place index : ℕ) (initial : List ConstInstr) → slice_get m.defined_globals place ≡ Some (index, initial) → IsGlobalDefined m place index initial
 globals_defined m each place index initial at = each_place (λ place (one : ℕ × List ConstInstr). IsGlobalDefined m place one.0 one.1) m.defined_globals each place (index, initial) at
 

@@ -16,7 +16,7 @@ use Rattle.smith_config.specs.Config.{default_config}
 use Rattle.smith_config.specs.InUse.{FixesExports, FixesImports}
 use Rattle.smith_config.specs.Shapes.{shape_types, shape_spaces}
 use Rattle.smith_spell.specs.ExampleMembers.{a_type, foo_type, quux_type}
-use Rattle.smith_rules.specs.Module.{Parts, module_spaces}
+use Rattle.smith_rules.specs.Module.{ModuleParts, module_spaces}
 use Rattle.smith_rules.specs.ShapesKept.{IsSameExport, IsSameType, IsSameFuncType, KeepsAvailableImports, KeepsExports}
 use Rattle.smith_rules.specs.ShapeImports.{is_fitting}
 use Rattle.wasm_smith_examples.specs.ExampleParts.{memory, table, global}
@@ -31,7 +31,7 @@ pub no_imports_fixed : FixesImports default_config → ⊥
 no_imports_fixed = search rules
 
 -- an export of a shape is kept where what is exported has the same type
-pub export_kept : (shape : Shape) (m : Parts) (name : List ℕ) (of_kind : ExportKind) (index other : ℕ) (mine yours : EntityType)
+pub export_kept : (shape : Shape) (m : ModuleParts) (name : List ℕ) (of_kind : ExportKind) (index other : ℕ) (mine yours : EntityType)
     → IsEntityAt (module_spaces m) of_kind index mine → IsEntityAt (shape_spaces shape) of_kind other yours → IsSameType m.types (shape_types shape) mine yours
     → IsSameExport (IsSameType m.types (shape_types shape)) (module_spaces m) (shape_spaces shape) (name, of_kind, index) (name, of_kind, other)
 export_kept shape m name of_kind index other mine yours mine_is yours_is same = record { name = refl; kind = refl; mine = mine; yours = yours; mine_is = mine_is; yours_is = yours_is; same = same }

@@ -9,7 +9,7 @@ use Rattle.smith_types.specs.declared.entity_type.MemoryType.{MemoryType}
 use Rattle.smith_config.specs.declared.config.Config.{Config}
 use Rattle.smith_config.specs.Config.{default_config}
 use Rattle.smith_spell.specs.ExampleMembers.{final, giving_two, taking_a_number, bytes_array, plain_function}
-use Rattle.smith_defined.specs.Definitions.{Standing, standing_over}
+use Rattle.smith_defined.specs.Definitions.{InitialiserScope, scope_over}
 use Rattle.wasm_smith_examples.specs.ExampleParts.{memory, table, number}
 
 -- a function with results, an array, two functions without results, and one that is shared
@@ -78,8 +78,8 @@ one_import_of_a_function = record default_config {
 }
 
 -- these globals, which are imported, and nothing else
-abbrev pub beside_globals : List GlobalType → Standing
-beside_globals globals = standing_over [] [] 0 globals
+abbrev pub beside_globals : List GlobalType → InitialiserScope
+beside_globals globals = scope_over [] [] 0 globals
 
 -- three pages at most
 abbrev pub up_to_three : MemoryType

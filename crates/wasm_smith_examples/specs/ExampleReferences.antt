@@ -9,12 +9,12 @@ use Rattle.smith_types.specs.declared.composite_type.SubType.{SubType}
 use Rattle.smith_types.specs.ExampleTypes.{nullable, not_null}
 use Rattle.smith_config.specs.declared.config.Config.{Config}
 use Rattle.smith_config.specs.Config.{default_config}
-use Rattle.smith_rules.specs.Module.{Parts}
+use Rattle.smith_rules.specs.Module.{ModuleParts}
 use Rattle.wasm_smith_examples.specs.ExampleModules.{empty_module, one_function, one_import}
 use Rattle.wasm_smith_examples.specs.ExampleParts.{global, number, import_named}
 
 -- a number that begins as an imported one, without garbage collection
-abbrev pub imported_read : Parts
+abbrev pub imported_read : ModuleParts
 imported_read = record one_import {
   config = record default_config { gc_enabled = false };
   globals = number ∷ number ∷ [];
@@ -23,7 +23,7 @@ imported_read = record one_import {
 
 -- an imported function and a defined one of one type, and a global for a reference of this type, which begins with the
 -- function of this index
-abbrev pub refers_to_function : HeapType → ℕ → Parts
+abbrev pub refers_to_function : HeapType → ℕ → ModuleParts
 refers_to_function heap_type function = record one_function {
   config = record default_config { custom_descriptors_enabled = true };
   imports = Single (import_named [] (entity.Func 0)) ∷ [];
@@ -40,5 +40,5 @@ abbrev pub with_references : Config
 with_references = record default_config { non_nullable_enabled = true }
 
 -- a global for a reference that may not be null, beside these types
-abbrev pub holding_reference : List SubType → HeapType → Parts
+abbrev pub holding_reference : List SubType → HeapType → ModuleParts
 holding_reference types heap_type = record (empty_module default_config) { types = types; globals = global (Ref (not_null heap_type)) false ∷ [] }

@@ -15,7 +15,7 @@ use Rattle.smith_config.specs.Config.{default_config}
 pub use Rattle.smith_config.specs.ExampleShapes.{empty_shape}
 use Rattle.smith_config.specs.declared.shape.Shape.{Shape}
 use Rattle.smith_spell.specs.ExampleMembers.{alone, final, taking_a_number, foo_type, quux_type, taking}
-use Rattle.smith_rules.specs.Module.{Parts}
+use Rattle.smith_rules.specs.Module.{ModuleParts}
 use Rattle.wasm_smith_examples.specs.ExampleParts.{import_named, memory, table, global, trapping}
 use Rattle.wasm_smith_examples.specs.ExampleModules.{empty_module, group_of, three_memories}
 
@@ -56,7 +56,7 @@ abbrev pub environment : Shape
 environment = record empty_shape { groups = alone taking_a_number ∷ []; imports = Single ping ∷ Single shared_bytes ∷ [] }
 
 -- a module that imports both, and one that imports the first
-abbrev pub with_environment : Parts
+abbrev pub with_environment : ModuleParts
 with_environment = record (empty_module default_config) {
   types = final taking_a_number ∷ [];
   groups = group_of 0 1 ∷ [];
@@ -69,7 +69,7 @@ with_environment = record (empty_module default_config) {
   type_size = 3;
 }
 
-abbrev pub with_ping : Parts
+abbrev pub with_ping : ModuleParts
 with_ping = record with_environment { imports = Single ping ∷ []; num_imports = 1; memories = []; type_size = 2 }
 
 -- a global and a memory that are exported
@@ -103,7 +103,7 @@ abbrev pub equal_types : Shape
 equal_types = record empty_shape { groups = (foo_type ∷ []) ∷ (foo_type ∷ []) ∷ []; funcs = 0 ∷ []; exports = (codes "f", kind.Func, 0) ∷ [] }
 
 -- a module that exports a function of the type of this index
-abbrev pub of_equal_types : ℕ → Parts
+abbrev pub of_equal_types : ℕ → ModuleParts
 of_equal_types index = record (empty_module default_config) {
   types = foo_type ∷ foo_type ∷ [];
   groups = group_of 0 1 ∷ group_of 1 2 ∷ [];
@@ -115,7 +115,7 @@ of_equal_types index = record (empty_module default_config) {
 }
 
 -- a module that imports and exports such memories
-abbrev pub with_memories_in_and_out : Parts
+abbrev pub with_memories_in_and_out : ModuleParts
 with_memories_in_and_out = record three_memories {
   memories = memory 1 None ∷ memory 1 None ∷ memory 1 None ∷ memory 1 None ∷ [];
   num_defined_memories = 1;
@@ -123,13 +123,13 @@ with_memories_in_and_out = record three_memories {
 }
 
 -- the function and the memory imported in one group
-abbrev pub in_one_group : Parts
+abbrev pub in_one_group : ModuleParts
 in_one_group = record with_environment {
   imports = Compact1 (codes "env") (record { name = codes "ping"; entity_type = entity.Func 0 } ∷ record { name = codes "memory"; entity_type = entity.Memory (memory 1 None) } ∷ []) ∷ [];
 }
 
 -- a module with these entities and with such exports
-abbrev pub exported : List (List ℕ × ExportKind × ℕ) → Parts
+abbrev pub exported : List (List ℕ × ExportKind × ℕ) → ModuleParts
 exported exports = record (empty_module default_config) { memories = memory 1 (Some 10) ∷ []; num_defined_memories = 1; globals = global F32 false ∷ []; exports = exports }
 
 -- a global of references that may not be null

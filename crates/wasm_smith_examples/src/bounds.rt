@@ -6,7 +6,7 @@ ghost use Rattle.smith_types.specs.declared.const_instr.ConstInstr.TheVariants.{
 ghost use Rattle.smith_config.specs.Config.{default_config};
 ghost use Rattle.smith_spell.specs.ExampleMembers.{plain_function, foo_type};
 ghost use Rattle.smith_rules.specs.Held.{HasNoCandidates};
-ghost use Rattle.smith_rules.specs.Bounds.{count_of, export_size, imports_size, exports_size, brought, added, HasMost, HasLeast, HasEnough, KeepsBounds, MeetsMinimums};
+ghost use Rattle.smith_rules.specs.Bounds.{count_of, export_size, imports_size, exports_size, items_of_shapes, items_of_export_shape, MaximumApplies, MinimumApplies, HasEnough, KeepsBounds, MeetsMinimums};
 ghost use Rattle.wasm_smith_examples.specs.ExampleParts.{memory, no_function, passive_elements};
 ghost use Rattle.wasm_smith_examples.specs.ExampleModules.{empty_module, arrays, three_arrays, one_function, one_table, one_tag, one_of_each, passive_bytes, one_import, two_imports, two_exports, two_memories, two_segments, three_memories, elements_asked_for};
 ghost use Rattle.wasm_smith_examples.specs.ExampleGiven.{nothing_allowed, two_singles, exported_number, three_numbers, forced_page, full_memory, null_table, last_byte, sixty_elements};
@@ -57,45 +57,45 @@ fn counted()
 {}
 
 fn shapes_bring()
-    ensures memories { brought (for_module imported_memories default_config) counts.Memories ≡ 3 }
-    ensures imports { brought (for_module imported_memories default_config) counts.Imports ≡ 3 }
-    ensures types { brought (for_module five_exports default_config) counts.Types ≡ 2 }
-    ensures what_is_imported_and_what_is_exported { brought (for_module memories_in_and_out default_config) counts.Memories ≡ 4 }
-    ensures no_segments { brought (for_module five_exports default_config) counts.ElementSegments ≡ 0 }
-    ensures an_imported_tag { brought (for_module five_imports default_config) counts.Tags ≡ 1 }
-    ensures an_imported_function { brought (for_module five_imports default_config) counts.Funcs ≡ 1 }
-    ensures an_imported_table { brought (for_module five_imports default_config) counts.Tables ≡ 1 }
-    ensures an_imported_global { brought (for_module five_imports default_config) counts.Globals ≡ 1 }
-    ensures types_of_available_imports { brought (for_imports environment default_config) counts.Types ≡ 1 }
-    ensures no_memory_of_available_imports { brought (for_imports environment default_config) counts.Memories ≡ 0 }
-    ensures nothing_without_shapes { brought default_config counts.Types ≡ 0 }
-    ensures nothing_past_the_maximum_by_exports { brought (for_exports five_exports default_config) counts.Types ≡ 0 }
-    ensures exports { added (for_exports exporting default_config) counts.Globals ≡ 1 }
-    ensures a_type_for_each_function_and_tag { added (for_exports five_exports default_config) counts.Types ≡ 2 }
-    ensures an_exported_tag { added (for_exports five_exports default_config) counts.Tags ≡ 1 }
-    ensures an_exported_function { added (for_exports five_exports default_config) counts.Funcs ≡ 1 }
-    ensures an_exported_table { added (for_exports five_exports default_config) counts.Tables ≡ 1 }
-    ensures an_exported_memory { added (for_exports five_exports default_config) counts.Memories ≡ 1 }
-    ensures no_imports_by_exports { added (for_exports five_exports default_config) counts.Imports ≡ 0 }
-    ensures nothing_added_by_a_module { added (for_module five_exports default_config) counts.Types ≡ 0 }
-    ensures exports_of_a_module { brought (for_module exporting default_config) counts.Globals ≡ 1 }
-    ensures no_available_imports_beside_a_module { brought (for_module exporting (for_imports environment default_config)) counts.Types ≡ 0 }
-    ensures no_exports_beside_a_module { added (for_module exporting (for_exports five_exports default_config)) counts.Types ≡ 0 }
+    ensures memories { items_of_shapes (for_module imported_memories default_config) counts.Memories ≡ 3 }
+    ensures imports { items_of_shapes (for_module imported_memories default_config) counts.Imports ≡ 3 }
+    ensures types { items_of_shapes (for_module five_exports default_config) counts.Types ≡ 2 }
+    ensures what_is_imported_and_what_is_exported { items_of_shapes (for_module memories_in_and_out default_config) counts.Memories ≡ 4 }
+    ensures no_segments { items_of_shapes (for_module five_exports default_config) counts.ElementSegments ≡ 0 }
+    ensures an_imported_tag { items_of_shapes (for_module five_imports default_config) counts.Tags ≡ 1 }
+    ensures an_imported_function { items_of_shapes (for_module five_imports default_config) counts.Funcs ≡ 1 }
+    ensures an_imported_table { items_of_shapes (for_module five_imports default_config) counts.Tables ≡ 1 }
+    ensures an_imported_global { items_of_shapes (for_module five_imports default_config) counts.Globals ≡ 1 }
+    ensures types_of_available_imports { items_of_shapes (for_imports environment default_config) counts.Types ≡ 1 }
+    ensures no_memory_of_available_imports { items_of_shapes (for_imports environment default_config) counts.Memories ≡ 0 }
+    ensures nothing_without_shapes { items_of_shapes default_config counts.Types ≡ 0 }
+    ensures nothing_past_the_maximum_by_exports { items_of_shapes (for_exports five_exports default_config) counts.Types ≡ 0 }
+    ensures exports { items_of_export_shape (for_exports exporting default_config) counts.Globals ≡ 1 }
+    ensures a_type_for_each_function_and_tag { items_of_export_shape (for_exports five_exports default_config) counts.Types ≡ 2 }
+    ensures an_exported_tag { items_of_export_shape (for_exports five_exports default_config) counts.Tags ≡ 1 }
+    ensures an_exported_function { items_of_export_shape (for_exports five_exports default_config) counts.Funcs ≡ 1 }
+    ensures an_exported_table { items_of_export_shape (for_exports five_exports default_config) counts.Tables ≡ 1 }
+    ensures an_exported_memory { items_of_export_shape (for_exports five_exports default_config) counts.Memories ≡ 1 }
+    ensures no_imports_by_exports { items_of_export_shape (for_exports five_exports default_config) counts.Imports ≡ 0 }
+    ensures nothing_added_by_a_module { items_of_export_shape (for_module five_exports default_config) counts.Types ≡ 0 }
+    ensures exports_of_a_module { items_of_shapes (for_module exporting default_config) counts.Globals ≡ 1 }
+    ensures no_available_imports_beside_a_module { items_of_shapes (for_module exporting (for_imports environment default_config)) counts.Types ≡ 0 }
+    ensures no_exports_beside_a_module { items_of_export_shape (for_module exporting (for_exports five_exports default_config)) counts.Types ≡ 0 }
 {}
 
 fn held()
-    ensures exports_at_most { HasMost default_config counts.Exports }
-    ensures more_exports_where_everything_is { ¬ HasMost (record default_config { export_everything = true }) counts.Exports }
-    ensures exports_of_a_shape { ¬ HasMost (for_exports exporting default_config) counts.Exports }
-    ensures exports_of_a_module { ¬ HasMost (for_module exporting default_config) counts.Exports }
-    ensures exports_beside_available_imports { HasMost (for_imports environment default_config) counts.Exports }
-    ensures exports_at_least { HasLeast default_config counts.Exports }
-    ensures no_export_where_everything_is { ¬ HasLeast (record default_config { export_everything = true }) counts.Exports }
-    ensures no_export_beside_a_shape { ¬ HasLeast (for_exports exporting default_config) counts.Exports }
-    ensures imports_at_least { HasLeast (for_exports exporting default_config) counts.Imports }
-    ensures no_import_of_a_shape { ¬ HasLeast (for_module imported_memories default_config) counts.Imports }
-    ensures no_available_import { ¬ HasLeast (for_imports environment default_config) counts.Imports }
-    ensures elements_by_segments { ¬ HasLeast default_config counts.Elements }
+    ensures exports_at_most { MaximumApplies default_config counts.Exports }
+    ensures more_exports_where_everything_is { ¬ MaximumApplies (record default_config { export_everything = true }) counts.Exports }
+    ensures exports_of_a_shape { ¬ MaximumApplies (for_exports exporting default_config) counts.Exports }
+    ensures exports_of_a_module { ¬ MaximumApplies (for_module exporting default_config) counts.Exports }
+    ensures exports_beside_available_imports { MaximumApplies (for_imports environment default_config) counts.Exports }
+    ensures exports_at_least { MinimumApplies default_config counts.Exports }
+    ensures no_export_where_everything_is { ¬ MinimumApplies (record default_config { export_everything = true }) counts.Exports }
+    ensures no_export_beside_a_shape { ¬ MinimumApplies (for_exports exporting default_config) counts.Exports }
+    ensures imports_at_least { MinimumApplies (for_exports exporting default_config) counts.Imports }
+    ensures no_import_of_a_shape { ¬ MinimumApplies (for_module imported_memories default_config) counts.Imports }
+    ensures no_available_import { ¬ MinimumApplies (for_imports environment default_config) counts.Imports }
+    ensures elements_by_segments { ¬ MinimumApplies default_config counts.Elements }
 {}
 
 fn most()

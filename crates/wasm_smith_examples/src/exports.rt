@@ -9,7 +9,7 @@ ghost use Rattle.smith_spell.specs.ExampleMembers.{final, taking_a_number, plain
 ghost use Rattle.smith_contents.specs.Exporting.{is_exported, export_name_at, candidates, offered_kinds, free_exports_at};
 ghost use Rattle.smith_rules.specs.ExportedItems.{exported_size};
 ghost use Rattle.smith_contents.specs.AllExports.{exports_at};
-ghost use Rattle.smith_contents.specs.Exported.{IsSized, IsFuncWithin};
+ghost use Rattle.smith_contents.specs.Exported.{HasSizeIn32Bits, IsFuncWithin};
 ghost use Rattle.smith_types.specs.declared.composite_type.CompositeInnerType.TheVariants as inner;
 ghost use Rattle.smith_types.specs.declared.value_type.ValType.{ValType};
 ghost use Rattle.wasm_smith_examples.specs.ExampleParts.{memory, number, import_named};
@@ -62,8 +62,8 @@ fn names()
 {}
 
 fn sizes()
-    ensures as_many_values_as_may_be { (params : List ValType) → length params ≡ 2 ^ 32 - 3 → IsSized (final (inner.Func (record { params = params; results = [] }))) }
-    ensures too_many_values { (params : List ValType) → length params ≡ 2 ^ 32 - 2 → ¬ IsSized (final (inner.Func (record { params = params; results = [] }))) }
+    ensures as_many_values_as_may_be { (params : List ValType) → length params ≡ 2 ^ 32 - 3 → HasSizeIn32Bits (final (inner.Func (record { params = params; results = [] }))) }
+    ensures too_many_values { (params : List ValType) → length params ≡ 2 ^ 32 - 2 → ¬ HasSizeIn32Bits (final (inner.Func (record { params = params; results = [] }))) }
     ensures within { IsFuncWithin (final taking_a_number ∷ []) 3 0 }
     ensures not_within { ¬ IsFuncWithin (final taking_a_number ∷ []) 2 0 }
 {}

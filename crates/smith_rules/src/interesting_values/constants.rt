@@ -2,7 +2,7 @@
 //! of floats.
 
 ghost use Rattle.std.specs.List.Sorted.{IsStrictlyIncreasing};
-ghost use Rattle.smith_rules.specs.CollectedValues.{AreExactly, IsConstant, Narrow, Wide};
+ghost use Rattle.smith_rules.specs.CollectedValues.{AreExactly, IsConstantValue, Narrow, Wide};
 
 static WIDE: [u64; 270] = [
     0x0,
@@ -297,7 +297,7 @@ static NARROW: [u32; 135] = [
 
 /// Returns the values of 64 bits, in ascending order.
 pub(super) fn wide_constants() -> &'static [u64]
-    ensures exactly { AreExactly (Wide IsConstant) result.now }
+    ensures exactly { AreExactly (Wide IsConstantValue) result.now }
     ensures ascending { IsStrictlyIncreasing result.now }
 {
     &WIDE
@@ -305,7 +305,7 @@ pub(super) fn wide_constants() -> &'static [u64]
 
 /// Returns the low halves of the values of 64 bits, in ascending order, each once.
 pub(super) fn narrow_constants() -> &'static [u32]
-    ensures exactly { AreExactly (Narrow IsConstant) result.now }
+    ensures exactly { AreExactly (Narrow IsConstantValue) result.now }
     ensures ascending { IsStrictlyIncreasing result.now }
 {
     &NARROW

@@ -4,14 +4,14 @@ ghost use Rattle.std.specs.Prelude.{◌≡◌, ◌+◌, ◌≤◌, Any, All, IfO
 ghost use Rattle.smith_types.specs.Entities.{page_log2};
 ghost use Rattle.smith_types.specs.declared.entity_type.MemoryType.{MemoryType as Memory};
 ghost use Rattle.smith_rules.specs.InterestingValues.{IsNearTable, IsNearMemory, bytes_of};
-ghost use Rattle.smith_rules.specs.CollectedValues.{AreExactly, Adds, Wide, IsNearElements, IsBeside, IsNearBytes, IsNearLimit, distances};
+ghost use Rattle.smith_rules.specs.CollectedValues.{AreExactly, AddsNumbers, Wide, IsNearElements, IsBeside, IsNearBytes, IsNearLimit, distances};
 
 use smith_bytes::Error;
 use smith_types::{Items, MemoryType, TableType};
 use std::alloc::Global;
 
 fn push_sum(numbers: &mut Items<u64>, limit: u64, distance: u64) -> Result<(), Error>
-    ensures adds { OnOk result (Adds (λ n. n ≡ limit + distance) numbers.old numbers.new) }
+    ensures adds { OnOk result (AddsNumbers (λ n. n ≡ limit + distance) numbers.old numbers.new) }
     ensures memory { IfErr result (λ e. e ≡ Error.Memory) }
 {
     match limit.checked_add(distance) {
@@ -21,7 +21,7 @@ fn push_sum(numbers: &mut Items<u64>, limit: u64, distance: u64) -> Result<(), E
 }
 
 fn push_difference(numbers: &mut Items<u64>, limit: u64, distance: u64) -> Result<(), Error>
-    ensures adds { OnOk result (Adds (λ n. n + distance ≡ limit) numbers.old numbers.new) }
+    ensures adds { OnOk result (AddsNumbers (λ n. n + distance ≡ limit) numbers.old numbers.new) }
     ensures memory { IfErr result (λ e. e ≡ Error.Memory) }
 {
     match limit.checked_sub(distance) {
@@ -31,7 +31,7 @@ fn push_difference(numbers: &mut Items<u64>, limit: u64, distance: u64) -> Resul
 }
 
 fn push_beside(numbers: &mut Items<u64>, limit: u64, distance: u64) -> Result<(), Error>
-    ensures adds { OnOk result (Adds (IsBeside limit distance) numbers.old numbers.new) }
+    ensures adds { OnOk result (AddsNumbers (IsBeside limit distance) numbers.old numbers.new) }
     ensures memory { IfErr result (λ e. e ≡ Error.Memory) }
 {
     push_sum(numbers, limit, distance)?;
@@ -39,7 +39,7 @@ fn push_beside(numbers: &mut Items<u64>, limit: u64, distance: u64) -> Result<()
 }
 
 fn push_near_elements(numbers: &mut Items<u64>, limit: u64) -> Result<(), Error>
-    ensures adds { OnOk result (Adds (IsNearElements limit) numbers.old numbers.new) }
+    ensures adds { OnOk result (AddsNumbers (IsNearElements limit) numbers.old numbers.new) }
     ensures memory { IfErr result (λ e. e ≡ Error.Memory) }
 {
     numbers.push(limit)?;
@@ -47,7 +47,7 @@ fn push_near_elements(numbers: &mut Items<u64>, limit: u64) -> Result<(), Error>
 }
 
 fn push_near_table(numbers: &mut Items<u64>, table: &TableType) -> Result<(), Error>
-    ensures adds { OnOk result (Adds (λ n. IsNearTable n table.now) numbers.old numbers.new) }
+    ensures adds { OnOk result (AddsNumbers (λ n. IsNearTable n table.now) numbers.old numbers.new) }
     ensures memory { IfErr result (λ e. e ≡ Error.Memory) }
 {
     push_near_elements(numbers, table.minimum)?;
@@ -58,7 +58,7 @@ fn push_near_table(numbers: &mut Items<u64>, table: &TableType) -> Result<(), Er
 }
 
 fn push_distances(numbers: &mut Items<u64>, bytes: u64) -> Result<(), Error>
-    ensures adds { OnOk result (Adds (λ n. Any (λ distance. IsBeside bytes distance n) distances) numbers.old numbers.new) }
+    ensures adds { OnOk result (AddsNumbers (λ n. Any (λ distance. IsBeside bytes distance n) distances) numbers.old numbers.new) }
     ensures memory { IfErr result (λ e. e ≡ Error.Memory) }
 {
     for distance in [1, 2, 4, 8, 16] {
@@ -68,7 +68,7 @@ fn push_distances(numbers: &mut Items<u64>, bytes: u64) -> Result<(), Error>
 }
 
 fn push_near_bytes(numbers: &mut Items<u64>, bytes: u64) -> Result<(), Error>
-    ensures adds { OnOk result (Adds (IsNearBytes bytes) numbers.old numbers.new) }
+    ensures adds { OnOk result (AddsNumbers (IsNearBytes bytes) numbers.old numbers.new) }
     ensures memory { IfErr result (λ e. e ≡ Error.Memory) }
 {
     numbers.push(bytes)?;
@@ -85,7 +85,7 @@ fn bytes_of(memory: &MemoryType, pages: u64) -> u64
 
 fn push_near_memory(numbers: &mut Items<u64>, memory: &MemoryType) -> Result<(), Error>
     requires { page_log2 memory.now.page_size_log2 ≤ 16 }
-    ensures adds { OnOk result (Adds (λ n. IsNearMemory n memory.now) numbers.old numbers.new) }
+    ensures adds { OnOk result (AddsNumbers (λ n. IsNearMemory n memory.now) numbers.old numbers.new) }
     ensures memory { IfErr result (λ e. e ≡ Error.Memory) }
 {
     push_near_bytes(numbers, bytes_of(memory, memory.minimum))?;
@@ -96,7 +96,7 @@ fn push_near_memory(numbers: &mut Items<u64>, memory: &MemoryType) -> Result<(),
 }
 
 fn push_near_tables(numbers: &mut Items<u64>, tables: &[TableType]) -> Result<(), Error>
-    ensures adds { OnOk result (Adds (λ n. Any (IsNearTable n) tables.now) numbers.old numbers.new) }
+    ensures adds { OnOk result (AddsNumbers (λ n. Any (IsNearTable n) tables.now) numbers.old numbers.new) }
     ensures memory { IfErr result (λ e. e ≡ Error.Memory) }
 {
     for table in tables {
@@ -107,7 +107,7 @@ fn push_near_tables(numbers: &mut Items<u64>, tables: &[TableType]) -> Result<()
 
 fn push_near_memories(numbers: &mut Items<u64>, memories: &[MemoryType]) -> Result<(), Error>
     requires { All (λ (memory : Memory). page_log2 memory.page_size_log2 ≤ 16) memories.now }
-    ensures adds { OnOk result (Adds (λ n. Any (IsNearMemory n) memories.now) numbers.old numbers.new) }
+    ensures adds { OnOk result (AddsNumbers (λ n. Any (IsNearMemory n) memories.now) numbers.old numbers.new) }
     ensures memory { IfErr result (λ e. e ≡ Error.Memory) }
 {
     for memory in memories {

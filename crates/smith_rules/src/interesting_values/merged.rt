@@ -2,7 +2,7 @@
 
 ghost use Rattle.std.specs.Prelude.{◌≡◌, ◌++◌, IfOk, IfErr};
 ghost use Rattle.std.specs.List.Sorted.{IsStrictlyIncreasing};
-ghost use Rattle.smith_rules.specs.CollectedValues.{IsInOrder, IsPlaceOf, IsPut};
+ghost use Rattle.smith_rules.specs.CollectedValues.{IsSortedSet, IsPlaceOf, IsInserted};
 
 use smith_bytes::Error;
 use smith_types::Items;
@@ -22,7 +22,7 @@ fn place64(numbers: &[u64], number: u64) -> (usize, usize)
 // Adds to `made` those of `rest` that are below `number`, then `number`. Returns those above it.
 fn put64<'a>(made: &mut Vec<u64>, rest: &'a [u64], number: u64) -> Result<&'a [u64], Error>
     requires { IsStrictlyIncreasing rest.now }
-    ensures put { IfOk result (λ left. IsPut made.old.items rest.now number made.new.items left.now) }
+    ensures put { IfOk result (λ left. IsInserted made.old.items rest.now number made.new.items left.now) }
     ensures memory { IfErr result (λ e. e ≡ Error.Memory) }
 {
     let (before, after) = place64(rest, number);
@@ -35,7 +35,7 @@ fn put64<'a>(made: &mut Vec<u64>, rest: &'a [u64], number: u64) -> Result<&'a [u
 pub(super) fn merged64(alloc: Global, constants: &[u64], near: &[u64]) -> Result<Items<u64>, Error>
     requires constants { IsStrictlyIncreasing constants.now }
     requires near { IsStrictlyIncreasing near.now }
-    ensures order { IfOk result (IsInOrder (constants.now ++ near.now)) }
+    ensures order { IfOk result (IsSortedSet (constants.now ++ near.now)) }
     ensures memory { IfErr result (λ e. e ≡ Error.Memory) }
 {
     let mut made = Vec::with_capacity(alloc, constants.len().saturating_add(near.len()))?;
@@ -61,7 +61,7 @@ fn place32(numbers: &[u32], number: u32) -> (usize, usize)
 // Adds to `made` those of `rest` that are below `number`, then `number`. Returns those above it.
 fn put32<'a>(made: &mut Vec<u32>, rest: &'a [u32], number: u32) -> Result<&'a [u32], Error>
     requires { IsStrictlyIncreasing rest.now }
-    ensures put { IfOk result (λ left. IsPut made.old.items rest.now number made.new.items left.now) }
+    ensures put { IfOk result (λ left. IsInserted made.old.items rest.now number made.new.items left.now) }
     ensures memory { IfErr result (λ e. e ≡ Error.Memory) }
 {
     let (before, after) = place32(rest, number);
@@ -74,7 +74,7 @@ fn put32<'a>(made: &mut Vec<u32>, rest: &'a [u32], number: u32) -> Result<&'a [u
 pub(super) fn merged32(alloc: Global, constants: &[u32], near: &[u32]) -> Result<Items<u32>, Error>
     requires constants { IsStrictlyIncreasing constants.now }
     requires near { IsStrictlyIncreasing near.now }
-    ensures order { IfOk result (IsInOrder (constants.now ++ near.now)) }
+    ensures order { IfOk result (IsSortedSet (constants.now ++ near.now)) }
     ensures memory { IfErr result (λ e. e ≡ Error.Memory) }
 {
     let mut made = Vec::with_capacity(alloc, constants.len().saturating_add(near.len()))?;

@@ -6,7 +6,7 @@ ghost use Rattle.smith_types.specs.Entities.{page_log2};
 ghost use Rattle.smith_types.specs.declared.entity_type.TableType.{TableType as Table};
 ghost use Rattle.smith_types.specs.declared.entity_type.MemoryType.{MemoryType as Memory};
 ghost use Rattle.smith_rules.specs.InterestingValues.{AreAll, IsInteresting64, IsInteresting32};
-ghost use Rattle.smith_rules.specs.CollectedValues.{AreExactly, Wide, IsNearLimit, IsInOrder};
+ghost use Rattle.smith_rules.specs.CollectedValues.{AreExactly, Wide, IsNearLimit, IsSortedSet};
 
 mod constants;
 mod limits;
@@ -20,7 +20,7 @@ use smith_types::{Items, MemoryType, TableType};
 use std::alloc::Global;
 
 fn in_order64(mut wide: Vec<u64>) -> Result<Vec<u64>, Error>
-    ensures order { IfOk result (λ made. IsInOrder wide.items made.items) }
+    ensures order { IfOk result (λ made. IsSortedSet wide.items made.items) }
     ensures memory { IfErr result (λ e. e ≡ Error.Memory) }
 {
     wide.sort()?;
@@ -29,7 +29,7 @@ fn in_order64(mut wide: Vec<u64>) -> Result<Vec<u64>, Error>
 }
 
 fn in_order32(mut narrow: Vec<u32>) -> Result<Vec<u32>, Error>
-    ensures order { IfOk result (λ made. IsInOrder narrow.items made.items) }
+    ensures order { IfOk result (λ made. IsSortedSet narrow.items made.items) }
     ensures memory { IfErr result (λ e. e ≡ Error.Memory) }
 {
     narrow.sort()?;

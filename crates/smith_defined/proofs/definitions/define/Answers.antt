@@ -2,7 +2,7 @@ use Rattle.std.proofs.Common.{refl}
 use Rattle.smith_types.specs.IndexSpaces.{spaces_in}
 use Rattle.smith_draw.proofs.ConstStepLemmas.{passed_on}
 use Rattle.smith_defined.proofs.DrawnStepLemmas.{may_initialise, refused_before}
-use Rattle.smith_defined.proofs.DefinedMoreLemmas.{defined_more}
+use Rattle.smith_defined.proofs.DefinedGrowthLemmas.{defined_more}
 use Rattle.smith_defined.proofs.definitions.define.Goals as goal
 
 pub define_tables-requires-clause-may : goal.define_tables-requires-clause-may

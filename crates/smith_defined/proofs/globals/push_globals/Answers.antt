@@ -2,14 +2,14 @@ use Rattle.std.proofs.Common.{arith}
 use Rattle.std.proofs.Math.Bool.{and-true}
 use Rattle.std.proofs.lemmas.List.{length-take-le}
 use Rattle.smith_bytes.specs.declared.error.Count.TheVariants as counts
-use Rattle.smith_defined.specs.Definitions.{standing_among, global_scope}
+use Rattle.smith_defined.specs.Definitions.{scope_among, global_scope}
 use Rattle.smith_defined.proofs.KeptOfferLemmas.{kept_pushed}
 use Rattle.smith_defined.proofs.GlobalsLoop.{none_made, define_more, define_stop, define_full, count_is, globals_added}
 use Rattle.smith_defined.proofs.globals.push_globals.Goals as goal
 
 pub loop-made-init : goal.loop-made-init
 loop-made-init c =
-    let standing = standing_among c.args.types.now.types c.args.funcs.now c.args.imported_funcs c.args.imported_globals c.args.globals.now in
+    let standing = scope_among c.args.types.now.types c.args.funcs.now c.args.imported_funcs c.args.imported_globals c.args.globals.now in
     record {
       defining = none_made c.args.config.now standing c.args.globals.now c.args.initials.now c.args.u.now c.requires.valid;
       kept = c.new-kept.ensures (global_scope c.args.config.now standing c.args.globals.now);
@@ -44,7 +44,7 @@ loop-made-preserved c =
     let drawn = c.in_ok-global.ensures in
     let visible = and-true c.args.config.now.gc_enabled in
     let seen = length-take-le c.args.imported_globals c.args.globals.now c.requires.imported in
-    let standing = standing_among c.args.types.now.types c.args.funcs.now c.args.imported_funcs c.args.imported_globals c.args.globals.now in
+    let standing = scope_among c.args.types.now.types c.args.funcs.now c.args.imported_funcs c.args.imported_globals c.args.globals.now in
     record {
       defining =
           define_more c.loop-made.invariant.defining (rw (c.saturating_sub-made-end.ensures, c.len-before.ensures) at c.loop-made-test.true) (rw (c.saturating_sub-least.ensures, c.len-before.ensures) at c.goes_on.ensures.exact) c.if-not-goes_on.false
@@ -65,7 +65,7 @@ loop-made-preserved c =
 
 pub returns-clause-exact : goal.returns-clause-exact
 returns-clause-exact c =
-    define_full c.loop-made.invariant.defining (rw (c.saturating_sub-made-end.ensures, c.len-before.ensures) at c.loop-made-test.false) (rw c.len-before.ensures at c.ask_past_full.ensures.exact)
+    define_full c.loop-made.invariant.defining (rw (c.saturating_sub-made-end.ensures, c.len-before.ensures) at c.loop-made-test.false) (rw c.len-before.ensures at c.discard_past_maximum.ensures.exact)
 
 pub draw_initialised_global-requires-clause-kept : goal.draw_initialised_global-requires-clause-kept
 draw_initialised_global-requires-clause-kept c =

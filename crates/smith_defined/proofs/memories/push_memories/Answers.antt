@@ -42,7 +42,7 @@ unfolding memories_at
 returns-clause-draws c =
     let count = c.len-before.ensures in
     record {
-      exact = behind_full c.loop-made.invariant.behind (rw (c.saturating_sub-made-end.ensures, count) at c.loop-made-test.false) (rw count at c.ask_past_full.ensures.exact);
+      exact = behind_full c.loop-made.invariant.behind (rw (c.saturating_sub-made-end.ensures, count) at c.loop-made-test.false) (rw count at c.discard_past_maximum.ensures.exact);
       memory = search rules;
       left = search rules;
     }

@@ -3,7 +3,7 @@ use Rattle.smith_types.specs.IndexSpaces.{spaces_in}
 use Rattle.smith_draw.proofs.ConstStepLemmas.{passed_on}
 use Rattle.smith_defined.proofs.KeptOfferLemmas.{kept_over}
 use Rattle.smith_defined.proofs.StandsBehindLemmas.{entities_longer}
-use Rattle.smith_defined.proofs.RequiredMoreLemmas.{is_over, required_more, export_refused}
+use Rattle.smith_defined.proofs.RequiredExportLemmas.{is_over, required_more, export_refused}
 use Rattle.smith_defined.proofs.shape_exports.make_export.Goals as goal
 
 pub define_entity-requires-clause-may : goal.define_entity-requires-clause-may

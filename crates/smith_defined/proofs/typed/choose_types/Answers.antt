@@ -24,7 +24,7 @@ pub returns : goal.returns
 returns c =
     let count = c.len-before.ensures in
     record {
-      exact = behind_full c.loop-made.invariant (rw (c.saturating_sub-made-end.ensures, count) at c.loop-made-test.false) (rw count at c.ask_past_full.ensures.exact);
+      exact = behind_full c.loop-made.invariant (rw (c.saturating_sub-made-end.ensures, count) at c.loop-made-test.false) (rw count at c.discard_past_maximum.ensures.exact);
       memory = search rules;
       left = search rules;
     }

@@ -1,7 +1,7 @@
 use Rattle.std.proofs.Common.{◌≡◌, ◌<◌, [], length, nat_lt, refl, sym, ap, subst}
 use Rattle.std.proofs.lemmas.List.Elements.{All-nil, All-cons}
 use Rattle.std.proofs.lemmas.Bool.{ltb-true}
-use Rattle.smith_types.specs.Entities.{IsTagValid, IsFuncValid}
+use Rattle.smith_types.specs.Entities.{IsTagValid, IsFuncTypeIndex}
 use Rattle.smith_types.specs.Expressions.{Context}
 use Rattle.smith_draw.specs.Choices.{chosen_at}
 use Rattle.smith_draw.specs.TypeUses.{types_for}
@@ -26,7 +26,7 @@ returns-in-Func-clause-fit c =
     let types = c.args.types.now.types in
     let some : 0 < length (types_for ImportedFunc types) = ltb-true _ _ (rw c.in-Func.is at c.requires.kind) in
     let exact : chosen_at 0 (types_for ImportedFunc types) c.args.u.now ≡ (c.choose-in-Func.result, c.choose-in-Func.new.u) = rw c.for_funcs.ensures at (c.choose-in-Func.ensures.exact 0) in
-    fit_without_references c.args.config.now c.args.types.now.types (spaces_of c.args.imported.now) _ (func_fit c.args.config.now c.args.types.now c.requires.may c.choose-in-Func.result (subst (λ drawn. IsFuncValid types drawn.0) exact (chosen_usable ImportedFunc types c.args.u.now some))) refl refl
+    fit_without_references c.args.config.now c.args.types.now.types (spaces_of c.args.imported.now) _ (func_fit c.args.config.now c.args.types.now c.requires.may c.choose-in-Func.result (subst (λ drawn. IsFuncTypeIndex types drawn.0) exact (chosen_usable ImportedFunc types c.args.u.now some))) refl refl
 
 pub returns-in-Global-clause-fit : goal.returns-in-Global-clause-fit
 returns-in-Global-clause-fit c =

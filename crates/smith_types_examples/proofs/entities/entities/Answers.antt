@@ -4,7 +4,7 @@ use Rattle.smith_types.specs.declared.value_type.HeapType.TheVariants.{Concrete}
 use Rattle.smith_types.specs.declared.value_type.ValType.TheVariants.{Ref}
 use Rattle.smith_types.specs.declared.composite_type.SubType.{SubType}
 use Rattle.smith_types.specs.Flags.{funcref}
-use Rattle.smith_types.specs.Entities.{IsTagValid, IsFuncValid, IsTableValid, IsMemoryValid, IsGlobalValid}
+use Rattle.smith_types.specs.Entities.{IsTagValid, IsFuncTypeIndex, IsTableValid, IsMemoryValid, IsGlobalValid}
 use Rattle.smith_types.specs.ExampleFeatures.{usual_features}
 use Rattle.smith_types.specs.ExampleTypes.{final_type, plain_func, nullable}
 use Rattle.smith_types.specs.ExampleEntities.{memory, table, constant_global}
@@ -16,7 +16,7 @@ types = final_type plain_func ∷ []
 pub returns-clause-one_of_each_kind : goal.returns-clause-one_of_each_kind
 returns-clause-one_of_each_kind c = record {
   tags = All-cons (IsTagValid types) 0 [] (record { params = []; results = [] }, (final_type plain_func, refl, refl), refl) (All-nil (IsTagValid types));
-  funcs = All-cons (IsFuncValid types) 0 [] (record { params = []; results = [] }, (final_type plain_func, refl, refl)) (All-nil (IsFuncValid types));
+  funcs = All-cons (IsFuncTypeIndex types) 0 [] (record { params = []; results = [] }, (final_type plain_func, refl, refl)) (All-nil (IsFuncTypeIndex types));
   tables = search rules;
   memories = search rules;
   globals = search rules;

@@ -1,7 +1,7 @@
 use Rattle.std.proofs.Common.{rules, ℕ, List, [], ◌∷◌, refl}
 use Rattle.std.specs.Prelude.{codes}
 use Rattle.std.proofs.lemmas.List.Elements.{All-from_recursion}
-use Rattle.smith_types.specs.Entities.{IsFuncValid}
+use Rattle.smith_types.specs.Entities.{IsFuncTypeIndex}
 use Rattle.smith_types.specs.Exports.{IsEntityAt, AreDistinct}
 use Rattle.smith_types.specs.declared.entity_type.EntityType.{EntityType}
 use Rattle.smith_types.specs.declared.entity_type.EntityType.TheVariants as entity
@@ -16,14 +16,14 @@ two_names = search rules
 
 two_valid : IsValid two_exports
 two_valid =
-    let function : IsFuncValid two_exports.types 0 = (record { params = []; results = [] }, function_at) in
+    let function : IsFuncTypeIndex two_exports.types 0 = (record { params = []; results = [] }, function_at) in
     record {
       types = function_types (module_features two_exports);
       imports = search rules;
       spaces = search rules;
       entities = record {
         tags = search rules;
-        funcs = All-from_recursion (IsFuncValid two_exports.types) (0 ∷ 0 ∷ []) (function, (function, tt));
+        funcs = All-from_recursion (IsFuncTypeIndex two_exports.types) (0 ∷ 0 ∷ []) (function, (function, tt));
         tables = search rules;
         memories = search rules;
         globals = search rules;

@@ -2,7 +2,7 @@ use Rattle.std.proofs.Common.{rules, [], ◌∷◌, false, All, refl, sym, subst
 use Rattle.std.proofs.lemmas.Option.{same_Some}
 use Rattle.std.proofs.lemmas.List.Elements.{All-cons}
 use Rattle.smith_types.specs.Subtyping.{itself}
-use Rattle.smith_types.specs.Entities.{IsFuncValid}
+use Rattle.smith_types.specs.Entities.{IsFuncTypeIndex}
 use Rattle.smith_types.specs.Expressions.{IsConstExpr, reference_to}
 use Rattle.smith_types.specs.ExampleTypes.{nullable}
 use Rattle.smith_types.specs.declared.value_type.HeapType.TheVariants.{Concrete, Exact}
@@ -17,8 +17,8 @@ use Rattle.wasm_smith_examples.specs.ExampleReferences.{refers_to_function}
 use Rattle.wasm_smith_examples.proofs.PartExamples.{alone, pushed_alone, function_types, function_at, functions_valid, globals_defined}
 use Rattle.wasm_smith_examples.proofs.imported_references.functions.Goals as goal
 
-both_valid : All (IsFuncValid one_function.types) (0 ∷ 0 ∷ [])
-both_valid = All-cons (IsFuncValid one_function.types) 0 (0 ∷ []) (record { params = []; results = [] }, function_at) functions_valid
+both_valid : All (IsFuncTypeIndex one_function.types) (0 ∷ 0 ∷ [])
+both_valid = All-cons (IsFuncTypeIndex one_function.types) 0 (0 ∷ []) (record { params = []; results = [] }, function_at) functions_valid
 
 pub returns-clause-an_imported_one_by_its_type : goal.returns-clause-an_imported_one_by_its_type
 returns-clause-an_imported_one_by_its_type c =

@@ -3,7 +3,7 @@ use Rattle.std.specs.Prelude.{codes}
 use Rattle.std.proofs.lemmas.List.Elements.{All-from_recursion}
 use Rattle.smith_types.specs.ExampleTypes.{plain, nullable}
 use Rattle.smith_types.specs.ValidTypes.{IsTypeValid, IsGroupValid, AreTypesValid}
-use Rattle.smith_types.specs.Entities.{IsFuncValid, IsTagValid}
+use Rattle.smith_types.specs.Entities.{IsFuncTypeIndex, IsTagValid}
 use Rattle.smith_types.specs.Exports.{IsEntityAt, AreDistinct}
 use Rattle.smith_types.specs.declared.value_type.AbstractHeapType.TheVariants as heap
 use Rattle.smith_types.specs.declared.value_type.ValType.TheVariants.{I32, I64, F32, Ref}
@@ -53,7 +53,7 @@ all_valid =
       spaces = search rules;
       entities = record {
         tags = All-from_recursion (IsTagValid one_of_each.types) (1 ∷ []) ((record { params = F32 ∷ []; results = [] }, (quux_type, refl, refl), refl), tt);
-        funcs = All-from_recursion (IsFuncValid one_of_each.types) (0 ∷ []) ((record { params = I32 ∷ []; results = I64 ∷ [] }, (foo_type, refl, refl)), tt);
+        funcs = All-from_recursion (IsFuncTypeIndex one_of_each.types) (0 ∷ []) ((record { params = I32 ∷ []; results = I64 ∷ [] }, (foo_type, refl, refl)), tt);
         tables = search rules;
         memories = search rules;
         globals = search rules;

@@ -11,7 +11,7 @@ use Rattle.smith_types.proofs.GroundedLemmas.{grounded_at}
 use Rattle.smith_config.specs.Config.{default_config}
 use Rattle.smith_config.specs.Granted.{IsGranted, HasGroundedItems}
 use Rattle.smith_spell.specs.ExampleMembers.{final, taking}
-use Rattle.smith_rules.specs.Module.{Parts, module_context}
+use Rattle.smith_rules.specs.Module.{ModuleParts, module_context}
 use Rattle.wasm_smith_examples.specs.ExampleModules.{one_number, one_table}
 use Rattle.wasm_smith_examples.specs.ExampleParts.{passive_elements}
 use Rattle.wasm_smith_examples.specs.ExampleReferences.{with_references, holding_reference}
@@ -19,7 +19,7 @@ use Rattle.wasm_smith_examples.proofs.GrantedExamples.{any_not_granted, any_take
 use Rattle.wasm_smith_examples.proofs.promises.references.Goals as goal
 
 -- a struct type, and a global for a reference to it
-abbrev beside : Parts
+abbrev beside : ModuleParts
 beside = holding_reference (final empty_struct ∷ []) (Concrete 0)
 
 abbrev to_struct : ValType
@@ -42,7 +42,7 @@ returns-clause-in_a_table c = λ held. any_not_granted one_table (All-head (IsGr
 
 pub returns-clause-in_a_parameter : goal.returns-clause-in_a_parameter
 returns-clause-in_a_parameter c = λ held.
-    let m : Parts = record one_number { types = final (taking to_any) ∷ [] } in
+    let m : ModuleParts = record one_number { types = final (taking to_any) ∷ [] } in
     any_taken m (All-head (IsGranted with_references (module_context m)) to_any (I32 ∷ []) held.values)
 
 pub returns-clause-in_a_segment : goal.returns-clause-in_a_segment

@@ -1,5 +1,5 @@
 use Rattle.std.proofs.Common.{◌++◌, sym, subst, ◌∙◌}
-use Rattle.smith_rules.specs.CollectedValues.{IsInOrder}
+use Rattle.smith_rules.specs.CollectedValues.{IsSortedSet}
 use Rattle.smith_rules.proofs.MergeLemmas.{IsMerging, merging_begins, merging_ends, merging_goes_on, rest_rises}
 use Rattle.smith_rules.proofs.interesting_values.merged.merged32.Goals as goal
 
@@ -18,5 +18,5 @@ loop-number-preserved c =
 
 pub returns-clause-order : goal.returns-clause-order
 returns-clause-order c =
-    subst (IsInOrder (c.args.constants.now ++ c.args.near.now)) (sym (c.from_vec.ensures ∙ c.in_ok-extend_from_slice.ensures.items))
+    subst (IsSortedSet (c.args.constants.now ++ c.args.near.now)) (sym (c.from_vec.ensures ∙ c.in_ok-extend_from_slice.ensures.items))
     (merging_ends c.args.constants.now c.args.near.now c.loop-number.number-index c.loop-number.made.items c.loop-number.rest.now c.loop-number-test.false c.loop-number.invariant)

@@ -20,9 +20,9 @@ use Rattle.smith_config.specs.Sanitized.{IsSanitized}
 use Rattle.smith_types.proofs.ListLemmas.{slice_get-behind}
 use Rattle.smith_types.specs.Floats.{HasNoFloatValue}
 use Rattle.smith_config.specs.Granted.{HasGroundedElements, HasGroundedValue}
-use Rattle.smith_defined.specs.Defined.{nothing_defined, AreAdded, HasRoom, AreWithin, MayDefine, StandsBehind, AreFilled, AreDefinedMore, AreGlobalsDefined, HaveNoFloats, drawn_over, standing_in}
+use Rattle.smith_defined.specs.Defined.{nothing_defined, AreAdded, HasRoom, AreWithin, MayDefine, StandsBehind, AreFilled, AreDefinedMore, AreGlobalsDefined, HaveNoFloats, drawn_over, scope_in}
 use Rattle.smith_defined.specs.DefinedTables.{IsTableFit, AreTablesDrawn}
-use Rattle.smith_defined.specs.Definitions.{Standing, Table, standing_over, standing_among, context_at, table_scope}
+use Rattle.smith_defined.specs.Definitions.{InitialiserScope, Table, scope_over, scope_among, context_at, table_scope}
 use Rattle.smith_rules.specs.Module.{IsTableInitialised}
 use Rattle.smith_defined.specs.declared.definitions.Definitions.{Definitions}
 use Rattle.smith_defined.proofs.ExtensionLemmas.{all_kept}
@@ -31,8 +31,8 @@ use Rattle.smith_rules.proofs.InitialLemmas.{IsTableInitialised-grown}
 use Rattle.smith_defined.proofs.StandsBehindLemmas.{IsTablePlaced, defined_end, left_over, table_kept, global_kept}
 
 -- the parts that initialisers refer to after functions are defined
-abbrev pub standing_more : List SubType → IndexSpaces → Definitions → IndexSpaces → Standing
-standing_more types before so_far later = standing_among types later.funcs (length before.funcs - so_far.num_funcs) (length before.globals - length so_far.globals) before.globals
+abbrev pub standing_more : List SubType → IndexSpaces → Definitions → IndexSpaces → InitialiserScope
+standing_more types before so_far later = scope_among types later.funcs (length before.funcs - so_far.num_funcs) (length before.globals - length so_far.globals) before.globals
 
 -- the additions of the steps of definitions to the existing items
 pub record AddsTo (config : Config) (space : Space) (before : IndexSpaces) (so_far : Definitions) (later : IndexSpaces) (defined : Definitions) : Type 0 where
@@ -76,7 +76,7 @@ grown_by {imports = imports} {before = before} h extends counted =
     }
 
 -- each drawn table has an initialiser, or none
-tables_counted : {config : Config} {standing : Standing} {before later : List TableType} {old initials : List (Option (List ConstInstr))} → AreTablesDrawn config standing before later old initials
+tables_counted : {config : Config} {standing : InitialiserScope} {before later : List TableType} {old initials : List (Option (List ConstInstr))} → AreTablesDrawn config standing before later old initials
     → length initials ≡ length old + (length later - length before)
 tables_counted {before = before} {old = old} so_far =
     let tables = map (λ (one : Table). one.0) so_far.drawn in
@@ -90,8 +90,8 @@ tables_counted {before = before} {old = old} so_far =
     )
 
 module _ (config : Config) (imported : IndexSpaces) (space : Space) (before later : IndexSpaces) (so_far defined : Definitions) (adds : AddsTo config space before so_far later defined) (now : StandsBehind config imported space before so_far) where
-  abbrev standing : Standing
-  standing = standing_in space.types imported later
+  abbrev standing : InitialiserScope
+  standing = scope_in space.types imported later
 
   -- the entities that are not defined are imported
   standing_is : standing_more space.types before so_far later ≡ standing
@@ -99,13 +99,13 @@ module _ (config : Config) (imported : IndexSpaces) (space : Space) (before late
       let seam = take-append_seam imported.globals now.globals.defined in
       let globals : take (length before.globals - length so_far.globals) before.globals ≡ imported.globals =
       ap (λ (n : ℕ). take n before.globals) (left_over now.globals) ∙ (ap (λ (xs : List GlobalType). take (length imported.globals) xs) now.globals.parts ∙ seam) in
-      λ i. standing_over space.types later.funcs (left_over now.funcs i) (globals i)
+      λ i. scope_over space.types later.funcs (left_over now.funcs i) (globals i)
 
   grown : AreSpacesGrown before later
   grown = filled_grown adds.filled
 
   drawn : AreTablesDrawn config standing before.tables later.tables so_far.tables defined.tables
-  drawn = subst (λ (s : Standing). AreTablesDrawn config s before.tables later.tables so_far.tables defined.tables) standing_is adds.tables
+  drawn = subst (λ (s : InitialiserScope). AreTablesDrawn config s before.tables later.tables so_far.tables defined.tables) standing_is adds.tables
 
   -- the globals so far are valid with the functions that were added
   globals_stood : AreGlobalsDefined config standing before.globals so_far.globals
@@ -125,8 +125,8 @@ module _ (config : Config) (imported : IndexSpaces) (space : Space) (before late
 
   globals_stand : AreGlobalsDefined config standing later.globals defined.globals
   globals_stand =
-      subst (λ (s : Standing). AreGlobalsDefined config s later.globals defined.globals) standing_is
-      (adds.globals (subst (λ (s : Standing). AreGlobalsDefined config s before.globals so_far.globals) (sym standing_is) globals_stood))
+      subst (λ (s : InitialiserScope). AreGlobalsDefined config s later.globals defined.globals) standing_is
+      (adds.globals (subst (λ (s : InitialiserScope). AreGlobalsDefined config s before.globals so_far.globals) (sym standing_is) globals_stood))
 
   globals_behind : Defines imported.globals (length defined.globals) later.globals
   globals_behind =

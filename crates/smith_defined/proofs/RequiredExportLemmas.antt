@@ -9,8 +9,8 @@ use Rattle.smith_bytes.specs.declared.error.Count.TheVariants as counts
 use Rattle.smith_bytes.specs.declared.error.Error.{Error}
 use Rattle.smith_bytes.specs.declared.error.Error.TheVariants as errors
 use Rattle.smith_bytes.specs.declared.error.Why.TheVariants.{SeveralMemories, SeveralTables}
-use Rattle.smith_types.specs.Entities.{IsTagValid, IsFuncValid, IsTableValid, IsMemoryValid, IsGlobalValid, AreEntitiesValid}
-use Rattle.smith_types.specs.Exports.{IsEntityAt, kind_of}
+use Rattle.smith_types.specs.Entities.{IsTagValid, IsFuncTypeIndex, IsTableValid, IsMemoryValid, IsGlobalValid, AreEntitiesValid}
+use Rattle.smith_types.specs.Exports.{IsEntityAt, entity_kind}
 use Rattle.smith_types.specs.Expressions.{field_values}
 use Rattle.smith_types.specs.Features.{Features}
 use Rattle.smith_types.specs.Grown.{Extends, IsContextGrown}
@@ -87,16 +87,16 @@ module _ (features : Features) (types : List SubType) where
   tag_alone : (index : ℕ) → IsTagValid types index → AreEntitiesValid features types (entity_spaces (entity.Tag index))
   tag_alone index h = record {
     tags = All-cons (IsTagValid types) index [] h (All-nil (IsTagValid types));
-    funcs = All-nil (IsFuncValid types);
+    funcs = All-nil (IsFuncTypeIndex types);
     tables = All-nil (IsTableValid features types);
     memories = All-nil (IsMemoryValid features);
     globals = All-nil (IsGlobalValid features types);
   }
 
-  func_alone : (index : ℕ) → IsFuncValid types index → AreEntitiesValid features types (entity_spaces (entity.Func index))
+  func_alone : (index : ℕ) → IsFuncTypeIndex types index → AreEntitiesValid features types (entity_spaces (entity.Func index))
   func_alone index h = record {
     tags = All-nil (IsTagValid types);
-    funcs = All-cons (IsFuncValid types) index [] h (All-nil (IsFuncValid types));
+    funcs = All-cons (IsFuncTypeIndex types) index [] h (All-nil (IsFuncTypeIndex types));
     tables = All-nil (IsTableValid features types);
     memories = All-nil (IsMemoryValid features);
     globals = All-nil (IsGlobalValid features types);
@@ -105,7 +105,7 @@ module _ (features : Features) (types : List SubType) where
   table_alone : (table : TableType) → IsTableValid features types table → AreEntitiesValid features types (entity_spaces (entity.Table table))
   table_alone table h = record {
     tags = All-nil (IsTagValid types);
-    funcs = All-nil (IsFuncValid types);
+    funcs = All-nil (IsFuncTypeIndex types);
     tables = All-cons (IsTableValid features types) table [] h (All-nil (IsTableValid features types));
     memories = All-nil (IsMemoryValid features);
     globals = All-nil (IsGlobalValid features types);
@@ -114,7 +114,7 @@ module _ (features : Features) (types : List SubType) where
   memory_alone : (memory : MemoryType) → IsMemoryValid features memory → AreEntitiesValid features types (entity_spaces (entity.Memory memory))
   memory_alone memory h = record {
     tags = All-nil (IsTagValid types);
-    funcs = All-nil (IsFuncValid types);
+    funcs = All-nil (IsFuncTypeIndex types);
     tables = All-nil (IsTableValid features types);
     memories = All-cons (IsMemoryValid features) memory [] h (All-nil (IsMemoryValid features));
     globals = All-nil (IsGlobalValid features types);
@@ -123,14 +123,14 @@ module _ (features : Features) (types : List SubType) where
   global_alone : (global : GlobalType) → IsGlobalValid features types global → AreEntitiesValid features types (entity_spaces (entity.Global global))
   global_alone global h = record {
     tags = All-nil (IsTagValid types);
-    funcs = All-nil (IsFuncValid types);
+    funcs = All-nil (IsFuncTypeIndex types);
     tables = All-nil (IsTableValid features types);
     memories = All-nil (IsMemoryValid features);
     globals = All-cons (IsGlobalValid features types) global [] h (All-nil (IsGlobalValid features types));
   }
 
   one_alone : (spaces : IndexSpaces) (of_kind : ExportKind) (index : ℕ) (one : EntityType) → AreEntitiesValid features types spaces → IsEntityAt spaces of_kind index one → AreEntitiesValid features types (entity_spaces one)
-  one_alone spaces kind.Func index one h (func, at, is) = rw is (func_alone func (all_at (IsFuncValid types) spaces.funcs index func h.funcs at))
+  one_alone spaces kind.Func index one h (func, at, is) = rw is (func_alone func (all_at (IsFuncTypeIndex types) spaces.funcs index func h.funcs at))
   one_alone spaces kind.Table index one h (table, at, is) = rw is (table_alone table (all_at (IsTableValid features types) spaces.tables index table h.tables at))
   one_alone spaces kind.Memory index one h (memory, at, is) = rw is (memory_alone memory (all_at (IsMemoryValid features) spaces.memories index memory h.memories at))
   one_alone spaces kind.Global index one h (global, at, is) = rw is (global_alone global (all_at (IsGlobalValid features types) spaces.globals index global h.globals at))
@@ -192,9 +192,9 @@ pub record IsOver (own_types : Bool) (config : Config) (shape : Shape) (space ty
   pub types_of : AddsTypesOf shape space.types types.types
   pub few_values : All (HasFewValues most_listed) space.types → All (HasFewValues most_listed) types.types
   pub same : IsKeptType own_types types.types (shape_types shape) added theirs
-  pub kind : kind_of added ≡ of_kind
+  pub kind : entity_kind added ≡ of_kind
 
-kind_is : (spaces : IndexSpaces) (of_kind : ExportKind) (index : ℕ) (one : EntityType) → IsEntityAt spaces of_kind index one → kind_of one ≡ of_kind
+kind_is : (spaces : IndexSpaces) (of_kind : ExportKind) (index : ℕ) (one : EntityType) → IsEntityAt spaces of_kind index one → entity_kind one ≡ of_kind
 kind_is spaces kind.Func index one (func, at, is) = rw is refl
 kind_is spaces kind.Table index one (table, at, is) = rw is refl
 kind_is spaces kind.Memory index one (memory, at, is) = rw is refl
@@ -288,7 +288,7 @@ module _ (config : Config) (shape : Shape) (space : Space) (may : MayRequire tru
     }
 
   -- other entities are unchanged
-  as_it_is : (of_kind : ExportKind) (theirs : EntityType) → AreEntitiesValid features space.types (entity_spaces theirs) → (0 < length (tag_of theirs) → ⊥) → IsSameType space.types (shape_types shape) theirs theirs → kind_of theirs ≡ of_kind
+  as_it_is : (of_kind : ExportKind) (theirs : EntityType) → AreEntitiesValid features space.types (entity_spaces theirs) → (0 < length (tag_of theirs) → ⊥) → IsSameType space.types (shape_types shape) theirs theirs → entity_kind theirs ≡ of_kind
       → IsOver true config shape space space of_kind theirs theirs
   as_it_is of_kind theirs fits no_tag same kind = record {
     valid = valid;
@@ -308,7 +308,7 @@ module _ (config : Config) (shape : Shape) (space : Space) (may : MayRequire tru
 
   own_over : (of_kind : ExportKind) (index : ℕ) (theirs : EntityType) → IsEntityAt (shape_spaces shape) of_kind index theirs → IsOver true config shape space (types_over true (shape_types shape) space theirs) of_kind theirs (entity_over true space theirs)
   own_over kind.Func index theirs (other, at, is) =
-      let (function, (t, stood, inner)) = all_at (IsFuncValid (shape_types shape)) (shape_spaces shape).funcs index other may.valid.consistent.entities.funcs at in
+      let (function, (t, stood, inner)) = all_at (IsFuncTypeIndex (shape_types shape)) (shape_spaces shape).funcs index other may.valid.consistent.entities.funcs at in
       rw (is, stood) (own_func other t function stood inner)
   own_over kind.Tag index theirs (other, at, is) =
       let (function, (t, stood, inner), none) = all_at (IsTagValid (shape_types shape)) (shape_spaces shape).tags index other may.valid.consistent.entities.tags at in
@@ -343,7 +343,7 @@ no_supertypes true config shape space may own = λ index t at. (all_at IsTypePla
 no_supertypes false config shape space may own = absurd cc
 
 -- a defined entity has the next index of its kind
-pub stands_last : (spaces : IndexSpaces) (of_kind : ExportKind) (added : EntityType) → kind_of added ≡ of_kind → IsEntityAt (with_entity spaces added) of_kind (next_index spaces of_kind) added
+pub stands_last : (spaces : IndexSpaces) (of_kind : ExportKind) (added : EntityType) → entity_kind added ≡ of_kind → IsEntityAt (with_entity spaces added) of_kind (next_index spaces of_kind) added
 stands_last spaces kind.Func (entity.Func index) is = (index, slice_get-last spaces.funcs index, refl)
 stands_last spaces kind.Table (entity.Table table) is = (table, slice_get-last spaces.tables table, refl)
 stands_last spaces kind.Memory (entity.Memory memory) is = (memory, slice_get-last spaces.memories memory, refl)
@@ -404,7 +404,7 @@ module _ (config : Config) (space types : Space) (spaces : IndexSpaces) (defined
       (record { tags = omega (arith, room.tags); funcs = omega (arith, room.funcs); tables = omega (arith, room.tables); memories = omega (arith, room.memories); globals = omega (arith, longer, room.globals) }))
 
 -- an entity counts as one of its kind
-counted_more : (spaces : IndexSpaces) (added : EntityType) (count : Count) → (count ≡ counts.Types → ⊥) → count_in (with_entity spaces added) count ≡ count_in spaces count + counts_as count (kind_of added)
+counted_more : (spaces : IndexSpaces) (added : EntityType) (count : Count) → (count ≡ counts.Types → ⊥) → count_in (with_entity spaces added) count ≡ count_in spaces count + counts_as count (entity_kind added)
 counted_more spaces (entity.Tag index) counts.Types other = absurd (other refl)
 counted_more spaces (entity.Tag index) counts.Tags other = length-append spaces.tags (index ∷ [])
 counted_more spaces (entity.Tag index) count other = omega arith
