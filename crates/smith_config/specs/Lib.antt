@@ -16,3 +16,4 @@ pub mod Arbitrary
 pub mod EntityBounds
 pub mod Granted
 pub mod Minimums
+pub mod ExampleMembers

@@ -10,8 +10,8 @@ use Rattle.smith_types.specs.declared.value_type.ValType.TheVariants.{I32}
 use Rattle.smith_config.specs.declared.config.Config.{Config}
 use Rattle.smith_config.specs.Config.{default_config}
 use Rattle.smith_rules.specs.Module.{ModuleParts}
-use Rattle.wasm_smith_examples.specs.ExampleModules.{empty_module, group_of}
-use Rattle.wasm_smith_examples.specs.ExampleParts.{import_named, trapping}
+use Rattle.smith_rules_examples.specs.ExampleModules.{empty_module, group_of}
+use Rattle.smith_rules_examples.specs.ExampleParts.{import_named, trapping}
 use Rattle.smith_instr_examples.specs.ExampleBodies.{number}
 use Rattle.smith_code_examples.specs.ExampleBytes.{narrow}
 use Rattle.smith_program.specs.declared.program.Body.{Body}

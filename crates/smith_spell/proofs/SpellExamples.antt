@@ -10,8 +10,8 @@ use Rattle.smith_types.specs.ExampleTypes.{constant, not_null}
 use Rattle.smith_config.specs.Config.{default_config}
 use Rattle.smith_spell.specs.Family.{IsMemberField, IsMemberType, IsInFamily}
 use Rattle.smith_spell.specs.SpellAnswers.{IsSpellable}
-use Rattle.smith_spell.specs.ExampleMembers.{final, alone, one_function_type, plain_function, struct_of_bytes, struct_with, struct_and_holder, with_non_nullable}
-use Rattle.smith_spell.proofs.EachPlaceLemmas.{each_place}
+use Rattle.smith_config.specs.ExampleMembers.{final, alone, one_function_type, plain_function, struct_of_bytes, struct_with, struct_and_holder, with_non_nullable}
+use Rattle.smith_types.proofs.EachPlaceLemmas.{each_place}
 use Rattle.smith_spell.proofs.GroundedExamples.{grounds_itself}
 
 function_member : IsMemberType default_config [] (final plain_function)

@@ -4,4 +4,3 @@ pub mod Spelling
 pub mod SpellAnswers
 pub mod Written
 pub mod ReadLaws
-pub mod ExampleMembers

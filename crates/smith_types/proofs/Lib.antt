@@ -32,3 +32,4 @@ pub mod SegmentGrowthLemmas
 pub mod ExportGrowthLemmas
 pub mod ConstStepLemmas
 pub mod DistinctLemmas
+pub mod EachPlaceLemmas

@@ -16,7 +16,7 @@ use Rattle.smith_config.specs.Shapes.{IsShapeValid, IsShort}
 use Rattle.smith_config.proofs.FirstFaultLemmas.{first_bad_type}
 use Rattle.wasm_smith.specs.CheckedShapes.{ComesBefore, IsFaultOf, IsFirstFaulty}
 use Rattle.smith_rules.specs.Refusals.{shape_for}
-use Rattle.wasm_smith_examples.specs.ExampleShapes.{untyped}
+use Rattle.smith_rules_examples.specs.ExampleShapes.{untyped}
 
 -- what is asked of the uses that come before
 pub before_module : (P : Which → Type 0) (other : Which) → ComesBefore other ModuleShape → P other

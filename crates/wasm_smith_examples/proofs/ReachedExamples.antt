@@ -2,7 +2,7 @@
 use Rattle.std.proofs.Common.{List, ℕ, [], ◌∷◌, ◌++◌, refl}
 use Rattle.smith_bytes.specs.Draws.{digit_count}
 use Rattle.smith_config.specs.Config.{default_config}
-use Rattle.smith_spell.specs.ExampleMembers.{one_function_type, function_bytes}
+use Rattle.smith_config.specs.ExampleMembers.{one_function_type, function_bytes}
 use Rattle.smith_spell.proofs.SpellExamples.{function_spellable}
 use Rattle.smith_spell.proofs.SpelledExamples.{one_function_spelled}
 use Rattle.wasm_smith.specs.Reached.{BeginsWithMember}

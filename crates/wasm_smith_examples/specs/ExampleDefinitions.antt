@@ -8,9 +8,9 @@ use Rattle.smith_types.specs.declared.entity_type.GlobalType.{GlobalType}
 use Rattle.smith_types.specs.declared.entity_type.MemoryType.{MemoryType}
 use Rattle.smith_config.specs.declared.config.Config.{Config}
 use Rattle.smith_config.specs.Config.{default_config}
-use Rattle.smith_spell.specs.ExampleMembers.{final, giving_two, taking_a_number, bytes_array, plain_function}
+use Rattle.smith_config.specs.ExampleMembers.{final, giving_two, taking_a_number, bytes_array, plain_function}
 use Rattle.smith_defined.specs.Definitions.{InitialiserScope, scope_over}
-use Rattle.wasm_smith_examples.specs.ExampleParts.{memory, table, number}
+use Rattle.smith_rules_examples.specs.ExampleParts.{memory, table, number}
 
 -- a function with results, an array, two functions without results, and one that is shared
 abbrev pub several_types : List SubType

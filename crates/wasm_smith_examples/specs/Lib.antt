@@ -1,6 +1,1 @@
-pub mod ExampleParts
-pub mod ExampleModules
 pub mod ExampleDefinitions
-pub mod ExampleGiven
-pub mod ExampleShapes
-pub mod ExampleReferences

@@ -7,9 +7,9 @@ ghost use Rattle.smith_config.specs.Shapes.{space_of};
 ghost use Rattle.wasm_smith.specs.Begun.{begun_at, nothing_begun};
 ghost use Rattle.smith_defined.specs.Defined.{nothing_defined};
 ghost use Rattle.smith_rules.specs.Module.{module_spaces};
-ghost use Rattle.wasm_smith_examples.specs.ExampleParts.{memory};
-ghost use Rattle.wasm_smith_examples.specs.ExampleModules.{three_memories};
-ghost use Rattle.wasm_smith_examples.specs.ExampleShapes.{for_module, for_imports, imported_memories, memories_in_and_out, environment};
+ghost use Rattle.smith_rules_examples.specs.ExampleParts.{memory};
+ghost use Rattle.smith_rules_examples.specs.ExampleModules.{three_memories};
+ghost use Rattle.smith_rules_examples.specs.ExampleShapes.{for_module, for_imports, imported_memories, memories_in_and_out, environment};
 
 // A module shape brings its imports without the empty groups, and a memory for its export.
 #[tactic(auto, unfolding(wasm_smith::specs::Begun::begun_at, wasm_smith::specs::Begun::begun_by_module_at, smith_defined::specs::RequiredExports::required_from, smith_defined::specs::RequiredExports::entity_required_at, smith_defined::specs::RequiredExports::defined_with_at))]

@@ -15,8 +15,8 @@ ghost use Rattle.smith_defined.specs.Definitions.{table_scope};
 ghost use Rattle.wasm_smith.specs.DrawnContents.{AreSegmentsFit, AreExportsMade, AreContents};
 ghost use Rattle.smith_contents.specs.DrawnElements.{IsPlaced};
 ghost use Rattle.wasm_smith_examples.specs.ExampleDefinitions.{beside_globals, no_imports};
-ghost use Rattle.wasm_smith_examples.specs.ExampleParts.{table};
-ghost use Rattle.wasm_smith_examples.specs.ExampleShapes.{for_exports, empty_shape};
+ghost use Rattle.smith_rules_examples.specs.ExampleParts.{table};
+ghost use Rattle.smith_rules_examples.specs.ExampleShapes.{for_exports, empty_shape};
 
 fn placed()
     ensures past_the_minimum { IsPlaced default_config (table_scope default_config (beside_globals [])) (table funcref 5 None) (Const32 (pos 6)) None }

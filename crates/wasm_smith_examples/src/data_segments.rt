@@ -10,7 +10,7 @@ ghost use Rattle.smith_config.specs.Config.{default_config};
 ghost use Rattle.smith_contents.specs.DataSegments.{counting_at, data_at};
 ghost use Rattle.smith_defined.specs.Definitions.{global_scope};
 ghost use Rattle.wasm_smith_examples.specs.ExampleDefinitions.{beside_globals};
-ghost use Rattle.wasm_smith_examples.specs.ExampleParts.{active_data, memory, number};
+ghost use Rattle.smith_rules_examples.specs.ExampleParts.{active_data, memory, number};
 
 #[tactic(auto, unfolding(smith_contents::specs::DataSegments::counting_at, smith_contents::specs::DataSegments::may_hold_data_at, smith_bytes::specs::Draws::range_at, smith_bytes::specs::Draws::digit_count))]
 fn counting()

@@ -9,13 +9,13 @@ ghost use Rattle.smith_types.specs.declared.value_type.ValType.TheVariants.{I32,
 ghost use Rattle.smith_types.specs.declared.const_instr.ConstInstr.TheVariants.{I32Const, GlobalGet, RefFunc, RefNull};
 ghost use Rattle.smith_types.specs.declared.entity_type.EntityType.TheVariants.{Func};
 ghost use Rattle.smith_types.specs.declared.imports.Imports.TheVariants.{Single};
-ghost use Rattle.smith_spell.specs.ExampleMembers.{final, giving_two, plain_function};
+ghost use Rattle.smith_config.specs.ExampleMembers.{final, giving_two, plain_function};
 ghost use Rattle.wasm_smith.specs.Build.{module_at};
 ghost use Rattle.smith_defined.specs.Defined.{nothing_defined};
 ghost use Rattle.smith_defined.specs.Definitions.{scope_over, definitions_at, tags_at, funcs_at, tables_at, memories_at, globals_at};
 ghost use Rattle.wasm_smith_examples.specs.ExampleDefinitions.{several_types, two_of_each, one_of_each_kind, two_at_least_of_each, one_import_of_a_function, beside_globals, up_to_three, no_imports, one_imported_of_each};
-ghost use Rattle.wasm_smith_examples.specs.ExampleModules.{empty_module, group_of};
-ghost use Rattle.wasm_smith_examples.specs.ExampleParts.{global, import_named, memory, no_function, number, table};
+ghost use Rattle.smith_rules_examples.specs.ExampleModules.{empty_module, group_of};
+ghost use Rattle.smith_rules_examples.specs.ExampleParts.{global, import_named, memory, no_function, number, table};
 
 #[tactic(auto, unfolding(smith_defined::specs::Definitions::items_defined_at, smith_defined::specs::Definitions::type_indices_at, smith_defined::specs::Definitions::tags_at, smith_defined::specs::Definitions::funcs_at, smith_draw::specs::TypeUses::is_tag_type, smith_draw::specs::TypeUses::is_unshared_function, smith_draw::specs::Choices::chosen_at, smith_bytes::specs::Growth::grow_at, smith_bytes::specs::Draws::bool_at, smith_bytes::specs::Draws::range_at, smith_bytes::specs::Draws::digit_count))]
 fn tags()

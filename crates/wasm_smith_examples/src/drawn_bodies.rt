@@ -6,7 +6,7 @@ ghost use Rattle.smith_types.specs.declared.code.Instructions.TheVariants.{Unrea
 ghost use Rattle.smith_draw.specs.ExampleConstExprs.{context_of_types};
 ghost use Rattle.smith_config.specs.Config.{default_config};
 ghost use Rattle.smith_contents.specs.DrawnBodies.{raw_bytes_at, bodies_at};
-ghost use Rattle.wasm_smith_examples.specs.ExampleParts.{trapping};
+ghost use Rattle.smith_rules_examples.specs.ExampleParts.{trapping};
 
 #[tactic(auto, unfolding(smith_contents::specs::DrawnBodies::raw_bytes_at, smith_bytes::specs::Draws::len_at, smith_bytes::specs::Draws::range_at, smith_bytes::specs::Draws::digit_count))]
 fn raw_bytes()

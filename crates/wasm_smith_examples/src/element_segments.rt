@@ -12,13 +12,13 @@ ghost use Rattle.smith_types.specs.declared.segments.Elements.TheVariants.{Funct
 ghost use Rattle.smith_types.specs.declared.value_type.AbstractHeapType.TheVariants as heap;
 ghost use Rattle.smith_draw.specs.ExampleConstExprs.{context_of_types};
 ghost use Rattle.smith_config.specs.Config.{default_config};
-ghost use Rattle.smith_spell.specs.ExampleMembers.{final, plain_function};
+ghost use Rattle.smith_config.specs.ExampleMembers.{final, plain_function};
 ghost use Rattle.smith_defined.specs.Definitions.{table_scope};
 ghost use Rattle.smith_rules.specs.Held.{HasItems};
 ghost use Rattle.smith_contents.specs.DrawnElements.{MayRefuseElements};
 ghost use Rattle.smith_contents.specs.ElementSegments.{elements_at, constant_offset_at, are_functions_at, most_items, unshared_funcs};
 ghost use Rattle.wasm_smith_examples.specs.ExampleDefinitions.{beside_globals};
-ghost use Rattle.wasm_smith_examples.specs.ExampleParts.{passive_elements, table};
+ghost use Rattle.smith_rules_examples.specs.ExampleParts.{passive_elements, table};
 
 #[tactic(auto, unfolding(smith_contents::specs::ElementSegments::constant_offset_at, smith_contents::specs::ElementSegments::hint_at, smith_draw::specs::Offsets::offset_at, smith_draw::specs::Limits::gradually_at, smith_draw::specs::Limits::gradual, smith_draw::specs::Limits::sixth_power, smith_draw::specs::Limits::scaled, smith_bytes::specs::Draws::whole_at, smith_bytes::specs::Draws::range_at, smith_bytes::specs::Draws::digit_count))]
 fn offsets()

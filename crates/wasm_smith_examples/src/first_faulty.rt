@@ -5,7 +5,7 @@ ghost use Rattle.smith_bytes.specs.declared.error.ShapeFault.TheVariants.{BadTyp
 ghost use Rattle.smith_bytes.specs.declared.error.Which.TheVariants.{AvailableImports, Exports, ModuleShape};
 ghost use Rattle.smith_config.specs.Config.{default_config};
 ghost use Rattle.wasm_smith.specs.CheckedShapes.{IsFaultOf, IsFirstFaulty};
-ghost use Rattle.wasm_smith_examples.specs.ExampleShapes.{for_module, for_imports, for_exports, exporting, memory_available, twice_exported, untyped};
+ghost use Rattle.smith_rules_examples.specs.ExampleShapes.{for_module, for_imports, for_exports, exporting, memory_available, twice_exported, untyped};
 
 fn module_shapes()
     ensures a_module_shape { IsFirstFaulty (for_module untyped default_config) (Misshapen ModuleShape BadType) }

@@ -10,13 +10,13 @@ ghost use Rattle.smith_types.specs.declared.entity_type.ExportKind.TheVariants a
 ghost use Rattle.smith_types.specs.declared.imports.Imports.TheVariants.{Single, Compact1, Compact2};
 ghost use Rattle.smith_config.specs.Config.{default_config};
 ghost use Rattle.smith_draw.specs.Choices.{enabled};
-ghost use Rattle.smith_spell.specs.ExampleMembers.{final, taking_a_number, giving_two, plain_function};
+ghost use Rattle.smith_config.specs.ExampleMembers.{final, taking_a_number, giving_two, plain_function};
 ghost use Rattle.smith_imports.specs.ImportNames.{is_taken, import_name_at};
 ghost use Rattle.smith_bytes.specs.Names.{new_name};
 ghost use Rattle.smith_imports.specs.ImportedEntities.{kind_rows, entity_at, fits, again, sizes};
 ghost use Rattle.smith_imports.specs.Imported.{MayEnd};
 ghost use Rattle.smith_imports.specs.Importing.{with_filled, imports_at};
-ghost use Rattle.wasm_smith_examples.specs.ExampleParts.{global, number, memory, import_named};
+ghost use Rattle.smith_rules_examples.specs.ExampleParts.{global, number, memory, import_named};
 
 fn drawn_imports()
     ensures of_one_type { imports_at (record default_config { max_imports = 2 }) [] false (1 ∷ 255 ∷ 255 ∷ 255 ∷ 255 ∷ 0 ∷ 0 ∷ 0 ∷ 1 ∷ 1 ∷ 98 ∷ 1 ∷ 0 ∷ 0 ∷ [])

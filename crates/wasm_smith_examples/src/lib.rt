@@ -1,8 +1,8 @@
-//! Values that meet the definitions of modules and of how these are drawn, and values that do not, each with its proof.
+//! Values that meet the definitions of `wasm_smith` and of the steps below it, and values that do not. The
+//! clauses are proved, and nothing calls these functions.
 #![tactic(auto)]
 
 mod begun;
-mod bounds;
 mod contents;
 mod data_segments;
 mod definitions;
@@ -10,15 +10,7 @@ mod drawn_bodies;
 mod element_segments;
 mod exports;
 mod first_faulty;
-mod given_modules;
-mod imported_references;
 mod imports;
-mod interesting_values;
-mod modules;
-mod promises;
 mod reached;
-mod refusals;
-mod refused_modules;
-mod shapes;
 mod start;
 mod termination;

@@ -5,11 +5,11 @@ ghost use Rattle.smith_types.specs.declared.value_type.ValType.TheVariants.{I32}
 ghost use Rattle.smith_types.specs.declared.segments.Elements.TheVariants.{Functions};
 ghost use Rattle.smith_types.specs.declared.entity_type.ExportKind.TheVariants as kind;
 ghost use Rattle.smith_config.specs.Config.{default_config};
-ghost use Rattle.smith_spell.specs.ExampleMembers.{alone, one_function_type, taking_a_number, nothing_may_be, function_bytes};
+ghost use Rattle.smith_config.specs.ExampleMembers.{alone, one_function_type, taking_a_number, nothing_may_be, function_bytes};
 ghost use Rattle.wasm_smith.specs.Members.{HasMember, HasRest};
 ghost use Rattle.wasm_smith.specs.Reached.{BeginsWithMember, BeginsWithRest, ReachesMembers};
-ghost use Rattle.wasm_smith_examples.specs.ExampleParts.{memory, table, global, passive_elements, active_data};
-ghost use Rattle.wasm_smith_examples.specs.ExampleModules.{empty_module, one_function, number_and_bytes};
+ghost use Rattle.smith_rules_examples.specs.ExampleParts.{memory, table, global, passive_elements, active_data};
+ghost use Rattle.smith_rules_examples.specs.ExampleModules.{empty_module, one_function, number_and_bytes};
 
 fn members()
     ensures a_function { HasMember one_function_type (0 ∷ []) one_function }

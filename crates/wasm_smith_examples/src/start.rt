@@ -2,7 +2,7 @@
 
 ghost use Rattle.std.specs.Prelude.{◌≡◌, [], ◌∷◌, false, Some, None};
 ghost use Rattle.smith_config.specs.Config.{default_config};
-ghost use Rattle.smith_spell.specs.ExampleMembers.{final, taking_a_number, giving_two, plain_function};
+ghost use Rattle.smith_config.specs.ExampleMembers.{final, taking_a_number, giving_two, plain_function};
 ghost use Rattle.smith_contents.specs.Start.{start_funcs, start_at};
 
 fn start_funcs()

@@ -4,9 +4,9 @@ ghost use Rattle.smith_bytes.specs.declared.error.Why.TheVariants.{Loop, RawBody
 ghost use Rattle.smith_types.specs.declared.entity_type.ExportKind.TheVariants as kind;
 ghost use Rattle.smith_config.specs.Config.{default_config};
 ghost use Rattle.wasm_smith.specs.Termination.{HasRawBody, AddsFuel, MayAddNone, AnswersFuel};
-ghost use Rattle.wasm_smith_examples.specs.ExampleParts.{number, trapping};
-ghost use Rattle.wasm_smith_examples.specs.ExampleModules.{empty_module, two_imports};
-ghost use Rattle.wasm_smith_examples.specs.ExampleGiven.{without_gc, raw_body, raw_bytes, counting_once, counting_fuel, counting_behind};
+ghost use Rattle.smith_rules_examples.specs.ExampleParts.{number, trapping};
+ghost use Rattle.smith_rules_examples.specs.ExampleModules.{empty_module, two_imports};
+ghost use Rattle.smith_rules_examples.specs.ExampleGiven.{without_gc, raw_body, raw_bytes, counting_once, counting_fuel, counting_behind};
 
 fn raw_bodies()
     ensures alone { HasRawBody raw_body }

@@ -12,7 +12,7 @@ use Rattle.smith_config.specs.Shapes.{IsShapeValid, IsShort}
 use Rattle.smith_config.proofs.ShapeLemmas.{no_fault}
 use Rattle.wasm_smith.specs.CheckedShapes.{IsFaultOf}
 use Rattle.smith_rules.specs.Refusals.{shape_for}
-use Rattle.wasm_smith_examples.specs.ExampleShapes.{for_imports, for_exports, exporting, memory_available, untyped}
+use Rattle.smith_rules_examples.specs.ExampleShapes.{for_imports, for_exports, exporting, memory_available, untyped}
 use Rattle.wasm_smith_examples.proofs.FaultyExamples.{before_imports, before_exports, fault_told, untyped_refused, untyped_wrong}
 use Rattle.wasm_smith_examples.proofs.first_faulty.available_imports_and_exports.Goals as goal
 

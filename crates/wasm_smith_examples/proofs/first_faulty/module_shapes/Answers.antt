@@ -4,7 +4,7 @@ use Rattle.smith_bytes.specs.declared.error.Which.TheVariants.{AvailableImports,
 use Rattle.smith_config.specs.Config.{default_config}
 use Rattle.smith_config.specs.Shapes.{IsShapeValid}
 use Rattle.smith_config.proofs.ShapeLemmas.{no_fault}
-use Rattle.wasm_smith_examples.specs.ExampleShapes.{for_module, for_imports, for_exports, memory_available, untyped}
+use Rattle.smith_rules_examples.specs.ExampleShapes.{for_module, for_imports, for_exports, memory_available, untyped}
 use Rattle.wasm_smith_examples.proofs.FaultyExamples.{before_module, fault_told, untyped_refused}
 use Rattle.wasm_smith_examples.proofs.first_faulty.module_shapes.Goals as goal
 

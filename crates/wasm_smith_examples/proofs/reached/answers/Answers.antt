@@ -1,6 +1,6 @@
 use Rattle.std.proofs.Common.{◌≡◌, [], ◌∷◌}
 use Rattle.smith_bytes.specs.declared.error.Error.TheVariants.{EmptyChoose, Memory}
-use Rattle.smith_spell.specs.ExampleMembers.{one_function_type}
+use Rattle.smith_config.specs.ExampleMembers.{one_function_type}
 use Rattle.wasm_smith_examples.proofs.ReachedExamples.{function_first}
 use Rattle.wasm_smith_examples.proofs.reached.answers.Goals as goal
 

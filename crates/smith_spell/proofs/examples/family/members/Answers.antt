@@ -8,8 +8,8 @@ use Rattle.smith_types.specs.ExampleTypes.{plain, constant, not_null}
 use Rattle.smith_types.specs.Entities.{IsFuncTypeIndex}
 use Rattle.smith_config.specs.Config.{default_config}
 use Rattle.smith_spell.specs.Family.{IsMemberType, IsMemberField}
-use Rattle.smith_spell.specs.ExampleMembers.{final, alone, field_of, struct_of, struct_of_bytes, struct_with, taking_a_number, one_of_each_without_gc, with_non_nullable}
-use Rattle.smith_spell.proofs.EachPlaceLemmas.{each_place}
+use Rattle.smith_config.specs.ExampleMembers.{final, alone, field_of, struct_of, struct_of_bytes, struct_with, taking_a_number, one_of_each_without_gc, with_non_nullable}
+use Rattle.smith_types.proofs.EachPlaceLemmas.{each_place}
 use Rattle.smith_spell.proofs.SpellExamples.{function_in_family, holder_in_family}
 use Rattle.smith_spell.proofs.GroundedExamples.{none_grounded}
 use Rattle.smith_spell.proofs.examples.family.members.Goals as goal
