@@ -21,8 +21,8 @@ use crate::build::steps::{add_definitions, add_imports, begin_with_types};
 use smith_bytes::{Error, Unstructured};
 use smith_config::Config;
 use smith_defined::Definitions;
-use smith_rules::collect_interesting_values;
 use smith_imports::Imported;
+use smith_rules::collect_interesting_values;
 use smith_types::{Items, TypeSpace};
 use std::alloc::Global;
 
