@@ -149,8 +149,10 @@ texts('docs/DEFINITIONS.md',
       ('`Termination`, `CheckedShapes` and `Generated` are files of `wasm_smith`.',
        '`Termination`, `CheckedShapes` and `Generated` are files of `wasm_smith`. `ShapeImports` says which imports a module keeps of its\nshapes, `Held` what segments and bodies hold, and `ExportedItems` what an export is.'),
       ('- `smith_draw`: `Choices`,',
-       "- `smith_bytes`'s `Steps` says what a step returns that may refuse.\n- `smith_draw`: `SpelledParts` says which bytes spell the parts of a module apart from its types. `Choices`,"),
-      ('`Steps` says what a step gives that may refuse, `AvailableImports`', '`AvailableImports`'))
+       '- `smith_draw`: `SpelledParts` says which bytes spell the parts of a module apart from its types. `Choices`,'),
+      ('`ReadLaws` are laws that the calls of `laws` prove. - `smith_types`:',
+       '`Steps` has the result of a step that may\n  refuse. `ReadLaws` are laws that the calls of `laws` prove.\n- `smith_types`:'),
+      ('all together. `Steps` has the result of a step that may refuse, `AvailableImports` says', 'all together. `AvailableImports` says'))
 
 # interesting values are collected in smith_rules now
 full = f'{ROOT}/docs/DEFINITIONS.md'
