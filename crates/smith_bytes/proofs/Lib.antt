@@ -8,3 +8,5 @@ pub mod GrownLemmas
 pub mod SpelledLemmas
 pub mod MadeNewLemmas
 pub mod KebabShapeLemmas
+pub mod NewNameLemmas
+pub mod StepLemmas

@@ -10,3 +10,4 @@ pub mod Kebab
 pub mod Loop
 pub mod ExampleBytes
 pub mod ErrorNames
+pub mod Steps

@@ -1,5 +1,5 @@
 -- Drawn strings and names, and names made new.
-use Rattle.std.specs.Prelude.{◌≡◌, ◌<◌, ℕ, zero, suc, ◌+◌, true, false, List, ◌++◌, take, drop, length, min, codes, if◌then◌else◌}
+use Rattle.std.specs.Prelude.{◌≡◌, ◌<◌, ℕ, zero, suc, ◌+◌, true, false, List, ◌++◌, take, drop, length, min, codes, if◌then◌else◌, Bool}
 use Rattle.std.specs.Str.{bytes_eq}
 use Rattle.std.specs.Str.Lossy.{utf8_valid_len}
 use Rattle.std.specs.Fmt.{decimal}
@@ -40,3 +40,16 @@ url_front = codes "https://example.com/"
 -- the path of a URL
 abbrev pub url_path : List ℕ → List ℕ
 url_path url = drop (length url_front) url
+
+-- a name, with these digits appended until it is not taken, at most `most` times
+unfoldable pub new_name : (List ℕ → Bool) → List ℕ → ℕ → List ℕ → List ℕ
+new_name taken digits zero name = name
+new_name taken digits (suc most) name = if taken name then new_name taken digits most (name ++ digits) else name
+
+-- the same name as a relation, for a loop: digits are appended to the text until it is not taken
+pub record IsNewName (taken : List ℕ → Bool) (digits text name : List ℕ) : Type 0 where
+  pub copies : ℕ
+  pub made : name ≡ with_copies text digits copies
+  pub fresh : taken name ≡ false
+  pub some : 0 < length digits
+  pub needed : (n : ℕ) → n < copies → taken (with_copies text digits n) ≡ true

@@ -155,11 +155,11 @@ pub enum Error {
 }
 
 impl Error {
-    ghost use Rattle.smith_bytes.specs.ErrorNames.{kind_name};
+    ghost use Rattle.smith_bytes.specs.ErrorNames.{refusal_name};
 
     /// Returns the name of the variant without its fields, such as `Memory` or `Config`.
     pub fn name(&self) -> &'static str
-        ensures name { result.now ≡ kind_name self.now }
+        ensures name { result.now ≡ refusal_name self.now }
         ensures short { length result.now ≤ 15 }
     {
         match self {

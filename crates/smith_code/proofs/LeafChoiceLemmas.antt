@@ -9,7 +9,7 @@ use Rattle.smith_draw.specs.Choices.{chosen_at}
 use Rattle.smith_instr.specs.Contexts.{BodyContext}
 use Rattle.smith_instr.specs.declared.instr.Instr.{Instr}
 use Rattle.smith_code_nodes.specs.Chosen.{giving}
-use Rattle.smith_code.specs.Leaves.{any_leaf_at, constant_at, first_of, if_permitted, leaf_at, leaf_choice_at, leaf_families, leaf_of, named_at, or_constant, spare_leaf}
+use Rattle.smith_code.specs.Leaves.{any_leaf_at, constant_instr_at, first_of, if_permitted, leaf_at, leaf_choice_at, leaf_families, leaf_of, named_at, or_constant, spare_leaf}
 use Rattle.smith_code_nodes.specs.Offered.{is_reference, offered}
 use Rattle.smith_code_nodes.specs.Scopes.{is_permitted}
 use Rattle.smith_code.specs.declared.families.LeafFamily.{LeafFamily}
@@ -37,7 +37,7 @@ pub leaf_chosen : (context : BodyContext) (set : List ℕ) (wanted : ValType) (b
 unfolding any_leaf_at
 leaf_chosen context set wanted bytes left instruction drawn = ap (λ (d : Option Instr × List ℕ). or_constant wanted d.0 d.1) drawn
 
-pub leaf_constant : (context : BodyContext) (set : List ℕ) (wanted : ValType) (bytes middle left : List ℕ) (instruction : Instr) → leaf_choice_at context set wanted bytes ≡ (None, middle) → constant_at wanted middle ≡ (instruction, left)
+pub leaf_constant : (context : BodyContext) (set : List ℕ) (wanted : ValType) (bytes middle left : List ℕ) (instruction : Instr) → leaf_choice_at context set wanted bytes ≡ (None, middle) → constant_instr_at wanted middle ≡ (instruction, left)
     → any_leaf_at context set wanted bytes ≡ (instruction, left)
 unfolding any_leaf_at
 leaf_constant context set wanted bytes middle left instruction drawn is = ap (λ (d : Option Instr × List ℕ). or_constant wanted d.0 d.1) drawn ∙ is

@@ -2,7 +2,7 @@
 use Rattle.std.proofs.Common.{◌≡◌, ℕ, ◌<◌, ◌≤◌, Bool, true, false, List, Option, Some, None, length, get_or, refl, sym, subst, ap, ◌∙◌}
 use Rattle.std.specs.Prelude.{slice_get, if◌then◌else◌, All}
 use Rattle.std.proofs.lemmas.Option.{slice_get-get_or, slice_get_past, slice_get_within, get_or_from_slice_get}
-use Rattle.smith_types.specs.Entities.{IsFuncValid}
+use Rattle.smith_types.specs.Entities.{IsFuncTypeIndex}
 use Rattle.smith_types.specs.Expressions.{reference_to}
 use Rattle.smith_types.specs.Subtyping.{IsValBelow, IsValInRange}
 use Rattle.smith_types.specs.Types.{IsOrderly}
@@ -20,7 +20,7 @@ chosen_in_range types index h true false = h
 chosen_in_range types index h false b = h
 
 -- the type of a function that is there is in range
-pub function_in_range : (context : BodyContext) (function d : ℕ) → All (IsFuncValid context.types) context.funcs → function < length context.funcs
+pub function_in_range : (context : BodyContext) (function d : ℕ) → All (IsFuncTypeIndex context.types) context.funcs → function < length context.funcs
     → IsValInRange context.types (reference_to_function context function (get_or context.funcs function d))
 function_in_range context function d valid inside =
     let (ty, (t, at, is)) = valid function d inside in

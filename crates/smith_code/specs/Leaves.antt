@@ -23,13 +23,13 @@ abbrev pub null_or_stop : RefType → Instr
 null_or_stop to = if to.nullable then instr.Reference (reference.Null to.heap_type) else instr.Unreachable
 
 -- a constant of a type: the value or the bits that are drawn, or null for a reference
-unfoldable pub constant_at : ValType → List ℕ → Instr × List ℕ
-constant_at I32 bytes = let drawn = whole_at 4 bytes in (instr.I32Const (cast_signed w32 drawn.0), drawn.1)
-constant_at I64 bytes = let drawn = whole_at 8 bytes in (instr.I64Const (cast_signed w64 drawn.0), drawn.1)
-constant_at F32 bytes = let drawn = whole_at 4 bytes in (instr.F32Const drawn.0, drawn.1)
-constant_at F64 bytes = let drawn = whole_at 8 bytes in (instr.F64Const drawn.0, drawn.1)
-constant_at V128 bytes = let drawn = whole_at 16 bytes in (instr.V128Const (cast_signed w128 drawn.0), drawn.1)
-constant_at (Ref to) bytes = (null_or_stop to, bytes)
+unfoldable pub constant_instr_at : ValType → List ℕ → Instr × List ℕ
+constant_instr_at I32 bytes = let drawn = whole_at 4 bytes in (instr.I32Const (cast_signed w32 drawn.0), drawn.1)
+constant_instr_at I64 bytes = let drawn = whole_at 8 bytes in (instr.I64Const (cast_signed w64 drawn.0), drawn.1)
+constant_instr_at F32 bytes = let drawn = whole_at 4 bytes in (instr.F32Const drawn.0, drawn.1)
+constant_instr_at F64 bytes = let drawn = whole_at 8 bytes in (instr.F64Const drawn.0, drawn.1)
+constant_instr_at V128 bytes = let drawn = whole_at 16 bytes in (instr.V128Const (cast_signed w128 drawn.0), drawn.1)
+constant_instr_at (Ref to) bytes = (null_or_stop to, bytes)
 
 -- the instruction of an index that was drawn
 abbrev pub by_index : (ℕ → Instr) → Option ℕ × List ℕ → Option Instr × List ℕ
@@ -73,7 +73,7 @@ leaf_choice_at context set wanted bytes = let family = chosen_at leaf.Constant l
 -- the instruction that was chosen, or a constant
 abbrev pub or_constant : ValType → Option Instr → List ℕ → Instr × List ℕ
 or_constant wanted (Some instruction) bytes = (instruction, bytes)
-or_constant wanted None bytes = constant_at wanted bytes
+or_constant wanted None bytes = constant_instr_at wanted bytes
 
 unfoldable pub any_leaf_at : BodyContext → List ℕ → ValType → List ℕ → Instr × List ℕ
 any_leaf_at context set wanted bytes = let chosen = leaf_choice_at context set wanted bytes in or_constant wanted chosen.0 chosen.1
@@ -94,7 +94,7 @@ first_leaf config context set wanted =
     unwrap_or (first_of config context set wanted leaf.Local)
     (unwrap_or (first_of config context set wanted leaf.Global)
     (unwrap_or (first_of config context set wanted leaf.Reference)
-    (unwrap_or (if_permitted config context (Some (constant_at wanted []).0)) instr.Unreachable)))
+    (unwrap_or (if_permitted config context (Some (constant_instr_at wanted []).0)) instr.Unreachable)))
 
 -- in place of an instruction that isn't permitted: `unreachable`, which with `disallow_traps` is the
 -- last resort

@@ -3,7 +3,7 @@ ghost use Rattle.smith_bytes.specs.Source.{KeepsPieces};
 ghost use Rattle.smith_instr.specs.Contexts.{IsValid};
 ghost use Rattle.smith_code.specs.Bodies.{leaf_in};
 ghost use Rattle.smith_code.specs.Drawn.{IsConstant, IsDrawn, IsLeaf, state_of};
-ghost use Rattle.smith_code.specs.Leaves.{any_leaf_at, constant_at, first_leaf, first_of, leaf_at, leaf_choice_at, leaf_of, spare_leaf};
+ghost use Rattle.smith_code.specs.Leaves.{any_leaf_at, constant_instr_at, first_leaf, first_of, leaf_at, leaf_choice_at, leaf_of, spare_leaf};
 ghost use Rattle.smith_code_nodes.specs.Scopes.{IsAllowedIn, IsScope, bare, where_stands};
 
 use crate::families::{LeafFamily, leaf_families};
@@ -177,9 +177,9 @@ fn leaf_of(
 
 /// Draws a constant of the type `wanted`, or null. Returns `unreachable` for a reference type that
 /// is not nullable.
-#[tactic(auto, unfolding(crate::specs::Leaves::constant_at))]
+#[tactic(auto, unfolding(crate::specs::Leaves::constant_instr_at))]
 fn draw_constant(wanted: ValType, u: &mut Unstructured<'_>) -> Instr
-    ensures exact { constant_at wanted u.old ≡ (result, u.new) }
+    ensures exact { constant_instr_at wanted u.old ≡ (result, u.new) }
     ensures typed { IsConstant wanted result }
     ensures left { KeepsPieces u.old u.new }
 {

@@ -3,7 +3,7 @@ use Rattle.std.specs.Prelude.{◌≡◌, ℕ, ◌+◌, ◌*◌, ◌≤◌, ◌-�
 use Rattle.smith_types.specs.FeatureBits.{features_in}
 use Rattle.smith_types.specs.Features.{Features}
 use Rattle.smith_types.specs.Types.{IsOrderly}
-use Rattle.smith_types.specs.Entities.{IsFuncAt, IsFuncValid, IsMemoryValid, IsTagValid}
+use Rattle.smith_types.specs.Entities.{IsFuncAt, IsFuncTypeIndex, IsMemoryValid, IsTagValid}
 use Rattle.smith_types.specs.Expressions.{field_values}
 use Rattle.smith_types.specs.ValidTypes.{IsValTypeValid}
 use Rattle.smith_types.specs.declared.value_type.ValType.{ValType}
@@ -82,7 +82,7 @@ most types = 4 * widest types + 4
 -- the parts of a context are valid
 pub record IsScope (context : BodyContext) : Type 0 where
   pub orderly : IsOrderly context.types
-  pub funcs : All (IsFuncValid context.types) context.funcs
+  pub funcs : All (IsFuncTypeIndex context.types) context.funcs
   pub globals : All (λ (global : GlobalType). IsValTypeValid context.features (length context.types) global.val_type) context.globals
   pub tables : All (λ (table : TableType). IsRefValid context table.element_type) context.tables
   pub tags : All (IsTagValid context.types) context.tags

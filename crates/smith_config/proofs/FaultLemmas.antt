@@ -24,8 +24,8 @@ use Rattle.smith_bytes.specs.declared.error.ConfigFault.TheVariants.{
   Memory64Bytes,
 }
 use Rattle.smith_config.specs.declared.config.Config.{Config}
-use Rattle.smith_config.specs.Decided.{IsInOrder}
-use Rattle.smith_config.specs.Faults.{minimum_of, maximum_of, IsBounded, HasFault, IsFirstFault, Passes, counts, faults}
+use Rattle.smith_config.specs.Decided.{AreBoundsInOrder}
+use Rattle.smith_config.specs.Faults.{minimum_of, maximum_of, BoundsApply, HasFault, IsFirstFault, Passes, counts, faults}
 
 pub no_fault : (config : Config) → Passes config → (fault : ConfigFault) → ¬ HasFault config fault
 no_fault config p (MinAboveMax count) h = let le = p.ordered count h.0 in omega arith
@@ -100,23 +100,23 @@ of_each P h Tables = h.1.1.1.1.1.1.1.1.1.1.0
 each_of : (P : Count → Type 0) → ((count : Count) → P count) → Each P counts
 each_of P h = (h Types, (h Imports, (h Tags, (h Funcs, (h Globals, (h Exports, (h ElementSegments, (h Elements, (h DataSegments, (h Memories, (h Tables, tt)))))))))))
 
-pub in_order : (config : Config) (count : Count) → (IsBounded config count → minimum_of config count ≤ maximum_of config count) → IsInOrder config count
+pub in_order : (config : Config) (count : Count) → (BoundsApply config count → minimum_of config count ≤ maximum_of config count) → AreBoundsInOrder config count
 in_order config count kept = record { kept = kept }
 
-pub kept_in_order : (config : Config) (count : Count) → IsInOrder config count → IsBounded config count → minimum_of config count ≤ maximum_of config count
+pub kept_in_order : (config : Config) (count : Count) → AreBoundsInOrder config count → BoundsApply config count → minimum_of config count ≤ maximum_of config count
 kept_in_order config count ordered = ordered.kept
 
-pub passes_by : (config : Config) → Each (IsInOrder config) counts
+pub passes_by : (config : Config) → Each (AreBoundsInOrder config) counts
     → Each (λ count. maximum_of config count ≤ 2 ^ 31) counts × ((config.max_memory32_bytes ≤ 2 ^ 32) × (config.max_memory64_bytes ≤ 2 ^ 64)) → Passes config
 passes_by config ordered few = record {
-  ordered = λ count. (of_each (IsInOrder config) ordered count).kept;
+  ordered = λ count. (of_each (AreBoundsInOrder config) ordered count).kept;
   few = of_each _ few.0;
   memory32 = few.1.0;
   memory64 = few.1.1;
 }
 
-pub ordered_counts : (config : Config) → Passes config → Each (IsInOrder config) counts
-ordered_counts config p = each_of (IsInOrder config) (λ count. record { kept = p.ordered count })
+pub ordered_counts : (config : Config) → Passes config → Each (AreBoundsInOrder config) counts
+ordered_counts config p = each_of (AreBoundsInOrder config) (λ count. record { kept = p.ordered count })
 
 pub few_counts : (config : Config) → Passes config → Each (λ count. maximum_of config count ≤ 2 ^ 31) counts × ((config.max_memory32_bytes ≤ 2 ^ 32) × (config.max_memory64_bytes ≤ 2 ^ 64))
 few_counts config p = (each_of _ p.few, (p.memory32, p.memory64))

@@ -34,8 +34,8 @@ in_turn [] config bytes = (config, bytes)
 in_turn (draw ∷ draws) config bytes = let drawn = draw config bytes in in_turn draws drawn.0 drawn.1
 
 -- the maximum counts, and the length of bodies
-unfoldable pub counts_at : Config → List ℕ → Config × List ℕ
-counts_at config bytes = in_turn (
+unfoldable pub maximums_at : Config → List ℕ → Config × List ℕ
+maximums_at config bytes = in_turn (
     up_to 1000 (λ config n. record config { max_types = n }) ∷
     up_to 1000 (λ config n. record config { max_imports = n }) ∷
     up_to 1000 (λ config n. record config { max_tags = n }) ∷
@@ -79,8 +79,8 @@ proposals_at config bytes = in_turn (
     []) config bytes
 
 -- each kind of instructions
-unfoldable pub kinds_at : Config → List ℕ → Config × List ℕ
-kinds_at config bytes = in_turn (
+unfoldable pub instruction_kinds_at : Config → List ℕ → Config × List ℕ
+instruction_kinds_at config bytes = in_turn (
     coin (λ config b. record config { allowed_instructions = with_kind config.allowed_instructions b NumericInt }) ∷
     coin (λ config b. record config { allowed_instructions = with_kind config.allowed_instructions b Numeric }) ∷
     coin (λ config b. record config { allowed_instructions = with_kind config.allowed_instructions b VectorInt }) ∷
@@ -121,5 +121,5 @@ undrawn_config = record default_config {
 -- the configuration drawn from bytes, and the remaining bytes
 unfoldable pub config_at : List ℕ → Config × List ℕ
 config_at bytes =
-    let drawn = in_turn (counts_at ∷ sizes_at ∷ proposals_at ∷ kinds_at ∷ rules_at ∷ []) undrawn_config bytes in
+    let drawn = in_turn (maximums_at ∷ sizes_at ∷ proposals_at ∷ instruction_kinds_at ∷ rules_at ∷ []) undrawn_config bytes in
     (sanitized drawn.0, drawn.1)

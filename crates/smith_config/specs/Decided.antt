@@ -8,7 +8,7 @@ use Rattle.smith_types.specs.declared.entity_type.ExportKind.{ExportKind}
 use Rattle.smith_bytes.specs.declared.error.Count.{Count}
 use Rattle.smith_config.specs.declared.config.Config.{Config}
 use Rattle.smith_config.specs.declared.shape.Shape.{Shape}
-use Rattle.smith_config.specs.Faults.{minimum_of, maximum_of, IsBounded}
+use Rattle.smith_config.specs.Faults.{minimum_of, maximum_of, BoundsApply}
 use Rattle.smith_config.specs.Shapes.{most_listed, space_of, shape_spaces}
 
 -- no list that a shape holds directly is too long
@@ -34,5 +34,5 @@ pub record IsMade (shape : Shape) (space : Space) (spaces : IndexSpaces) : Type 
   pub spaces_are : spaces ≡ shape_spaces shape
 
 -- the minimum of a count is not in effect, or is at most the maximum
-pub record IsInOrder (config : Config) (count : Count) : Type 0 where
-  pub kept : IsBounded config count → minimum_of config count ≤ maximum_of config count
+pub record AreBoundsInOrder (config : Config) (count : Count) : Type 0 where
+  pub kept : BoundsApply config count → minimum_of config count ≤ maximum_of config count

@@ -54,21 +54,21 @@ maximum_of config Tables = config.max_tables
 
 -- the bounds of a count are in effect: not for imports if a shape fixes them, and not for exports if a shape fixes them or
 -- everything is exported
-abbrev pub IsBounded : Config → Count → Type 0
-IsBounded config Imports = FixesImports config → ⊥
-IsBounded config Exports = (FixesExports config → ⊥) × (config.export_everything ≡ false)
-IsBounded config count = ⊤
+abbrev pub BoundsApply : Config → Count → Type 0
+BoundsApply config Imports = FixesImports config → ⊥
+BoundsApply config Exports = (FixesExports config → ⊥) × (config.export_everything ≡ false)
+BoundsApply config count = ⊤
 
 -- a configuration for which a module can be drawn
 pub record Passes (config : Config) : Type 0 where
-  pub ordered : (count : Count) → IsBounded config count → minimum_of config count ≤ maximum_of config count
+  pub ordered : (count : Count) → BoundsApply config count → minimum_of config count ≤ maximum_of config count
   pub few : (count : Count) → maximum_of config count ≤ 2 ^ 31
   pub memory32 : config.max_memory32_bytes ≤ 2 ^ 32
   pub memory64 : config.max_memory64_bytes ≤ 2 ^ 64
 
 -- the meaning of each fault
 abbrev pub HasFault : Config → ConfigFault → Type 0
-HasFault config (MinAboveMax count) = IsBounded config count × (maximum_of config count < minimum_of config count)
+HasFault config (MinAboveMax count) = BoundsApply config count × (maximum_of config count < minimum_of config count)
 HasFault config (MaxTooLarge count) = 2 ^ 31 < maximum_of config count
 HasFault config Memory32Bytes = 2 ^ 32 < config.max_memory32_bytes
 HasFault config Memory64Bytes = 2 ^ 64 < config.max_memory64_bytes

@@ -13,3 +13,7 @@ pub mod ExampleConfigs
 pub mod ExampleCoins
 pub mod ExampleShapes
 pub mod Arbitrary
+pub mod EntityBounds
+pub mod Granted
+pub mod Minimums
+pub mod ExampleMembers

@@ -1,7 +1,7 @@
 -- The weights for offsets of memory accesses, and their text form. Rules of this project.
 use Rattle.std.specs.Prelude.{◌≡◌, ℕ, ◌<◌, ◌≢◌, List, [], ◌∷◌, length, take, Result, Ok, Err, slice_get, Some}
 use Rattle.std.specs.List.{AllZip}
-use Rattle.smith_types.specs.Parts.{parts_of}
+use Rattle.smith_types.specs.Parts.{split_at_commas}
 use Rattle.std.specs.Str.Parse.{ParsesUnsigned}
 use Rattle.smith_config.specs.declared.offset_choices.MemoryOffsetChoices.{MemoryOffsetChoices}
 use Rattle.smith_config.specs.declared.offset_choices.OffsetChoicesFault.{OffsetChoicesFault}
@@ -34,8 +34,8 @@ pub record IsFirstWrong (parts : List (List ℕ)) (place : ℕ) : Type 0 where
 -- the result of parsing: three numbers, not all zero, or the first fault from the left
 abbrev pub AreReadChoices : List ℕ → Result MemoryOffsetChoices OffsetChoicesFault → Type 0
 AreReadChoices text (Ok choices) =
-    AllZip IsNumber (parts_of text) (choices.0 ∷ choices.1 ∷ choices.2 ∷ []) × (choices ≢ zero_choices)
-AreReadChoices text (Err NeedThree) = (length (parts_of text) < 3) × AllNumbers (parts_of text)
-AreReadChoices text (Err (Number place)) = IsFirstWrong (parts_of text) place
-AreReadChoices text (Err TooMany) = (3 < length (parts_of text)) × AllNumbers (take 3 (parts_of text))
-AreReadChoices text (Err AllZero) = AllZip IsNumber (parts_of text) (0 ∷ 0 ∷ 0 ∷ [])
+    AllZip IsNumber (split_at_commas text) (choices.0 ∷ choices.1 ∷ choices.2 ∷ []) × (choices ≢ zero_choices)
+AreReadChoices text (Err NeedThree) = (length (split_at_commas text) < 3) × AllNumbers (split_at_commas text)
+AreReadChoices text (Err (Number place)) = IsFirstWrong (split_at_commas text) place
+AreReadChoices text (Err TooMany) = (3 < length (split_at_commas text)) × AllNumbers (take 3 (split_at_commas text))
+AreReadChoices text (Err AllZero) = AllZip IsNumber (split_at_commas text) (0 ∷ 0 ∷ 0 ∷ [])

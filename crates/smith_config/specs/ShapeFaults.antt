@@ -11,7 +11,7 @@ use Rattle.smith_types.specs.Space.{Space}
 use Rattle.smith_types.specs.Imports.{IndexSpaces}
 use Rattle.smith_types.specs.HeldValues.{values_in}
 use Rattle.smith_types.specs.ValidTypes.{AreTypesValid, IsValTypeValid, IsShareable}
-use Rattle.smith_types.specs.Entities.{AreLimitsValid, most_elements, IsTagValid, IsFuncValid, IsTableValid, IsMemoryValid, IsGlobalValid}
+use Rattle.smith_types.specs.Entities.{AreLimitsValid, most_elements, IsTagValid, IsFuncTypeIndex, IsTableValid, IsMemoryValid, IsGlobalValid}
 use Rattle.smith_types.specs.Exports.{AreDistinct, AreExportsStanding}
 use Rattle.smith_types.specs.declared.value_type.ValType.TheVariants.{Ref}
 use Rattle.smith_types.specs.declared.entity_type.ExportKind.{ExportKind}
@@ -32,7 +32,7 @@ pub record AreTypesSound (space : Space) (spaces : IndexSpaces) : Type 0 where
 
 -- functions, tags and exports refer to existing items of the right kind
 pub record AreIndicesSound (space : Space) (spaces : IndexSpaces) (exported : List (List ℕ × ExportKind × ℕ)) : Type 0 where
-  pub funcs : All (IsFuncValid space.types) spaces.funcs
+  pub funcs : All (IsFuncTypeIndex space.types) spaces.funcs
   pub tags : All (IsTagValid space.types) spaces.tags
   pub exports : AreExportsStanding spaces exported
 

@@ -2,7 +2,7 @@ ghost use Rattle.std.specs.Prelude.{◌≡◌, IfOk, IsOkAnd};
 ghost use Rattle.smith_bytes.specs.Source.{KeepsPieces};
 ghost use Rattle.smith_config.specs.Faults.{Passes};
 ghost use Rattle.smith_config.specs.Sanitized.{sanitized, IsSanitized};
-ghost use Rattle.smith_config.specs.Arbitrary.{config_at, counts_at, sizes_at, proposals_at, kinds_at, rules_at, undrawn_config};
+ghost use Rattle.smith_config.specs.Arbitrary.{config_at, maximums_at, sizes_at, proposals_at, instruction_kinds_at, rules_at, undrawn_config};
 
 use crate::Config;
 use smith_bytes::{Error, Unstructured};
@@ -54,9 +54,9 @@ impl Config {
         }
     }
 
-    #[tactic(auto, unfolding(crate::specs::Arbitrary::counts_at))]
+    #[tactic(auto, unfolding(crate::specs::Arbitrary::maximums_at))]
     fn draw_counts(mut config: Config, u: &mut Unstructured<'_>) -> Config
-        ensures exact { counts_at config u.old ≡ (result, u.new) }
+        ensures exact { maximums_at config u.old ≡ (result, u.new) }
         ensures left { KeepsPieces u.old u.new }
     {
         config.max_types = u.int_in_range(0..=1000);
@@ -108,9 +108,9 @@ impl Config {
         config
     }
 
-    #[tactic(auto, unfolding(crate::specs::Arbitrary::kinds_at))]
+    #[tactic(auto, unfolding(crate::specs::Arbitrary::instruction_kinds_at))]
     fn draw_kinds(mut config: Config, u: &mut Unstructured<'_>) -> Config
-        ensures exact { kinds_at config u.old ≡ (result, u.new) }
+        ensures exact { instruction_kinds_at config u.old ≡ (result, u.new) }
         ensures left { KeepsPieces u.old u.new }
     {
         config.allowed_instructions = config

@@ -1,7 +1,7 @@
 ghost use Rattle.std.specs.Prelude.{◌≡◌, ◌↔◌, ◌≤◌, ◌^◌, IsTrue, IsOk, IfErr};
 ghost use Rattle.std.specs.List.{AllByRecursion as Each};
-ghost use Rattle.smith_config.specs.Decided.{IsInOrder};
-ghost use Rattle.smith_config.specs.Faults.{counts, minimum_of, maximum_of, IsBounded, HasFault, IsFirstFault, Passes};
+ghost use Rattle.smith_config.specs.Decided.{AreBoundsInOrder};
+ghost use Rattle.smith_config.specs.Faults.{counts, minimum_of, maximum_of, BoundsApply, HasFault, IsFirstFault, Passes};
 
 use crate::Config;
 use smith_bytes::{ConfigFault, Count};
@@ -78,7 +78,7 @@ impl Config {
 
     /// Returns whether no minimum that is in effect exceeds its maximum.
     fn are_ordered(&self) -> bool
-        ensures { IsTrue result ↔ Each (IsInOrder self.now) counts }
+        ensures { IsTrue result ↔ Each (AreBoundsInOrder self.now) counts }
     {
         self.is_ordered(Count::Types)
             && self.is_ordered(Count::Imports)
@@ -96,7 +96,7 @@ impl Config {
     /// Returns whether the minimum of `count` is at most the maximum, or not in effect.
     #[tactic(auto, using(crate::proofs::FaultLemmas::in_order, crate::proofs::FaultLemmas::kept_in_order))]
     fn is_ordered(&self, count: Count) -> bool
-        ensures { IsTrue result ↔ IsInOrder self.now count }
+        ensures { IsTrue result ↔ AreBoundsInOrder self.now count }
     {
         !self.is_bounded(count) || self.minimum(count) <= self.maximum(count)
     }
@@ -134,7 +134,7 @@ impl Config {
     }
 
     fn is_bounded(&self, count: Count) -> bool
-        ensures { IsTrue result ↔ IsBounded self.now count }
+        ensures { IsTrue result ↔ BoundsApply self.now count }
     {
         match count {
             Count::Imports => self.available_imports.is_none() && self.module_shape.is_none(),

@@ -5,7 +5,7 @@ use Rattle.std.proofs.lemmas.List.Elements.{All-cons, All-nil, All-from_recursio
 use Rattle.smith_types.specs.Features.{Features}
 use Rattle.smith_types.specs.Types.{IsOrderly}
 use Rattle.smith_types.specs.ValidTypes.{AreTypesValid}
-use Rattle.smith_types.specs.Entities.{IsTagValid, IsFuncValid, AreEntitiesValid}
+use Rattle.smith_types.specs.Entities.{IsTagValid, IsFuncTypeIndex, AreEntitiesValid}
 use Rattle.smith_types.specs.Exports.{IsEntityAt, AreExportsStanding, AreDistinct}
 use Rattle.smith_types.specs.declared.composite_type.CompositeInnerType.TheVariants.{Func}
 use Rattle.smith_types.specs.declared.composite_type.SubType.{SubType}
@@ -48,7 +48,7 @@ types_valid =
 entities_valid : AreEntitiesValid features types (shape_spaces one_of_each_kind)
 entities_valid = record {
   tags = All-cons (IsTagValid types) 1 [] (record { params = F32 ∷ []; results = [] }, (second, refl, refl), refl) (All-nil (IsTagValid types));
-  funcs = All-cons (IsFuncValid types) 0 [] (func I32 I64, (first, refl, refl)) (All-nil (IsFuncValid types));
+  funcs = All-cons (IsFuncTypeIndex types) 0 [] (func I32 I64, (first, refl, refl)) (All-nil (IsFuncTypeIndex types));
   tables = search rules;
   memories = search rules;
   globals = search rules;

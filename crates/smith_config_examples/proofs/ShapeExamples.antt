@@ -6,7 +6,7 @@ use Rattle.smith_types.specs.Features.{Features}
 use Rattle.smith_types.specs.Types.{IsOrderly}
 use Rattle.smith_types.specs.ValidTypes.{IsTypeValid, AreTypesValid}
 use Rattle.smith_types.specs.Imports.{IndexSpaces}
-use Rattle.smith_types.specs.Entities.{IsFuncValid, AreEntitiesValid}
+use Rattle.smith_types.specs.Entities.{IsFuncTypeIndex, AreEntitiesValid}
 use Rattle.smith_types.specs.Exports.{IsEntityAt, AreExportsStanding, AreExportsValid}
 use Rattle.smith_types.specs.declared.composite_type.SubType.{SubType}
 use Rattle.smith_types.specs.declared.entity_type.EntityType.{EntityType}
@@ -42,7 +42,7 @@ module _ (features : Features) where
   pub entities_valid : AreEntitiesValid features one_type one_func
   entities_valid = record {
     tags = search rules;
-    funcs = All-cons (IsFuncValid one_type) 0 [] (record { params = []; results = [] }, (final_type plain_func, refl, refl)) (All-nil (IsFuncValid one_type));
+    funcs = All-cons (IsFuncTypeIndex one_type) 0 [] (record { params = []; results = [] }, (final_type plain_func, refl, refl)) (All-nil (IsFuncTypeIndex one_type));
     tables = search rules;
     memories = search rules;
     globals = search rules;

@@ -9,7 +9,7 @@ use Rattle.smith_types.specs.declared.value_type.AbstractHeapType.TheVariants as
 use Rattle.smith_types.specs.declared.composite_type.StorageType.TheVariants.{Val}
 use Rattle.smith_types.specs.declared.composite_type.SubType.{SubType}
 use Rattle.smith_types.specs.ExampleTypes.{open_type, final_type, shared_type, struct, empty_struct, plain_func, constant, range, anyref, referring_type}
-use Rattle.smith_type_examples.proofs.TypeExamples.{referring_behind}
+use Rattle.smith_types_examples.proofs.TypeExamples.{referring_behind}
 use Rattle.smith_config.specs.Shapes.{space_of}
 
 module _ (features : Features) where

@@ -3,14 +3,12 @@ use Rattle.std.proofs.Common.{◌≡◌, ℕ, zero, suc, ◌+◌, ◌<◌, List,
 use Rattle.std.specs.Prelude.{All, slice_get, Some}
 use Rattle.std.proofs.lemmas.List.Elements.{All-nil, All-cons, All-append}
 use Rattle.std.proofs.lemmas.Option.{slice_get-get_or}
-use Rattle.smith_types.proofs.ListLemmas.{slice_get-grown}
+use Rattle.smith_types.proofs.ListLemmas.{slice_get-grown, slice_get-behind}
 use Rattle.smith_types.specs.Imports.{IndexSpaces}
 use Rattle.smith_types.specs.declared.entity_type.EntityType.TheVariants as entity
 use Rattle.smith_types.specs.declared.entity_type.ExportKind.{ExportKind}
 use Rattle.smith_types.specs.declared.entity_type.ExportKind.TheVariants as kind
-use Rattle.smith_contents.specs.Exported.{IsStanding}
-use Rattle.smith_contents.specs.ExportedItems.{Item, numbered_from, every_item}
-use Rattle.smith_contents.proofs.PlaceOfListLemmas.{slice_get-behind}
+use Rattle.smith_rules.specs.ExportedItems.{IsStanding, Item, numbered_from, every_item}
 
 length-numbered : (of_kind : ExportKind) (start count : ℕ) → length (numbered_from of_kind start count) ≡ count
 length-numbered of_kind start zero = refl

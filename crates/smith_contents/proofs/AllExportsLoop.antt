@@ -12,10 +12,10 @@ use Rattle.smith_bytes.specs.Source.{KeepsPieces}
 use Rattle.smith_types.specs.Imports.{IndexSpaces}
 use Rattle.smith_types.specs.declared.composite_type.SubType.{SubType}
 use Rattle.smith_config.specs.declared.config.Config.{Config}
-use Rattle.smith_contents.specs.ExportedItems.{Item, item_of}
-use Rattle.smith_contents.specs.AllExports.{exports_of}
-use Rattle.smith_contents.specs.Exporting.{Export, is_exported, export_name_at, HasNames, item_size, exported_size}
-use Rattle.smith_contents.specs.Exported.{IsStanding, AreExportsFit}
+use Rattle.smith_rules.specs.ExportedItems.{Item, item_of, Export, item_size, exported_size, IsStanding}
+use Rattle.smith_contents.specs.AllExports.{exports_of_items}
+use Rattle.smith_contents.specs.Exporting.{is_exported, export_name_at, HasNames}
+use Rattle.smith_contents.specs.Exported.{AreExportsFit}
 use Rattle.smith_contents.proofs.ExportsFitLemmas.{none_fit, fit_push}
 
 -- the items before a place are exported, and the draws from here on complete the whole
@@ -24,7 +24,7 @@ pub record AreExporting {S : Type 0} (config : Config) (types : List SubType) (s
   pub items_are : map item_of exports ++ drop place items ≡ items
   pub count_is : length exports ≡ place
   pub names_are : HasNames names exports
-  pub so_far : exports_of config types spaces imports (drop place items) exports bytes ≡ exports_of config types spaces imports items [] start
+  pub so_far : exports_of_items config types spaces imports (drop place items) exports bytes ≡ exports_of_items config types spaces imports items [] start
   pub left : KeepsPieces start bytes
 
 -- no item yet
@@ -40,11 +40,11 @@ none_exporting config types spaces imports items start within empty = record {
 
 module _ {S : Type 0} {config : Config} {types : List SubType} {spaces : IndexSpaces} {imports place : ℕ} {items : List Item} {exports : List Export} {size : ℕ} {names : HashSet (String Global) S} {start bytes : List ℕ} where
   -- all items are exported
-  pub exporting_full : AreExporting config types spaces imports items place exports size names start bytes → length items ≤ place → exports_of config types spaces imports items [] start ≡ Ok (exports, bytes)
-  unfolding exports_of
+  pub exporting_full : AreExporting config types spaces imports items place exports size names start bytes → length items ≤ place → exports_of_items config types spaces imports items [] start ≡ Ok (exports, bytes)
+  unfolding exports_of_items
   exporting_full now full =
       let none : drop place items ≡ [] = drop_all place items full in
-      let one : exports_of config types spaces imports (drop place items) exports bytes ≡ Ok (exports, bytes) = rw none refl in
+      let one : exports_of_items config types spaces imports (drop place items) exports bytes ≡ Ok (exports, bytes) = rw none refl in
       sym now.so_far ∙ one
 
   pub exported_all : AreExporting config types spaces imports items place exports size names start bytes → length items ≤ place → map item_of exports ≡ items
@@ -62,22 +62,22 @@ module _ {S : Type 0} {config : Config} {types : List SubType} {spaces : IndexSp
         let more = sum_by-append (λ (each : Export). item_size types spaces each.1 each.2 + 1) exports ((name, item.0, item.1) ∷ []) in
         omega (arith, more, now.fit.type_size)
 
-    pub exporting_refused : config.max_type_size - size < item_size types spaces item.0 item.1 + 1 → exports_of config types spaces imports items [] start ≡ Err TypeSize
-    unfolding exports_of
+    pub exporting_refused : config.max_type_size - size < item_size types spaces item.0 item.1 + 1 → exports_of_items config types spaces imports items [] start ≡ Err TypeSize
+    unfolding exports_of_items
     exporting_refused large =
         let over : nat_lt config.max_type_size (imports + exported_size types spaces (exports ++ (name, item.0, item.1) ∷ [])) ≡ true = lt-ltb _ _ (omega (arith, larger, now.fit.within, large)) in
-        let turn : exports_of config types spaces imports (drop place items) exports bytes ≡ Err TypeSize = rw (rest, drawn, over) refl in
+        let turn : exports_of_items config types spaces imports (drop place items) exports bytes ≡ Err TypeSize = rw (rest, drawn, over) refl in
         sym now.so_far ∙ turn
 
     pub exporting_more : {more : List Export} {more_size : ℕ} {more_names : HashSet (String Global) S} → item_size types spaces item.0 item.1 + 1 ≤ config.max_type_size - size → is_exported exports name ≡ false → HasNames more_names (exports ++ (name, item.0, item.1) ∷ [])
         → All (λ (each : Item). IsStanding spaces each.0 each.1) items → more ≡ exports ++ (name, item.0, item.1) ∷ [] → more_size ≡ size + (item_size types spaces item.0 item.1 + 1) → KeepsPieces bytes after
         → AreExporting config types spaces imports items (place + 1) more more_size more_names start after
-    unfolding exports_of
+    unfolding exports_of_items
     exporting_more room fresh known stand longer grown p =
         let one : Export = (name, item.0, item.1) in
         let stands : IsStanding spaces item.0 item.1 = subst (λ (each : Item). IsStanding spaces each.0 each.1) (get_or_from_slice_get items place item item at) (stand place item (slice_get_within items place item at)) in
         let fits : nat_lt config.max_type_size (imports + exported_size types spaces (exports ++ (name, item.0, item.1) ∷ [])) ≡ false = le-ltb _ _ (omega (arith, larger, now.fit.within, room)) in
-        let turn : exports_of config types spaces imports (drop place items) exports bytes ≡ exports_of config types spaces imports (drop (place + 1) items) (exports ++ (name, item.0, item.1) ∷ []) after = rw (rest, drawn, fits) refl in
+        let turn : exports_of_items config types spaces imports (drop place items) exports bytes ≡ exports_of_items config types spaces imports (drop (place + 1) items) (exports ++ (name, item.0, item.1) ∷ []) after = rw (rest, drawn, fits) refl in
         rw (longer, grown) (record {
           fit = fit_push one now.fit fresh stands (omega (arith, now.fit.within, room));
           items_are = rw map-append (append_assoc (map item_of exports) (item ∷ []) (drop (place + 1) items) ∙ (ap (λ (l : List Item). map item_of exports ++ l) (sym rest) ∙ now.items_are));

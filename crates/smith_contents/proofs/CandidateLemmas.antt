@@ -5,7 +5,7 @@ use Rattle.std.specs.List.{AllByRecursion as ByRecursion}
 use Rattle.std.proofs.lemmas.Bool.{ltb-true}
 use Rattle.std.proofs.lemmas.Option.{slice_get_within, get_or_from_slice_get, slice_get-get_or}
 use Rattle.std.proofs.lemmas.List.Elements.{All-nil, All-weaker, All-from_recursion}
-use Rattle.smith_types.specs.Entities.{IsFuncValid}
+use Rattle.smith_types.specs.Entities.{IsFuncTypeIndex}
 use Rattle.smith_types.specs.Imports.{IndexSpaces}
 use Rattle.smith_types.specs.Sizes.{size_in}
 use Rattle.smith_types.specs.declared.composite_type.SubType.{SubType}
@@ -18,7 +18,7 @@ use Rattle.smith_draw.proofs.EnabledLemmas.{enabled_all}
 use Rattle.smith_draw.proofs.SupertypeLemmas.{chosen_of}
 use Rattle.smith_draw.proofs.TypeUseLemmas.{IsPassing, places_pass}
 use Rattle.smith_contents.specs.Exporting.{is_func_below, candidates, candidate_rows, offered_kinds}
-use Rattle.smith_contents.specs.Exported.{IsSized, IsFuncWithin, MayExport, IsCandidate}
+use Rattle.smith_contents.specs.Exported.{HasSizeIn32Bits, IsFuncWithin, MayExport, IsCandidate}
 
 -- a test that all items pass holds at all places
 pub length_all : {A : Type 0} (test : A → Bool) (n : ℕ) (xs : List A) → All (λ x. test x ≡ true) xs → length (places_from test n xs) ≡ length xs
@@ -46,9 +46,9 @@ at_alike true xs place below = at_all (λ x. true) 0 xs place (λ i d under. ref
 at_alike false xs place below = absurd (omega (arith, length_alike false 0 xs))
 
 -- the size of a function, plus 1, has 32 bits
-pub func_sized : (types : List SubType) (func : ℕ) → All IsSized types → IsFuncValid types func → size_in types (entity.Func func) + 1 < 2 ^ 32
+pub func_sized : (types : List SubType) (func : ℕ) → All HasSizeIn32Bits types → IsFuncTypeIndex types func → size_in types (entity.Func func) + 1 < 2 ^ 32
 func_sized types func all (function, (t, at, is)) =
-    let one : IsSized t = rw (get_or_from_slice_get types func t t at) at (all func t (slice_get_within types func t at)) in
+    let one : HasSizeIn32Bits t = rw (get_or_from_slice_get types func t t at) at (all func t (slice_get_within types func t at)) in
     rw at (omega (arith, one))
 
 -- each function may be exported if more is left than the greatest size of a function
@@ -85,7 +85,7 @@ other_place types spaces left kind.Global place may other below = own_place (nat
 other_place types spaces left kind.Tag place may other below = absurd (omega arith)
 
 -- the type of an existing function is a function type
-func_valid_at : (types : List SubType) (spaces : IndexSpaces) (index func : ℕ) → MayExport types spaces → slice_get spaces.funcs index ≡ Some func → IsFuncValid types func
+func_valid_at : (types : List SubType) (spaces : IndexSpaces) (index func : ℕ) → MayExport types spaces → slice_get spaces.funcs index ≡ Some func → IsFuncTypeIndex types func
 func_valid_at types spaces index func may at = rw (get_or_from_slice_get spaces.funcs index func func at) at (may.funcs index func (slice_get_within spaces.funcs index func at))
 
 -- the size of an existing function, plus 1, has 32 bits

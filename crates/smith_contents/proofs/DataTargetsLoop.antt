@@ -11,7 +11,7 @@ use Rattle.smith_draw.specs.Choices.{chosen_at}
 use Rattle.smith_contents.specs.OfferedIndices.{Indices}
 use Rattle.smith_types.specs.declared.entity_type.MemoryType.{MemoryType}
 use Rattle.smith_draw.specs.ConstOffers.{offered_if}
-use Rattle.smith_contents.specs.DataSegments.{Indexed, no_memory, counts_at, counting_at}
+use Rattle.smith_contents.specs.DataSegments.{Indexed, no_memory, may_hold_data_at, counting_at}
 use Rattle.smith_contents.specs.DataTargets.{StandsIn, indexed}
 
 -- the memories that count after one whose draw is known
@@ -26,7 +26,7 @@ pub record IsCounting (memories : List MemoryType) (index : ℕ) (drawn : Indice
   pub left : KeepsPieces start bytes
 
 module _ {memories : List MemoryType} {index : ℕ} {drawn : Indices} {start bytes after : List ℕ} {memory : MemoryType} {b : Bool} where
-  one_counted : IsCounting memories index drawn start bytes → index < length memories → memory ≡ get_or memories index memory → counts_at memory bytes ≡ (b, after)
+  one_counted : IsCounting memories index drawn start bytes → index < length memories → memory ≡ get_or memories index memory → may_hold_data_at memory bytes ≡ (b, after)
       → counted (indexed memories drawn.offered) index (drop (index + 1) memories) memory (b, after) ≡ counting_at [] 0 memories start
   unfolding counting_at
   one_counted now inside at draws =
@@ -37,7 +37,7 @@ module _ {memories : List MemoryType} {index : ℕ} {drawn : Indices} {start byt
       ap (counted counting index rest memory) (sym draws) ∙ (same ∙ (sym here ∙ now.so_far))
 
   -- a memory counts
-  pub counting_more : {more : Indices} → IsCounting memories index drawn start bytes → index < length memories → memory ≡ get_or memories index memory → counts_at memory bytes ≡ (b, after) → b ≡ true
+  pub counting_more : {more : Indices} → IsCounting memories index drawn start bytes → index < length memories → memory ≡ get_or memories index memory → may_hold_data_at memory bytes ≡ (b, after) → b ≡ true
       → more ≡ record { end = drawn.end + 1; offered = drawn.offered ++ drawn.end ∷ [] } → KeepsPieces bytes after → IsCounting memories (index + 1) more start after
   counting_more now inside at draws on grown kept =
       let found : get_or memories index no_memory.1 ≡ memory = get_or_from_slice_get memories index memory no_memory.1 (slice_get-get_or memories index memory inside ∙ ap (λ (one : MemoryType). Some one) (sym at)) in
@@ -50,7 +50,7 @@ module _ {memories : List MemoryType} {index : ℕ} {drawn : Indices} {start byt
       })
 
   -- a memory does not count
-  pub counting_skip : {more : Indices} → IsCounting memories index drawn start bytes → index < length memories → memory ≡ get_or memories index memory → counts_at memory bytes ≡ (b, after) → b ≡ false
+  pub counting_skip : {more : Indices} → IsCounting memories index drawn start bytes → index < length memories → memory ≡ get_or memories index memory → may_hold_data_at memory bytes ≡ (b, after) → b ≡ false
       → more ≡ record { end = drawn.end + 1; offered = drawn.offered } → KeepsPieces bytes after → IsCounting memories (index + 1) more start after
   counting_skip now inside at draws off grown kept =
       rw (grown, now.end) (record {

@@ -18,11 +18,11 @@ use Rattle.smith_types.proofs.HeldValueLemmas.{all_of_parts}
 use Rattle.smith_config.specs.declared.config.Config.{Config}
 use Rattle.smith_config.specs.Features.{features_of}
 use Rattle.smith_config.specs.Sanitized.{IsSanitized}
-use Rattle.smith_draw.specs.Granted.{IsGranted}
+use Rattle.smith_config.specs.Granted.{IsGranted}
 use Rattle.smith_draw.proofs.GrantedLemmas.{locals_granted}
 use Rattle.smith_draw.proofs.LocalLemmas.{locals_most, locals_valid, locals_no_float}
 use Rattle.smith_contents.specs.DrawnBodies.{raw_bytes_at, is_raw_at, instructions_at, body_at, bodies_at}
-use Rattle.smith_contents.specs.Held.{IsRaw}
+use Rattle.smith_rules.specs.Held.{IsRaw}
 
 raw_allowed : (may : Bool) (drawn : Bool × List ℕ) (bytes : List ℕ) → (cond may drawn (false, bytes)).0 ≡ true → IsTrue may
 raw_allowed true drawn bytes raw = refl

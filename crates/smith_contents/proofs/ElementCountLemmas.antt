@@ -15,10 +15,10 @@ use Rattle.smith_types.specs.declared.entity_type.TableType.{TableType}
 use Rattle.smith_types.specs.declared.segments.ElementSegment.{ElementSegment}
 use Rattle.smith_config.specs.declared.config.Config.{Config}
 use Rattle.smith_bytes.specs.Spelling.{SpellsEmpty}
-use Rattle.smith_contents.specs.ElementSegments.{KindChoice, table_kinds_at, kinds_at, element_segments_at, elements_at}
-use Rattle.smith_imports.specs.Steps.{Gives, ◌>>=◌}
+use Rattle.smith_contents.specs.ElementSegments.{KindChoice, table_kinds_at, element_kinds_at, element_segments_at, elements_at}
+use Rattle.smith_bytes.specs.Steps.{Gives, ◌>>=◌}
 use Rattle.smith_contents.specs.declared.element_kinds.KindChoice.TheVariants.{Passive, Declared}
-use Rattle.smith_imports.proofs.GivenLemmas.{given_takes}
+use Rattle.smith_bytes.proofs.StepLemmas.{given_takes}
 
 -- a property of the next step after every result of a step holds after the step
 behind : {A B : Type 0} (P : B → Type 0) (first : Result A Why) (next : A → Result B Why) → ((x : A) → IfOk (next x) P) → IfOk (first >>= next) P
@@ -44,7 +44,7 @@ segments_least config context kinds (suc most) made bytes enough =
 pub elements_least : (config : Config) (context : Context) (tables : List TableType) (bytes : List ℕ) → config.min_element_segments ≤ config.max_element_segments → IfOk (elements_at config context tables bytes) (λ drawn. config.min_element_segments ≤ length drawn.0)
 unfolding elements_at
 elements_least config context tables bytes ordered =
-    let kinds = kinds_at config tables bytes in
+    let kinds = element_kinds_at config tables bytes in
     let Least = λ (drawn : List ElementSegment × List ℕ). config.min_element_segments ≤ length drawn.0 in
     let Given = λ (r : Result (List ElementSegment × List ℕ) Why). IfOk r Least in
     cond_both (eqb (length kinds.0) 0) _ _ Given
@@ -67,7 +67,7 @@ none_by config context false piece after none spelled = rw (none, spelled) refl
 
 pub elements_none : (config : Config) (context : Context) (tables : List TableType) (segments : List ElementSegment) (piece after : List ℕ) → config.min_element_segments ≡ 0 → tables ≡ []
     → SpellsEmpty (SpellsNone (if config.bulk_memory_enabled then config.max_element_segments else 0)) segments piece → elements_at config context tables (piece ++ after) ≡ Ok (segments, after)
-unfolding elements_at kinds_at table_kinds_at
+unfolding elements_at element_kinds_at table_kinds_at
 elements_none config context tables segments piece after none empty h = rw (empty, h.none) (none_by config context config.bulk_memory_enabled piece after none h.spelled)
 
 -- and taken, if there is no table

@@ -7,7 +7,7 @@ use Rattle.std.proofs.lemmas.List.Elements.{All-weaker, recursion_from_All}
 use Rattle.smith_bytes.specs.declared.error.Error.{Error}
 use Rattle.smith_bytes.proofs.GrownLemmas.{grow_least}
 use Rattle.smith_types.specs.Expressions.{Context, IsConstExpr}
-use Rattle.smith_types.specs.Floats.{HasNoFloat}
+use Rattle.smith_types.specs.Floats.{HasNoFloat, GivesNoFloat}
 use Rattle.smith_types.specs.Segments.{item_count, IsOffsetInside, IsElementKindValid, AreElementsInside}
 use Rattle.smith_types.specs.Subtyping.{IsRefBelow}
 use Rattle.smith_types.specs.declared.const_instr.ConstInstr.{ConstInstr}
@@ -23,15 +23,14 @@ use Rattle.smith_types.specs.declared.value_type.RefType.{RefType}
 use Rattle.smith_types.specs.declared.value_type.ValType.TheVariants.{Ref}
 use Rattle.smith_types.proofs.HeldValueLemmas.{all_of_parts}
 use Rattle.smith_config.specs.declared.config.Config.{Config}
-use Rattle.smith_draw.specs.ConstBounds.{IsUngrounded}
-use Rattle.smith_draw.specs.ConstFloats.{GivesNoFloat}
+use Rattle.smith_config.specs.Granted.{IsUngrounded}
 use Rattle.smith_draw.specs.ConstScopes.{seen_by}
 use Rattle.smith_draw.specs.Grounding.{standing_in}
 use Rattle.smith_draw.specs.declared.spaces.Spaces.{Spaces}
 use Rattle.smith_draw.proofs.ValueTypeLemmas.{drawn_is}
-use Rattle.smith_contents.specs.DrawnElements.{HasUngroundedElements, IsTarget, IsOffered, IsPlaced, IsKindDrawn, FitsTable, MayHoldItems, AreItemsFit, IsElementFit}
+use Rattle.smith_contents.specs.DrawnElements.{HasUngroundedElements, IsTarget, IsKindOffered, IsPlaced, IsKindDrawn, FitsTable, MayHoldItems, AreItemsFit, IsElementFit}
 use Rattle.smith_contents.specs.ElementSegments.{KindChoice, most_items, expression_item_at, drawn_expressions_at}
-use Rattle.smith_contents.specs.Held.{expressions_of}
+use Rattle.smith_rules.specs.Held.{expressions_of}
 use Rattle.smith_contents.specs.declared.element_kinds.KindChoice.TheVariants as choice
 
 -- drawn expressions fit
@@ -67,19 +66,19 @@ module _ (config : Config) (spaces : Spaces) where
   active_valid None table offset hint ty target placed below = record { table = table; stands = target.stands; below = below; offset_valid = placed.valid }
   active_valid (Some index) table offset hint ty target placed below = (target.named refl, record { table = table; stands = target.stands; below = below; offset_valid = placed.valid })
 
-  kind_valid : (one : KindChoice) (kind : ElementKind) (hint : Option ℕ) (ty : RefType) → IsOffered config spaces.types.now.types tables one → IsKindDrawn config context one (kind, hint) → FitsTable spaces.types.now.types one ty → IsElementKindValid context tables ty kind
+  kind_valid : (one : KindChoice) (kind : ElementKind) (hint : Option ℕ) (ty : RefType) → IsKindOffered config spaces.types.now.types tables one → IsKindDrawn config context one (kind, hint) → FitsTable spaces.types.now.types one ty → IsElementKindValid context tables ty kind
   kind_valid choice.Passive kind hint ty offered is fits = rw is offered
   kind_valid choice.Declared kind hint ty offered is fits = rw is offered
   kind_valid (choice.Active index table) kind hint ty offered (offset, is, placed) fits = rw is (active_valid index table offset hint ty offered placed fits)
 
-  kind_inside : (one : KindChoice) (kind : ElementKind) (hint : Option ℕ) (total count : ℕ) → IsOffered config spaces.types.now.types tables one → IsKindDrawn config context one (kind, hint) → count ≤ most_items config hint total → IsTrue config.disallow_traps
+  kind_inside : (one : KindChoice) (kind : ElementKind) (hint : Option ℕ) (total count : ℕ) → IsKindOffered config spaces.types.now.types tables one → IsKindDrawn config context one (kind, hint) → count ≤ most_items config hint total → IsTrue config.disallow_traps
       → AreElementsInside tables kind count
   kind_inside choice.Passive kind hint total count offered is few on = rw is tt
   kind_inside choice.Declared kind hint total count offered is few on = rw is tt
   kind_inside (choice.Active index table) kind hint total count offered (offset, is, placed) few on = rw is (table, offered.stands, hinted_inside config offset hint total count table.minimum few (placed.inside on))
 
   -- a segment of an offered kind fits
-  pub element_fit : (one : KindChoice) (kind : ElementKind) (hint : Option ℕ) (ty : RefType) (items : Elements) (total : ℕ) → IsOffered config spaces.types.now.types tables one → IsKindDrawn config context one (kind, hint) → MayHoldItems config spaces ty
+  pub element_fit : (one : KindChoice) (kind : ElementKind) (hint : Option ℕ) (ty : RefType) (items : Elements) (total : ℕ) → IsKindOffered config spaces.types.now.types tables one → IsKindDrawn config context one (kind, hint) → MayHoldItems config spaces ty
       → FitsTable spaces.types.now.types one ty → AreItemsFit config context ty items → item_count items ≤ most_items config hint total → (IsUngrounded config (standing_in config spaces) (Ref ty) → HasUngroundedElements config (standing_in config spaces) tables)
       → IsElementFit config context tables (record { kind = kind; ty = ty; items = items })
   element_fit one kind hint ty items total offered drawn may fits fit few needed = record {

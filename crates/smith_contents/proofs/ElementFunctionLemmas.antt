@@ -7,7 +7,7 @@ use Rattle.std.proofs.lemmas.Bool.{cond_both, eqb-true, eqb-false, ltb-false, no
 use Rattle.std.proofs.lemmas.List.Elements.{All-nil, All-weaker, All-from_recursion, recursion_from_All}
 use Rattle.smith_bytes.specs.declared.error.Why.{Why}
 use Rattle.smith_bytes.proofs.GrownLemmas.{grow_all, grow_least}
-use Rattle.smith_types.specs.Entities.{IsFuncValid}
+use Rattle.smith_types.specs.Entities.{IsFuncTypeIndex}
 use Rattle.smith_types.specs.Expressions.{Context, created, reference_to, function_reference}
 use Rattle.smith_types.specs.Flags.{IsElementEnabled, funcref}
 use Rattle.smith_types.specs.Kinds.{kind_of, shared}
@@ -24,7 +24,7 @@ use Rattle.smith_types.specs.declared.value_type.ValType.TheVariants.{Ref}
 use Rattle.smith_config.specs.declared.config.Config.{Config}
 use Rattle.smith_config.specs.Features.{features_of}
 use Rattle.smith_draw.specs.Choices.{chosen_at}
-use Rattle.smith_draw.specs.ConstFloats.{GivesNoFloat}
+use Rattle.smith_types.specs.Floats.{GivesNoFloat}
 use Rattle.smith_draw.specs.TypeUses.{places_from}
 use Rattle.smith_draw.proofs.FloatLemmas.{stands_in}
 use Rattle.smith_draw.proofs.SupertypeLemmas.{chosen_of}
@@ -93,14 +93,14 @@ module _ (context : Context) (index : ℕ) (t : SubType) (stands : slice_get con
       (λ defined. record { heap = cond_both context.features.custom_descriptors (Exact index) (Concrete index) (λ (one : HeapType). IsBelow context.types one (Abstract false heap.Func)) (λ on. exact_below) (λ no. concrete_below); nullable = λ is. refl })
       (λ imported. record { heap = concrete_below; nullable = λ is. refl })
 
-unshared_item : (context : Context) (ty : RefType) → All (IsFuncValid context.types) context.funcs → is_funcref ty ≡ true → (function : ℕ) → IsPassing (is_unshared_type context.types) context.funcs function → IsItem context ty function
+unshared_item : (context : Context) (ty : RefType) → All (IsFuncTypeIndex context.types) context.funcs → is_funcref ty ≡ true → (function : ℕ) → IsPassing (is_unshared_type context.types) context.funcs function → IsItem context ty function
 unshared_item context ty valid plain function h =
-    let (signature, (t, stands, inner)) = stands_in (IsFuncValid context.types) context.funcs function h.item h.stands valid in
+    let (signature, (t, stands, inner)) = stands_in (IsFuncTypeIndex context.types) context.funcs function h.item h.stands valid in
     let off = off_by t.composite_type.shared (unshared_is context.types h.item t true stands h.passes) in
     let below = function_below context h.item t stands off (ap kind_of inner) function in
     (h.item, h.stands, subst (λ (one : RefType). IsValBelow context.types (function_reference context function h.item) (Ref one)) (sym (funcref_is ty plain)) below)
 
-unshared_items : (context : Context) (ty : RefType) → All (IsFuncValid context.types) context.funcs → is_funcref ty ≡ true → All (IsItem context ty) (unshared_funcs context.types context.funcs)
+unshared_items : (context : Context) (ty : RefType) → All (IsFuncTypeIndex context.types) context.funcs → is_funcref ty ≡ true → All (IsItem context ty) (unshared_funcs context.types context.funcs)
 unshared_items context ty valid plain =
     let test = is_unshared_type context.types in
     All-weaker (IsPassing test context.funcs) (IsItem context ty) (unshared_item context ty valid plain) (unshared_funcs context.types context.funcs) (places_pass test context.funcs)
@@ -113,7 +113,7 @@ skipped : (b : Bool) (n : ℕ) (places : List ℕ) → length (cond b (n ∷ pla
 skipped true n places none = absurd (omega (arith, none))
 skipped false n places none = (refl, none)
 
-each_shared : (types : List SubType) (n : ℕ) (funcs : List ℕ) → Each (IsFuncValid types) funcs → length (places_from (is_unshared_type types) n funcs) ≡ 0 → Each (IsShared types) funcs
+each_shared : (types : List SubType) (n : ℕ) (funcs : List ℕ) → Each (IsFuncTypeIndex types) funcs → length (places_from (is_unshared_type types) n funcs) ≡ 0 → Each (IsShared types) funcs
 each_shared types n [] valid none = tt
 each_shared types n (index ∷ funcs) valid none =
     let (off, others) = skipped (is_unshared_type types index) n (places_from (is_unshared_type types) (suc n) funcs) none in
@@ -121,11 +121,11 @@ each_shared types n (index ∷ funcs) valid none =
     ((t, stands, not-false t.composite_type.shared (unshared_is types index t false stands off)), each_shared types (suc n) funcs valid.1 others)
 
 -- if no function is listed as unshared, each is shared
-all_shared : (types : List SubType) (funcs : List ℕ) → All (IsFuncValid types) funcs → length (unshared_funcs types funcs) ≡ 0 → All (IsShared types) funcs
-all_shared types funcs valid none = All-from_recursion (IsShared types) funcs (each_shared types 0 funcs (recursion_from_All (IsFuncValid types) funcs valid) none)
+all_shared : (types : List SubType) (funcs : List ℕ) → All (IsFuncTypeIndex types) funcs → length (unshared_funcs types funcs) ≡ 0 → All (IsShared types) funcs
+all_shared types funcs valid none = All-from_recursion (IsShared types) funcs (each_shared types 0 funcs (recursion_from_All (IsFuncTypeIndex types) funcs valid) none)
 
 -- drawn functions fit
-pub functions_fit : (config : Config) (context : Context) (ty : RefType) (most : ℕ) (bytes : List ℕ) → All (IsFuncValid context.types) context.funcs → is_funcref ty ≡ true → IfOk (functions_at config context most bytes) (λ drawn. AreItemsFit config context ty (Functions drawn.0))
+pub functions_fit : (config : Config) (context : Context) (ty : RefType) (most : ℕ) (bytes : List ℕ) → All (IsFuncTypeIndex context.types) context.funcs → is_funcref ty ≡ true → IfOk (functions_at config context most bytes) (λ drawn. AreItemsFit config context ty (Functions drawn.0))
 unfolding functions_at chosen_functions_at
 functions_fit config context ty most bytes valid plain =
     let funcs = unshared_funcs context.types context.funcs in

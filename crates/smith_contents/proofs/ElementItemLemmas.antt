@@ -21,12 +21,12 @@ use Rattle.smith_draw.specs.MatchingTypes.{matching_ref_type_at}
 use Rattle.smith_draw.specs.declared.spaces.Spaces.{Spaces}
 use Rattle.smith_draw.proofs.ChosenLemmas.{references_without_gc}
 use Rattle.smith_draw.proofs.FilledLemmas.{ref_type_filled, matching_ref_ungrounded}
-use Rattle.smith_draw.specs.ConstBounds.{IsUngrounded}
+use Rattle.smith_config.specs.Granted.{IsUngrounded}
 use Rattle.smith_draw.specs.Grounding.{standing_in}
 use Rattle.smith_draw.proofs.MatchingLemmas.{matching_ref_below, matching_ref_valid}
 use Rattle.smith_draw.proofs.TableTypeLemmas.{element_enabled}
 use Rattle.smith_draw.proofs.ValueTypeLemmas.{ref_type_drawn}
-use Rattle.smith_contents.specs.DrawnElements.{IsOffered, FitsAddresses, FitsTable, HasUngroundedElements, MayDrawElements, MayHoldItems, MayRefuseItems, MayRefuseSegment}
+use Rattle.smith_contents.specs.DrawnElements.{IsKindOffered, FitsAddresses, FitsTable, HasUngroundedElements, MayDrawElements, MayHoldItems, MayRefuseItems, MayRefuseSegment}
 use Rattle.smith_contents.specs.ElementSegments.{KindChoice, item_type_at, chosen_functions_at, expression_item_at, drawn_expressions_at}
 use Rattle.smith_contents.specs.declared.element_kinds.KindChoice.TheVariants as choice
 
@@ -46,7 +46,7 @@ matching_enabled config context element bytes true is sanitized enabled other = 
 matching_enabled config context element bytes false is sanitized enabled other = enabled (λ same. other (matching_same config context element bytes is ∙ same))
 
 -- a segment may hold items of the drawn type
-pub item_type_may : (config : Config) (spaces : Spaces) (kind : KindChoice) (bytes : List ℕ) → MayDrawElements config spaces → IsOffered config spaces.types.now.types spaces.entities.tables.now kind
+pub item_type_may : (config : Config) (spaces : Spaces) (kind : KindChoice) (bytes : List ℕ) → MayDrawElements config spaces → IsKindOffered config spaces.types.now.types spaces.entities.tables.now kind
     → MayHoldItems config spaces (item_type_at config (standing_in config spaces) kind bytes).0
 unfolding item_type_at
 item_type_may config spaces choice.Passive bytes may offered = record {
@@ -68,7 +68,7 @@ item_type_may config spaces (choice.Active index table) bytes may offered =
     }
 
 -- a wanted non-nullable reference that is not grounded is an element of a table
-pub item_type_needed : (config : Config) (context : Context) (tables : List TableType) (kind : KindChoice) (bytes : List ℕ) → IsOrderly context.types → IsOffered config context.types tables kind → IsUngrounded config context (Ref (item_type_at config context kind bytes).0)
+pub item_type_needed : (config : Config) (context : Context) (tables : List TableType) (kind : KindChoice) (bytes : List ℕ) → IsOrderly context.types → IsKindOffered config context.types tables kind → IsUngrounded config context (Ref (item_type_at config context kind bytes).0)
     → HasUngroundedElements config context tables
 unfolding item_type_at
 item_type_needed config context tables choice.Passive bytes orderly offered needed = absurd (ref_type_filled config context orderly false (length context.types) bytes needed)
@@ -91,7 +91,7 @@ item_type_fits config context choice.Declared bytes = tt
 item_type_fits config context (choice.Active index table) bytes = matching_ref_below config context table.element_type bytes
 
 -- the table of an offered kind
-pub fits_addresses : (config : Config) (spaces : Spaces) (kind : KindChoice) → IsOffered config spaces.types.now.types spaces.entities.tables.now kind → FitsAddresses kind
+pub fits_addresses : (config : Config) (spaces : Spaces) (kind : KindChoice) → IsKindOffered config spaces.types.now.types spaces.entities.tables.now kind → FitsAddresses kind
 fits_addresses config spaces choice.Passive offered = tt
 fits_addresses config spaces choice.Declared offered = tt
 fits_addresses config spaces (choice.Active index table) offered = offered.valid.limits.minimum_fits

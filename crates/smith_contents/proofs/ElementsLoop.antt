@@ -11,7 +11,7 @@ use Rattle.smith_types.specs.Expressions.{Context}
 use Rattle.smith_types.specs.Segments.{item_count}
 use Rattle.smith_types.specs.declared.segments.ElementSegment.{ElementSegment}
 use Rattle.smith_config.specs.declared.config.Config.{Config}
-use Rattle.smith_imports.specs.Steps.{◌>>=◌, Gives}
+use Rattle.smith_bytes.specs.Steps.{◌>>=◌, Gives}
 use Rattle.smith_contents.specs.ElementSegments.{KindChoice, items_in, element_segment_at, element_segments_at}
 
 -- n segments are made, with `total` items together, and the draws from here on complete the whole

@@ -9,10 +9,10 @@ use Rattle.std.specs.declared.alloc.Global.{Global}
 use Rattle.std.proofs.lemmas.Fmt.{decimal_nonempty}
 use Rattle.std.proofs.lemmas.Slice.Eq.{bytes_eq-Decides}
 use Rattle.std.proofs.lemmas.List.Folds.{list_any-append}
-use Rattle.smith_bytes.specs.Names.{text_at, IsMadeNew, AddsName}
-use Rattle.smith_contents.specs.Exporting.{Export, is_exported, longest_export, export_name_at, HasNames}
-use Rattle.smith_imports.specs.ImportNames.{IsNewName}
-use Rattle.smith_imports.proofs.ImportNameLemmas.{new_name_is, new_by}
+use Rattle.smith_bytes.specs.Names.{text_at, IsMadeNew, AddsName, IsNewName}
+use Rattle.smith_rules.specs.ExportedItems.{Export}
+use Rattle.smith_contents.specs.Exporting.{is_exported, longest_export, export_name_at, HasNames}
+use Rattle.smith_bytes.proofs.NewNameLemmas.{new_name_is, new_by}
 
 short_by : (name : List ℕ) (one : Export) (exports : List Export) (b : Bool) → bytes_eq one.0 name ≡ b → (b || is_exported exports name) ≡ true
     → (is_exported exports name ≡ true → length name ≤ longest_export exports) → length name ≤ longest_export (one ∷ exports)

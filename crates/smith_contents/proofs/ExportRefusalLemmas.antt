@@ -19,15 +19,16 @@ use Rattle.smith_config.specs.InUse.{HasNoShapes}
 use Rattle.smith_draw.specs.FuncSizes.{IsSmall}
 use Rattle.smith_draw.specs.Choices.{enabled}
 use Rattle.smith_draw.specs.TypeUses.{places_from}
-use Rattle.smith_imports.specs.Steps.{Gives}
+use Rattle.smith_bytes.specs.Steps.{Gives}
 use Rattle.smith_bytes.specs.Spelling.{SpellsEmpty}
-use Rattle.smith_contents.specs.Exporting.{Export, item_size, exported_size, candidates, candidate_row, offered_kinds, exports_from, free_exports_at}
+use Rattle.smith_rules.specs.ExportedItems.{Export, item_size, exported_size}
+use Rattle.smith_contents.specs.Exporting.{candidates, candidate_row, offered_kinds, exports_from, free_exports_at}
 use Rattle.smith_contents.specs.Exported.{MayExportFreely, AreExported, MayRunOut}
 use Rattle.smith_contents.specs.AllExports.{everything_at, exports_at}
 use Rattle.smith_contents.specs.declared.exported.Exports.{Exports}
 use Rattle.smith_contents.proofs.CandidateLemmas.{length_alike}
-use Rattle.smith_imports.proofs.GivenLemmas.{given_takes}
-use Rattle.smith_imports.proofs.ImportedEntityLemmas.{small_at}
+use Rattle.smith_bytes.proofs.StepLemmas.{given_takes}
+use Rattle.smith_draw.proofs.FuncSizeLemmas.{small_at}
 
 -- if nothing is enabled, the first is not, nor another
 off_by : {A : Type 0} (x : A) (b : Bool) (rest : List (A × Bool)) → length (enabled ((x, b) ∷ rest)) ≡ 0 → (b ≡ false) × (length (enabled rest) ≡ 0)

@@ -10,9 +10,11 @@ use Rattle.std.proofs.lemmas.Slice.Eq.{bytes_eq-Decides}
 use Rattle.smith_types.specs.Imports.{IndexSpaces}
 use Rattle.smith_types.specs.declared.composite_type.SubType.{SubType}
 use Rattle.smith_config.specs.declared.config.Config.{Config}
-use Rattle.smith_contents.specs.Exporting.{Export, is_exported, item_size}
-use Rattle.smith_contents.specs.Exported.{IsStanding, AreExportsFit}
-use Rattle.smith_imports.proofs.ImportsGrownLemmas.{mapped_at, distinct_push}
+use Rattle.smith_rules.specs.ExportedItems.{Export, item_size, IsStanding}
+use Rattle.smith_contents.specs.Exporting.{is_exported}
+use Rattle.smith_contents.specs.Exported.{AreExportsFit}
+use Rattle.smith_types.proofs.ListLemmas.{mapped_at}
+use Rattle.smith_types.proofs.DistinctLemmas.{distinct_push}
 
 -- no export fits after imports that fit
 pub none_fit : (config : Config) (types : List SubType) (spaces : IndexSpaces) (imports : ℕ) → imports ≤ config.max_type_size → AreExportsFit config types spaces imports [] imports

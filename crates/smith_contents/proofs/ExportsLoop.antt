@@ -8,7 +8,8 @@ use Rattle.smith_bytes.specs.Source.{KeepsPieces}
 use Rattle.smith_types.specs.Imports.{IndexSpaces}
 use Rattle.smith_types.specs.declared.composite_type.SubType.{SubType}
 use Rattle.smith_config.specs.declared.config.Config.{Config}
-use Rattle.smith_contents.specs.Exporting.{Export, is_exported, HasNames, item_size, exported_size, offered_kinds, export_at, exports_from}
+use Rattle.smith_rules.specs.ExportedItems.{Export, item_size, exported_size}
+use Rattle.smith_contents.specs.Exporting.{is_exported, HasNames, offered_kinds, export_at, exports_from}
 use Rattle.smith_contents.specs.Exported.{IsCandidate, AreExported}
 use Rattle.smith_contents.proofs.ExportsFitLemmas.{none_fit, fit_push}
 

@@ -1,4 +1,3 @@
-pub mod PlaceOfListLemmas
 pub mod SizedLemmas
 pub mod AllExportsLemmas
 pub mod AllExportsLoop

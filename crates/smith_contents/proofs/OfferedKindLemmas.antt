@@ -10,7 +10,7 @@ use Rattle.std.proofs.lemmas.Option.{get_or_from_slice_get, slice_get-get_or}
 use Rattle.smith_bytes.specs.Source.{KeepsPieces}
 use Rattle.smith_types.specs.declared.entity_type.TableType.{TableType}
 use Rattle.smith_config.specs.declared.config.Config.{Config}
-use Rattle.smith_contents.specs.ElementSegments.{KindChoice, is_funcref, is_offered_at, with_unnamed, with_named, table_kinds_at, kept_kinds, kinds_at}
+use Rattle.smith_contents.specs.ElementSegments.{KindChoice, is_funcref, is_offered_at, with_unnamed, with_named, table_kinds_at, kept_kinds, element_kinds_at}
 use Rattle.smith_contents.specs.OfferedIndices.{Indices}
 use Rattle.smith_contents.specs.OfferedKinds.{no_table, table_at, begin_first, unnamed_kinds, named_kinds, kinds_over}
 use Rattle.smith_contents.specs.declared.element_kinds.KindChoice.TheVariants as choice
@@ -51,7 +51,7 @@ pub record AreTablesDrawn (tables : List TableType) (index : ℕ) (drawn : Indic
   pub end : drawn.end ≡ index
   pub few : length drawn.offered ≤ index
   pub within : All (λ one. one < length tables) drawn.offered
-  pub so_far : (config : Config) → table_kinds_at config (kinds_over config tables drawn.offered) index (drop index tables) bytes ≡ kinds_at config tables start
+  pub so_far : (config : Config) → table_kinds_at config (kinds_over config tables drawn.offered) index (drop index tables) bytes ≡ element_kinds_at config tables start
   pub left : KeepsPieces start bytes
 
 -- the kinds after a table for which it is known whether it is offered
@@ -61,7 +61,7 @@ behind config kinds index rest table offered =
 
 module _ {tables : List TableType} {index : ℕ} {drawn : Indices} {start bytes after : List ℕ} {table : TableType} {b : Bool} where
   one_behind : AreTablesDrawn tables index drawn start bytes → index < length tables → table ≡ get_or tables index table → is_offered_at table bytes ≡ (b, after) → (config : Config)
-      → behind config (kinds_over config tables drawn.offered) index (drop (index + 1) tables) table (b, after) ≡ kinds_at config tables start
+      → behind config (kinds_over config tables drawn.offered) index (drop (index + 1) tables) table (b, after) ≡ element_kinds_at config tables start
   unfolding table_kinds_at
   one_behind now inside at draws config =
       let kinds = kinds_over config tables drawn.offered in
@@ -100,14 +100,14 @@ module _ {tables : List TableType} {index : ℕ} {drawn : Indices} {start bytes 
 
 -- all tables were visited
 pub tables_done : {tables : List TableType} {index : ℕ} {drawn : Indices} {start bytes : List ℕ} → AreTablesDrawn tables index drawn start bytes → length tables ≤ index
-    → (config : Config) → kinds_at config tables start ≡ (kinds_over config tables drawn.offered, bytes)
+    → (config : Config) → element_kinds_at config tables start ≡ (kinds_over config tables drawn.offered, bytes)
 unfolding table_kinds_at
 tables_done {tables = tables} {index = index} {drawn = drawn} {bytes = bytes} now done config =
     sym (now.so_far config) ∙ at_drop_all (λ (rest : List TableType). table_kinds_at config (kinds_over config tables drawn.offered) index rest bytes) tables index done
 
 -- before the first table
 pub tables_begin : (tables : List TableType) (drawn : Indices) (bytes : List ℕ) → drawn ≡ record { end = 0; offered = [] } → AreTablesDrawn tables 0 drawn bytes bytes
-unfolding kinds_at
+unfolding element_kinds_at
 tables_begin tables drawn bytes none = rw none (record {
   end = refl;
   few = omega arith;

@@ -14,11 +14,11 @@ use Rattle.smith_types.specs.Expressions.{Context}
 use Rattle.smith_types.specs.declared.entity_type.MemoryType.{MemoryType}
 use Rattle.smith_types.specs.declared.segments.DataSegment.{DataSegment}
 use Rattle.smith_config.specs.declared.config.Config.{Config}
-use Rattle.smith_imports.specs.Steps.{Gives}
+use Rattle.smith_bytes.specs.Steps.{Gives}
 use Rattle.smith_contents.specs.DataSegments.{Targets, counting_at, targets_of, passive_at, segment_at, segments_at, data_at}
 use Rattle.smith_contents.specs.PassiveData.{passive_data, SpellsPassive}
-use Rattle.smith_spell.specs.Spelling.{SpellsBytes}
-use Rattle.smith_imports.proofs.GivenLemmas.{given_takes}
+use Rattle.smith_draw.specs.SpelledParts.{SpellsBytes}
+use Rattle.smith_bytes.proofs.StepLemmas.{given_takes}
 
 one_byte : (byte : ℕ) (after : List ℕ) → whole_at 1 (byte ∷ after) ≡ (byte, after)
 unfolding whole_at

@@ -6,10 +6,9 @@ use Rattle.smith_types.specs.Sizes.{value_count}
 use Rattle.smith_types.specs.declared.composite_type.CompositeInnerType.{CompositeInnerType}
 use Rattle.smith_types.specs.declared.composite_type.CompositeInnerType.TheVariants as inners
 use Rattle.smith_types.specs.declared.composite_type.SubType.{SubType}
-use Rattle.smith_config.specs.Shapes.{IsInnerShort, IsShort, most_listed, shape_types}
-use Rattle.smith_config.specs.declared.shape.Shape.{Shape}
+use Rattle.smith_config.specs.Shapes.{most_listed}
 use Rattle.smith_draw.specs.FuncSizes.{HasFewValues, IsInnerWithin, IsSmall, IsSmallInner}
-use Rattle.smith_contents.specs.Exported.{IsSized}
+use Rattle.smith_contents.specs.Exported.{HasSizeIn32Bits}
 
 small_inner : (inner : CompositeInnerType) → IsSmallInner inner → value_count inner + 2 < 2 ^ 32
 small_inner (inners.Func function) small = omega (arith, small.params, small.results)
@@ -21,19 +20,10 @@ few_inner (inners.Func function) few = omega (arith, few.params, few.results)
 few_inner (inners.Array array) few = omega arith
 few_inner (inners.Struct structure) few = omega arith
 
-short_inner : (inner : CompositeInnerType) → IsInnerShort inner → IsInnerWithin most_listed inner
-short_inner (inners.Func function) (params, results) = record { params = params; results = results }
-short_inner (inners.Array array) short = tt
-short_inner (inners.Struct structure) short = tt
-
 -- small types are such types
-pub small_sized : (types : List SubType) → All IsSmall types → All IsSized types
-small_sized types small = All-weaker IsSmall IsSized (λ t h. small_inner t.composite_type.inner h) types small
+pub small_sized : (types : List SubType) → All IsSmall types → All HasSizeIn32Bits types
+small_sized types small = All-weaker IsSmall HasSizeIn32Bits (λ t h. small_inner t.composite_type.inner h) types small
 
 -- so are types with no more parameters and results than a shape may list
-pub few_sized : (types : List SubType) → All (HasFewValues most_listed) types → All IsSized types
-few_sized types few = All-weaker (HasFewValues most_listed) IsSized (λ t h. few_inner t.composite_type.inner h) types few
-
--- and the types of a shape whose lists are short
-pub shape_few : (shape : Shape) → IsShort shape → All (HasFewValues most_listed) (shape_types shape)
-shape_few shape short = All-weaker (λ (t : SubType). IsInnerShort t.composite_type.inner) (HasFewValues most_listed) (λ t h. short_inner t.composite_type.inner h) (shape_types shape) short.inner
+pub few_sized : (types : List SubType) → All (HasFewValues most_listed) types → All HasSizeIn32Bits types
+few_sized types few = All-weaker (HasFewValues most_listed) HasSizeIn32Bits (λ t h. few_inner t.composite_type.inner h) types few

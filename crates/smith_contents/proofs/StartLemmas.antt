@@ -20,11 +20,11 @@ use Rattle.smith_types.specs.declared.composite_type.SubType.{SubType}
 use Rattle.smith_config.specs.declared.config.Config.{Config}
 use Rattle.smith_draw.specs.Choices.{chosen_at}
 use Rattle.smith_draw.proofs.SupertypeLemmas.{chosen_of}
-use Rattle.smith_draw.proofs.TypeUseLemmas.{IsPassing, places_pass}
+use Rattle.smith_draw.proofs.TypeUseLemmas.{IsPassing, places_pass, places_any}
 use Rattle.smith_draw.proofs.ValueTypeLemmas.{wanted_by}
-use Rattle.smith_spell.specs.Spelling.{takes_and_gives_nothing, is_start_type, SpellsNoStart}
+use Rattle.smith_draw.specs.TypeUses.{takes_and_gives_nothing, is_start_type}
+use Rattle.smith_draw.specs.SpelledParts.{SpellsNoStart}
 use Rattle.smith_contents.specs.Start.{start_funcs, start_wanted_at, start_at}
-use Rattle.smith_contents.proofs.PlaceOfListLemmas.{places_any}
 
 -- the function type without parameters and results
 abbrev plain : FuncType

@@ -5,22 +5,22 @@ use Rattle.smith_bytes.specs.declared.error.Why.TheVariants.{TypeSize}
 use Rattle.smith_types.specs.Imports.{IndexSpaces}
 use Rattle.smith_types.specs.declared.composite_type.SubType.{SubType}
 use Rattle.smith_config.specs.declared.config.Config.{Config}
-use Rattle.smith_contents.specs.Exporting.{Export, export_name_at, exported_size, free_exports_at}
-use Rattle.smith_contents.specs.ExportedItems.{Item, every_item}
+use Rattle.smith_rules.specs.ExportedItems.{Export, exported_size, Item, every_item}
+use Rattle.smith_contents.specs.Exporting.{export_name_at, free_exports_at}
 
 -- exports of these items after others, each with a name; refused if imports and exports together
 -- exceed the type size
-unfoldable pub exports_of : Config → List SubType → IndexSpaces → ℕ → List Item → List Export → List ℕ → Result (List Export × List ℕ) Why
-exports_of config types spaces imports [] exports bytes = Ok (exports, bytes)
-exports_of config types spaces imports (item ∷ items) exports bytes =
+unfoldable pub exports_of_items : Config → List SubType → IndexSpaces → ℕ → List Item → List Export → List ℕ → Result (List Export × List ℕ) Why
+exports_of_items config types spaces imports [] exports bytes = Ok (exports, bytes)
+exports_of_items config types spaces imports (item ∷ items) exports bytes =
     let name = export_name_at exports bytes in
     let more : List Export = exports ++ (name.0, item.0, item.1) ∷ [] in
     if nat_lt config.max_type_size (imports + exported_size types spaces more) then Err TypeSize
-    else exports_of config types spaces imports items more name.1
+    else exports_of_items config types spaces imports items more name.1
 
 -- the exports of every item
 unfoldable pub everything_at : Config → List SubType → IndexSpaces → ℕ → List ℕ → Result (List Export × List ℕ) Why
-everything_at config types spaces imports bytes = exports_of config types spaces imports (every_item spaces) [] bytes
+everything_at config types spaces imports bytes = exports_of_items config types spaces imports (every_item spaces) [] bytes
 
 -- the exports of a module, given the amount that its imports add to the type size: of every item if
 -- the configuration says so, else drawn freely

@@ -22,8 +22,8 @@ use Rattle.smith_draw.specs.Offsets.{offset_at}
 
 -- whether segments may be copied into a memory: always if its minimum is above 0, else for one of
 -- eleven drawn numbers
-unfoldable pub counts_at : MemoryType → List ℕ → Bool × List ℕ
-counts_at memory bytes =
+unfoldable pub may_hold_data_at : MemoryType → List ℕ → Bool × List ℕ
+may_hold_data_at memory bytes =
     if nat_lt 0 memory.minimum then (true, bytes)
     else (let drawn = range_at 0 10 bytes in (drawn.0 == 0, drawn.1))
 
@@ -36,7 +36,7 @@ Indexed = ℕ × MemoryType
 unfoldable pub counting_at : List Indexed → ℕ → List MemoryType → List ℕ → List Indexed × List ℕ
 counting_at so_far index [] bytes = (so_far, bytes)
 counting_at so_far index (memory ∷ memories) bytes =
-    let counts = counts_at memory bytes in
+    let counts = may_hold_data_at memory bytes in
     counting_at (so_far ++ offered_if counts.0 (index, memory)) (index + 1) memories counts.1
 
 -- the memories that segments are copied into, and the globals that offsets of 32 and of 64 bits may
@@ -84,8 +84,8 @@ address_at no_traps memory size bytes =
 
 -- a constant offset, and the bytes copied there: with `disallow_traps` no more than the minimum
 -- number of bytes, and low enough to fit
-unfoldable pub constant_at : Bool → MemoryType → List ℕ → List ℕ → (Offset × List ℕ) × List ℕ
-constant_at no_traps memory init bytes =
+unfoldable pub constant_placed_at : Bool → MemoryType → List ℕ → List ℕ → (Offset × List ℕ) × List ℕ
+constant_placed_at no_traps memory init bytes =
     let address = address_at no_traps memory (length init) bytes in
     let kept = take (least_bytes memory) init in
     if no_traps then ((constant_offset memory.memory64 (min address.0 (least_bytes memory - length kept)), kept), address.1)
@@ -95,7 +95,7 @@ constant_at no_traps memory init bytes =
 unfoldable pub placed_at : Bool → List ℕ → MemoryType → List ℕ → List ℕ → (Offset × List ℕ) × List ℕ
 placed_at no_traps globals memory init bytes =
     let place = range_at 0 (length globals) bytes in
-    if place.0 == 0 then constant_at no_traps memory init place.1
+    if place.0 == 0 then constant_placed_at no_traps memory init place.1
     else ((Global (slice_index globals (place.0 - 1)), init), place.1)
 
 -- a memory without a page, for a choice from nothing

@@ -8,7 +8,7 @@ use Rattle.smith_bytes.specs.declared.error.Why.TheVariants.{Unmet}
 use Rattle.smith_types.specs.Entities.{IsTableValid, most_elements}
 use Rattle.smith_types.specs.Expressions.{Context}
 use Rattle.smith_types.specs.Flags.{IsElementEnabled}
-use Rattle.smith_types.specs.Floats.{HasNoFloat}
+use Rattle.smith_types.specs.Floats.{HasNoFloat, GivesNoFloat}
 use Rattle.smith_types.specs.Segments.{table_index, AreItemsValid, IsOffsetValid, IsOffsetInside, IsElementValid, IsElementInside}
 use Rattle.smith_types.specs.Subtyping.{IsRefBelow}
 use Rattle.smith_types.specs.ValidTypes.{IsRefTypeValid}
@@ -25,13 +25,12 @@ use Rattle.smith_config.specs.declared.config.Config.{Config}
 use Rattle.smith_config.specs.Faults.{Passes}
 use Rattle.smith_config.specs.Features.{features_of}
 use Rattle.smith_config.specs.Sanitized.{IsSanitized}
-use Rattle.smith_draw.specs.ConstBounds.{IsUngrounded, HoldsUngroundedField, MayLack}
-use Rattle.smith_draw.specs.ConstFloats.{GivesNoFloat}
+use Rattle.smith_config.specs.Granted.{IsUngrounded, HasGroundedItems}
+use Rattle.smith_draw.specs.ConstBounds.{HoldsUngroundedField, MayLack}
 use Rattle.smith_draw.specs.ConstScopes.{AreSpacesValid}
 use Rattle.smith_draw.specs.Grounding.{without_globals}
 use Rattle.smith_draw.specs.declared.spaces.Spaces.{Spaces}
-use Rattle.smith_contents.specs.Held.{HasItems}
-use Rattle.smith_contents.specs.Held.{expressions_of}
+use Rattle.smith_rules.specs.Held.{HasItems, expressions_of}
 use Rattle.smith_contents.specs.declared.element_kinds.KindChoice.{KindChoice}
 use Rattle.smith_contents.specs.declared.element_kinds.KindChoice.TheVariants as choice
 
@@ -42,9 +41,9 @@ pub record IsTarget (config : Config) (types : List SubType) (tables : List Tabl
   pub named : IsSome index → IsTrue config.bulk_memory_enabled
 
 -- a kind that is offered with these tables
-abbrev pub IsOffered : Config → List SubType → List TableType → KindChoice → Type 0
-IsOffered config types tables (choice.Active index table) = IsTarget config types tables index table
-IsOffered config types tables _ = IsTrue config.bulk_memory_enabled
+abbrev pub IsKindOffered : Config → List SubType → List TableType → KindChoice → Type 0
+IsKindOffered config types tables (choice.Active index table) = IsTarget config types tables index table
+IsKindOffered config types tables _ = IsTrue config.bulk_memory_enabled
 
 -- element segments may be drawn over these spaces: all of them are valid
 pub record MayDrawElements (config : Config) (spaces : Spaces) : Type 0 where
@@ -93,10 +92,6 @@ pub record AreItemsFit (config : Config) (context : Context) (ty : RefType) (ite
 -- off
 abbrev pub HasUngroundedElements : Config → Context → List TableType → Type 0
 HasUngroundedElements config context tables = Any (λ (table : TableType). IsUngrounded config context (Ref table.element_type)) tables
-
--- the items of a segment are nullable, or `non_nullable_enabled` is on and they are grounded
-abbrev pub HasGroundedItems : Config → Context → ElementSegment → Type 0
-HasGroundedItems config context segment = ¬ IsUngrounded config context (Ref segment.ty)
 
 -- a segment fits into the module: it is valid, has enough items, none with a float, with
 -- `disallow_traps` the items it copies fit, and its items are nullable or grounded if the elements

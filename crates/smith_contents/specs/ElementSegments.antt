@@ -34,7 +34,7 @@ use Rattle.smith_draw.specs.MatchingTypes.{matching_ref_type_at}
 use Rattle.smith_draw.specs.Offsets.{offset_at}
 use Rattle.smith_draw.specs.TypeUses.{places_from}
 use Rattle.smith_draw.specs.ValueTypes.{ref_type_at}
-use Rattle.smith_imports.specs.Steps.{◌>>=◌}
+use Rattle.smith_bytes.specs.Steps.{◌>>=◌}
 pub use Rattle.smith_contents.specs.declared.element_kinds.KindChoice.{KindChoice}
 use Rattle.smith_contents.specs.declared.element_kinds.KindChoice.TheVariants as choice
 
@@ -75,8 +75,8 @@ abbrev pub kept_kinds : Config → List KindChoice
 kept_kinds config = if config.bulk_memory_enabled then choice.Passive ∷ choice.Declared ∷ [] else []
 
 -- the kinds of segments that are offered, in order
-unfoldable pub kinds_at : Config → List TableType → List ℕ → List KindChoice × List ℕ
-kinds_at config tables bytes = table_kinds_at config (kept_kinds config) 0 tables bytes
+unfoldable pub element_kinds_at : Config → List TableType → List ℕ → List KindChoice × List ℕ
+element_kinds_at config tables bytes = table_kinds_at config (kept_kinds config) 0 tables bytes
 
 -- the globals that an offset may be read from: none with `disallow_traps`
 abbrev pub offset_globals : Config → Context → TableType → List ℕ
@@ -118,10 +118,10 @@ table_offset_at config context table bytes =
     if wanted.0 then ((Global chosen.0, None), chosen.1) else constant_offset_at config table wanted.1
 
 -- a segment of a kind, with the number of elements that must fit, if that is limited
-unfoldable pub kind_at : Config → Context → KindChoice → List ℕ → (ElementKind × Option ℕ) × List ℕ
-kind_at config context choice.Passive bytes = ((element.Passive, None), bytes)
-kind_at config context choice.Declared bytes = ((element.Declared, None), bytes)
-kind_at config context (choice.Active index table) bytes =
+unfoldable pub element_kind_at : Config → Context → KindChoice → List ℕ → (ElementKind × Option ℕ) × List ℕ
+element_kind_at config context choice.Passive bytes = ((element.Passive, None), bytes)
+element_kind_at config context choice.Declared bytes = ((element.Declared, None), bytes)
+element_kind_at config context (choice.Active index table) bytes =
     let offset = table_offset_at config context table bytes in
     ((element.Active index offset.0.0, offset.0.1), offset.1)
 
@@ -195,7 +195,7 @@ items_in segments = sum_by (λ (segment : ElementSegment). item_count segment.it
 unfoldable pub element_segment_at : Config → Context → List KindChoice → ℕ → List ℕ → Result (ElementSegment × List ℕ) Why
 element_segment_at config context kinds total bytes = do
   let chosen = chosen_at choice.Passive kinds bytes
-  let kind = kind_at config context chosen.0 chosen.1
+  let kind = element_kind_at config context chosen.0 chosen.1
   let ty = item_type_at config (without_globals context) chosen.0 kind.1
   items ← items_at config context ty.0 (most_items config kind.0.1 total) ty.1
   Ok (record { kind = kind.0.0; ty = ty.0; items = items.0 }, items.1)
@@ -214,6 +214,6 @@ element_segments_at config context kinds (suc most) made bytes =
 -- are required
 unfoldable pub elements_at : Config → Context → List TableType → List ℕ → Result (List ElementSegment × List ℕ) Why
 elements_at config context tables bytes =
-    let kinds = kinds_at config tables bytes in
+    let kinds = element_kinds_at config tables bytes in
     if length kinds.0 == 0 then (if config.min_element_segments == 0 then Ok ([], kinds.1) else Err (Unmet counts.ElementSegments))
     else element_segments_at config context kinds.0 config.max_element_segments [] kinds.1

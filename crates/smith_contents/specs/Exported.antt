@@ -4,18 +4,18 @@ use Rattle.smith_bytes.specs.declared.error.Error.{Error}
 use Rattle.smith_bytes.specs.declared.error.Error.TheVariants as errors
 use Rattle.smith_bytes.specs.declared.error.Why.TheVariants.{Unmet, TypeSize}
 use Rattle.smith_bytes.specs.declared.error.Count.TheVariants as counts
-use Rattle.smith_types.specs.Entities.{IsFuncValid}
-use Rattle.smith_types.specs.Exports.{IsEntityAt, AreExportsValid}
+use Rattle.smith_types.specs.Entities.{IsFuncTypeIndex}
+use Rattle.smith_types.specs.Exports.{AreExportsValid}
 use Rattle.smith_types.specs.Imports.{IndexSpaces}
 use Rattle.smith_types.specs.Sizes.{size_in, value_count}
 use Rattle.smith_types.specs.declared.composite_type.SubType.{SubType}
-use Rattle.smith_types.specs.declared.entity_type.EntityType.{EntityType}
 use Rattle.smith_types.specs.declared.entity_type.EntityType.TheVariants as entity
 use Rattle.smith_types.specs.declared.entity_type.ExportKind.{ExportKind}
 use Rattle.smith_config.specs.declared.config.Config.{Config}
 use Rattle.smith_config.specs.InUse.{FixesExports, HasNoShapes}
 use Rattle.smith_draw.specs.FuncSizes.{IsSmall}
-use Rattle.smith_contents.specs.Exporting.{Export, item_size, exported_size}
+use Rattle.smith_rules.specs.ExportedItems.{Export, item_size, exported_size, IsStanding}
+use Rattle.smith_rules.specs.Refusals.{MayHaveNoExports}
 
 -- the indices of all items of index spaces have 32 bits
 pub record IsIndexed (spaces : IndexSpaces) : Type 0 where
@@ -26,14 +26,14 @@ pub record IsIndexed (spaces : IndexSpaces) : Type 0 where
   pub tags : length spaces.tags < 2 ^ 32
 
 -- a type whose functions have a size that, plus 1, has 32 bits
-abbrev pub IsSized : SubType → Type 0
-IsSized t = value_count t.composite_type.inner + 2 < 2 ^ 32
+abbrev pub HasSizeIn32Bits : SubType → Type 0
+HasSizeIn32Bits t = value_count t.composite_type.inner + 2 < 2 ^ 32
 
 -- items of index spaces may be exported over these types: sizes of functions, and indices, have 32
 -- bits
 pub record MayExport (types : List SubType) (spaces : IndexSpaces) : Type 0 where
-  pub sized : All IsSized types
-  pub funcs : All (IsFuncValid types) spaces.funcs
+  pub sized : All HasSizeIn32Bits types
+  pub funcs : All (IsFuncTypeIndex types) spaces.funcs
   pub few : IsIndexed spaces
 
 -- the size of a function, plus 1, is at most `most`
@@ -58,10 +58,6 @@ pub record MayExportFreely (config : Config) (types : List SubType) (spaces : In
   pub memories : config.min_memories ≤ length spaces.memories
   pub globals : config.min_globals ≤ length spaces.globals
 
--- an item exists in index spaces
-abbrev pub IsStanding : IndexSpaces → ExportKind → ℕ → Type 0
-IsStanding spaces of_kind index = (ty : EntityType) × IsEntityAt spaces of_kind index ty
-
 -- an item may be exported if `left` of the type size is left: it exists, and its size plus 1 is
 -- below `left`
 pub record IsCandidate (types : List SubType) (spaces : IndexSpaces) (left : ℕ) (of_kind : ExportKind) (index : ℕ) : Type 0 where
@@ -78,12 +74,6 @@ pub record AreExportsFit (config : Config) (types : List SubType) (spaces : Inde
 pub record AreExported (config : Config) (types : List SubType) (spaces : IndexSpaces) (imports : ℕ) (exports : List Export) (size : ℕ) : Type 0 where
   pub fit : AreExportsFit config types spaces imports exports size
   pub most : length exports ≤ config.max_exports
-
--- no table, no memory and no global is required, so that there may be nothing to export
-pub record MayHaveNoExports (config : Config) : Type 0 where
-  pub tables : config.min_tables ≡ 0
-  pub memories : config.min_memories ≡ 0
-  pub globals : config.min_globals ≡ 0
 
 -- exports may end below the minimum without shapes: they may be too large together, or there may be
 -- no item

@@ -1,9 +1,8 @@
 -- The exports that are drawn. Rules of this project.
-use Rattle.std.specs.Prelude.{◌≡◌, ℕ, zero, suc, ◌+◌, ◌-◌, Bool, ◌&&◌, max, nat_lt, List, [], ◌∷◌, ◌++◌, length, slice_get, sum_by, Result, Ok, Err, if◌then◌else◌}
+use Rattle.std.specs.Prelude.{◌≡◌, ℕ, zero, suc, ◌+◌, ◌-◌, Bool, ◌&&◌, max, nat_lt, List, [], ◌∷◌, ◌++◌, length, Result, Ok, Err, if◌then◌else◌}
 use Rattle.std.specs.Fmt.{decimal}
 use Rattle.std.specs.HashSet.{HashSet, contains_text, hash_set_len}
 use Rattle.std.specs.List.{list_any}
-use Rattle.std.specs.Option.{option_map, unwrap_or}
 use Rattle.std.specs.Str.{bytes_eq}
 use Rattle.std.specs.declared.alloc.Global.{Global}
 use Rattle.std.specs.declared.string.String.{String}
@@ -11,7 +10,7 @@ use Rattle.smith_bytes.specs.declared.error.Count.TheVariants as counts
 use Rattle.smith_bytes.specs.declared.error.Why.{Why}
 use Rattle.smith_bytes.specs.declared.error.Why.TheVariants.{Unmet}
 use Rattle.smith_bytes.specs.Growth.{goes_at}
-use Rattle.smith_bytes.specs.Names.{text_at}
+use Rattle.smith_bytes.specs.Names.{text_at, new_name}
 use Rattle.smith_types.specs.Imports.{IndexSpaces}
 use Rattle.smith_types.specs.Sizes.{size_in}
 use Rattle.smith_types.specs.declared.composite_type.SubType.{SubType}
@@ -19,13 +18,9 @@ use Rattle.smith_types.specs.declared.entity_type.EntityType.TheVariants as enti
 use Rattle.smith_types.specs.declared.entity_type.ExportKind.{ExportKind}
 use Rattle.smith_types.specs.declared.entity_type.ExportKind.TheVariants as kind
 use Rattle.smith_config.specs.declared.config.Config.{Config}
+use Rattle.smith_rules.specs.ExportedItems.{Export, exported_size}
 use Rattle.smith_draw.specs.Choices.{enabled, chosen_at}
 use Rattle.smith_draw.specs.TypeUses.{places_from}
-use Rattle.smith_imports.specs.ImportNames.{new_name}
-
--- an export: its name, and the kind and the index of its item
-abbrev pub Export : Type 0
-Export = List ℕ × ExportKind × ℕ
 
 -- whether an export has this name
 abbrev pub is_exported : List Export → List ℕ → Bool
@@ -83,15 +78,6 @@ export_at types spaces left exports bytes =
     let of_kind = chosen_at kind.Memory (offered_kinds types spaces left) name.1 in
     let index = chosen_at 0 (candidates types spaces left of_kind.0) of_kind.1 in
     ((name.0, of_kind.0, index.0), index.1)
-
--- the size of an item: that of its type for a function, else 1
-abbrev pub item_size : List SubType → IndexSpaces → ExportKind → ℕ → ℕ
-item_size types spaces kind.Func index = unwrap_or (option_map (λ func. size_in types (entity.Func func)) (slice_get spaces.funcs index)) 1
-item_size types spaces _ index = 1
-
--- the amount that exports add to the type size: the sizes of their items, and one more each
-abbrev pub exported_size : List SubType → IndexSpaces → List Export → ℕ
-exported_size types spaces exports = sum_by (λ (one : Export). item_size types spaces one.1 one.2 + 1) exports
 
 -- at most `most` more exports after others, given the amount that the imports add to the type size:
 -- without a draw while there are too few, and while there is a candidate

@@ -1,5 +1,3 @@
-pub mod Held
-pub mod ExportedItems
 pub mod Exporting
 pub mod AllExports
 pub mod Exported

@@ -4,8 +4,7 @@ use Rattle.smith_bytes.specs.Draws.{bool_at}
 use Rattle.smith_types.specs.declared.composite_type.SubType.{SubType}
 use Rattle.smith_config.specs.declared.config.Config.{Config}
 use Rattle.smith_draw.specs.Choices.{chosen_at}
-use Rattle.smith_draw.specs.TypeUses.{places_from}
-use Rattle.smith_spell.specs.Spelling.{is_start_type}
+use Rattle.smith_draw.specs.TypeUses.{places_from, is_start_type}
 
 -- the indices of the functions that may start a module, imported ones too: those without parameters
 -- and results

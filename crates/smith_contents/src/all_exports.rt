@@ -2,10 +2,9 @@ ghost use Rattle.std.specs.Prelude.{◌≡◌, ◌<◌, ◌≤◌, ◌+◌, leng
 ghost use Rattle.smith_bytes.specs.Source.{KeepsPieces};
 ghost use Rattle.smith_types.specs.Exports.{AreExportsValid};
 ghost use Rattle.smith_types.specs.IndexSpaces.{spaces_in};
-ghost use Rattle.smith_imports.specs.Steps.{Gives};
-ghost use Rattle.smith_contents.specs.Exporting.{exported_size};
+ghost use Rattle.smith_bytes.specs.Steps.{Gives};
+ghost use Rattle.smith_rules.specs.ExportedItems.{exported_size, every_item, AreAllExported};
 ghost use Rattle.smith_contents.specs.Exported.{IsIndexed, MayExport, AreExportsFit, MayRefuseAll};
-ghost use Rattle.smith_contents.specs.ExportedItems.{every_item, AreAllExported};
 ghost use Rattle.smith_contents.specs.AllExports.{everything_at};
 
 use crate::export_names::draw_export_name;

@@ -10,8 +10,8 @@ ghost use Rattle.smith_config.specs.Faults.{Passes};
 ghost use Rattle.smith_config.specs.Features.{features_of};
 ghost use Rattle.smith_draw.specs.ConstScopes.{AreSpacesValid, seen_by};
 ghost use Rattle.smith_draw.specs.Drawing.{AlwaysDraws, Draws};
-ghost use Rattle.smith_imports.specs.Steps.{Gives};
-ghost use Rattle.smith_contents.specs.DataSegments.{HasPages, least_bytes, last_address, constant_offset, address_at, constant_at, placed_at, active_at, passive_at, segment_at, segments_at, data_at};
+ghost use Rattle.smith_bytes.specs.Steps.{Gives};
+ghost use Rattle.smith_contents.specs.DataSegments.{HasPages, least_bytes, last_address, constant_offset, address_at, constant_placed_at, placed_at, active_at, passive_at, segment_at, segments_at, data_at};
 ghost use Rattle.smith_contents.specs.DataTargets.{TellOffsets, AreTargets, IsDataFit, MayRefuseData};
 ghost use Rattle.smith_contents.specs.PassiveData.{SpellsPassive};
 
@@ -87,7 +87,7 @@ fn cut(init: Items<u8>, most: u128) -> Items<u8>
 /// Draws a constant offset for `init` into `memory`, and returns it with `init`. With `no_traps`,
 /// `init` is cut to the minimum number of bytes of `memory`, and the offset is lowered until all of
 /// it fits.
-#[tactic(auto, unfolding(crate::specs::DataSegments::constant_at))]
+#[tactic(auto, unfolding(crate::specs::DataSegments::constant_placed_at))]
 fn draw_constant(
     no_traps: bool,
     memory: MemoryType,
@@ -95,7 +95,7 @@ fn draw_constant(
     u: &mut Unstructured<'_>,
 ) -> (Offset, Items<u8>)
     requires { page_log2 memory.page_size_log2 ≤ 16 }
-    ensures draws { AlwaysDraws (constant_at no_traps memory init u.old) result u.old u.new }
+    ensures draws { AlwaysDraws (constant_placed_at no_traps memory init u.old) result u.old u.new }
     ensures valid { (context : Context) → IsOffsetValid context memory.memory64 result.0 }
     ensures inside { IsTrue no_traps → IsOffsetInside result.0 (length result.1) (least_bytes memory) }
 {

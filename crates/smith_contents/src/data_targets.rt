@@ -3,7 +3,7 @@ ghost use Rattle.smith_bytes.specs.Source.{KeepsPieces};
 ghost use Rattle.smith_draw.specs.Choices.{chosen_at};
 ghost use Rattle.smith_draw.specs.ConstScopes.{AreSpacesValid, seen_by};
 ghost use Rattle.smith_draw.specs.Drawing.{AlwaysDraws};
-ghost use Rattle.smith_contents.specs.DataSegments.{counts_at, counting_at, globals_for, no_memory, targets_of};
+ghost use Rattle.smith_contents.specs.DataSegments.{may_hold_data_at, counting_at, globals_for, no_memory, targets_of};
 ghost use Rattle.smith_contents.specs.DataTargets.{AreTargets, indexed};
 
 use crate::offered_indices::OfferedIndices;
@@ -92,9 +92,9 @@ impl<'a> Targets<'a> {
 
 /// Draws whether segments may be copied into `memory`: yes without a draw if its minimum is above
 /// 0, else if a number drawn from 0 to 10 is 0.
-#[tactic(auto, unfolding(crate::specs::DataSegments::counts_at))]
+#[tactic(auto, unfolding(crate::specs::DataSegments::may_hold_data_at))]
 fn is_target(memory: MemoryType, u: &mut Unstructured<'_>) -> bool
-    ensures { AlwaysDraws (counts_at memory u.old) result u.old u.new }
+    ensures { AlwaysDraws (may_hold_data_at memory u.old) result u.old u.new }
 {
     if memory.minimum > 0 {
         return true;

@@ -1,19 +1,19 @@
 ghost use Rattle.std.specs.Prelude.{◌≡◌, ◌<◌, ◌≤◌, ◌^◌, true, false, length, IsTrue, OnOk, IfOk, IfErr, All};
 ghost use Rattle.smith_bytes.specs.Source.{KeepsPieces};
 ghost use Rattle.smith_types.specs.Expressions.{IsConstExpr};
-ghost use Rattle.smith_types.specs.Floats.{HasNoFloat};
+ghost use Rattle.smith_types.specs.Floats.{HasNoFloat, GivesNoFloat};
 ghost use Rattle.smith_types.specs.Segments.{item_count};
 ghost use Rattle.smith_types.specs.declared.segments.Elements.TheVariants as listed;
 ghost use Rattle.smith_types.specs.declared.value_type.RefType.{RefType};
 ghost use Rattle.smith_types.specs.declared.value_type.ValType.TheVariants.{Ref};
 ghost use Rattle.smith_draw.specs.Grounding.{standing_in};
-ghost use Rattle.smith_draw.specs.ConstBounds.{IsUngrounded, MayRefuseConstExpr};
-ghost use Rattle.smith_draw.specs.ConstFloats.{GivesNoFloat};
+ghost use Rattle.smith_config.specs.Granted.{IsUngrounded};
+ghost use Rattle.smith_draw.specs.ConstBounds.{MayRefuseConstExpr};
 ghost use Rattle.smith_draw.specs.ConstScopes.{AreSpacesValid, seen_by};
 ghost use Rattle.smith_draw.specs.Drawing.{AlwaysDraws, Draws};
 ghost use Rattle.smith_draw.specs.KeptOffers.{AreKeptOffers};
-ghost use Rattle.smith_imports.specs.Steps.{Gives};
-ghost use Rattle.smith_contents.specs.DrawnElements.{IsOffered, FitsTable, AreItemsFit, MayDrawElements, MayHoldItems, MayRefuseFunctions, MayRefuseItems, HasUngroundedElements};
+ghost use Rattle.smith_bytes.specs.Steps.{Gives};
+ghost use Rattle.smith_contents.specs.DrawnElements.{IsKindOffered, FitsTable, AreItemsFit, MayDrawElements, MayHoldItems, MayRefuseFunctions, MayRefuseItems, HasUngroundedElements};
 ghost use Rattle.smith_contents.specs.ElementSegments.{
   item_type_at,
   is_funcref,
@@ -68,7 +68,7 @@ pub(crate) fn draw_item_type(
 ) -> Result<RefType, Error>
     requires may { MayDrawElements config.now spaces.now }
     requires standing { standing.now ≡ standing_in config.now spaces.now }
-    requires offered { IsOffered config.now spaces.now.types.now.types spaces.now.entities.tables.now choice }
+    requires offered { IsKindOffered config.now spaces.now.types.now.types spaces.now.entities.tables.now choice }
     ensures draws { Draws (item_type_at config.now (standing_in config.now spaces.now) choice u.old) result u.old u.new }
     ensures may { IfOk result (MayHoldItems config.now spaces.now) }
     ensures fits { IfOk result (FitsTable spaces.now.types.now.types choice) }

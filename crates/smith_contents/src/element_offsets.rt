@@ -5,7 +5,7 @@ ghost use Rattle.smith_types.specs.Segments.{IsOffsetValid, IsOffsetInside};
 ghost use Rattle.smith_draw.specs.ConstScopes.{AreSpacesValid, seen_by};
 ghost use Rattle.smith_draw.specs.Drawing.{AlwaysDraws};
 ghost use Rattle.smith_contents.specs.DrawnElements.{FitsAddresses, IsPlaced, IsKindDrawn};
-ghost use Rattle.smith_contents.specs.ElementSegments.{most_offset, constant_offset, hint_at, constant_offset_at, is_global_wanted_at, table_offset_at, kind_at};
+ghost use Rattle.smith_contents.specs.ElementSegments.{most_offset, constant_offset, hint_at, constant_offset_at, is_global_wanted_at, table_offset_at, element_kind_at};
 
 use crate::element_kinds::KindChoice;
 use crate::offset_globals::OffsetGlobals;
@@ -121,7 +121,7 @@ fn draw_table_offset(
 
 /// Draws the mode of a segment of the kind `choice`, and the number of elements that must fit, or
 /// no limit.
-#[tactic(auto, unfolding(crate::specs::ElementSegments::kind_at))]
+#[tactic(auto, unfolding(crate::specs::ElementSegments::element_kind_at))]
 pub(crate) fn draw_kind(
     config: &Config,
     spaces: &Spaces<'_>,
@@ -130,7 +130,7 @@ pub(crate) fn draw_kind(
 ) -> (ElementKind, Option<u64>)
     requires standing { AreSpacesValid config.now spaces.now }
     requires fits { FitsAddresses choice }
-    ensures draws { AlwaysDraws (kind_at config.now (seen_by config.now spaces.now true) choice u.old) result u.old u.new }
+    ensures draws { AlwaysDraws (element_kind_at config.now (seen_by config.now spaces.now true) choice u.old) result u.old u.new }
     ensures placed { IsKindDrawn config.now (seen_by config.now spaces.now true) choice result }
 {
     match choice {

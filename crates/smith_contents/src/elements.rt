@@ -2,18 +2,17 @@ ghost use Rattle.std.specs.Prelude.{◌≡◌, ◌+◌, ◌<◌, ◌≤◌, true
 ghost use Rattle.std.specs.List.{flat_map};
 ghost use Rattle.smith_bytes.specs.Source.{KeepsPieces};
 ghost use Rattle.smith_bytes.specs.Takes.{Takes};
-ghost use Rattle.smith_types.specs.Floats.{HasNoFloat};
+ghost use Rattle.smith_types.specs.Floats.{HasNoFloat, GivesNoFloat};
 ghost use Rattle.smith_types.specs.Segments.{item_count, IsElementValid, IsElementInside};
 ghost use Rattle.smith_types.specs.declared.segments.ElementSegment.{ElementSegment};
 ghost use Rattle.smith_draw.specs.Grounding.{standing_in};
-ghost use Rattle.smith_draw.specs.ConstFloats.{GivesNoFloat};
 ghost use Rattle.smith_draw.specs.ConstScopes.{seen_by};
 ghost use Rattle.smith_bytes.specs.Spelling.{SpellsEmpty};
-ghost use Rattle.smith_imports.specs.Steps.{Gives};
-ghost use Rattle.smith_contents.specs.Held.{HasItems};
-ghost use Rattle.smith_contents.specs.DrawnElements.{HasGroundedItems, HasUngroundedElements, IsOffered, IsElementFit, MayDrawElements, MayRefuseSegment, MayRefuseElements};
+ghost use Rattle.smith_bytes.specs.Steps.{Gives};
+ghost use Rattle.smith_rules.specs.Held.{HasItems, expressions_of};
+ghost use Rattle.smith_config.specs.Granted.{HasGroundedItems};
+ghost use Rattle.smith_contents.specs.DrawnElements.{HasUngroundedElements, IsKindOffered, IsElementFit, MayDrawElements, MayRefuseSegment, MayRefuseElements};
 ghost use Rattle.smith_contents.specs.ElementSegments.{most_items, items_in, element_segment_at, element_segments_at, elements_at};
-ghost use Rattle.smith_contents.specs.Held.{expressions_of};
 ghost use Rattle.smith_bytes.specs.Spelling.{SpellsNone};
 
 use crate::element_items::{draw_item_type, draw_items};
@@ -54,7 +53,7 @@ fn draw_segment(
     requires may { MayDrawElements config.now spaces.now }
     requires standing { standing.now ≡ standing_in config.now spaces.now }
     requires some { 0 < length kinds.now }
-    requires offered { All (IsOffered config.now spaces.now.types.now.types spaces.now.entities.tables.now) kinds.now }
+    requires offered { All (IsKindOffered config.now spaces.now.types.now.types spaces.now.entities.tables.now) kinds.now }
     requires total { total ≤ config.now.max_elements }
     ensures within { IfOk result (λ segment. total + item_count segment.items ≤ config.now.max_elements) }
     ensures exact { Gives (λ segment. (segment, u.new)) result (element_segment_at config.now (seen_by config.now spaces.now true) kinds.now total u.old) }
@@ -92,7 +91,7 @@ fn draw_segments(
     requires may { MayDrawElements config.now spaces.now }
     requires standing { standing.now ≡ standing_in config.now spaces.now }
     requires some { 0 < length kinds.now }
-    requires offered { All (IsOffered config.now spaces.now.types.now.types spaces.now.entities.tables.now) kinds.now }
+    requires offered { All (IsKindOffered config.now spaces.now.types.now.types spaces.now.entities.tables.now) kinds.now }
     ensures exact { Gives (λ segments. (segments, u.new)) result (element_segments_at config.now (seen_by config.now spaces.now true) kinds.now config.now.max_element_segments [] u.old) }
     ensures fit { IfOk result (All (IsElementFit config.now (seen_by config.now spaces.now true) spaces.now.entities.tables.now)) }
     ensures most { IfOk result (λ segments. (length segments ≤ config.now.max_element_segments) × (items_in segments ≤ config.now.max_elements)) }

@@ -1,15 +1,15 @@
 ghost use Rattle.std.specs.Prelude.{◌≡◌, ◌+◌, ◌<◌, ◌^◌, nat_lt, length, slice_index_or, All, if◌then◌else◌};
-ghost use Rattle.smith_types.specs.Entities.{IsFuncValid};
+ghost use Rattle.smith_types.specs.Entities.{IsFuncTypeIndex};
 ghost use Rattle.smith_types.specs.IndexSpaces.{spaces_in};
 ghost use Rattle.smith_types.specs.Sizes.{size_in};
 ghost use Rattle.smith_draw.specs.Choices.{chosen_at};
 ghost use Rattle.smith_draw.specs.Drawing.{AlwaysDraws};
 ghost use Rattle.smith_draw.specs.TypeUses.{places_from};
 ghost use Rattle.smith_contents.specs.Exporting.{is_func_below, candidates, candidate_row, candidate_rows, offered_kinds};
-ghost use Rattle.smith_contents.specs.Exported.{IsSized, IsFuncWithin, MayOffer, IsCandidate};
+ghost use Rattle.smith_contents.specs.Exported.{HasSizeIn32Bits, IsFuncWithin, MayOffer, IsCandidate};
 
 use smith_bytes::Unstructured;
-use smith_imports::{choose_enabled, count_enabled};
+use smith_draw::{choose_enabled, count_enabled};
 use smith_types::{EntityType, ExportKind, IndexSpaces, TypeSpace};
 
 /// The size of a table, a memory or a global, plus 1.
@@ -17,8 +17,8 @@ const SIZE_OF_OTHER: u32 = 2;
 
 /// Returns the size of a function of the type `func`, plus 1.
 fn func_size(types: &TypeSpace, func: u32) -> u32
-    requires sized { All IsSized types.now.types }
-    requires valid { IsFuncValid types.now.types func }
+    requires sized { All HasSizeIn32Bits types.now.types }
+    requires valid { IsFuncTypeIndex types.now.types func }
     ensures { result ≡ size_in types.now.types (EntityType.Func func) + 1 }
 {
     types.size_of(&EntityType::Func(func)) + 1
@@ -26,8 +26,8 @@ fn func_size(types: &TypeSpace, func: u32) -> u32
 
 /// Whether the size of a function of the type `func`, plus 1, is below `left`.
 fn is_func_below(types: &TypeSpace, left: u32, func: u32) -> bool
-    requires sized { All IsSized types.now.types }
-    requires valid { IsFuncValid types.now.types func }
+    requires sized { All HasSizeIn32Bits types.now.types }
+    requires valid { IsFuncTypeIndex types.now.types func }
     ensures { result ≡ is_func_below types.now.types left func }
 {
     func_size(types, func) < left
@@ -35,8 +35,8 @@ fn is_func_below(types: &TypeSpace, left: u32, func: u32) -> bool
 
 /// Returns the greatest size of a function of `funcs`, plus 1, or 0 if there is no function.
 pub(crate) fn most_of_funcs(types: &TypeSpace, funcs: &[u32]) -> u32
-    requires sized { All IsSized types.now.types }
-    requires valid { All (IsFuncValid types.now.types) funcs.now }
+    requires sized { All HasSizeIn32Bits types.now.types }
+    requires valid { All (IsFuncTypeIndex types.now.types) funcs.now }
     ensures { All (IsFuncWithin types.now.types result) funcs.now }
 {
     let mut most = 0;
@@ -51,8 +51,8 @@ pub(crate) fn most_of_funcs(types: &TypeSpace, funcs: &[u32]) -> u32
 
 /// Counts the functions of `funcs` whose size, plus 1, is below `left`.
 fn count_funcs(types: &TypeSpace, funcs: &[u32], left: u32) -> usize
-    requires sized { All IsSized types.now.types }
-    requires valid { All (IsFuncValid types.now.types) funcs.now }
+    requires sized { All HasSizeIn32Bits types.now.types }
+    requires valid { All (IsFuncTypeIndex types.now.types) funcs.now }
     ensures { result ≡ length (places_from (is_func_below types.now.types left) 0 funcs.now) }
 {
     let mut count = 0;
@@ -67,8 +67,8 @@ fn count_funcs(types: &TypeSpace, funcs: &[u32], left: u32) -> usize
 /// Finds the index of the function at `place` among those of `funcs` whose size, plus 1, is below
 /// `left`.
 fn func_at(types: &TypeSpace, funcs: &[u32], left: u32, mut place: usize) -> u32
-    requires sized { All IsSized types.now.types }
-    requires valid { All (IsFuncValid types.now.types) funcs.now }
+    requires sized { All HasSizeIn32Bits types.now.types }
+    requires valid { All (IsFuncTypeIndex types.now.types) funcs.now }
     requires few { length funcs.now < 2 ^ 32 }
     ensures { result ≡ slice_index_or (places_from (is_func_below types.now.types left) 0 funcs.now) place 0 }
 {
@@ -87,8 +87,8 @@ fn func_at(types: &TypeSpace, funcs: &[u32], left: u32, mut place: usize) -> u32
 /// Counts the functions of `funcs` that may be exported. The size of each function, plus 1, is at
 /// most `most`, so no function is examined if `left` is above `most`.
 fn count_func_candidates(types: &TypeSpace, funcs: &[u32], most: u32, left: u32) -> usize
-    requires sized { All IsSized types.now.types }
-    requires valid { All (IsFuncValid types.now.types) funcs.now }
+    requires sized { All HasSizeIn32Bits types.now.types }
+    requires valid { All (IsFuncTypeIndex types.now.types) funcs.now }
     requires most { All (IsFuncWithin types.now.types most) funcs.now }
     ensures { result ≡ length (places_from (is_func_below types.now.types left) 0 funcs.now) }
 {
@@ -100,8 +100,8 @@ fn count_func_candidates(types: &TypeSpace, funcs: &[u32], most: u32, left: u32)
 
 /// Finds the index of the function at `place` among those of `funcs` that may be exported.
 fn func_candidate_at(types: &TypeSpace, funcs: &[u32], most: u32, left: u32, place: usize) -> u32
-    requires sized { All IsSized types.now.types }
-    requires valid { All (IsFuncValid types.now.types) funcs.now }
+    requires sized { All HasSizeIn32Bits types.now.types }
+    requires valid { All (IsFuncTypeIndex types.now.types) funcs.now }
     requires most { All (IsFuncWithin types.now.types most) funcs.now }
     requires few { length funcs.now < 2 ^ 32 }
     requires within { place < length (places_from (is_func_below types.now.types left) 0 funcs.now) }

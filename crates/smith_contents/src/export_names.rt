@@ -1,6 +1,7 @@
 ghost use Rattle.std.specs.Prelude.{◌≡◌, ◌<◌, ◌^◌, ◌++◌, ◌∷◌, [], false, length, IfOk, IfErr, List};
 ghost use Rattle.smith_bytes.specs.Source.{KeepsPieces};
-ghost use Rattle.smith_contents.specs.Exporting.{Export, is_exported, export_name_at, HasNames};
+ghost use Rattle.smith_rules.specs.ExportedItems.{Export};
+ghost use Rattle.smith_contents.specs.Exporting.{is_exported, export_name_at, HasNames};
 
 use smith_bytes::{Error, Unstructured, unique_string};
 use smith_types::Name;

@@ -1,6 +1,6 @@
 ghost use Rattle.std.specs.Prelude.{◌≡◌, ◌+◌, ◌<◌, ◌^◌};
 ghost use Rattle.smith_types.specs.IndexSpaces.{spaces_in};
-ghost use Rattle.smith_contents.specs.Exporting.{item_size};
+ghost use Rattle.smith_rules.specs.ExportedItems.{item_size};
 ghost use Rattle.smith_contents.specs.Exported.{MayExport};
 
 use smith_types::{EntityType, ExportKind, IndexSpaces, Items, Name, TypeSpace};

@@ -3,12 +3,12 @@ ghost use Rattle.smith_bytes.specs.Source.{KeepsPieces};
 ghost use Rattle.smith_bytes.specs.Takes.{Takes};
 ghost use Rattle.smith_types.specs.Exports.{AreExportsValid};
 ghost use Rattle.smith_types.specs.IndexSpaces.{spaces_in};
-ghost use Rattle.smith_imports.specs.Steps.{Gives};
+ghost use Rattle.smith_bytes.specs.Steps.{Gives};
 ghost use Rattle.smith_bytes.specs.Spelling.{SpellsEmpty};
 ghost use Rattle.smith_bytes.specs.Spelling.{SpellsNone};
-ghost use Rattle.smith_contents.specs.Exporting.{Export, is_exported, HasNames, exported_size, export_at, offered_kinds, exports_from, free_exports_at};
+ghost use Rattle.smith_rules.specs.ExportedItems.{Export, exported_size, AreAllExported};
+ghost use Rattle.smith_contents.specs.Exporting.{is_exported, HasNames, export_at, offered_kinds, exports_from, free_exports_at};
 ghost use Rattle.smith_contents.specs.Exported.{MayOffer, MayExportFreely, MayDrawExports, IsCandidate, AreExported, MayRefuseFree, MayRefuseExports};
-ghost use Rattle.smith_contents.specs.ExportedItems.{AreAllExported};
 ghost use Rattle.smith_contents.specs.AllExports.{exports_at};
 
 use crate::all_exports::export_everything;

@@ -2,7 +2,8 @@ ghost use Rattle.std.specs.Prelude.{◌≡◌, ◌<◌, ◌^◌, false, length, 
 ghost use Rattle.smith_bytes.specs.Takes.{Takes, SpellsSuch};
 ghost use Rattle.smith_types.specs.Exports.{IsStartValid};
 ghost use Rattle.smith_draw.specs.Drawing.{AlwaysDraws};
-ghost use Rattle.smith_spell.specs.Spelling.{takes_and_gives_nothing, is_start_type, SpellsNoStart};
+ghost use Rattle.smith_draw.specs.TypeUses.{takes_and_gives_nothing, is_start_type};
+ghost use Rattle.smith_draw.specs.SpelledParts.{SpellsNoStart};
 ghost use Rattle.smith_contents.specs.Start.{start_funcs, start_wanted_at, start_at};
 
 use smith_bytes::Unstructured;

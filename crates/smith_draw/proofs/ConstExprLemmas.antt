@@ -12,7 +12,7 @@ use Rattle.smith_config.specs.declared.config.Config.{Config}
 use Rattle.smith_draw.specs.Constants.{extended_at}
 use Rattle.smith_draw.specs.ConstOffers.{offers}
 use Rattle.smith_draw.specs.ConstNodes.{is_extended, node_at}
-use Rattle.smith_draw.specs.ConstExprs.{State, state_of, behind, operand_at, operands_at, chosen_at, expression_at, expression_alone_at}
+use Rattle.smith_draw.specs.ConstExprs.{State, state_of, behind, operand_at, operands_at, after_choice, expression_at, expression_alone_at}
 use Rattle.smith_draw.specs.ConstSteps.{Reads, ReadsValue}
 use Rattle.smith_draw.specs.declared.const_expr.node_choice.Choice.{Choice}
 use Rattle.smith_draw.specs.declared.const_expr.node.Node.{Node}
@@ -26,7 +26,7 @@ reads_refused (Err y) e new read h (inr (empty, none)) = subst (λ (z : Error). 
 module _ (context : Context) (config : Config) where
   -- one level of the depth
   turn : (depth : ℕ) (wanted : ValType) (s : State) → 0 < depth → (choice : Option Choice) (after : List ℕ) → choose_at (offers config context wanted s.fuel) s.bytes ≡ (choice, after)
-      → expression_at context config depth wanted s ≡ chosen_at context config (expression_at context config (depth - 1)) wanted (state_of s.made s.fuel after) choice
+      → expression_at context config depth wanted s ≡ after_choice context config (expression_at context config (depth - 1)) wanted (state_of s.made s.fuel after) choice
   unfolding expression_at
   turn zero wanted s some choice after chosen = absurd (omega arith)
   turn (suc depth) wanted s some choice after chosen =
@@ -37,7 +37,7 @@ module _ (context : Context) (config : Config) where
   pub none_chosen : (wanted : ValType) (s : State) (depth : ℕ) → (choose_at (offers config context wanted s.fuel) s.bytes).0 ≡ None → s.fuel < depth → expression_at context config depth wanted s ≡ None
   none_chosen wanted s depth none deep =
       let drawn = choose_at (offers config context wanted s.fuel) s.bytes in
-      turn depth wanted s (omega arith) drawn.0 drawn.1 refl ∙ ap (chosen_at context config (expression_at context config (depth - 1)) wanted (state_of s.made s.fuel drawn.1)) none
+      turn depth wanted s (omega arith) drawn.0 drawn.1 refl ∙ ap (after_choice context config (expression_at context config (depth - 1)) wanted (state_of s.made s.fuel drawn.1)) none
 
   -- an extended constant
   pub extended_read : (wanted : ValType) (s new : State) (choice : Choice) (after : List ℕ) (depth : ℕ) → choose_at (offers config context wanted s.fuel) s.bytes ≡ (Some choice, after) → is_extended choice ≡ true

@@ -9,7 +9,7 @@ use Rattle.std.proofs.lemmas.Option.{same_Some}
 use Rattle.smith_bytes.specs.Draws.{range_at, choose_at}
 use Rattle.smith_bytes.proofs.GrownLemmas.{cond_both}
 use Rattle.smith_types.specs.Expressions.{Context, field_values, unpacked}
-use Rattle.smith_types.specs.Floats.{IsNoFloat, HasNoFloat}
+use Rattle.smith_types.specs.Floats.{IsNoFloat, HasNoFloat, GivesNoFloat}
 use Rattle.smith_types.specs.ValidTypes.{values_of, values_of_storage}
 use Rattle.smith_types.specs.declared.value_type.AbstractHeapType.{AbstractHeapType}
 use Rattle.smith_types.specs.declared.value_type.AbstractHeapType.TheVariants as heap
@@ -28,9 +28,8 @@ use Rattle.smith_draw.specs.Constants.{constant_at, is_wide, operation, operator
 use Rattle.smith_draw.specs.ConstScopes.{fields_of}
 use Rattle.smith_draw.specs.ConstOffers.{offers}
 use Rattle.smith_draw.specs.ConstNodes.{fields_there, field_operands, repeated, converted, is_extended, node_at}
-use Rattle.smith_draw.specs.ConstExprs.{State, state_of, behind, length_at, operand_at, operands_at, chosen_at, expression_at, expression_alone_at}
+use Rattle.smith_draw.specs.ConstExprs.{State, state_of, behind, length_at, operand_at, operands_at, after_choice, expression_at, expression_alone_at}
 use Rattle.smith_draw.specs.ConstSteps.{operand_type}
-use Rattle.smith_draw.specs.ConstFloats.{GivesNoFloat}
 use Rattle.smith_draw.specs.declared.const_expr.node_choice.Choice.{Choice}
 use Rattle.smith_draw.specs.declared.const_expr.node_choice.Choice.TheVariants as choice
 use Rattle.smith_draw.specs.declared.const_expr.extended.Operator.{Operator}
@@ -169,7 +168,7 @@ module _ (context : Context) (config : Config) (calm : All HasNoFloat context.ty
       cond_both Stays config.limit_arrays_in_const_exprs (Some (length_at s)) (draw I32 s) (All-push GivesNoFloat s.made (instr.I32Const (cast_signed w32 (range_at 0 s.fuel s.bytes).0)) so_far tt) (each I32 s tt so_far)
 
   made_stays : (draw : ValType → State → Option State) → ((value : ValType) (s : State) → IsNoFloat value → All GivesNoFloat s.made → Stays (draw value s)) → (wanted : ValType) (s : State) (choice : Option Choice) → IsNoFloat wanted → All GivesNoFloat s.made
-      → Stays (chosen_at context config draw wanted s choice)
+      → Stays (after_choice context config draw wanted s choice)
   made_stays draw each wanted s None h so_far = tt
   made_stays draw each wanted s (Some choice) h so_far =
       let drawn = node_at context.types wanted choice s.bytes in

@@ -34,7 +34,8 @@ use Rattle.smith_draw.specs.ConstOffers.{each_from, offered_if, is_integer, glob
 use Rattle.smith_types.proofs.GroundedLemmas.{default_for, defaults_each}
 use Rattle.smith_types.specs.Grounded.{IsGrounded, is_defaultable, are_defaultable}
 use Rattle.smith_draw.specs.ConstNodes.{field_operands, repeated, is_shared_heap, node_of, node_at}
-use Rattle.smith_draw.specs.ConstBounds.{widest, field_count, IsUngrounded, MayLack, MayRefuseConstExpr}
+use Rattle.smith_draw.specs.ConstBounds.{widest, field_count, MayLack, MayRefuseConstExpr}
+use Rattle.smith_config.specs.Granted.{IsUngrounded}
 use Rattle.smith_draw.specs.ConstSteps.{operand_type, IsNode, IsFit}
 use Rattle.smith_draw.specs.declared.const_expr.node_choice.Choice.{Choice}
 use Rattle.smith_draw.specs.declared.const_expr.node_choice.Choice.TheVariants as choice

@@ -11,7 +11,7 @@ use Rattle.smith_types.specs.Flags.{IsInnerEnabled}
 use Rattle.smith_types.specs.Space.{Space}
 use Rattle.smith_types.specs.Types.{IsOrderly}
 use Rattle.smith_types.specs.ValidTypes.{IsValTypeValid, IsTypeValid, IsGroupValid, AreTypesValid, values_of, values_of_storage}
-use Rattle.smith_types.specs.Entities.{IsFuncValid, IsGlobalValid}
+use Rattle.smith_types.specs.Entities.{IsFuncTypeIndex, IsGlobalValid}
 use Rattle.smith_types.specs.declared.value_type.ValType.{ValType}
 use Rattle.smith_types.specs.declared.composite_type.StorageType.{StorageType}
 use Rattle.smith_types.specs.declared.composite_type.StorageType.TheVariants.{I8, I16, Val}
@@ -97,7 +97,7 @@ scope_of config spaces allow valid orderly few = record {
   few_globals = valid.few_globals;
   seen = visible_within (config.gc_enabled && allow) (length spaces.entities.globals.now) spaces.entities.imported_globals valid.imported;
   imported_seen = visible_imported config.gc_enabled allow (length spaces.entities.globals.now) spaces.entities.imported_globals;
-  funcs = All-weaker (IsFuncValid spaces.types.now.types) (λ index. index < length spaces.types.now.types) (λ index (function, (t, at, is)). slice_get_within spaces.types.now.types index t at) spaces.entities.funcs.now valid.funcs;
+  funcs = All-weaker (IsFuncTypeIndex spaces.types.now.types) (λ index. index < length spaces.types.now.types) (λ index (function, (t, at, is)). slice_get_within spaces.types.now.types index t at) spaces.entities.funcs.now valid.funcs;
   globals = All-weaker (IsGlobalValid (features_of config) spaces.types.now.types) (λ (global : GlobalType). IsValTypeValid (features_of config) (length spaces.types.now.types) global.val_type) (λ global h. h.value) spaces.entities.globals.now valid.globals;
   structs = structs_gc (features_of config) spaces.types.now valid.types;
   fields = fields_valid (features_of config) spaces.types.now valid.types;

@@ -1,8 +1,11 @@
 -- The item chosen among the enabled items of a table.
-use Rattle.std.proofs.Common.{ℕ, zero, suc, ◌-◌, Bool, List, [], ◌∷◌, length, get_or}
+use Rattle.std.proofs.Common.{ℕ, zero, suc, ◌-◌, Bool, List, [], ◌∷◌, length, get_or, ◌≡◌, ◌+◌, ◌<◌, true, drop, add-one, refl, sym, arith, ◌∙◌}
 use Rattle.std.specs.Prelude.{IsTrue}
-use Rattle.std.specs.List.{filter, All, AllByRecursion as ByRecursion}
+use Rattle.std.specs.List.{filter, All, AllByRecursion as ByRecursion, count_by}
 use Rattle.std.proofs.lemmas.List.Elements.{All-map, All-filter, filter_passes, recursion_from_All}
+use Rattle.std.proofs.Math.Seq.{drop-cons}
+use Rattle.std.proofs.lemmas.List.{length-map}
+use Rattle.std.proofs.lemmas.List.Sums.{length-filter}
 use Rattle.smith_bytes.specs.Draws.{range_at}
 use Rattle.smith_draw.specs.Choices.{enabled, chosen_at}
 
@@ -23,3 +26,15 @@ item_or P (x ∷ items) (suc place) other each h = item_or P items place other e
 pub chosen_is : {A : Type 0} (P : A → Type 0) (other : A) (items : List A) (bytes : List ℕ) → All P items → P other → P (chosen_at other items bytes).0
 unfolding chosen_at
 chosen_is P other items bytes each h = item_or P items (range_at 0 (length items - 1) bytes).0 other (recursion_from_All P items each) h
+
+pub length_enabled : {A : Type 0} (table : List (A × Bool)) → length (enabled table) ≡ count_by (λ row. row.1) table
+length_enabled table = length-map (filter (λ row. row.1) table) (λ row. row.0) ∙ length-filter (λ row. row.1) table
+
+enabled_next : {A : Type 0} (row : A × Bool) (rest : List (A × Bool)) (place : ℕ) (other : A) → row.1 ≡ true → (place ≡ 0 → ⊥) → get_or (enabled (row ∷ rest)) place other ≡ get_or (enabled rest) (place - 1) other
+enabled_next row rest zero other on some = absurd (some refl)
+enabled_next row rest (suc place) other on some = let back : suc place - 1 ≡ place = omega arith in rw (on, back) refl
+
+-- after an enabled item each other one is one place earlier
+pub enabled_turn : {A : Type 0} (table : List (A × Bool)) (i place : ℕ) (d : A × Bool) (other : A) → i < length table → (get_or table i d).1 ≡ true → (place ≡ 0 → ⊥) → get_or (enabled (drop (i + 1) table)) (place - 1) other ≡ get_or (enabled (drop i table)) place other
+enabled_turn table i place d other inside on some =
+    rw (drop-cons table i d inside, add-one) (sym (enabled_next (get_or table i d) (drop (suc i) table) place other on some))

@@ -1,6 +1,8 @@
 -- Drawn function types have at most 20 parameters and 20 results, or as many as the function types that they match.
-use Rattle.std.proofs.Common.{ℕ, zero, suc, ◌≤◌, Bool, true, false, cond, Some, List, [], length, arith}
-use Rattle.std.specs.Prelude.{All}
+use Rattle.std.proofs.Common.{ℕ, zero, suc, ◌≤◌, Bool, true, false, cond, Some, List, [], length, arith, ◌≡◌}
+use Rattle.std.specs.Prelude.{All, slice_get}
+use Rattle.std.proofs.lemmas.List.Elements.{All-weaker}
+use Rattle.std.proofs.lemmas.Option.{slice_get_within, get_or_from_slice_get}
 use Rattle.smith_bytes.proofs.GrownLemmas.{grow_most}
 use Rattle.smith_types.specs.Expressions.{Context}
 use Rattle.smith_types.specs.Space.{Space}
@@ -8,7 +10,12 @@ use Rattle.smith_types.specs.declared.composite_type.CompositeInnerType.{Composi
 use Rattle.smith_types.specs.declared.composite_type.CompositeInnerType.TheVariants.{Array, Func, Struct}
 use Rattle.smith_types.specs.declared.composite_type.FuncType.{FuncType}
 use Rattle.smith_types.specs.declared.composite_type.SubType.{SubType}
+use Rattle.smith_types.specs.declared.composite_type.CompositeInnerType.TheVariants as inners
+use Rattle.smith_types.specs.Sizes.{value_count, size_in}
+use Rattle.smith_types.specs.declared.entity_type.EntityType.TheVariants as entity
 use Rattle.smith_config.specs.declared.config.Config.{Config}
+use Rattle.smith_config.specs.Shapes.{IsInnerShort, IsShort, most_listed, shape_types}
+use Rattle.smith_config.specs.declared.shape.Shape.{Shape}
 use Rattle.smith_draw.specs.Grounding.{over}
 use Rattle.smith_draw.specs.CompositeTypes.{val_types_at, most_results, func_type_at, inner_of_number_at, inner_number_at, composite_type_at}
 use Rattle.smith_draw.specs.FuncSizes.{IsFunctionWithin, IsInnerWithin, HasFewValues, IsSmallInner, IsSmall}
@@ -83,3 +90,24 @@ module _ (most : ℕ) (enough : 20 ≤ most) where
   -- the same for a type space to which drawn groups are added
   pub types_within : (config : Config) (context : Context) (space : Space) (bytes : List ℕ) → All (HasFewValues most) space.types → All (HasFewValues most) (types_at config context space bytes).0.types
   types_within config context space bytes all = types_keep config context (HasFewValues most) (λ types. sub_type_within config (over context types)) space bytes all
+
+short_inner : (inner : CompositeInnerType) → IsInnerShort inner → IsInnerWithin most_listed inner
+short_inner (inners.Func function) (params, results) = record { params = params; results = results }
+short_inner (inners.Array array) short = tt
+short_inner (inners.Struct structure) short = tt
+
+-- and the types of a shape whose lists are short
+pub shape_few : (shape : Shape) → IsShort shape → All (HasFewValues most_listed) (shape_types shape)
+shape_few shape short = All-weaker (λ (t : SubType). IsInnerShort t.composite_type.inner) (HasFewValues most_listed) (λ t h. short_inner t.composite_type.inner h) (shape_types shape) short.inner
+
+-- a small function type has at most 40 parameters and results
+few_values : (inner : CompositeInnerType) → IsSmallInner inner → value_count inner ≤ 40
+few_values (inners.Func function) small = let params = small.params in let results = small.results in omega (arith, params, results)
+few_values (inners.Array array) small = omega arith
+few_values (inners.Struct structure) small = omega arith
+
+-- a function of a small type has a size of at most 41
+pub small_at : (types : List SubType) → All IsSmall types → (index : ℕ) (t : SubType) → slice_get types index ≡ Some t → size_in types (entity.Func index) ≤ 41
+small_at types all index t at =
+    let small : IsSmall t = rw (get_or_from_slice_get types index t t at) at (all index t (slice_get_within types index t at)) in
+    rw at (omega (arith, few_values t.composite_type.inner small))

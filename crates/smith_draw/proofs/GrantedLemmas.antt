@@ -22,7 +22,7 @@ use Rattle.smith_types.specs.declared.composite_type.CompositeInnerType.{Composi
 use Rattle.smith_types.specs.declared.composite_type.CompositeInnerType.TheVariants.{Array, Func, Struct}
 use Rattle.smith_types.specs.declared.composite_type.SubType.{SubType}
 use Rattle.smith_config.specs.declared.config.Config.{Config}
-use Rattle.smith_draw.specs.Granted.{IsGranted, HasGranted, AreTypesGranted}
+use Rattle.smith_config.specs.Granted.{IsGranted, HasGranted, AreTypesGranted}
 use Rattle.smith_draw.specs.Grounding.{over}
 use Rattle.smith_draw.specs.CompositeTypes.{most_results, val_types_at, func_type_at, struct_type_at, inner_of_number_at, inner_number_at, composite_type_at}
 use Rattle.smith_draw.specs.FieldTypes.{storage_type_at, field_type_at}

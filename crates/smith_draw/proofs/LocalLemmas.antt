@@ -11,7 +11,7 @@ use Rattle.smith_types.specs.declared.value_type.ValType.{ValType}
 use Rattle.smith_config.specs.declared.config.Config.{Config}
 use Rattle.smith_config.specs.Features.{features_of}
 use Rattle.smith_config.specs.Sanitized.{IsSanitized}
-use Rattle.smith_draw.specs.ConstBounds.{IsNonNullable}
+use Rattle.smith_config.specs.Granted.{IsNonNullable}
 use Rattle.smith_draw.specs.CompositeTypes.{val_types_at}
 use Rattle.smith_draw.specs.Locals.{locals_at}
 use Rattle.smith_draw.specs.ValueTypes.{val_type_at}

@@ -6,7 +6,7 @@ use Rattle.smith_types.specs.Entities.{AreLimitsValid, page_log2, addresses, mos
 use Rattle.smith_types.specs.declared.entity_type.MemoryType.{MemoryType}
 use Rattle.smith_config.specs.declared.config.Config.{Config}
 use Rattle.smith_draw.specs.Callers.{PassesButImports}
-use Rattle.smith_draw.specs.Bounds.{memory_bytes, ArePagesWithin, IsMemoryWithin}
+use Rattle.smith_config.specs.EntityBounds.{memory_bytes, ArePagesWithin, IsMemoryWithin}
 use Rattle.smith_draw.specs.Memories.{least_pages, drawn_pages}
 
 quotient_le : (a b size : ℕ) → 0 < size → a ≤ b → a / size ≤ b / size

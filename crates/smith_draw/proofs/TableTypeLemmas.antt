@@ -8,7 +8,7 @@ use Rattle.smith_types.specs.declared.value_type.RefType.{RefType}
 use Rattle.smith_types.specs.declared.entity_type.TableType.{TableType}
 use Rattle.smith_config.specs.declared.config.Config.{Config}
 use Rattle.smith_config.specs.Features.{features_of}
-use Rattle.smith_draw.specs.Bounds.{AreElementsWithin, IsTableWithin}
+use Rattle.smith_config.specs.EntityBounds.{AreElementsWithin, IsTableWithin}
 use Rattle.smith_draw.specs.TableTypes.{drawn_elements}
 use Rattle.smith_draw.specs.ValueTypes.{ref_type_at}
 

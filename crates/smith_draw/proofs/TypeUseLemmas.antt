@@ -1,7 +1,7 @@
 -- The types counted for tags and functions are suitable for them.
-use Rattle.std.proofs.Common.{◌≡◌, ℕ, suc, Bool, true, false, cond, List, [], ◌∷◌, ◌++◌, length, refl, arith, append_assoc, length-append}
+use Rattle.std.proofs.Common.{◌≡◌, ℕ, suc, Bool, true, false, cond, List, [], ◌∷◌, ◌++◌, length, refl, arith, append_assoc, length-append, ◌||◌, ltb, lt-ltb}
 use Rattle.std.specs.Prelude.{◌==◌, Some, slice_get, All}
-use Rattle.std.specs.List.{AllByRecursion as ByRecursion}
+use Rattle.std.specs.List.{AllByRecursion as ByRecursion, list_any}
 use Rattle.std.proofs.lemmas.Bool.{eqb-true}
 use Rattle.std.proofs.lemmas.List.Elements.{All-from_recursion, All-weaker}
 use Rattle.smith_types.specs.declared.value_type.ValType.{ValType}
@@ -57,3 +57,12 @@ usable_by DefinedFunc types n t (Struct structure) at is on = absurd (cc (rw is 
 pub types_usable : (for_use : TypeUse) (types : List SubType) → All (IsUsable for_use types) (types_for for_use types)
 types_usable for_use types =
     All-weaker (IsPassing (may_be_used for_use) types) (IsUsable for_use types) (λ n h. usable_by for_use types n h.item h.item.composite_type.inner h.stands refl h.passes) (types_for for_use types) (places_pass (may_be_used for_use) types)
+
+any_turn : (b : Bool) (n : ℕ) (places : List ℕ) (any : Bool) → ltb 0 (length places) ≡ any → ltb 0 (length (cond b (n ∷ places) places)) ≡ (b || any)
+any_turn true n places any e = lt-ltb 0 (length (n ∷ places)) (omega arith)
+any_turn false n places any e = e
+
+-- a test holds at some place exactly if it holds of some item
+pub places_any : {A : Type 0} (test : A → Bool) (n : ℕ) (xs : List A) → ltb 0 (length (places_from test n xs)) ≡ list_any test xs
+places_any test n [] = refl
+places_any test n (x ∷ xs) = any_turn (test x) n (places_from test (suc n) xs) (list_any test xs) (places_any test (suc n) xs)

@@ -1,16 +1,15 @@
 -- The length of drawn constant expressions, and the cases without an expression. Rules of this project.
-use Rattle.std.specs.Prelude.{◌≡◌, ◌⊎◌, ℕ, ◌+◌, ◌*◌, max, false, IsTrue, List, [], ◌∷◌, length}
+use Rattle.std.specs.Prelude.{◌≡◌, ◌⊎◌, ℕ, ◌+◌, ◌*◌, max, List, [], ◌∷◌, length}
 use Rattle.std.specs.List.{Any}
 use Rattle.smith_types.specs.Expressions.{Context, field_values}
-use Rattle.smith_types.specs.Grounded.{IsGrounded}
 use Rattle.smith_types.specs.declared.value_type.ValType.{ValType}
-use Rattle.smith_types.specs.declared.value_type.ValType.TheVariants.{Ref}
 use Rattle.smith_types.specs.declared.composite_type.CompositeInnerType.{CompositeInnerType}
 use Rattle.smith_types.specs.declared.composite_type.CompositeInnerType.TheVariants.{Struct}
 use Rattle.smith_types.specs.declared.composite_type.SubType.{SubType}
 use Rattle.smith_bytes.specs.declared.error.Error.{Error}
 use Rattle.smith_bytes.specs.declared.error.Error.TheVariants.{Memory, EmptyChoose}
 use Rattle.smith_config.specs.declared.config.Config.{Config}
+use Rattle.smith_config.specs.Granted.{IsNonNullable, IsUngrounded}
 use Rattle.smith_draw.specs.ConstScopes.{fields_of}
 
 -- the number of fields of a struct
@@ -27,19 +26,9 @@ widest (t ∷ types) = max (field_count t.composite_type.inner) (widest types)
 abbrev pub most_instructions : Config → List SubType → ℕ
 most_instructions config types = 23 * (1 + config.const_expr_fuel * widest types)
 
--- a non-nullable reference
-abbrev pub IsNonNullable : ValType → Type 0
-IsNonNullable (Ref reference) = reference.nullable ≡ false
-IsNonNullable _ = ⊥
-
 -- a field of a struct, or the element of an array, is a non-nullable reference
 abbrev pub HoldsNonNullableField : List SubType → Type 0
 HoldsNonNullableField types = Any (λ (t : SubType). Any IsNonNullable (field_values (fields_of t.composite_type.inner))) types
-
--- a non-nullable reference, which is not grounded either if `non_nullable_enabled` is on
-abbrev pub IsUngrounded : Config → Context → ValType → Type 0
-IsUngrounded config context (Ref reference) = (reference.nullable ≡ false) × (IsTrue config.non_nullable_enabled → ¬ IsGrounded context reference.heap_type)
-IsUngrounded config context _ = ⊥
 
 -- a field of a struct, or the element of an array, is such a reference
 abbrev pub HoldsUngroundedField : Config → Context → Type 0

@@ -54,16 +54,16 @@ made_at context config draw wanted s choice =
     else option_map (behind node.0.instruction) (operands_at (operand_at config draw) node.0.operands (state_of s.made (s.fuel - 1) node.1))
 
 -- the draw after a choice, if there is one
-abbrev pub chosen_at : Context → Config → (ValType → State → Option State) → ValType → State → Option Choice → Option State
-chosen_at context config draw wanted s None = None
-chosen_at context config draw wanted s (Some choice) = made_at context config draw wanted s choice
+abbrev pub after_choice : Context → Config → (ValType → State → Option State) → ValType → State → Option Choice → Option State
+after_choice context config draw wanted s None = None
+after_choice context config draw wanted s (Some choice) = made_at context config draw wanted s choice
 
 -- a value of a type, by recursion on a depth above the fuel; none if there is nothing to choose from
 unfoldable pub expression_at : Context → Config → ℕ → ValType → State → Option State
 expression_at context config zero wanted s = None
 expression_at context config (suc depth) wanted s =
     let chosen = choose_at (offers config context wanted s.fuel) s.bytes in
-    chosen_at context config (expression_at context config depth) wanted (state_of s.made s.fuel chosen.1) chosen.0
+    after_choice context config (expression_at context config depth) wanted (state_of s.made s.fuel chosen.1) chosen.0
 
 -- an expression from an empty start, and the remaining bytes
 unfoldable pub expression_alone_at : Context → Config → ℕ → ValType → List ℕ → Option (List ConstInstr × List ℕ)

@@ -5,7 +5,7 @@ use Rattle.smith_types.specs.Subtyping.{IsValBelow}
 use Rattle.smith_types.specs.declared.value_type.ValType.{ValType}
 use Rattle.smith_types.specs.Types.{IsOrderly}
 use Rattle.smith_types.specs.ValidTypes.{IsValTypeValid, AreTypesValid}
-use Rattle.smith_types.specs.Entities.{IsFuncValid, IsGlobalValid}
+use Rattle.smith_types.specs.Entities.{IsFuncTypeIndex, IsGlobalValid}
 use Rattle.smith_config.specs.declared.config.Config.{Config}
 use Rattle.smith_draw.specs.declared.spaces.Spaces.{Spaces}
 use Rattle.smith_types.specs.declared.composite_type.CompositeInnerType.{CompositeInnerType}
@@ -68,7 +68,7 @@ seen_by config spaces allow_defined = record {
 -- the types defined so far are valid, the functions and globals are valid over them, and all are few enough for indices
 pub record AreSpacesValid (config : Config) (spaces : Spaces) : Type 0 where
   pub types : AreTypesValid (features_of config) spaces.types.now
-  pub funcs : All (IsFuncValid spaces.types.now.types) spaces.entities.funcs.now
+  pub funcs : All (IsFuncTypeIndex spaces.types.now.types) spaces.entities.funcs.now
   pub globals : All (IsGlobalValid (features_of config) spaces.types.now.types) spaces.entities.globals.now
   pub imported : spaces.entities.imported_globals ≤ length spaces.entities.globals.now
   pub few_funcs : length spaces.entities.funcs.now < 2 ^ 32

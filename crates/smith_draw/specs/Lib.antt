@@ -16,7 +16,6 @@ pub mod RecGroups
 pub mod FuncSizes
 pub mod Limits
 pub mod Offsets
-pub mod Bounds
 pub mod Memories
 pub mod SharedHeapTypes
 pub mod GlobalTypes
@@ -33,11 +32,10 @@ pub mod Constants
 pub mod ConstNodes
 pub mod ConstExprs
 pub mod ConstBounds
-pub mod Granted
 pub mod Putting
 pub mod ConstSteps
 pub mod ConstTasks
-pub mod ConstFloats
 pub mod SpelledConstants
 pub mod SpelledGlobals
 pub mod ExampleConstExprs
+pub mod SpelledParts

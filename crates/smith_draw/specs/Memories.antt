@@ -4,7 +4,7 @@ use Rattle.smith_types.specs.Entities.{page_log2, addresses}
 use Rattle.smith_types.specs.declared.entity_type.MemoryType.{MemoryType}
 use Rattle.smith_config.specs.declared.config.Config.{Config}
 use Rattle.smith_bytes.specs.Draws.{bool_at, ratio_at}
-use Rattle.smith_draw.specs.Bounds.{memory_bytes}
+use Rattle.smith_config.specs.EntityBounds.{memory_bytes}
 use Rattle.smith_draw.specs.Limits.{limits64_at}
 
 -- whether a memory is shared

@@ -1,9 +1,10 @@
 -- The types that tags and functions may have. Rules of this project.
-use Rattle.std.specs.Prelude.{ℕ, suc, Bool, true, false, not, ◌&&◌, ◌==◌, List, [], ◌∷◌, length, if◌then◌else◌}
+use Rattle.std.specs.Prelude.{ℕ, suc, Bool, true, false, not, ◌&&◌, ◌==◌, List, [], ◌∷◌, length, if◌then◌else◌, slice_get, option_to_list}
+use Rattle.std.specs.List.{list_any}
 use Rattle.smith_types.specs.declared.composite_type.CompositeInnerType.{CompositeInnerType}
 use Rattle.smith_types.specs.declared.composite_type.CompositeInnerType.TheVariants.{Func}
 use Rattle.smith_types.specs.declared.composite_type.SubType.{SubType}
-use Rattle.smith_types.specs.Entities.{IsTagValid, IsFuncValid}
+use Rattle.smith_types.specs.Entities.{IsTagValid, IsFuncTypeIndex}
 use Rattle.smith_draw.specs.declared.type_use.TypeUse.{TypeUse}
 use Rattle.smith_draw.specs.declared.type_use.TypeUse.TheVariants.{Tag, ImportedFunc, DefinedFunc}
 
@@ -43,5 +44,19 @@ types_for for_use types = places_from (may_be_used for_use) 0 types
 -- the type at this index is suitable for a use
 abbrev pub IsUsable : TypeUse → List SubType → ℕ → Type 0
 IsUsable Tag types index = IsTagValid types index
-IsUsable ImportedFunc types index = IsFuncValid types index
-IsUsable DefinedFunc types index = IsFuncValid types index
+IsUsable ImportedFunc types index = IsFuncTypeIndex types index
+IsUsable DefinedFunc types index = IsFuncTypeIndex types index
+
+-- the indices of the types that a function may be defined with: only unshared ones, unlike those of
+-- imported functions
+abbrev pub func_types : List SubType → List ℕ
+func_types types = types_for DefinedFunc types
+
+-- whether a type is a function type without parameters and results
+abbrev pub takes_and_gives_nothing : CompositeInnerType → Bool
+takes_and_gives_nothing (Func function) = (length function.params == 0) && (length function.results == 0)
+takes_and_gives_nothing _ = false
+
+-- whether the type of this index is such a type
+abbrev pub is_start_type : List SubType → ℕ → Bool
+is_start_type types index = list_any (λ (t : SubType). takes_and_gives_nothing t.composite_type.inner) (option_to_list (slice_get types index))

@@ -7,7 +7,7 @@ ghost use Rattle.smith_types.specs.ValidTypes.{values_of, IsFuncTypeValid, IsVal
 ghost use Rattle.smith_config.specs.Features.{features_of};
 ghost use Rattle.smith_config.specs.Sanitized.{IsSanitized};
 ghost use Rattle.smith_draw.specs.Drawing.{AlwaysDraws, Draws};
-ghost use Rattle.smith_draw.specs.Granted.{IsGranted};
+ghost use Rattle.smith_config.specs.Granted.{IsGranted};
 ghost use Rattle.smith_draw.specs.Grounding.{standing_in};
 ghost use Rattle.smith_draw.specs.FieldTypes.{fields_until_at};
 ghost use Rattle.smith_draw.specs.CompositeTypes.{

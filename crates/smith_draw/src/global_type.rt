@@ -6,7 +6,7 @@ ghost use Rattle.smith_types.specs.Space.{Space};
 ghost use Rattle.smith_types.specs.ValidTypes.{AreTypesValid};
 ghost use Rattle.smith_config.specs.Features.{features_of};
 ghost use Rattle.smith_config.specs.Sanitized.{IsSanitized};
-ghost use Rattle.smith_draw.specs.ConstBounds.{IsNonNullable, IsUngrounded};
+ghost use Rattle.smith_config.specs.Granted.{IsNonNullable, IsUngrounded};
 ghost use Rattle.smith_draw.specs.Drawing.{AlwaysDraws, Draws};
 ghost use Rattle.smith_draw.specs.Grounding.{standing_in};
 ghost use Rattle.smith_draw.specs.GlobalTypes.{global_sharedness_at, global_type_at};

@@ -9,6 +9,7 @@ mod choice;
 mod composite_type;
 mod const_expr;
 mod each;
+mod enabled;
 mod entity_type;
 mod examples;
 mod field_type;
@@ -36,6 +37,7 @@ pub use const_expr::{
     KeptOffers, arbitrary_const_expr, arbitrary_table_init, draw_const_expr, draw_table_init,
     globals_for_const_expr,
 };
+pub use enabled::{choose_enabled, count_enabled};
 pub use entity_type::arbitrary_memtype;
 pub use field_type::{arbitrary_field_type, arbitrary_storage_type};
 pub use global_type::{arbitrary_global_type, draw_global_type};

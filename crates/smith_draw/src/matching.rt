@@ -18,7 +18,7 @@ ghost use Rattle.smith_types.specs.declared.composite_type.CompositeInnerType.Th
 ghost use Rattle.smith_config.specs.Features.{features_of};
 ghost use Rattle.smith_draw.specs.Choices.{chosen_at};
 ghost use Rattle.smith_draw.specs.Drawing.{AlwaysDraws, Draws};
-ghost use Rattle.smith_draw.specs.Granted.{IsGranted};
+ghost use Rattle.smith_config.specs.Granted.{IsGranted};
 ghost use Rattle.smith_draw.specs.Grounding.{is_grounded, standing_in};
 ghost use Rattle.smith_draw.specs.Kept.{
   StaysValid,

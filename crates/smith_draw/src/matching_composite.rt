@@ -5,7 +5,7 @@ ghost use Rattle.smith_types.specs.ValidTypes.{values_of, IsValTypeValid, IsShar
 ghost use Rattle.smith_config.specs.Features.{features_of};
 ghost use Rattle.smith_config.specs.Sanitized.{IsSanitized};
 ghost use Rattle.smith_draw.specs.Drawing.{Draws};
-ghost use Rattle.smith_draw.specs.Granted.{IsGranted};
+ghost use Rattle.smith_config.specs.Granted.{IsGranted};
 ghost use Rattle.smith_draw.specs.Grounding.{standing_in};
 ghost use Rattle.smith_draw.specs.Kept.{IsSharingEnabled};
 ghost use Rattle.smith_draw.specs.MatchingComposites.{

@@ -12,7 +12,7 @@ ghost use Rattle.smith_draw.specs.Callers.{PassesButImports};
 ghost use Rattle.smith_draw.specs.ConstBounds.{HoldsNonNullableField, HoldsUngroundedField};
 ghost use Rattle.smith_draw.specs.Drawing.{AlwaysDraws, Draws, DrawsInto};
 ghost use Rattle.smith_draw.specs.FuncSizes.{HasFewValues};
-ghost use Rattle.smith_draw.specs.Granted.{AreTypesGranted};
+ghost use Rattle.smith_config.specs.Granted.{AreTypesGranted};
 ghost use Rattle.smith_draw.specs.Grounding.{functions_in, over};
 ghost use Rattle.smith_draw.specs.RecGroups.{
   types_left,

@@ -6,7 +6,7 @@ ghost use Rattle.smith_types.specs.ValidTypes.{values_of, IsTypeValid};
 ghost use Rattle.smith_config.specs.Features.{features_of};
 ghost use Rattle.smith_config.specs.Sanitized.{IsSanitized};
 ghost use Rattle.smith_draw.specs.Drawing.{AlwaysDraws, Draws};
-ghost use Rattle.smith_draw.specs.Granted.{HasGranted, AreTypesGranted};
+ghost use Rattle.smith_config.specs.Granted.{HasGranted, AreTypesGranted};
 ghost use Rattle.smith_draw.specs.Grounding.{functions_in, over, standing_in};
 ghost use Rattle.smith_draw.specs.SubTypes.{
   supertypes,

@@ -4,7 +4,7 @@ ghost use Rattle.std.specs.Prelude.{◌+◌, ◌^◌, true, Some, None};
 ghost use Rattle.smith_types.specs.Flags.{funcref};
 ghost use Rattle.smith_types.specs.ExampleEntities.{memory, table, all_addresses};
 ghost use Rattle.smith_config.specs.Config.{default_config};
-ghost use Rattle.smith_draw.specs.Bounds.{IsMemoryWithin, IsTableWithin};
+ghost use Rattle.smith_config.specs.EntityBounds.{IsMemoryWithin, IsTableWithin};
 
 fn memories()
     ensures every_byte { IsMemoryWithin default_config (memory 65536 None) }

@@ -6,7 +6,7 @@ use Rattle.std.proofs.lemmas.Bool.{ltb-false}
 use Rattle.std.proofs.lemmas.List.{length-map}
 use Rattle.smith_binary.specs.Numbers.{IsUnsigned}
 use Rattle.smith_binary.specs.Pieces.{Joined, Each, IsList, IsSection}
-use Rattle.smith_definitions.specs.Module.{Parts}
+use Rattle.smith_rules.specs.Module.{ModuleParts}
 use Rattle.smith_types.specs.declared.imports.Imports.{Imports}
 use Rattle.smith_types.specs.Imports.{flattened}
 use Rattle.smith_sections.specs.Types.{IsRecGroup, group_at}
@@ -89,7 +89,7 @@ mapped_optional is_written id Written Item f weaker xs nothing piece h =
     optional is_written id (map f xs ≡ []) (IsList Written xs) (IsList Item (map f xs)) nothing (λ p content. list_mapped Item f xs p (list_as Written (λ x. Item (f x)) weaker xs p content)) piece h
 
 -- the sections of a module as it is written are those of its parts
-front_is : (m : Parts) {More Other : List ℕ → Type 0} → ((p : List ℕ) → More p → Other p) → (piece : List ℕ) → Joined (IsFront m) More piece
+front_is : (m : ModuleParts) {More Other : List ℕ → Type 0} → ((p : List ℕ) → More p → Other p) → (piece : List ℕ) → Joined (IsFront m) More piece
     → Joined (IsListSection 1 IsRecGroup (contents_of m).types)
     (Joined (IsOptionalSection 2 ((contents_of m).imports ≡ []) (IsImports (contents_of m).imports)) (Joined (IsListSection 3 IsIndex (contents_of m).functions) (Joined (IsListSection 4 IsTable (contents_of m).tables) Other))) piece
 front_is m more piece h =
@@ -100,7 +100,7 @@ front_is m more piece h =
     (λ r last. both_as r (mapped_optional (is_filled m.defined_tables) 4 IsTableWritten IsTable initialised_table table_spelled (zip (defined (length m.defined_tables) m.tables) m.defined_tables) (no_pairs_mapped initialised_table (defined (length m.defined_tables) m.tables) m.defined_tables)) more last) (regrouped later)) (regrouped rest))
     (regrouped h)
 
-middle_is : (m : Parts) {More Other : List ℕ → Type 0} → ((p : List ℕ) → More p → Other p) → (piece : List ℕ) → Joined (IsMiddle m) More piece
+middle_is : (m : ModuleParts) {More Other : List ℕ → Type 0} → ((p : List ℕ) → More p → Other p) → (piece : List ℕ) → Joined (IsMiddle m) More piece
     → Joined (IsListSection 5 IsMemoryType (contents_of m).memories)
     (Joined (IsListSection 13 IsTagType (contents_of m).tags) (Joined (IsListSection 6 IsGlobal (contents_of m).globals) (Joined (IsListSection 7 IsExport (contents_of m).exports) Other))) piece
 middle_is m more piece h =
@@ -110,7 +110,7 @@ middle_is m more piece h =
     (λ r last. both_as r (list_optional (is_filled m.exports) 7 IsExport m.exports (not_filled m.exports)) more last) (regrouped later)) (regrouped rest))
     (regrouped h)
 
-back_is : (m : Parts) (Bodies : List ℕ → Type 0) (piece : List ℕ) → IsBack m Bodies piece
+back_is : (m : ModuleParts) (Bodies : List ℕ → Type 0) (piece : List ℕ) → IsBack m Bodies piece
     → Joined (IsStartSection m.start)
     (Joined (IsListSection 9 IsElement (contents_of m).elements)
     (Joined (IsDataCount (contents_of m).segments) (Joined (IsSectionIf (is_filled m.code) 10 Bodies) (IsListSection 11 IsData (contents_of m).segments)))) piece
@@ -123,7 +123,7 @@ back_is m Bodies piece h =
     later) rest)
     h
 
-pub module_around : (m : Parts) (Bodies : List ℕ → Type 0) (piece : List ℕ) → Joined IsPreamble (Joined (IsFront m) (Joined (IsMiddle m) (IsBack m Bodies))) piece
+pub module_around : (m : ModuleParts) (Bodies : List ℕ → Type 0) (piece : List ℕ) → Joined IsPreamble (Joined (IsFront m) (Joined (IsMiddle m) (IsBack m Bodies))) piece
     → IsModuleAround (contents_of m) (IsSectionIf (is_filled m.code) 10 Bodies) piece
 module_around m Bodies piece h = both_as piece (λ p preamble. preamble) (λ p rest. front_is m (λ q later. middle_is m (back_is m Bodies) q later) p rest) h
 
@@ -171,7 +171,7 @@ start_id None piece h = no_section piece h
 one_id : (is_written : Bool) (id : ℕ) (Content : List ℕ → Type 0) (ids : List ℕ) {More : List ℕ → Type 0} → ((p : List ℕ) → More p → Each IsAnySection ids p) → (piece : List ℕ) → Joined (IsSectionIf is_written id Content) More piece → Each IsAnySection (id_if is_written id ++ ids) piece
 one_id is_written id Content ids more piece h = ids_joined (id_if is_written id) ids (both_as piece (section_id is_written id Content) more h)
 
-front_ids : (m : Parts) (ids : List ℕ) {More : List ℕ → Type 0} → ((p : List ℕ) → More p → Each IsAnySection ids p) → (piece : List ℕ) → Joined (IsFront m) More piece
+front_ids : (m : ModuleParts) (ids : List ℕ) {More : List ℕ → Type 0} → ((p : List ℕ) → More p → Each IsAnySection ids p) → (piece : List ℕ) → Joined (IsFront m) More piece
     → Each IsAnySection (id_if (writes_types m) 1 ++ (id_if (writes_imports m) 2 ++ (id_if (is_filled (defined m.num_defined_funcs m.funcs)) 3 ++ (id_if (is_filled m.defined_tables) 4 ++ ids)))) piece
 front_ids m ids more piece h =
     one_id (writes_types m) 1 (IsList IsRecGroup (contents_of m).types) _
@@ -180,7 +180,7 @@ front_ids m ids more piece h =
     piece
     (regrouped h)
 
-middle_ids : (m : Parts) (ids : List ℕ) {More : List ℕ → Type 0} → ((p : List ℕ) → More p → Each IsAnySection ids p) → (piece : List ℕ) → Joined (IsMiddle m) More piece
+middle_ids : (m : ModuleParts) (ids : List ℕ) {More : List ℕ → Type 0} → ((p : List ℕ) → More p → Each IsAnySection ids p) → (piece : List ℕ) → Joined (IsMiddle m) More piece
     → Each IsAnySection (id_if (is_filled (defined m.num_defined_memories m.memories)) 5 ++ (id_if (is_filled (defined m.num_defined_tags m.tags)) 13 ++ (id_if (is_filled m.defined_globals) 6 ++ (id_if (is_filled m.exports) 7 ++ ids)))) piece
 middle_ids m ids more piece h =
     one_id (is_filled (defined m.num_defined_memories m.memories)) 5 (IsList IsMemoryType (contents_of m).memories) _
@@ -189,7 +189,7 @@ middle_ids m ids more piece h =
     piece
     (regrouped h)
 
-back_ids : (m : Parts) (Bodies : List ℕ → Type 0) (piece : List ℕ) → IsBack m Bodies piece
+back_ids : (m : ModuleParts) (Bodies : List ℕ → Type 0) (piece : List ℕ) → IsBack m Bodies piece
     → Each IsAnySection (id_if (is_some m.start) 8 ++ (id_if (is_filled m.elems) 9 ++ (id_if (writes_data_count m) 12 ++ (id_if (is_filled m.code) 10 ++ id_if (is_filled m.segments) 11)))) piece
 back_ids m Bodies piece h =
     ids_joined (id_if (is_some m.start) 8) _
@@ -198,5 +198,5 @@ back_ids m Bodies piece h =
     (one_id (writes_data_count m) 12 (IsUnsigned 32 (length m.segments)) _ (one_id (is_filled m.code) 10 Bodies _ (section_id (is_filled m.segments) 11 (IsList IsDataWritten m.segments)))))
     h)
 
-pub sections_are : (m : Parts) (Bodies : List ℕ → Type 0) (piece : List ℕ) → Joined IsPreamble (Joined (IsFront m) (Joined (IsMiddle m) (IsBack m Bodies))) piece → HasSections (section_ids m) piece
+pub sections_are : (m : ModuleParts) (Bodies : List ℕ → Type 0) (piece : List ℕ) → Joined IsPreamble (Joined (IsFront m) (Joined (IsMiddle m) (IsBack m Bodies))) piece → HasSections (section_ids m) piece
 sections_are m Bodies piece h = both_as piece (λ p preamble. preamble) (front_ids m _ (middle_ids m _ (back_ids m Bodies))) h

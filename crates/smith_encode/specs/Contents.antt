@@ -2,7 +2,7 @@
 use Rattle.std.specs.Prelude.{ℕ, ◌-◌, List, map, length, drop}
 use Rattle.std.specs.List.{zip}
 use Rattle.smith_types.specs.Imports.{flattened}
-use Rattle.smith_definitions.specs.Module.{Parts}
+use Rattle.smith_rules.specs.Module.{ModuleParts}
 use Rattle.smith_sections.specs.Types.{group_at}
 use Rattle.smith_sections.specs.Definitions.{initialised_table, initialised_global}
 use Rattle.smith_sections.specs.Elements.{element_of}
@@ -15,7 +15,7 @@ abbrev pub defined : {A : Type 0} → ℕ → List A → List A
 defined count space = drop (length space - count) space
 
 -- the parts of a module in the abstract syntax
-abbrev pub contents_of : Parts → Contents
+abbrev pub contents_of : ModuleParts → Contents
 contents_of m = record {
   types = map (group_at m.types) m.groups;
   imports = flattened m.imports;

@@ -1,7 +1,7 @@
 -- Which sections of a module are written.
 use Rattle.std.specs.Prelude.{ℕ, Bool, true, false, ◌&&◌, ◌||◌, nat_lt, is_some, List, [], ◌∷◌, ◌++◌, length}
 use Rattle.smith_binary.specs.Pieces.{Joined, Each, IsSection}
-use Rattle.smith_definitions.specs.Module.{Parts}
+use Rattle.smith_rules.specs.Module.{ModuleParts}
 use Rattle.smith_sections.specs.Modules.{IsPreamble}
 use Rattle.smith_encode.specs.Contents.{defined}
 
@@ -14,18 +14,18 @@ id_if true id = id ∷ []
 id_if false id = []
 
 -- the type and import sections are written where the module's flags say so, and where they aren't empty
-abbrev pub writes_types : Parts → Bool
+abbrev pub writes_types : ModuleParts → Bool
 writes_types m = m.encodes_types || is_filled m.groups
 
-abbrev pub writes_imports : Parts → Bool
+abbrev pub writes_imports : ModuleParts → Bool
 writes_imports m = m.encodes_imports || is_filled m.imports
 
 -- the number of data segments is stated where bulk memory is on and there is one
-abbrev pub writes_data_count : Parts → Bool
+abbrev pub writes_data_count : ModuleParts → Bool
 writes_data_count m = m.config.bulk_memory_enabled && is_filled m.segments
 
 -- the identifiers of the sections that are written: of those other than the type and import section, none that is empty
-abbrev pub section_ids : Parts → List ℕ
+abbrev pub section_ids : ModuleParts → List ℕ
 section_ids m =
     id_if (writes_types m) 1 ++ (id_if (writes_imports m) 2 ++ (id_if (is_filled (defined m.num_defined_funcs m.funcs)) 3
     ++ (id_if (is_filled m.defined_tables) 4 ++ (id_if (is_filled (defined m.num_defined_memories m.memories)) 5

@@ -1,5 +1,5 @@
 -- What makes a module too long for the binary format.
-use Rattle.smith_definitions.specs.Module.{Parts}
+use Rattle.smith_rules.specs.Module.{ModuleParts}
 use Rattle.smith_sections.specs.Types.{IsRecGroup}
 use Rattle.smith_sections.specs.Instructions.{IsIndex}
 use Rattle.smith_sections.specs.Entities.{IsMemoryType, IsTagType}
@@ -13,7 +13,7 @@ use Rattle.smith_sections.specs.Long.{IsLongSection, IsNeverLong, IsLongGroup, I
 use Rattle.smith_encode.specs.Contents.{contents_of}
 
 -- a section is too long: a list in it has 2^32 items or more, or it or a body of it has a spelling of 2^32 bytes or more
-pub data IsTooLong (m : Parts) : Type 0 where
+pub data IsTooLong (m : ModuleParts) : Type 0 where
   types : IsLongSection IsRecGroup IsLongGroup (contents_of m).types → IsTooLong m
   imports : IsLongSection IsImportGroup IsLongImportGroup m.imports → IsTooLong m
   functions : IsLongSection IsIndex IsNeverLong (contents_of m).functions → IsTooLong m

@@ -5,7 +5,7 @@ use Rattle.std.specs.List.{zip}
 use Rattle.smith_binary.specs.Numbers.{IsUnsigned}
 use Rattle.smith_binary.specs.Pieces.{Joined, IsList}
 use Rattle.smith_types.specs.declared.code.Code.{Code}
-use Rattle.smith_definitions.specs.Module.{Parts}
+use Rattle.smith_rules.specs.Module.{ModuleParts}
 use Rattle.smith_sections.specs.Types.{IsRecGroup}
 use Rattle.smith_sections.specs.Instructions.{IsIndex}
 use Rattle.smith_sections.specs.Entities.{IsMemoryType, IsTagType}
@@ -21,7 +21,7 @@ use Rattle.smith_encode.specs.Contents.{defined, contents_of}
 use Rattle.smith_encode.specs.Layout.{is_filled, writes_types, writes_imports, writes_data_count}
 
 -- up to the section of the tables
-abbrev pub IsFront : Parts → List ℕ → Type 0
+abbrev pub IsFront : ModuleParts → List ℕ → Type 0
 IsFront m =
     Joined (IsSectionIf (writes_types m) 1 (IsList IsRecGroup (contents_of m).types))
     (Joined (IsSectionIf (writes_imports m) 2 (IsList IsImportGroup m.imports))
@@ -29,14 +29,14 @@ IsFront m =
     (IsSectionIf (is_filled m.defined_tables) 4 (IsList IsTableWritten (zip (defined (length m.defined_tables) m.tables) m.defined_tables)))))
 
 -- up to the section of the exports
-abbrev pub IsMiddle : Parts → List ℕ → Type 0
+abbrev pub IsMiddle : ModuleParts → List ℕ → Type 0
 IsMiddle m =
     Joined (IsSectionIf (is_filled (defined m.num_defined_memories m.memories)) 5 (IsList IsMemoryType (contents_of m).memories))
     (Joined (IsSectionIf (is_filled (defined m.num_defined_tags m.tags)) 13 (IsList IsTagType (contents_of m).tags))
     (Joined (IsSectionIf (is_filled m.defined_globals) 6 (IsList IsGlobal (contents_of m).globals)) (IsSectionIf (is_filled m.exports) 7 (IsList IsExport m.exports))))
 
 -- the others, where this spells the content of the code section
-abbrev pub IsBack : Parts → (List ℕ → Type 0) → List ℕ → Type 0
+abbrev pub IsBack : ModuleParts → (List ℕ → Type 0) → List ℕ → Type 0
 IsBack m Bodies =
     Joined (IsStartSection m.start)
     (Joined (IsSectionIf (is_filled m.elems) 9 (IsList IsElementWritten m.elems))
@@ -44,9 +44,9 @@ IsBack m Bodies =
     (Joined (IsSectionIf (is_filled m.code) 10 Bodies) (IsSectionIf (is_filled m.segments) 11 (IsList IsDataWritten m.segments)))))
 
 -- a module as it is written, where this spells the content of the code section
-abbrev pub IsWritten : Parts → (List ℕ → Type 0) → List ℕ → Type 0
+abbrev pub IsWritten : ModuleParts → (List ℕ → Type 0) → List ℕ → Type 0
 IsWritten m Bodies = Joined IsPreamble (Joined (IsFront m) (Joined (IsMiddle m) (IsBack m Bodies)))
 
 -- the bodies that a module has
-abbrev pub AreOwnBodies : Parts → List ℕ → Type 0
+abbrev pub AreOwnBodies : ModuleParts → List ℕ → Type 0
 AreOwnBodies m = IsList (λ (code : Code). IsBody (body_of m.fuel_globals code)) m.code

@@ -9,7 +9,7 @@ use Rattle.std.proofs.lemmas.List.Sums.{sum_by-append}
 use Rattle.std.proofs.lemmas.Option.{slice_get_within, get_or_from_slice_get}
 use Rattle.smith_bytes.specs.Draws.{bool_at}
 use Rattle.smith_bytes.specs.declared.error.Which.TheVariants.{AvailableImports}
-use Rattle.smith_types.specs.Entities.{AreEntitiesValid, IsTagValid, IsFuncValid, IsTableValid, IsMemoryValid, IsGlobalValid}
+use Rattle.smith_types.specs.Entities.{AreEntitiesValid, IsTagValid, IsFuncTypeIndex, IsTableValid, IsMemoryValid, IsGlobalValid}
 use Rattle.smith_types.specs.Features.{Features}
 use Rattle.smith_types.specs.Imports.{IndexSpaces, flattened, imported, imported_spaces, tag_of, func_of, table_of, memory_of, global_of}
 use Rattle.smith_types.specs.Sizes.{IsTyped, size_in, value_count}
@@ -26,16 +26,16 @@ use Rattle.smith_config.specs.declared.shape.Shape.{Shape}
 use Rattle.smith_config.specs.Faults.{maximum_of}
 use Rattle.smith_config.specs.Features.{features_of}
 use Rattle.smith_config.specs.Shapes.{IsInnerShort, IsShapeValid, shape_types, shape_imports, shape_spaces}
-use Rattle.smith_imports.specs.ShapeImports.{count_in}
-use Rattle.smith_imports.specs.ImportedEntities.{has_room, kind_of}
+use Rattle.smith_rules.specs.ShapeImports.{count_in, count_for, is_allowed, is_fitting, is_picked, sizes_of, taken_from}
+use Rattle.smith_imports.specs.ImportedEntities.{has_room}
+use Rattle.smith_types.specs.Exports.{entity_kind}
 use Rattle.smith_imports.specs.Imported.{spaces_of}
-use Rattle.smith_imports.specs.ShapeImports.{count_for, is_allowed, is_fitting, is_picked, sizes_of, taken_from}
-use Rattle.smith_imports.specs.AvailableImports.{picked_at, fits_beside, CountsTaken, IsSized, AreImportsWithin, AreTakenFit}
+use Rattle.smith_imports.specs.AvailableImports.{picked_at, fits_beside, CountsTaken, IsImportSized, AreImportsWithin, AreTakenFit}
 use Rattle.smith_imports.specs.declared.imported.Imported.{Imported}
 use Rattle.smith_imports.proofs.ImportedEntityLemmas.{first_holds, second_holds}
 use Rattle.smith_imports.proofs.ImportsGrownLemmas.{imported_more, spaces_more, numbers_more, tags_on}
 
-room_is : (config : Config) (spaces : IndexSpaces) (one : EntityType) → has_room config spaces (kind_of one) ≡ nat_lt (count_in spaces (count_for one)) (maximum_of config (count_for one))
+room_is : (config : Config) (spaces : IndexSpaces) (one : EntityType) → has_room config spaces (entity_kind one) ≡ nat_lt (count_in spaces (count_for one)) (maximum_of config (count_for one))
 room_is config spaces (entity.Tag index) = refl
 room_is config spaces (entity.Func index) = refl
 room_is config spaces (entity.Table table) = refl
@@ -44,7 +44,7 @@ room_is config spaces (entity.Global global) = refl
 
 -- the counts decide whether an import fits
 fits_counted : (config : Config) (types : List SubType) (taken : List Import) (one : Import) (spaces : IndexSpaces) (count size : ℕ) → spaces ≡ imported_spaces taken → count ≡ length taken → size ≡ sizes_of types taken
-    → (nat_lt count config.max_imports && has_room config spaces (kind_of one.entity_type) && is_allowed config one.entity_type && nat_le (size + size_in types one.entity_type) config.max_type_size) ≡ is_fitting config types taken one
+    → (nat_lt count config.max_imports && has_room config spaces (entity_kind one.entity_type) && is_allowed config one.entity_type && nat_le (size + size_in types one.entity_type) config.max_type_size) ≡ is_fitting config types taken one
 unfolding is_fitting
 fits_counted config types taken one spaces count size same_spaces same_count same_size = rw (same_spaces, same_count, same_size, room_is config (imported_spaces taken) one.entity_type) refl
 
@@ -125,7 +125,7 @@ offered_valid features shape valid =
     let before = imported_spaces (shape_imports shape) in
     record {
       tags = (all_apart (IsTagValid (shape_types shape)) before.tags shape.tags valid.tags).0;
-      funcs = (all_apart (IsFuncValid (shape_types shape)) before.funcs shape.funcs valid.funcs).0;
+      funcs = (all_apart (IsFuncTypeIndex (shape_types shape)) before.funcs shape.funcs valid.funcs).0;
       tables = (all_apart (IsTableValid features (shape_types shape)) before.tables shape.tables valid.tables).0;
       memories = (all_apart (IsMemoryValid features) before.memories shape.memories valid.memories).0;
       globals = (all_apart (IsGlobalValid features (shape_types shape)) before.globals shape.globals valid.globals).0;
@@ -140,7 +140,7 @@ taken_fit config shape bytes valid =
     record {
       entities = record {
         tags = kept_of_kind config types bytes imports tag_of (IsTagValid types) offered.tags;
-        funcs = kept_of_kind config types bytes imports func_of (IsFuncValid types) offered.funcs;
+        funcs = kept_of_kind config types bytes imports func_of (IsFuncTypeIndex types) offered.funcs;
         tables = kept_of_kind config types bytes imports table_of (IsTableValid features types) offered.tables;
         memories = kept_of_kind config types bytes imports memory_of (IsMemoryValid features) offered.memories;
         globals = kept_of_kind config types bytes imports global_of (IsGlobalValid features types) offered.globals;
@@ -157,9 +157,9 @@ few_values (Array array) short = omega arith
 few_values (Func function) short = let params = short.0 in let results = short.1 in omega (arith, params, results)
 few_values (Struct structure) short = omega arith
 
-sized : (types : List SubType) (one : EntityType) → All (λ (t : SubType). IsInnerShort t.composite_type.inner) types → All (IsFuncValid types) (func_of one) → IsTyped types one × (size_in types one < 2 ^ 32)
+sized : (types : List SubType) (one : EntityType) → All (λ (t : SubType). IsInnerShort t.composite_type.inner) types → All (IsFuncTypeIndex types) (func_of one) → IsTyped types one × (size_in types one < 2 ^ 32)
 sized types (entity.Func index) short valid =
-    let (function, (t, at, is)) = All-head (IsFuncValid types) index [] valid in
+    let (function, (t, at, is)) = All-head (IsFuncTypeIndex types) index [] valid in
     let inside : index < length types = slice_get_within types index t at in
     let few : value_count t.composite_type.inner ≤ 2 ^ 30 = few_values t.composite_type.inner (rw (get_or_from_slice_get types index t t at) at (short index t inside)) in
     (inside, rw at (omega (arith, few)))
@@ -168,14 +168,14 @@ sized types (entity.Table table) short valid = (tt, omega arith)
 sized types (entity.Memory memory) short valid = (tt, omega arith)
 sized types (entity.Global global) short valid = (tt, omega arith)
 
-pub offered_sized : (config : Config) (shape : Shape) → IsShapeValid AvailableImports config shape → All (IsSized (shape_types shape)) (shape_imports shape)
+pub offered_sized : (config : Config) (shape : Shape) → IsShapeValid AvailableImports config shape → All (IsImportSized (shape_types shape)) (shape_imports shape)
 offered_sized config shape valid =
     let types = shape_types shape in
     let imports = shape_imports shape in
     let offered = offered_valid (features_of config) shape valid.consistent.entities in
-    let Here = λ (one : Import). All (IsFuncValid types) (func_of one.entity_type) in
-    All-weaker Here (IsSized types) (λ one here. let both = sized types one.entity_type valid.short.inner here in record { typed = both.0; few = both.1 }) imports
-    (All-from_recursion Here imports (parts_of_all (IsFuncValid types) (λ (one : Import). func_of one.entity_type) imports offered.funcs))
+    let Here = λ (one : Import). All (IsFuncTypeIndex types) (func_of one.entity_type) in
+    All-weaker Here (IsImportSized types) (λ one here. let both = sized types one.entity_type valid.short.inner here in record { typed = both.0; few = both.1 }) imports
+    (All-from_recursion Here imports (parts_of_all (IsFuncTypeIndex types) (λ (one : Import). func_of one.entity_type) imports offered.funcs))
 
 -- the counts stay as groups are put in place
 pub counts_grouped : {types : List SubType} {counted : Imported} {taken : List Import} (made : List Imports) → CountsTaken types counted taken → flattened made ≡ taken → CountsTaken types (record counted { groups = made }) (flattened made)

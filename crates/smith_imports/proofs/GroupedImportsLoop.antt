@@ -14,7 +14,7 @@ use Rattle.smith_types.specs.declared.imports.Imports.{Imports}
 use Rattle.smith_types.specs.declared.imports.Imports.TheVariants.{Single, Compact1, Compact2}
 use Rattle.smith_types.proofs.HeldValueLemmas.{all_apart}
 use Rattle.smith_config.specs.declared.config.Config.{Config}
-use Rattle.smith_imports.specs.AvailableImports.{may_join, begun, joins_at, begun_at, joined_at, grouped_at, AreGroupsOf}
+use Rattle.smith_imports.specs.AvailableImports.{may_join, group_begun, joins_at, group_begun_at, joined_at, grouped_at, AreGroupsOf}
 use Rattle.smith_imports.specs.ImportGroups.{GroupKind}
 use Rattle.smith_imports.specs.Imported.{IsCompact, IsOfGroup}
 use Rattle.smith_imports.specs.Importing.{module_name, with_import}
@@ -26,7 +26,7 @@ use Rattle.smith_imports.proofs.ImportsGrownLemmas.{import_added}
 pub record IsJoining (config : Config) (made : List Imports) (group : Imports) (more : List Import) (bytes : List ℕ) (total : List Imports × List ℕ) : Type 0 where
   pub so_far : joined_at config made group more bytes ≡ total
 
-pub grouped_first : (config : Config) (first : Import) (more : List Import) (group : Imports) (bytes mid : List ℕ) → begun_at config first bytes ≡ (group, mid) → IsJoining config [] group more mid (grouped_at config (first ∷ more) bytes)
+pub grouped_first : (config : Config) (first : Import) (more : List Import) (group : Imports) (bytes mid : List ℕ) → group_begun_at config first bytes ≡ (group, mid) → IsJoining config [] group more mid (grouped_at config (first ∷ more) bytes)
 unfolding grouped_at
 grouped_first config first more group bytes mid drawn = record { so_far = rw drawn refl }
 
@@ -47,17 +47,17 @@ module _ (config : Config) (made : List Imports) (group : Imports) (bytes : List
   unfolding joined_at
   joins_group drawn on = rw (drawn, on) refl
 
-  pub begins_group : {mid after : List ℕ} {b : Bool} {last : Imports} → joins_at group next bytes ≡ (b, mid) → b ≡ false → begun_at config next mid ≡ (last, after) → joined_at config made group (next ∷ more) bytes ≡ joined_at config (made ++ group ∷ []) last more after
+  pub begins_group : {mid after : List ℕ} {b : Bool} {last : Imports} → joins_at group next bytes ≡ (b, mid) → b ≡ false → group_begun_at config next mid ≡ (last, after) → joined_at config made group (next ∷ more) bytes ≡ joined_at config (made ++ group ∷ []) last more after
   unfolding joined_at
   begins_group drawn off first = rw (drawn, off, first) refl
 
 -- the imports of a group of one import
-pub begun_one : (kind : GroupKind) (first : Import) → imports_of (begun kind first) ≡ first ∷ []
+pub begun_one : (kind : GroupKind) (first : Import) → imports_of (group_begun kind first) ≡ first ∷ []
 begun_one groups.Single first = refl
 begun_one groups.OfOneModule first = refl
 begun_one groups.OfOneType first = refl
 
-pub begun_enabled : (features : Features) (kind : GroupKind) (first : Import) → ((kind ≡ groups.Single → ⊥) → IsTrue features.compact_imports) → IsImportsEnabled features (begun kind first)
+pub begun_enabled : (features : Features) (kind : GroupKind) (first : Import) → ((kind ≡ groups.Single → ⊥) → IsTrue features.compact_imports) → IsImportsEnabled features (group_begun kind first)
 begun_enabled features groups.Single first on = tt
 begun_enabled features groups.OfOneModule first on = on (λ same. cc)
 begun_enabled features groups.OfOneType first on = on (λ same. cc)

@@ -1,18 +1,12 @@
 -- The entities that may be imported.
-use Rattle.std.proofs.Common.{◌≡◌, ℕ, zero, suc, ◌+◌, ◌-◌, ◌<◌, ◌≤◌, Bool, true, false, ◌&&◌, List, [], ◌∷◌, length, drop, add-one, refl, sym, subst, arith, ◌∙◌}
-use Rattle.std.proofs.Math.Seq.{drop-cons}
-use Rattle.std.proofs.lemmas.Option.{slice_get_within, get_or_from_slice_get}
-use Rattle.std.specs.Prelude.{slice_get, get_or, IsTrue, Some, All}
-use Rattle.std.specs.List.{filter, count_by, AllByRecursion as ByRecursion}
-use Rattle.std.proofs.lemmas.List.{length-map}
-use Rattle.std.proofs.lemmas.List.Sums.{length-filter}
+use Rattle.std.proofs.Common.{◌≡◌, ℕ, ◌<◌, Bool, true, false, ◌&&◌, List, [], length, refl, sym, subst, arith}
+use Rattle.std.proofs.lemmas.Option.{slice_get_within}
+use Rattle.std.specs.Prelude.{IsTrue, All}
+use Rattle.std.specs.List.{AllByRecursion as ByRecursion}
 use Rattle.std.proofs.lemmas.List.Elements.{All-nil, All-cons, All-from_recursion}
-use Rattle.smith_types.specs.Entities.{IsTagValid, IsFuncValid, IsTableValid, IsMemoryValid, IsGlobalValid}
+use Rattle.smith_types.specs.Entities.{IsTagValid, IsFuncTypeIndex, IsTableValid, IsMemoryValid, IsGlobalValid}
 use Rattle.smith_types.specs.Imports.{IndexSpaces, table_of, global_of}
-use Rattle.smith_types.specs.Sizes.{value_count, size_in}
 use Rattle.smith_types.specs.Space.{Space}
-use Rattle.smith_types.specs.declared.composite_type.CompositeInnerType.{CompositeInnerType}
-use Rattle.smith_types.specs.declared.composite_type.CompositeInnerType.TheVariants as inners
 use Rattle.smith_types.specs.declared.composite_type.SubType.{SubType}
 use Rattle.smith_types.specs.declared.entity_type.EntityType.{EntityType}
 use Rattle.smith_types.specs.declared.entity_type.EntityType.TheVariants as entity
@@ -23,40 +17,30 @@ use Rattle.smith_types.specs.declared.entity_type.MemoryType.{MemoryType}
 use Rattle.smith_types.specs.declared.entity_type.TableType.{TableType}
 use Rattle.smith_config.specs.declared.config.Config.{Config}
 use Rattle.smith_config.specs.Features.{features_of}
-use Rattle.smith_draw.specs.Bounds.{IsTableWithin, IsMemoryWithin}
+use Rattle.smith_config.specs.EntityBounds.{IsTableWithin, IsMemoryWithin}
 use Rattle.smith_draw.specs.Choices.{enabled, chosen_at}
-use Rattle.smith_draw.specs.FuncSizes.{IsSmall, IsSmallInner}
 use Rattle.smith_draw.specs.TypeUses.{types_for, IsUsable}
 use Rattle.smith_draw.specs.declared.type_use.TypeUse.{TypeUse}
 use Rattle.smith_draw.proofs.EnabledLemmas.{enabled_all}
 use Rattle.smith_draw.proofs.SupertypeLemmas.{chosen_of}
 use Rattle.smith_draw.proofs.TypeUseLemmas.{types_usable}
-use Rattle.smith_imports.specs.Imported.{MayImport, HasNoFloatValue, HasGroundedElements, HasGroundedValue, IsEntityFit, IsFitBeside, IsOffered}
+use Rattle.smith_imports.specs.Imported.{MayImport, IsEntityFit, IsFitBeside, MayImportKind}
+use Rattle.smith_types.specs.Floats.{HasNoFloatValue}
+use Rattle.smith_config.specs.Granted.{HasGroundedElements, HasGroundedValue}
+use Rattle.smith_draw.proofs.FuncSizeLemmas.{small_at}
 use Rattle.smith_imports.specs.ImportedEntities.{import_scope, kind_rows}
 
-pub length_enabled : {A : Type 0} (table : List (A × Bool)) → length (enabled table) ≡ count_by (λ row. row.1) table
-length_enabled table = length-map (filter (λ row. row.1) table) (λ row. row.0) ∙ length-filter (λ row. row.1) table
-
-enabled_next : {A : Type 0} (row : A × Bool) (rest : List (A × Bool)) (place : ℕ) (other : A) → row.1 ≡ true → (place ≡ 0 → ⊥) → get_or (enabled (row ∷ rest)) place other ≡ get_or (enabled rest) (place - 1) other
-enabled_next row rest zero other on some = absurd (some refl)
-enabled_next row rest (suc place) other on some = let back : suc place - 1 ≡ place = omega arith in rw (on, back) refl
-
--- after an enabled item each other one is one place earlier
-pub enabled_turn : {A : Type 0} (table : List (A × Bool)) (i place : ℕ) (d : A × Bool) (other : A) → i < length table → (get_or table i d).1 ≡ true → (place ≡ 0 → ⊥) → get_or (enabled (drop (i + 1) table)) (place - 1) other ≡ get_or (enabled (drop i table)) place other
-enabled_turn table i place d other inside on some =
-    rw (drop-cons table i d inside, add-one) (sym (enabled_next (get_or table i d) (drop (suc i) table) place other on some))
-
 kind_offered : (config : Config) (types : List SubType) (spaces : IndexSpaces) (bytes : List ℕ) (of_kind : ExportKind) (after : List ℕ) → 0 < length (enabled (kind_rows config types spaces)) → chosen_at kind.Memory (enabled (kind_rows config types spaces)) bytes ≡ (of_kind, after)
-    → IsOffered config types spaces of_kind
+    → MayImportKind config types spaces of_kind
 kind_offered config types spaces bytes of_kind after some chosen =
-    let P = IsOffered config types spaces in
+    let P = MayImportKind config types spaces in
     let rows : ByRecursion (λ (r : ExportKind × Bool). IsTrue r.1 → P r.0) (kind_rows config types spaces) = ((λ on. on), ((λ on. on), ((λ on. on), ((λ on. on), ((λ on. on), tt))))) in
     let each = enabled_all P (kind_rows config types spaces) (All-from_recursion (λ (r : ExportKind × Bool). IsTrue r.1 → P r.0) (kind_rows config types spaces) rows) in
     subst (λ (drawn : ExportKind × List ℕ). P drawn.0) chosen (chosen_of P kind.Memory (enabled (kind_rows config types spaces)) bytes some each)
 
 -- the kind chosen from a table with the rows of the kinds may be imported
 pub row_offered : (config : Config) (types : List SubType) (spaces : IndexSpaces) (table : List (ExportKind × Bool)) (bytes after : List ℕ) (of_kind : ExportKind) (count : ℕ) → table ≡ kind_rows config types spaces → count ≡ length (enabled table) → (count ≡ 0 → ⊥)
-    → chosen_at kind.Memory (enabled table) bytes ≡ (of_kind, after) → IsOffered config types spaces of_kind
+    → chosen_at kind.Memory (enabled table) bytes ≡ (of_kind, after) → MayImportKind config types spaces of_kind
 row_offered config types spaces table bytes after of_kind count is size some chosen =
     let filled : 0 < length (enabled table) = omega arith in
     kind_offered config types spaces bytes of_kind after (subst (λ (t : List (ExportKind × Bool)). 0 < length (enabled t)) is filled)
@@ -74,18 +58,6 @@ second_holds false b both = absurd cc
 pub chosen_usable : (for_use : TypeUse) (types : List SubType) (bytes : List ℕ) → 0 < length (types_for for_use types) → IsUsable for_use types (chosen_at 0 (types_for for_use types) bytes).0
 chosen_usable for_use types bytes some = chosen_of (IsUsable for_use types) 0 (types_for for_use types) bytes some (types_usable for_use types)
 
--- a small function type has at most 40 parameters and results
-few_values : (inner : CompositeInnerType) → IsSmallInner inner → value_count inner ≤ 40
-few_values (inners.Func function) small = let params = small.params in let results = small.results in omega (arith, params, results)
-few_values (inners.Array array) small = omega arith
-few_values (inners.Struct structure) small = omega arith
-
--- a function of a small type has a size of at most 41
-pub small_at : (types : List SubType) → All IsSmall types → (index : ℕ) (t : SubType) → slice_get types index ≡ Some t → size_in types (entity.Func index) ≤ 41
-small_at types all index t at =
-    let small : IsSmall t = rw (get_or_from_slice_get types index t t at) at (all index t (slice_get_within types index t at)) in
-    rw at (omega (arith, few_values t.composite_type.inner small))
-
 -- an entity other than a table and a global has no references to ground
 pub fit_without_references : (config : Config) (types : List SubType) (spaces : IndexSpaces) (added : EntityType) → IsEntityFit config types added → table_of added ≡ [] → global_of added ≡ [] → IsFitBeside config types spaces added
 fit_without_references config types spaces added fit no_table no_global =
@@ -98,7 +70,7 @@ module _ (config : Config) (space : Space) (may : MayImport config space) where
   tag_fit index on valid = record {
     valid = record {
       tags = All-cons (IsTagValid space.types) index [] valid (All-nil (IsTagValid space.types));
-      funcs = All-nil (IsFuncValid space.types);
+      funcs = All-nil (IsFuncTypeIndex space.types);
       tables = All-nil (IsTableValid (features_of config) space.types);
       memories = All-nil (IsMemoryValid (features_of config));
       globals = All-nil (IsGlobalValid (features_of config) space.types);
@@ -111,11 +83,11 @@ module _ (config : Config) (space : Space) (may : MayImport config space) where
     typed = tt;
   }
 
-  pub func_fit : (index : ℕ) → IsFuncValid space.types index → IsEntityFit config space.types (entity.Func index)
+  pub func_fit : (index : ℕ) → IsFuncTypeIndex space.types index → IsEntityFit config space.types (entity.Func index)
   func_fit index (function, (t, at, is)) = record {
     valid = record {
       tags = All-nil (IsTagValid space.types);
-      funcs = All-cons (IsFuncValid space.types) index [] (function, (t, at, is)) (All-nil (IsFuncValid space.types));
+      funcs = All-cons (IsFuncTypeIndex space.types) index [] (function, (t, at, is)) (All-nil (IsFuncTypeIndex space.types));
       tables = All-nil (IsTableValid (features_of config) space.types);
       memories = All-nil (IsMemoryValid (features_of config));
       globals = All-nil (IsGlobalValid (features_of config) space.types);
@@ -132,7 +104,7 @@ module _ (config : Config) (space : Space) (may : MayImport config space) where
   global_fit global valid floats = record {
     valid = record {
       tags = All-nil (IsTagValid space.types);
-      funcs = All-nil (IsFuncValid space.types);
+      funcs = All-nil (IsFuncTypeIndex space.types);
       tables = All-nil (IsTableValid (features_of config) space.types);
       memories = All-nil (IsMemoryValid (features_of config));
       globals = All-cons (IsGlobalValid (features_of config) space.types) global [] valid (All-nil (IsGlobalValid (features_of config) space.types));
@@ -149,7 +121,7 @@ module _ (config : Config) (space : Space) (may : MayImport config space) where
   memory_fit memory valid within = record {
     valid = record {
       tags = All-nil (IsTagValid space.types);
-      funcs = All-nil (IsFuncValid space.types);
+      funcs = All-nil (IsFuncTypeIndex space.types);
       tables = All-nil (IsTableValid (features_of config) space.types);
       memories = All-cons (IsMemoryValid (features_of config)) memory [] valid (All-nil (IsMemoryValid (features_of config)));
       globals = All-nil (IsGlobalValid (features_of config) space.types);
@@ -166,7 +138,7 @@ module _ (config : Config) (space : Space) (may : MayImport config space) where
   table_fit table valid within = record {
     valid = record {
       tags = All-nil (IsTagValid space.types);
-      funcs = All-nil (IsFuncValid space.types);
+      funcs = All-nil (IsFuncTypeIndex space.types);
       tables = All-cons (IsTableValid (features_of config) space.types) table [] valid (All-nil (IsTableValid (features_of config) space.types));
       memories = All-nil (IsMemoryValid (features_of config));
       globals = All-nil (IsGlobalValid (features_of config) space.types);

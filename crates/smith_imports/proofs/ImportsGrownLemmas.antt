@@ -1,5 +1,5 @@
 -- Imports, and one more import.
-use Rattle.std.proofs.Common.{◌≡◌, ◌⊎◌, ℕ, zero, suc, ◌+◌, ◌*◌, ◌<◌, ◌≤◌, Bool, true, false, List, [], ◌∷◌, ◌++◌, length, refl, sym, ap, subst, arith, length-append, inl, inr, ◌∙◌, ltb, String, Global, BuildHasherDefault, FoldHasher}
+use Rattle.std.proofs.Common.{◌≡◌, ◌⊎◌, ℕ, ◌+◌, ◌*◌, ◌<◌, ◌≤◌, Bool, true, false, List, [], ◌∷◌, ◌++◌, length, refl, sym, ap, subst, arith, length-append, inl, inr, ◌∙◌, ltb, String, Global, BuildHasherDefault, FoldHasher}
 use Rattle.std.specs.Prelude.{slice_get, IsTrue, Some, map, All}
 use Rattle.std.specs.Str.{bytes_eq}
 use Rattle.std.specs.HashSet.{HashSet}
@@ -10,8 +10,8 @@ use Rattle.std.proofs.lemmas.Grind.{flat_map-append}
 use Rattle.std.proofs.lemmas.Bool.{ltb-true, ltb-false}
 use Rattle.std.proofs.lemmas.Map.Keys.{any_passes_from_place}
 use Rattle.std.proofs.lemmas.Slice.Eq.{bytes_eq-Decides}
-use Rattle.smith_types.specs.Entities.{AreEntitiesValid, IsTagValid, IsFuncValid, IsTableValid, IsMemoryValid, IsGlobalValid}
-use Rattle.smith_types.specs.Exports.{AreDistinct}
+use Rattle.smith_types.specs.Entities.{AreEntitiesValid, IsTagValid, IsFuncTypeIndex, IsTableValid, IsMemoryValid, IsGlobalValid}
+use Rattle.smith_types.specs.Exports.{entity_kind}
 use Rattle.smith_types.specs.Features.{Features}
 use Rattle.smith_types.specs.Grown.{AreImportsGrown}
 use Rattle.smith_types.specs.Expressions.{Context}
@@ -20,7 +20,7 @@ use Rattle.smith_types.specs.declared.entity_type.TableType.{TableType}
 use Rattle.smith_types.specs.declared.value_type.ValType.{ValType}
 use Rattle.smith_types.specs.declared.value_type.ValType.TheVariants as vals
 use Rattle.smith_types.proofs.GroundGrowthLemmas.{imports_grounded}
-use Rattle.smith_types.specs.Imports.{IsImportsValid, flattened, IndexSpaces, import_of, imports_of, imported, imported_spaces, tag_of, func_of, table_of, memory_of, global_of}
+use Rattle.smith_types.specs.Imports.{IsImportsValid, flattened, IndexSpaces, import_of, imports_of, imported, imported_spaces, tag_of, func_of, table_of, memory_of, global_of, entity_spaces}
 use Rattle.smith_types.specs.IndexSpaces.{with_entity}
 use Rattle.smith_types.specs.Sizes.{size_in}
 use Rattle.smith_types.specs.declared.composite_type.SubType.{SubType}
@@ -32,15 +32,17 @@ use Rattle.smith_types.specs.declared.imports.Import.{Import}
 use Rattle.smith_types.specs.declared.imports.ImportItem.{ImportItem}
 use Rattle.smith_types.specs.declared.imports.Imports.{Imports}
 use Rattle.smith_types.specs.declared.imports.Imports.TheVariants.{Single, Compact1, Compact2}
-use Rattle.smith_types.proofs.ListLemmas.{slice_get-push}
+use Rattle.smith_types.proofs.ListLemmas.{mapped_at}
 use Rattle.smith_config.specs.declared.config.Config.{Config}
 use Rattle.smith_config.specs.Features.{features_of}
-use Rattle.smith_draw.specs.Bounds.{IsTableWithin, IsMemoryWithin}
-use Rattle.smith_draw.specs.ConstBounds.{IsUngrounded}
+use Rattle.smith_config.specs.EntityBounds.{IsTableWithin, IsMemoryWithin}
+use Rattle.smith_config.specs.Granted.{IsUngrounded}
 use Rattle.smith_imports.specs.ImportNames.{has_names, is_taken, KnowsPairs}
-use Rattle.smith_imports.specs.ImportedEntities.{has_room, kind_of, import_scope, sizes}
+use Rattle.smith_imports.specs.ImportedEntities.{has_room, import_scope, sizes}
 use Rattle.smith_imports.specs.Importing.{module_name, with_import}
-use Rattle.smith_imports.specs.Imported.{Counts, IsCounted, AreNumbersWithin, AreSpacesWithin, HasNoFloatValue, AreImportsFit, IsEntityFit, IsFitBeside, IsNext, IsOpen, IsOfGroup, IsCompact, IsImported, MayEnd, MayEndAt, spaces_of, entity_spaces}
+use Rattle.smith_imports.specs.Imported.{Counts, IsCounted, AreNumbersWithin, AreSpacesWithin, AreImportsFit, IsEntityFit, IsFitBeside, IsNext, IsOpen, IsOfGroup, IsCompact, IsImported, MayEnd, MayEndAt, spaces_of}
+use Rattle.smith_types.specs.Floats.{HasNoFloatValue}
+use Rattle.smith_types.proofs.DistinctLemmas.{distinct_push}
 use Rattle.smith_imports.specs.declared.imported.Imported.{Imported}
 
 -- the imports of a kind, with one more import
@@ -60,7 +62,7 @@ sizes_more types imports one = let parts = sum_by-append (λ (each : Import). si
 entities_more : (features : Features) (types : List SubType) (a b : IndexSpaces) → AreEntitiesValid features types a → AreEntitiesValid features types b → AreEntitiesValid features types (joined a b)
 entities_more features types a b old new = record {
   tags = All-append (IsTagValid types) a.tags b.tags old.tags new.tags;
-  funcs = All-append (IsFuncValid types) a.funcs b.funcs old.funcs new.funcs;
+  funcs = All-append (IsFuncTypeIndex types) a.funcs b.funcs old.funcs new.funcs;
   tables = All-append (IsTableValid features types) a.tables b.tables old.tables new.tables;
   memories = All-append (IsMemoryValid features) a.memories b.memories old.memories new.memories;
   globals = All-append (IsGlobalValid features types) a.globals b.globals old.globals new.globals;
@@ -73,14 +75,14 @@ pushed xs x most room = let lt = ltb-true (length xs) most room in omega (arith,
 same : {A : Type 0} (xs : List A) (most : ℕ) → length xs ≤ most → length (xs ++ []) ≤ most
 same xs most le = rw append-nil le
 
-pub numbers_more : (config : Config) (spaces : IndexSpaces) (one : EntityType) → AreNumbersWithin config spaces → has_room config spaces (kind_of one) ≡ true → AreNumbersWithin config (joined spaces (entity_spaces one))
+pub numbers_more : (config : Config) (spaces : IndexSpaces) (one : EntityType) → AreNumbersWithin config spaces → has_room config spaces (entity_kind one) ≡ true → AreNumbersWithin config (joined spaces (entity_spaces one))
 numbers_more config spaces (entity.Tag x) w room = record { tags = pushed spaces.tags x _ room; funcs = same _ _ w.funcs; tables = same _ _ w.tables; memories = same _ _ w.memories; globals = same _ _ w.globals }
 numbers_more config spaces (entity.Func x) w room = record { tags = same _ _ w.tags; funcs = pushed spaces.funcs x _ room; tables = same _ _ w.tables; memories = same _ _ w.memories; globals = same _ _ w.globals }
 numbers_more config spaces (entity.Table x) w room = record { tags = same _ _ w.tags; funcs = same _ _ w.funcs; tables = pushed spaces.tables x _ room; memories = same _ _ w.memories; globals = same _ _ w.globals }
 numbers_more config spaces (entity.Memory x) w room = record { tags = same _ _ w.tags; funcs = same _ _ w.funcs; tables = same _ _ w.tables; memories = pushed spaces.memories x _ room; globals = same _ _ w.globals }
 numbers_more config spaces (entity.Global x) w room = record { tags = same _ _ w.tags; funcs = same _ _ w.funcs; tables = same _ _ w.tables; memories = same _ _ w.memories; globals = pushed spaces.globals x _ room }
 
-within_more : (config : Config) (types : List SubType) (spaces : IndexSpaces) (one : EntityType) → AreSpacesWithin config spaces → IsEntityFit config types one → has_room config spaces (kind_of one) ≡ true → AreSpacesWithin config (joined spaces (entity_spaces one))
+within_more : (config : Config) (types : List SubType) (spaces : IndexSpaces) (one : EntityType) → AreSpacesWithin config spaces → IsEntityFit config types one → has_room config spaces (entity_kind one) ≡ true → AreSpacesWithin config (joined spaces (entity_spaces one))
 within_more config types spaces one w fit room =
     let old : AreNumbersWithin config spaces = record { tags = w.tags; funcs = w.funcs; tables = w.tables; memories = w.memories; globals = w.globals } in
     let numbers = numbers_more config spaces one old room in
@@ -105,11 +107,6 @@ tags_on config xs ys old new some = elim (some_or xs ys some) [ inl first ↦ ol
 abbrev pub pair_of : Import → List ℕ × List ℕ
 pair_of one = (one.«module», one.name)
 
-pub mapped_at : {A B : Type 0} {f : A → B} (xs : List A) (i : ℕ) (y : B) → slice_get (map f xs) i ≡ Some y → (x : A) × (slice_get xs i ≡ Some x) × (f x ≡ y)
-mapped_at [] i y at = absurd cc
-mapped_at {f = f} (x ∷ xs) zero y at = (x, refl, cc)
-mapped_at {f = f} (x ∷ xs) (suc i) y at = mapped_at xs i y at
-
 not_there : (imports : List Import) (one : Import) → is_taken imports one.«module» one.name ≡ false → (i : ℕ) → slice_get (map pair_of imports) i ≡ Some (pair_of one) → ⊥
 not_there imports one fresh i there =
     let (other, at, alike) = mapped_at imports i (pair_of one) there in
@@ -117,15 +114,6 @@ not_there imports one fresh i there =
     let name : bytes_eq one.name other.name ≡ true = (bytes_eq-Decides one.name other.name).1 (sym (ap (λ (p : List ℕ × List ℕ). p.1) alike)) in
     let taken : is_taken imports one.«module» one.name ≡ true = any_passes_from_place (has_names one.«module» one.name) imports i other at (rw (from, name) refl) in
     absurd (cc (sym fresh ∙ taken))
-
-both_places : {A : Type 0} (xs : List A) (x : A) (i j : ℕ) (item : A) → AreDistinct xs → ((n : ℕ) → slice_get xs n ≡ Some x → ⊥) → (slice_get xs i ≡ Some item) ⊎ ((i ≡ length xs) × (x ≡ item)) → (slice_get xs j ≡ Some item) ⊎ ((j ≡ length xs) × (x ≡ item)) → i ≡ j
-both_places xs x i j item old apart (inl at_i) (inl at_j) = old.once i j item at_i at_j
-both_places xs x i j item old apart (inl at_i) (inr (is_j, same)) = absurd (apart i (rw same at_i))
-both_places xs x i j item old apart (inr (is_i, same)) (inl at_j) = absurd (apart j (rw same at_j))
-both_places xs x i j item old apart (inr (is_i, same)) (inr (is_j, other)) = is_i ∙ sym is_j
-
-pub distinct_push : {A : Type 0} (xs : List A) (x : A) → AreDistinct xs → ((i : ℕ) → slice_get xs i ≡ Some x → ⊥) → AreDistinct (xs ++ x ∷ [])
-distinct_push xs x old apart = record { once = λ i j item at_i at_j. both_places xs x i j item old apart (slice_get-push xs x i item at_i) (slice_get-push xs x j item at_j) }
 
 -- a reference that is not grounded was not grounded before functions were imported
 pub ungrounded_imported : (config : Config) (old new : Context) → AreImportsGrown old new → (value : ValType) → IsUngrounded config new value → IsUngrounded config old value

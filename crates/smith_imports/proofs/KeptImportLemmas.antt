@@ -7,7 +7,7 @@ use Rattle.std.proofs.lemmas.Grind.{flat_map-append}
 use Rattle.std.proofs.lemmas.List.{map-append, take_more}
 use Rattle.std.proofs.lemmas.List.Elements.{All-nil, All-cons}
 use Rattle.smith_bytes.specs.declared.error.Which.TheVariants.{ModuleShape}
-use Rattle.smith_types.specs.Entities.{IsTagValid, IsFuncValid, IsTableValid, IsMemoryValid, IsGlobalValid, AreEntitiesValid, AreCountsEnabled}
+use Rattle.smith_types.specs.Entities.{IsTagValid, IsFuncTypeIndex, IsTableValid, IsMemoryValid, IsGlobalValid, AreEntitiesValid, AreCountsEnabled}
 use Rattle.smith_types.specs.Features.{Features}
 use Rattle.smith_types.specs.Flags.{IsImportsEnabled}
 use Rattle.smith_types.specs.Imports.{IsImportsValid, imports_of, flattened, imported_spaces}
@@ -20,7 +20,7 @@ use Rattle.smith_config.specs.declared.shape.Shape.{Shape}
 use Rattle.smith_config.specs.Features.{features_of}
 use Rattle.smith_config.specs.Shapes.{IsShapeValid, shape_types, shape_imports}
 use Rattle.smith_imports.specs.KeptImports.{kept_of}
-use Rattle.smith_imports.specs.ShapeImports.{is_filled}
+use Rattle.smith_rules.specs.ShapeImports.{is_filled}
 
 -- one more group is kept
 pub kept_more : (compact : Bool) (all : List Imports) (place : ℕ) (group : Imports) (groups longer : List Imports) → place < length all → group ≡ get_or all place group → groups ≡ flat_map (kept_of compact) (take place all)
@@ -93,7 +93,7 @@ imported_valid config shape valid =
     let h = valid.consistent.entities in
     record {
       tags = (all_apart (IsTagValid types) spaces.tags shape.tags h.tags).0;
-      funcs = (all_apart (IsFuncValid types) spaces.funcs shape.funcs h.funcs).0;
+      funcs = (all_apart (IsFuncTypeIndex types) spaces.funcs shape.funcs h.funcs).0;
       tables = (all_apart (IsTableValid features types) spaces.tables shape.tables h.tables).0;
       memories = (all_apart (IsMemoryValid features) spaces.memories shape.memories h.memories).0;
       globals = (all_apart (IsGlobalValid features types) spaces.globals shape.globals h.globals).0;

@@ -4,7 +4,6 @@ pub mod ImportsGrownLemmas
 pub mod ImportGroundLemmas
 pub mod FilledGroupLoop
 pub mod ImportGroupsLoop
-pub mod GivenLemmas
 pub mod NoImportLemmas
 pub mod TakenImportsLoop
 pub mod AvailableImportLemmas

@@ -9,10 +9,10 @@ use Rattle.smith_bytes.proofs.SpelledLemmas.{bool_read}
 use Rattle.smith_types.specs.declared.composite_type.SubType.{SubType}
 use Rattle.smith_types.specs.declared.imports.Imports.{Imports}
 use Rattle.smith_config.specs.declared.config.Config.{Config}
-use Rattle.smith_imports.specs.Steps.{Gives}
+use Rattle.smith_bytes.specs.Steps.{Gives}
 use Rattle.smith_imports.specs.Importing.{groups_at, imports_at}
 use Rattle.smith_imports.specs.Imported.{SpellsNoImport}
-use Rattle.smith_imports.proofs.GivenLemmas.{given_takes}
+use Rattle.smith_bytes.proofs.StepLemmas.{given_takes}
 
 -- a drawn number above 0 takes a byte
 pub whole_takes : (bytes after : List ℕ) (x : ℕ) → whole_at 4 bytes ≡ (x, after) → 0 < x → length after < length bytes

@@ -7,7 +7,7 @@ use Rattle.smith_types.specs.declared.composite_type.SubType.{SubType}
 use Rattle.smith_types.specs.declared.imports.Import.{Import}
 use Rattle.smith_config.specs.declared.config.Config.{Config}
 use Rattle.smith_imports.specs.AvailableImports.{picked_at}
-use Rattle.smith_imports.specs.ShapeImports.{is_fitting}
+use Rattle.smith_rules.specs.ShapeImports.{is_fitting}
 
 -- taking imports from here on completes the whole
 pub record IsPicking (config : Config) (types : List SubType) (taken more : List Import) (bytes : List ℕ) (total : List Import × List ℕ) : Type 0 where

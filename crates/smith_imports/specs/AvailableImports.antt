@@ -18,10 +18,11 @@ use Rattle.smith_config.specs.declared.shape.Shape.{Shape}
 use Rattle.smith_config.specs.Features.{features_of}
 use Rattle.smith_config.specs.Shapes.{shape_types, shape_imports}
 use Rattle.smith_imports.specs.ImportGroups.{GroupKind, group_kind_at}
-use Rattle.smith_imports.specs.ImportedEntities.{kind_of, has_room}
+use Rattle.smith_types.specs.Exports.{entity_kind}
+use Rattle.smith_imports.specs.ImportedEntities.{has_room}
 use Rattle.smith_imports.specs.Imported.{AreNumbersWithin, spaces_of}
 use Rattle.smith_imports.specs.Importing.{with_import}
-use Rattle.smith_imports.specs.ShapeImports.{is_allowed, is_fitting, sizes_of}
+use Rattle.smith_rules.specs.ShapeImports.{is_allowed, is_fitting, sizes_of}
 use Rattle.smith_imports.specs.declared.import_groups.GroupKind.TheVariants as groups
 use Rattle.smith_imports.specs.declared.imported.Imported.{Imported}
 
@@ -39,25 +40,25 @@ may_join (Compact1 from items) next = bytes_eq from next.«module»
 may_join (Compact2 from entity_type names) next = bytes_eq from next.«module» && entity_same.eq entity_type next.entity_type
 
 -- a group of one import
-abbrev pub begun : GroupKind → Import → Imports
-begun groups.Single first = Single first
-begun groups.OfOneModule first = with_import (Compact1 first.«module» []) first.name first.entity_type
-begun groups.OfOneType first = with_import (Compact2 first.«module» first.entity_type []) first.name first.entity_type
+abbrev pub group_begun : GroupKind → Import → Imports
+group_begun groups.Single first = Single first
+group_begun groups.OfOneModule first = with_import (Compact1 first.«module» []) first.name first.entity_type
+group_begun groups.OfOneType first = with_import (Compact2 first.«module» first.entity_type []) first.name first.entity_type
 
 -- whether one more import joins a group: a bool is drawn if it may
 unfoldable pub joins_at : Imports → Import → List ℕ → Bool × List ℕ
 joins_at group next bytes = if may_join group next then bool_at bytes else (false, bytes)
 
 -- a group of a drawn kind that begins with an import
-unfoldable pub begun_at : Config → Import → List ℕ → Imports × List ℕ
-begun_at config first bytes = let kind = group_kind_at config bytes in (begun kind.0 first, kind.1)
+unfoldable pub group_begun_at : Config → Import → List ℕ → Imports × List ℕ
+group_begun_at config first bytes = let kind = group_kind_at config bytes in (group_begun kind.0 first, kind.1)
 
 -- groups, and after them a group that imports join until one does not and begins another
 unfoldable pub joined_at : Config → List Imports → Imports → List Import → List ℕ → List Imports × List ℕ
 joined_at config made group [] bytes = (made ++ group ∷ [], bytes)
 joined_at config made group (next ∷ more) bytes =
     let joins = joins_at group next bytes in
-    let another = begun_at config next joins.1 in
+    let another = group_begun_at config next joins.1 in
     if joins.0
     then joined_at config made (with_import group next.name next.entity_type) more joins.1
     else joined_at config (made ++ group ∷ []) another.0 more another.1
@@ -65,7 +66,7 @@ joined_at config made group (next ∷ more) bytes =
 -- imports in groups of drawn kinds
 unfoldable pub grouped_at : Config → List Import → List ℕ → List Imports × List ℕ
 grouped_at config [] bytes = ([], bytes)
-grouped_at config (first ∷ more) bytes = let group = begun_at config first bytes in joined_at config [] group.0 more group.1
+grouped_at config (first ∷ more) bytes = let group = group_begun_at config first bytes in joined_at config [] group.0 more group.1
 
 -- the imports of a shape that the bytes take, in groups
 unfoldable pub available_at : Config → Shape → List ℕ → List Imports × List ℕ
@@ -81,7 +82,7 @@ pub record CountsTaken (types : List SubType) (imported : Imported) (taken : Lis
   pub type_size : imported.type_size ≡ sizes_of types taken
 
 -- the type of an import exists, and its size is a number of 32 bits
-pub record IsSized (types : List SubType) (one : Import) : Type 0 where
+pub record IsImportSized (types : List SubType) (one : Import) : Type 0 where
   pub typed : IsTyped types one.entity_type
   pub few : size_in types one.entity_type < 2 ^ 32
 
@@ -89,7 +90,7 @@ pub record IsSized (types : List SubType) (one : Import) : Type 0 where
 abbrev pub fits_beside : Config → List SubType → Imported → EntityType → Bool
 fits_beside config types imported added =
     nat_lt imported.count config.max_imports
-    && has_room config (spaces_of imported) (kind_of added)
+    && has_room config (spaces_of imported) (entity_kind added)
     && is_allowed config added
     && nat_le (imported.type_size + size_in types added) config.max_type_size
 

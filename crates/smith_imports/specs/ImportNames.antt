@@ -1,13 +1,13 @@
 -- The names of imports: the name drawn after other imports, and the set of their pairs of names.
 -- Rules of this project.
-use Rattle.std.specs.Prelude.{◌≡◌, ℕ, zero, suc, ◌+◌, ◌<◌, Bool, true, false, ◌&&◌, ◌||◌, IsTrue, max, List, [], ◌∷◌, ◌++◌, length, string_bytes, if◌then◌else◌}
+use Rattle.std.specs.Prelude.{◌≡◌, ℕ, ◌+◌, Bool, ◌&&◌, ◌||◌, IsTrue, max, List, [], ◌∷◌, length, string_bytes, if◌then◌else◌}
 use Rattle.std.specs.List.{list_any}
 use Rattle.std.specs.HashSet.{HashSet, contains_by, hash_set_len}
 use Rattle.std.specs.Str.{bytes_eq}
 use Rattle.std.specs.Fmt.{decimal}
 use Rattle.std.specs.declared.string.String.{String}
 use Rattle.std.specs.declared.alloc.Global.{Global}
-use Rattle.smith_bytes.specs.Names.{text_at, with_copies}
+use Rattle.smith_bytes.specs.Names.{text_at, new_name}
 use Rattle.smith_types.specs.declared.imports.Import.{Import}
 
 -- whether an import has this pair of names: that of its module, and its own
@@ -23,25 +23,12 @@ abbrev pub longest_name : List Import → ℕ
 longest_name [] = 0
 longest_name (one ∷ imports) = max (length one.name) (longest_name imports)
 
--- a name, with these digits appended until it is not taken, at most `most` times
-unfoldable pub new_name : (List ℕ → Bool) → List ℕ → ℕ → List ℕ → List ℕ
-new_name taken digits zero name = name
-new_name taken digits (suc most) name = if taken name then new_name taken digits most (name ++ digits) else name
-
 -- the name of an import from a module, after other imports: a text of at most 1000 bytes; if pairs
 -- of names must be distinct, the number of these imports is appended until the pair is not taken
 unfoldable pub import_name_at : Bool → List Import → List ℕ → List ℕ → List ℕ × List ℕ
 import_name_at distinct imports from bytes =
     let text = text_at 1000 bytes in
     ((if distinct then new_name (is_taken imports from) (decimal (length imports)) (longest_name imports + 1) text.0 else text.0), text.1)
-
--- the same name as a relation, for a loop: digits are appended to the text until it is not taken
-pub record IsNewName (taken : List ℕ → Bool) (digits text name : List ℕ) : Type 0 where
-  pub copies : ℕ
-  pub made : name ≡ with_copies text digits copies
-  pub fresh : taken name ≡ false
-  pub some : 0 < length digits
-  pub needed : (n : ℕ) → n < copies → taken (with_copies text digits n) ≡ true
 
 -- whether a pair of texts is this pair of names
 abbrev pub is_pair : List ℕ → List ℕ → String Global × String Global → Bool

@@ -6,11 +6,10 @@ use Rattle.smith_bytes.specs.declared.error.Error.TheVariants as errors
 use Rattle.smith_bytes.specs.declared.error.Why.TheVariants.{Unmet}
 use Rattle.smith_bytes.specs.declared.error.Count.TheVariants as counts
 use Rattle.smith_types.specs.Entities.{AreEntitiesValid}
-use Rattle.smith_types.specs.Exports.{AreDistinct}
-use Rattle.smith_types.specs.Expressions.{Context}
+use Rattle.smith_types.specs.Exports.{AreDistinct, entity_kind}
 use Rattle.smith_types.specs.Flags.{IsImportsEnabled}
-use Rattle.smith_types.specs.Floats.{IsNoFloat}
-use Rattle.smith_types.specs.Imports.{IndexSpaces, IsImportsValid, flattened, imported_spaces, tag_of, func_of, table_of, memory_of, global_of}
+use Rattle.smith_types.specs.Floats.{HasNoFloatValue}
+use Rattle.smith_types.specs.Imports.{IndexSpaces, IsImportsValid, flattened, imported_spaces, tag_of, table_of, memory_of, global_of, entity_spaces}
 use Rattle.smith_types.specs.IndexSpaces.{spaces_in, with_entity}
 use Rattle.smith_types.specs.Sizes.{IsTyped, size_in}
 use Rattle.smith_types.specs.Space.{Space}
@@ -18,9 +17,6 @@ use Rattle.smith_types.specs.ValidTypes.{AreTypesValid}
 use Rattle.smith_types.specs.declared.composite_type.SubType.{SubType}
 use Rattle.smith_types.specs.declared.entity_type.EntityType.{EntityType}
 use Rattle.smith_types.specs.declared.entity_type.ExportKind.{ExportKind}
-use Rattle.smith_types.specs.declared.entity_type.GlobalType.{GlobalType}
-use Rattle.smith_types.specs.declared.entity_type.TableType.{TableType}
-use Rattle.smith_types.specs.declared.value_type.ValType.TheVariants.{Ref}
 use Rattle.smith_types.specs.declared.imports.Import.{Import}
 use Rattle.smith_types.specs.declared.imports.Imports.{Imports}
 use Rattle.smith_types.specs.declared.imports.Imports.TheVariants.{Single, Compact2}
@@ -29,12 +25,13 @@ use Rattle.smith_config.specs.Faults.{Passes}
 use Rattle.smith_config.specs.Features.{features_of}
 use Rattle.smith_config.specs.InUse.{FixesImports}
 use Rattle.smith_config.specs.Sanitized.{IsSanitized}
-use Rattle.smith_draw.specs.ConstBounds.{IsUngrounded}
-use Rattle.smith_draw.specs.Bounds.{IsTableWithin, IsMemoryWithin}
+use Rattle.smith_config.specs.Granted.{HasGroundedElements, HasGroundedValue}
+use Rattle.smith_config.specs.EntityBounds.{IsTableWithin, IsMemoryWithin}
 use Rattle.smith_draw.specs.FuncSizes.{IsSmall}
 use Rattle.smith_imports.specs.ImportNames.{KnowsPairs}
-use Rattle.smith_imports.specs.ImportedEntities.{kind_of, has_room, may_import, import_scope, sizes}
+use Rattle.smith_imports.specs.ImportedEntities.{has_room, may_import, import_scope, sizes}
 use Rattle.smith_bytes.specs.Spelling.{SpellsNone}
+use Rattle.smith_rules.specs.Refusals.{MayLackImports}
 use Rattle.smith_imports.specs.declared.imported.Imported.{Imported}
 
 -- imports may be drawn over these types: no shape fixes the imports, and the function types are
@@ -50,10 +47,6 @@ pub record MayImport (config : Config) (space : Space) : Type 0 where
 -- the index spaces of the imports so far
 abbrev pub spaces_of : Imported → IndexSpaces
 spaces_of imported = spaces_in imported.spaces
-
--- the index spaces of a single entity
-abbrev pub entity_spaces : EntityType → IndexSpaces
-entity_spaces one = record { tags = tag_of one; funcs = func_of one; tables = table_of one; memories = memory_of one; globals = global_of one }
 
 -- nothing is imported yet
 pub record HasNoImports (imported : Imported) : Type 0 where
@@ -96,19 +89,6 @@ pub record AreSpacesWithin (config : Config) (spaces : IndexSpaces) : Type 0 whe
   pub each_table : All (IsTableWithin config) spaces.tables
   pub each_memory : All (IsMemoryWithin config) spaces.memories
 
--- the value of a global is not a float
-abbrev pub HasNoFloatValue : GlobalType → Type 0
-HasNoFloatValue global = IsNoFloat global.val_type
-
--- the elements of a table are nullable, or `non_nullable_enabled` is set and they are grounded
-abbrev pub HasGroundedElements : Config → Context → TableType → Type 0
-HasGroundedElements config context table = ¬ IsUngrounded config context (Ref table.element_type)
-
--- the value of a global is no reference, a nullable one, or one that is grounded if
--- `non_nullable_enabled` is on
-abbrev pub HasGroundedValue : Config → Context → GlobalType → Type 0
-HasGroundedValue config context global = ¬ IsUngrounded config context global.val_type
-
 -- imports are valid and within the bounds; they add at most 42 each, taken together, to the type
 -- size; their pairs of names are distinct if required
 pub record AreImportsFit (config : Config) (types : List SubType) (distinct : Bool) (imports : List Import) : Type 0 where
@@ -142,13 +122,13 @@ pub record IsFitBeside (config : Config) (types : List SubType) (spaces : IndexS
 -- an entity may be imported after these index spaces and this type size
 pub record IsNext (config : Config) (types : List SubType) (spaces : IndexSpaces) (size : ℕ) (added : EntityType) : Type 0 where
   pub fit : IsFitBeside config types spaces added
-  pub room : has_room config spaces (kind_of added) ≡ true
+  pub room : has_room config spaces (entity_kind added) ≡ true
   pub fits : size + (size_in types added + 1) ≤ config.max_type_size
   pub sum : size + (size_in types added + 1) < 2 ^ 32
 
 -- one more of a kind may be imported
-abbrev pub IsOffered : Config → List SubType → IndexSpaces → ExportKind → Type 0
-IsOffered config types spaces of_kind = (may_import config types of_kind && has_room config spaces of_kind) ≡ true
+abbrev pub MayImportKind : Config → List SubType → IndexSpaces → ExportKind → Type 0
+MayImportKind config types spaces of_kind = (may_import config types of_kind && has_room config spaces of_kind) ≡ true
 
 -- imports may end at these index spaces and this type size: an import may be too large, or a kind
 -- is full
@@ -188,14 +168,6 @@ pub record IsImported (config : Config) (types : List SubType) (distinct : Bool)
   pub counts : Counts types distinct imported (flattened imported.groups)
   pub fit : AreImportsFit config types distinct (flattened imported.groups)
   pub groups : All (IsImportsValid (features_of config)) imported.groups
-
--- imports may end below the minimum: they may be too large together, or the maximum of some kind is
--- lower
-abbrev pub MayLackImports : Config → Type 0
-MayLackImports config =
-    (config.max_type_size < 42 * config.min_imports)
-    ⊎ ((config.max_tags < config.min_imports)
-    ⊎ ((config.max_funcs < config.min_imports) ⊎ ((config.max_globals < config.min_imports) ⊎ ((config.max_memories < config.min_imports) ⊎ (config.max_tables < config.min_imports)))))
 
 -- errors of the step of imports: lack of memory, or a minimum above zero that may stay unmet
 abbrev pub MayRefuseImports : Config → Error → Type 0

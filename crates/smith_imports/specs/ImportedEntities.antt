@@ -10,6 +10,7 @@ use Rattle.smith_types.specs.declared.entity_type.EntityType.TheVariants as enti
 use Rattle.smith_types.specs.declared.entity_type.ExportKind.{ExportKind}
 use Rattle.smith_types.specs.declared.entity_type.ExportKind.TheVariants as kind
 use Rattle.smith_types.specs.declared.imports.Import.{Import}
+use Rattle.smith_types.specs.Exports.{entity_kind}
 use Rattle.smith_config.specs.declared.config.Config.{Config}
 use Rattle.smith_config.specs.Features.{features_of}
 use Rattle.smith_draw.specs.Choices.{enabled, chosen_at}
@@ -18,14 +19,6 @@ use Rattle.smith_draw.specs.GlobalTypes.{global_type_at}
 use Rattle.smith_draw.specs.TableTypes.{table_type_at}
 use Rattle.smith_draw.specs.TypeUses.{types_for}
 use Rattle.smith_draw.specs.declared.type_use.TypeUse.TheVariants as uses
-
--- the kind of an entity
-abbrev pub kind_of : EntityType → ExportKind
-kind_of (entity.Tag index) = kind.Tag
-kind_of (entity.Func index) = kind.Func
-kind_of (entity.Global global) = kind.Global
-kind_of (entity.Memory memory) = kind.Memory
-kind_of (entity.Table table) = kind.Table
 
 -- whether index spaces have room for one more of a kind
 abbrev pub has_room : Config → IndexSpaces → ExportKind → Bool
@@ -96,4 +89,4 @@ entity_at config types spaces size bytes =
 
 -- the same entity once more, if its kind has room and it fits
 abbrev pub again : Config → List SubType → IndexSpaces → ℕ → EntityType → Option EntityType
-again config types spaces size added = if has_room config spaces (kind_of added) && fits config types size added then Some added else None
+again config types spaces size added = if has_room config spaces (entity_kind added) && fits config types size added then Some added else None

@@ -9,7 +9,7 @@ use Rattle.smith_config.specs.declared.shape.Shape.{Shape}
 use Rattle.smith_config.specs.Features.{features_of}
 use Rattle.smith_config.specs.Shapes.{shape_types, shape_imports}
 use Rattle.smith_imports.specs.Imported.{spaces_of}
-use Rattle.smith_imports.specs.ShapeImports.{is_filled, kept_groups}
+use Rattle.smith_rules.specs.ShapeImports.{is_filled, kept_groups}
 use Rattle.smith_imports.specs.declared.imported.Imported.{Imported}
 
 -- a group in the form that a module has it: unless empty, whole if imports are compact, else one by

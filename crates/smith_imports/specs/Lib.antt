@@ -3,7 +3,5 @@ pub mod ImportNames
 pub mod ImportedEntities
 pub mod Imported
 pub mod Importing
-pub mod ShapeImports
 pub mod AvailableImports
 pub mod KeptImports
-pub mod Steps

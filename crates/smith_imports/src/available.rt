@@ -5,7 +5,7 @@ ghost use Rattle.smith_types.specs.Groups.{space_of};
 ghost use Rattle.smith_types.specs.Imports.{flattened};
 ghost use Rattle.smith_config.specs.Shapes.{IsShapeValid, shape_types, shape_imports};
 ghost use Rattle.smith_imports.specs.AvailableImports.{available_at, IsTaken};
-ghost use Rattle.smith_imports.specs.ShapeImports.{taken_from};
+ghost use Rattle.smith_rules.specs.ShapeImports.{taken_from};
 
 use crate::flat_imports::flat_imports;
 use crate::grouped_imports::group_imports;

@@ -4,7 +4,7 @@ ghost use Rattle.smith_types.specs.Imports.{IsImportsValid, flattened, imports_o
 ghost use Rattle.smith_types.specs.declared.imports.Import.{Import};
 ghost use Rattle.smith_config.specs.Features.{features_of};
 ghost use Rattle.smith_draw.specs.Drawing.{Draws, AlwaysDraws};
-ghost use Rattle.smith_imports.specs.AvailableImports.{may_join, begun, joins_at, begun_at, joined_at, grouped_at, AreGroupsOf};
+ghost use Rattle.smith_imports.specs.AvailableImports.{may_join, group_begun, joins_at, group_begun_at, joined_at, grouped_at, AreGroupsOf};
 
 use crate::import_groups::{GroupKind, draw_group_kind, push_import};
 use smith_bytes::{Error, Unstructured};
@@ -29,7 +29,7 @@ fn may_join(group: &Imports, next: &Import) -> bool
 
 /// Makes a group of the kind `kind` with the one import `first`, in new memory from `alloc`.
 fn begun(alloc: Global, kind: GroupKind, first: &Import) -> Result<Imports, Error>
-    ensures group { IfOk result (λ group. group ≡ begun kind first.now) }
+    ensures group { IfOk result (λ group. group ≡ group_begun kind first.now) }
     ensures memory { IfErr result (λ e. e ≡ Error.Memory) }
 {
     let Import {
@@ -61,14 +61,14 @@ fn begun(alloc: Global, kind: GroupKind, first: &Import) -> Result<Imports, Erro
 }
 
 /// Begins a group of a drawn kind with the import `first`.
-#[tactic(auto, unfolding(crate::specs::AvailableImports::begun_at))]
+#[tactic(auto, unfolding(crate::specs::AvailableImports::group_begun_at))]
 fn begin(
     alloc: Global,
     config: &Config,
     first: &Import,
     u: &mut Unstructured<'_>,
 ) -> Result<Imports, Error>
-    ensures draws { Draws (begun_at config.now first.now u.old) result u.old u.new }
+    ensures draws { Draws (group_begun_at config.now first.now u.old) result u.old u.new }
     ensures one { IfOk result (λ group. imports_of group ≡ first.now ∷ []) }
     ensures valid { IfOk result (IsImportsValid (features_of config.now)) }
 {

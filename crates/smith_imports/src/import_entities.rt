@@ -3,7 +3,8 @@ ghost use Rattle.smith_types.specs.Sizes.{size_in};
 ghost use Rattle.smith_draw.specs.Drawing.{Draws};
 ghost use Rattle.smith_imports.specs.Imported.{MayImport, IsEntityFit, IsFitBeside, IsNext, MayEndAt, spaces_of};
 ghost use Rattle.smith_draw.specs.KeptGrounds.{AreKeptGrounds};
-ghost use Rattle.smith_imports.specs.ImportedEntities.{kind_of, has_room, may_import, import_scope, entity_of_kind_at, fits, entity_at, again};
+ghost use Rattle.smith_types.specs.Exports.{entity_kind};
+ghost use Rattle.smith_imports.specs.ImportedEntities.{has_room, may_import, import_scope, entity_of_kind_at, fits, entity_at, again};
 
 use crate::import_kinds::{draw_kind, has_room};
 use crate::import_types::ImportTypes;
@@ -18,7 +19,7 @@ use smith_types::{EntityType, ExportKind, TypeSpace};
 
 /// Returns the kind of the entity `added`.
 pub(crate) fn kind_of(added: &EntityType) -> ExportKind
-    ensures { result ≡ kind_of added.now }
+    ensures { result ≡ entity_kind added.now }
 {
     match added {
         EntityType::Tag(_) => ExportKind::Tag,
@@ -64,7 +65,7 @@ fn draw_entity_of_kind(
     requires kept { AreKeptGrounds (import_scope config.now types.now.types (spaces_of imported.now)) grounds.now }
     requires kind { may_import config.now types.now.types kind ≡ true }
     ensures draws { Draws (entity_of_kind_at config.now (import_scope config.now types.now.types (spaces_of imported.now)) kind u.old) result u.old u.new }
-    ensures kind { IfOk result (λ added. kind_of added ≡ kind) }
+    ensures kind { IfOk result (λ added. entity_kind added ≡ kind) }
     ensures fit { IfOk result (IsFitBeside config.now types.now.types (spaces_of imported.now)) }
 {
     let standing = standing_behind(config, types.space(), imported, grounds);
@@ -96,7 +97,7 @@ fn if_fits(
     added: EntityType,
 ) -> Option<EntityType>
     requires fit { IsFitBeside config.now types.now.types (spaces_of imported.now) added }
-    requires room { has_room config.now (spaces_of imported.now) (kind_of added) ≡ true }
+    requires room { has_room config.now (spaces_of imported.now) (entity_kind added) ≡ true }
     ensures exact { result ≡ (if fits config.now types.now.types imported.now.type_size added then Some added else None) }
     ensures next { IfSome result (IsNext config.now types.now.types (spaces_of imported.now) imported.now.type_size) }
     ensures ended { result ≡ None → MayEndAt config.now (spaces_of imported.now) imported.now.type_size }

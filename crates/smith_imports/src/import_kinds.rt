@@ -1,13 +1,13 @@
-ghost use Rattle.std.specs.Prelude.{◌≡◌, ◌<◌, false, None, length, slice_index_or, count_by, IfSome};
-ghost use Rattle.smith_draw.specs.Choices.{enabled, chosen_at};
+ghost use Rattle.std.specs.Prelude.{◌≡◌, ◌<◌, false, None, IfSome};
 ghost use Rattle.smith_draw.specs.Drawing.{AlwaysDraws};
-ghost use Rattle.smith_imports.specs.Imported.{IsOffered, spaces_of};
+ghost use Rattle.smith_imports.specs.Imported.{MayImportKind, spaces_of};
 ghost use Rattle.smith_imports.specs.ImportedEntities.{has_room, may_import, kind_row, kind_at};
 
 use crate::import_types::ImportTypes;
 use crate::imported::Imported;
 use smith_bytes::Unstructured;
 use smith_config::Config;
+use smith_draw::{choose_enabled, count_enabled};
 use smith_types::ExportKind;
 
 /// Whether `config` allows another entity of the kind `kind` after `imported`.
@@ -46,42 +46,8 @@ fn kind_row(
     (kind, offered)
 }
 
-/// Counts the offered kinds of `table`: those paired with `true`.
-pub fn count_enabled(table: &[(ExportKind, bool)]) -> usize
-    ensures { result ≡ count_by (λ row. row.1) table.now }
-{
-    table.iter().filter(|row| row.1).count()
-}
-
-/// Finds the kind at `place` among the offered kinds of `table`. Returns `Memory` past their end.
-fn enabled_at(table: &[(ExportKind, bool)], mut place: usize) -> ExportKind
-    ensures { result ≡ slice_index_or (enabled table.now) place ExportKind.Memory }
-{
-    for row in table {
-        if !row.1 {
-            continue;
-        }
-        if place == 0 {
-            return row.0;
-        }
-        place -= 1;
-    }
-    ExportKind::Memory
-}
-
-/// Draws one of the offered kinds of `table`, of which there is at least one.
-#[tactic(auto, using(crate::proofs::ImportedEntityLemmas::length_enabled), unfolding(smith_draw::specs::Choices::chosen_at))]
-pub fn choose_enabled(table: &[(ExportKind, bool)], u: &mut Unstructured<'_>) -> ExportKind
-    requires { 0 < length (enabled table.now) }
-    ensures { AlwaysDraws (chosen_at ExportKind.Memory (enabled table.now) u.old) result u.old u.new }
-{
-    let last = count_enabled(table) - 1;
-    let place = u.int_in_range(0..=last);
-    enabled_at(table, place)
-}
-
 /// Draws a kind of which another entity may be imported. Returns none if no kind is offered.
-#[tactic(auto, using(crate::proofs::ImportedEntityLemmas::length_enabled), unfolding(crate::specs::ImportedEntities::kind_at))]
+#[tactic(auto, using(smith_draw::proofs::EnabledLemmas::length_enabled), unfolding(crate::specs::ImportedEntities::kind_at))]
 pub(crate) fn draw_kind(
     config: &Config,
     types: &ImportTypes<'_>,
@@ -89,7 +55,7 @@ pub(crate) fn draw_kind(
     u: &mut Unstructured<'_>,
 ) -> Option<ExportKind>
     ensures draws { AlwaysDraws (kind_at config.now types.now.types (spaces_of imported.now) u.old) result u.old u.new }
-    ensures offered { IfSome result (IsOffered config.now types.now.types (spaces_of imported.now)) }
+    ensures offered { IfSome result (MayImportKind config.now types.now.types (spaces_of imported.now)) }
     ensures full { result ≡ None → has_room config.now (spaces_of imported.now) ExportKind.Table ≡ false }
 {
     let table = [

@@ -3,7 +3,8 @@ ghost use Rattle.std.specs.HashSet.{hash_set_len};
 ghost use Rattle.std.specs.Fmt.{decimal};
 ghost use Rattle.smith_bytes.specs.Source.{KeepsPieces};
 ghost use Rattle.smith_types.specs.declared.imports.Import.{Import};
-ghost use Rattle.smith_imports.specs.ImportNames.{import_name_at, is_taken, has_pair, IsNewName, KnowsPairs, AddsPair};
+ghost use Rattle.smith_imports.specs.ImportNames.{import_name_at, is_taken, has_pair, KnowsPairs, AddsPair};
+ghost use Rattle.smith_bytes.specs.Names.{IsNewName};
 
 use smith_bytes::{Error, Unstructured, limited_string};
 use smith_types::Name;

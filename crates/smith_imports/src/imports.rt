@@ -6,7 +6,7 @@ ghost use Rattle.smith_types.specs.IndexSpaces.{with_entity};
 ghost use Rattle.smith_config.specs.declared.config.Config.{Config as Configuration};
 ghost use Rattle.smith_draw.specs.Drawing.{Draws};
 ghost use Rattle.smith_imports.specs.ImportedEntities.{import_scope};
-ghost use Rattle.smith_imports.specs.Steps.{Gives};
+ghost use Rattle.smith_bytes.specs.Steps.{Gives};
 ghost use Rattle.smith_imports.specs.Imported.{
   MayImport,
   Counts,

@@ -18,7 +18,6 @@ mod shape_types;
 mod taken_imports;
 
 pub use available::take_available_imports;
-pub use import_kinds::{choose_enabled, count_enabled};
 pub use imported::Imported;
 pub use imports::arbitrary_imports;
 pub use module_shape::imports_of_shape;

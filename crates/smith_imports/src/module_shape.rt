@@ -5,7 +5,7 @@ ghost use Rattle.smith_types.specs.declared.imports.ImportItem.{ImportItem as It
 ghost use Rattle.smith_types.specs.declared.imports.Imports.TheVariants.{Single};
 ghost use Rattle.smith_config.specs.Shapes.{IsShapeValid};
 ghost use Rattle.smith_imports.specs.KeptImports.{kept_of, AreKept};
-ghost use Rattle.smith_imports.specs.ShapeImports.{kept_groups};
+ghost use Rattle.smith_rules.specs.ShapeImports.{kept_groups};
 
 use crate::import_groups::has_imports;
 use crate::imported::Imported;

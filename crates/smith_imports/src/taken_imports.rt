@@ -1,8 +1,8 @@
 ghost use Rattle.std.specs.Prelude.{◌≡◌, ◌<◌, ◌+◌, ◌++◌, ◌∷◌, ◌^◌, [], IsTrue, All, IfOk, IfErr, OnOk, if◌then◌else◌};
 ghost use Rattle.smith_types.specs.Sizes.{IsTyped, size_in};
 ghost use Rattle.smith_draw.specs.Drawing.{Draws};
-ghost use Rattle.smith_imports.specs.AvailableImports.{picked_at, fits_beside, CountsTaken, IsSized};
-ghost use Rattle.smith_imports.specs.ShapeImports.{is_allowed, is_fitting};
+ghost use Rattle.smith_imports.specs.AvailableImports.{picked_at, fits_beside, CountsTaken, IsImportSized};
+ghost use Rattle.smith_rules.specs.ShapeImports.{is_allowed, is_fitting};
 
 use crate::import_entities::kind_of;
 use crate::import_kinds::has_room;
@@ -46,7 +46,7 @@ fn take(
     taken: &mut Items<Import>,
     one: &Import,
 ) -> Result<(), Error>
-    requires sized { IsSized types.now.types one.now }
+    requires sized { IsImportSized types.now.types one.now }
     requires counts { CountsTaken types.now.types imported.old taken.old }
     ensures taken { OnOk result (taken.new ≡ (if is_fitting config.now types.now.types taken.old one.now then taken.old ++ one.now ∷ [] else taken.old)) }
     ensures counts { OnOk result (CountsTaken types.now.types imported.new taken.new) }
@@ -72,7 +72,7 @@ pub(crate) fn take_imports(
     offered: &[Import],
     u: &mut Unstructured<'_>,
 ) -> Result<Items<Import>, Error>
-    requires sized { All (IsSized types.now.types) offered.now }
+    requires sized { All (IsImportSized types.now.types) offered.now }
     requires none { CountsTaken types.now.types imported.old [] }
     ensures draws { Draws (picked_at config.now types.now.types [] offered.now u.old) result u.old u.new }
     ensures counts { IfOk result (CountsTaken types.now.types imported.new) }

@@ -8,12 +8,12 @@ use Rattle.smith_types.specs.declared.code.Code.{Code}
 use Rattle.smith_types.specs.declared.code.Instructions.{Instructions}
 use Rattle.smith_types.specs.declared.code.Instructions.TheVariants.{Arbitrary, Unreachable}
 use Rattle.smith_types.specs.declared.composite_type.FuncType.{FuncType}
-use Rattle.smith_contents.specs.Held.{IsRaw}
-use Rattle.smith_definitions.specs.Module.{Parts}
+use Rattle.smith_rules.specs.Held.{IsRaw}
+use Rattle.smith_rules.specs.Module.{ModuleParts}
 use Rattle.smith_instr.specs.declared.instr.Instr.{Instr}
 use Rattle.smith_code.specs.Bodies.{body_at}
 use Rattle.smith_program.specs.Bodies.{HasDefinedType, function_context}
-use Rattle.smith_program.specs.DrawnBodies.{bodies_at, bodies_from, defined_at, one_at, unless_raw}
+use Rattle.smith_program.specs.DrawnBodies.{bodies_at, bodies_from, defined_func_type, one_at, unless_raw}
 use Rattle.smith_program.specs.declared.program.Body.{Body}
 use Rattle.smith_program.specs.declared.program.Body.TheVariants as body
 
@@ -21,7 +21,7 @@ use Rattle.smith_program.specs.declared.program.Body.TheVariants as body
 abbrev pub after : List Body → List Body × List ℕ → List Body × List ℕ
 after bodies rest = (bodies ++ rest.0, rest.1)
 
-pub none_drawn : (m : Parts) (bytes : List ℕ) → after [] (bodies_from m 0 (drop 0 m.code) bytes) ≡ bodies_at m bytes
+pub none_drawn : (m : ModuleParts) (bytes : List ℕ) → after [] (bodies_from m 0 (drop 0 m.code) bytes) ≡ bodies_at m bytes
 unfolding bodies_at
 none_drawn m bytes = refl
 
@@ -31,7 +31,7 @@ code_there (code ∷ codes) zero inside = (code, refl)
 code_there (code ∷ codes) (suc place) inside = code_there codes place (omega arith)
 
 -- one more
-pub one_drawn : (m : Parts) (place : ℕ) (bodies : List Body) (body : Body) (bytes left : List ℕ) (whole : List Body × List ℕ) → place < length m.code → ((code : Code) → slice_get m.code place ≡ Some code → one_at m place code bytes ≡ (body, left))
+pub one_drawn : (m : ModuleParts) (place : ℕ) (bodies : List Body) (body : Body) (bytes left : List ℕ) (whole : List Body × List ℕ) → place < length m.code → ((code : Code) → slice_get m.code place ≡ Some code → one_at m place code bytes ≡ (body, left))
     → after bodies (bodies_from m place (drop place m.code) bytes) ≡ whole → after (bodies ++ body ∷ []) (bodies_from m (place + 1) (drop (place + 1) m.code) left) ≡ whole
 one_drawn m place bodies body bytes left whole inside drawn before =
     let (code, at) = code_there m.code place inside in
@@ -54,28 +54,28 @@ still_held Holds bodies body place each before last k one at = elim (slice_get-p
 ]
 
 -- all of them
-pub all_drawn : (m : Parts) (place : ℕ) (bodies : List Body) (bytes : List ℕ) (whole : List Body × List ℕ) → length m.code ≤ place → after bodies (bodies_from m place (drop place m.code) bytes) ≡ whole → whole ≡ (bodies, bytes)
+pub all_drawn : (m : ModuleParts) (place : ℕ) (bodies : List Body) (bytes : List ℕ) (whole : List Body × List ℕ) → length m.code ≤ place → after bodies (bodies_from m place (drop place m.code) bytes) ≡ whole → whole ≡ (bodies, bytes)
 all_drawn m place bodies bytes whole past before =
     let none : drop place m.code ≡ [] = drop_all place m.code past in
     sym before ∙ rw (none, append-nil) refl
 
 -- the body of a function that was read
-pub raw_drawn : (m : Parts) (place : ℕ) (given : Code) (raw bytes : List ℕ) → given ≡ get_or m.code place given → given.instructions ≡ Arbitrary raw → (code : Code) → slice_get m.code place ≡ Some code → one_at m place code bytes ≡ (body.Raw, bytes)
+pub raw_drawn : (m : ModuleParts) (place : ℕ) (given : Code) (raw bytes : List ℕ) → given ≡ get_or m.code place given → given.instructions ≡ Arbitrary raw → (code : Code) → slice_get m.code place ≡ Some code → one_at m place code bytes ≡ (body.Raw, bytes)
 unfolding one_at
 raw_drawn m place given raw bytes read is code at =
     let same : given ≡ code = read ∙ get_or_from_slice_get m.code place code given at in
     let is' : code.instructions ≡ Arbitrary raw = ap (λ (c : Code). c.instructions) (sym same) ∙ is in
     ap (λ (i : Instructions). unless_raw m place code i bytes) is'
 
-function_drawn : (m : Parts) (place : ℕ) (code : Code) (instructions : Instructions) (function : FuncType) (drawn : List Instr) (bytes left : List ℕ) → ¬ IsRaw instructions → defined_at m place ≡ Some function
+function_drawn : (m : ModuleParts) (place : ℕ) (code : Code) (instructions : Instructions) (function : FuncType) (drawn : List Instr) (bytes left : List ℕ) → ¬ IsRaw instructions → defined_func_type m place ≡ Some function
     → body_at m.config (function_context m function code.locals) m.config.max_instructions bytes ≡ (drawn, left) → unless_raw m place code instructions bytes ≡ (body.Drawn drawn, left)
 function_drawn m place code (Arbitrary raw) function drawn bytes left not_raw there exact = absurd (not_raw tt)
 function_drawn m place code Unreachable function drawn bytes left not_raw there exact = rw (there, exact) refl
 
-defined_there : (m : Parts) (place : ℕ) (function : FuncType) → HasDefinedType m place function → defined_at m place ≡ Some function
+defined_there : (m : ModuleParts) (place : ℕ) (function : FuncType) → HasDefinedType m place function → defined_func_type m place ≡ Some function
 defined_there m place function (index, here, (t, at, is)) = rw (here, at, is) refl
 
-pub instructions_drawn : (m : Parts) (place : ℕ) (given : Code) (function : FuncType) (drawn : List Instr) (bytes left : List ℕ) → given ≡ get_or m.code place given → ¬ IsRaw given.instructions → HasDefinedType m place function
+pub instructions_drawn : (m : ModuleParts) (place : ℕ) (given : Code) (function : FuncType) (drawn : List Instr) (bytes left : List ℕ) → given ≡ get_or m.code place given → ¬ IsRaw given.instructions → HasDefinedType m place function
     → body_at m.config (function_context m function given.locals) m.config.max_instructions bytes ≡ (drawn, left) → (code : Code) → slice_get m.code place ≡ Some code → one_at m place code bytes ≡ (body.Drawn drawn, left)
 unfolding one_at
 instructions_drawn m place given function drawn bytes left read not_raw there exact code at =

@@ -5,7 +5,7 @@ use Rattle.smith_bytes.specs.Source.{KeepsPieces}
 use Rattle.smith_bytes.specs.declared.error.Error.{Error}
 use Rattle.smith_bytes.specs.declared.error.Error.TheVariants.{Memory}
 use Rattle.smith_config.specs.declared.config.Config.{Config}
-use Rattle.smith_definitions.specs.Module.{Parts}
+use Rattle.smith_rules.specs.Module.{ModuleParts}
 use Rattle.wasm_smith.specs.Generated.{IsGenerated}
 use Rattle.smith_program.specs.Bodies.{AreDrawnBodies}
 use Rattle.smith_program.specs.DrawnBodies.{bodies_at}
@@ -14,7 +14,7 @@ use Rattle.smith_program.specs.declared.program.Body.{Body}
 use Rattle.smith_program.specs.declared.program.Program.{Program}
 
 -- a module and its bodies
-pub program_made : (given : Config) (bytes after left : List ℕ) (m : Parts) (bodies : List Body) → IsGenerated false given bytes (Ok m) after → AreDrawnBodies m bodies → bodies_at m after ≡ (bodies, left) → KeepsPieces after left
+pub program_made : (given : Config) (bytes after left : List ℕ) (m : ModuleParts) (bodies : List Body) → IsGenerated false given bytes (Ok m) after → AreDrawnBodies m bodies → bodies_at m after ≡ (bodies, left) → KeepsPieces after left
     → IsProgram given bytes (Ok (record { «module» = m; bodies = bodies })) left
 program_made given bytes after left m bodies generated drawn exact kept = record {
   programs = record { of = record { after = after; generated = generated; source = kept }; exact = exact };
@@ -35,7 +35,7 @@ module_refused given bytes left (Err y) e generated passed = record {
 }
 
 -- no memory for the bodies
-pub bodies_refused : (given : Config) (bytes after left : List ℕ) (m : Parts) (answer : Result Program Error) (e : Error) → IsGenerated false given bytes (Ok m) after → IsErrAnd answer (λ y. y ≡ e) → e ≡ Memory → KeepsPieces after left
+pub bodies_refused : (given : Config) (bytes after left : List ℕ) (m : ModuleParts) (answer : Result Program Error) (e : Error) → IsGenerated false given bytes (Ok m) after → IsErrAnd answer (λ y. y ≡ e) → e ≡ Memory → KeepsPieces after left
     → IsProgram given bytes answer left
 bodies_refused given bytes after left m (Ok program) e generated passed memory kept = absurd passed
 bodies_refused given bytes after left m (Err y) e generated passed memory kept = record {

@@ -7,7 +7,7 @@ use Rattle.std.proofs.lemmas.List.Elements.{All-append, All-from_recursion, All-
 use Rattle.std.proofs.lemmas.Option.{slice_get_within, slice_get-get_or, slice_get_read, get_or_from_slice_get}
 use Rattle.smith_types.specs.Features.{Features}
 use Rattle.smith_types.specs.Space.{Space}
-use Rattle.smith_types.specs.Entities.{IsFuncAt, IsFuncValid, IsGlobalValid, IsTableValid}
+use Rattle.smith_types.specs.Entities.{IsFuncAt, IsFuncTypeIndex, IsGlobalValid, IsTableValid}
 use Rattle.smith_types.specs.Segments.{IsElementValid}
 use Rattle.smith_types.specs.ValidTypes.{IsRefTypeValid, IsValTypeValid, IsGroupValid, AreTypesValid, values_of}
 use Rattle.smith_types.specs.declared.code.Code.{Code}
@@ -24,8 +24,8 @@ use Rattle.smith_types.specs.declared.value_type.ValType.{ValType}
 use Rattle.smith_types.proofs.ValidityLemmas.{ends_within, group_at}
 use Rattle.smith_types.proofs.EntityGrowthLemmas.{IsValTypeValid-later}
 use Rattle.smith_draw.proofs.ConstScopeLemmas.{fields_valid}
-use Rattle.smith_contents.specs.Held.{IsRaw}
-use Rattle.smith_definitions.specs.Module.{Parts, IsValid, module_features, module_imports, module_types, segment_context}
+use Rattle.smith_rules.specs.Held.{IsRaw}
+use Rattle.smith_rules.specs.Module.{ModuleParts, IsValid, module_features, module_imports, module_types, segment_context}
 use Rattle.smith_instr.specs.Enabled.{IsEnabled}
 use Rattle.smith_instr.specs.Sequences.{IsBodyTyped}
 use Rattle.smith_instr.specs.declared.instr.Instr.{Instr}
@@ -64,7 +64,7 @@ func_values features space valid index function (t, at, is) =
     (All-from_recursion P function.params front, All-from_recursion P function.results back)
 
 -- the bodies of a valid module are drawn over what is valid
-pub module_scope : (m : Parts) → IsValid m → (index : ℕ) (function : FuncType) → IsFuncAt m.types index function → (locals : List ValType)
+pub module_scope : (m : ModuleParts) → IsValid m → (index : ℕ) (function : FuncType) → IsFuncAt m.types index function → (locals : List ValType)
     → All (IsValTypeValid (module_features m) (length m.types)) locals → IsScope (function_context m function locals)
 module_scope m valid index function there locals locals_valid =
     let features = module_features m in
@@ -89,18 +89,18 @@ module_scope m valid index function there locals locals_valid =
     }
 
 -- imported functions come before the defined ones
-pub imported_before : (m : Parts) → IsValid m → length m.funcs ≡ length (module_imports m).funcs + m.num_defined_funcs
+pub imported_before : (m : ModuleParts) → IsValid m → length m.funcs ≡ length (module_imports m).funcs + m.num_defined_funcs
 imported_before m valid =
     let made = valid.spaces.funcs in
     let count = made.count_is in
     rw made.parts (simp length-append (omega arith))
 
 -- the index of the type of a defined function
-abbrev pub type_index : Parts → ℕ → ℕ
+abbrev pub type_index : ModuleParts → ℕ → ℕ
 type_index m place = get_or m.funcs (length (module_imports m).funcs + place) 0
 
 -- each defined function has a function type
-pub defined_there : (m : Parts) → IsValid m → (place : ℕ) → place < length m.code → (slice_get m.funcs (length (module_imports m).funcs + place) ≡ Some (type_index m place)) × IsFuncValid m.types (type_index m place)
+pub defined_there : (m : ModuleParts) → IsValid m → (place : ℕ) → place < length m.code → (slice_get m.funcs (length (module_imports m).funcs + place) ≡ Some (type_index m place)) × IsFuncTypeIndex m.types (type_index m place)
 defined_there m valid place inside =
     let all = imported_before m valid in
     let each = valid.bodies.each in
@@ -108,18 +108,18 @@ defined_there m valid place inside =
     (slice_get-get_or m.funcs (length (module_imports m).funcs + place) 0 within, valid.entities.funcs (length (module_imports m).funcs + place) 0 within)
 
 -- which is a type of the module
-pub type_inside : (m : Parts) → IsValid m → (place : ℕ) → place < length m.code → type_index m place < length m.types
+pub type_inside : (m : ModuleParts) → IsValid m → (place : ℕ) → place < length m.code → type_index m place < length m.types
 type_inside m valid place inside =
     let (there, (function, (t, at, is))) = defined_there m valid place inside in
     slice_get_within m.types (type_index m place) t at
 
 -- and is that which was read
-pub is_function : (m : Parts) → IsValid m → (place : ℕ) → place < length m.code → (read : SubType) → ((function : FuncType) → (get_or m.types (type_index m place) read).composite_type.inner ≡ Func function → ⊥) → ⊥
+pub is_function : (m : ModuleParts) → IsValid m → (place : ℕ) → place < length m.code → (read : SubType) → ((function : FuncType) → (get_or m.types (type_index m place) read).composite_type.inner ≡ Func function → ⊥) → ⊥
 is_function m valid place inside read none =
     let (there, (function, (t, at, is))) = defined_there m valid place inside in
     none function (ap (λ (t : SubType). t.composite_type.inner) (get_or_from_slice_get m.types (type_index m place) t read at) ∙ is)
 
-pub has_type : (m : Parts) → IsValid m → (place : ℕ) → place < length m.code → (read : SubType) (function : FuncType) → read ≡ get_or m.types (type_index m place) read
+pub has_type : (m : ModuleParts) → IsValid m → (place : ℕ) → place < length m.code → (read : SubType) (function : FuncType) → read ≡ get_or m.types (type_index m place) read
     → (get_or m.types (type_index m place) read).composite_type.inner ≡ Func function → HasDefinedType m place function
 has_type m valid place inside read function is func =
     (type_index m place, (defined_there m valid place inside).0, (read, slice_get_read m.types (length m.types) (type_index m place) read refl (type_inside m valid place inside) is, ap (λ (t : SubType). t.composite_type.inner) is ∙ func))
@@ -130,7 +130,7 @@ not_raw Unreachable other = λ raw. raw
 not_raw (Arbitrary bytes) other = λ raw. other bytes refl
 
 -- a body that was drawn for the function that was read
-pub drawn_at : (m : Parts) (place : ℕ) (given : Code) (function : FuncType) (instructions : List Instr) → given ≡ get_or m.code place given → ¬ IsRaw given.instructions → HasDefinedType m place function
+pub drawn_at : (m : ModuleParts) (place : ℕ) (given : Code) (function : FuncType) (instructions : List Instr) → given ≡ get_or m.code place given → ¬ IsRaw given.instructions → HasDefinedType m place function
     → IsBodyTyped (function_context m function given.locals) instructions → All (IsEnabled (module_features m) m.config.allowed_instructions) instructions → (IsTrue m.config.disallow_traps → All IsTrapless instructions)
     → length instructions ≤ 1 + length function.results + most m.types * m.config.max_instructions
     → (code : Code) → slice_get m.code place ≡ Some code → (¬ IsRaw code.instructions) × IsDrawnAt m place code instructions

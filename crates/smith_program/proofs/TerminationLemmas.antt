@@ -14,7 +14,7 @@ use Rattle.smith_types.specs.declared.composite_type.FuncType.{FuncType}
 use Rattle.smith_types.specs.declared.const_instr.ConstInstr.{ConstInstr}
 use Rattle.smith_types.specs.declared.const_instr.ConstInstr.TheVariants.{I32Const}
 use Rattle.smith_types.specs.declared.value_type.ValType.{ValType}
-use Rattle.smith_definitions.specs.Module.{Parts, IsValid, module_imports}
+use Rattle.smith_rules.specs.Module.{ModuleParts, IsValid, module_imports}
 use Rattle.smith_instr.specs.Sequences.{IsBodyTyped}
 use Rattle.smith_instr.specs.declared.instr.Instr.{Instr}
 use Rattle.wasm_smith.specs.Termination.{AddsFuel, AnswersFuel, counter}
@@ -27,7 +27,7 @@ use Rattle.smith_program.proofs.CountedLemmas.{IsCounter, counted_typed}
 use Rattle.smith_program.proofs.WiderLemmas.{wider, wider_body}
 
 -- a module with a counter of this index
-abbrev counting : ℕ → ℕ → Parts → Parts
+abbrev counting : ℕ → ℕ → ModuleParts → ModuleParts
 counting fuel index old = record old {
   globals = old.globals ++ counter ∷ [];
   defined_globals = old.defined_globals ++ (index, I32Const (cast_signed w32 fuel) ∷ []) ∷ [];
@@ -35,43 +35,43 @@ counting fuel index old = record old {
 }
 
 -- its definition names no function
-same_references : (fuel index : ℕ) (old : Parts) → references_of (counting fuel index old) ≡ references_of old
+same_references : (fuel index : ℕ) (old : ModuleParts) → references_of (counting fuel index old) ≡ references_of old
 same_references fuel index old =
     let f = λ (global : ℕ × List ConstInstr). named_in global.1 in
     let none : flat_map f (old.defined_globals ++ (index, I32Const (cast_signed w32 fuel) ∷ []) ∷ []) ≡ flat_map f old.defined_globals =
     flat_map-append f old.defined_globals ((index, I32Const (cast_signed w32 fuel) ∷ []) ∷ []) ∙ append-nil (flat_map f old.defined_globals) in
     rw none refl
 
-still_typed : (fuel index : ℕ) (old : Parts) (function : FuncType) (locals : List ValType) (instructions : List Instr) → IsBodyTyped (function_context old function locals) instructions
+still_typed : (fuel index : ℕ) (old : ModuleParts) (function : FuncType) (locals : List ValType) (instructions : List Instr) → IsBodyTyped (function_context old function locals) instructions
     → IsBodyTyped (function_context (counting fuel index old) function locals) instructions
 still_typed fuel index old function locals instructions typed =
     subst (λ (references : List ℕ). IsBodyTyped (record (wider (function_context old function locals) (counter ∷ [])) { references = references }) instructions)
     (sym (same_references fuel index old)) (wider_body (function_context old function locals) (counter ∷ []) instructions typed)
 
-still_at : (fuel index : ℕ) (old : Parts) (place : ℕ) (code : Code) (given : Body) → IsOfBody (IsBodyAt old place code) code given → IsOfBody (IsBodyAt (counting fuel index old) place code) code given
+still_at : (fuel index : ℕ) (old : ModuleParts) (place : ℕ) (code : Code) (given : Body) → IsOfBody (IsBodyAt old place code) code given → IsOfBody (IsBodyAt (counting fuel index old) place code) code given
 still_at fuel index old place code body.Raw raw = raw
 still_at fuel index old place code (body.Drawn instructions) (not_raw, is) =
     (not_raw, record { function = is.function; there = is.there; typed = still_typed fuel index old is.function code.locals instructions is.typed })
 
-still_bodies : (fuel index : ℕ) (old new : Parts) (bodies : List Body) → AddsFuel fuel index old new → AreBodiesOf old bodies → AreBodiesOf new bodies
+still_bodies : (fuel index : ℕ) (old new : ModuleParts) (bodies : List Body) → AddsFuel fuel index old new → AreBodiesOf old bodies → AreBodiesOf new bodies
 still_bodies fuel index old new bodies adds are =
-    subst (λ (m : Parts). AreBodiesOf m bodies) (sym adds.added) (record {
+    subst (λ (m : ModuleParts). AreBodiesOf m bodies) (sym adds.added) (record {
       each = are.each;
       in_place = λ place code given at there. still_at fuel index old place code given (are.in_place place code given at there);
     })
 
 -- the bodies after a counter was added, or was not
-pub answered_bodies : (fuel : ℕ) (old new : Parts) (result : Result ℕ Error) (bodies : List Body) → AnswersFuel fuel old new result → AreBodiesOf old bodies → AreBodiesOf new bodies
+pub answered_bodies : (fuel : ℕ) (old new : ModuleParts) (result : Result ℕ Error) (bodies : List Body) → AnswersFuel fuel old new result → AreBodiesOf old bodies → AreBodiesOf new bodies
 answered_bodies fuel old new (Ok index) bodies (none, adds) are = still_bodies fuel index old new bodies adds are
 answered_bodies fuel old new (Err error) bodies (may, kept) are = rw kept are
 
 -- the counters of a valid module
-counters_count : (m : Parts) → IsValid m → (function : FuncType) (locals : List ValType) → Each (IsCounter (function_context m function locals)) m.fuel_globals
+counters_count : (m : ModuleParts) → IsValid m → (function : FuncType) (locals : List ValType) → Each (IsCounter (function_context m function locals)) m.fuel_globals
 counters_count m valid function locals =
     recursion_from_All (IsCounter (function_context m function locals)) m.fuel_globals
     (All-weaker (IsFuel m.globals (length (module_imports m).globals)) (IsCounter (function_context m function locals)) (λ (index : ℕ) (fuel : IsFuel m.globals (length (module_imports m).globals) index). fuel.stands) m.fuel_globals valid.bodies.fuel)
 
-counted_at : (m : Parts) → IsValid m → (place : ℕ) (code : Code) (given : Body) → IsOfBody (IsBodyAt m place code) code given → IsOfBody (IsBodyAt m place code) code (counted_body m.fuel_globals given)
+counted_at : (m : ModuleParts) → IsValid m → (place : ℕ) (code : Code) (given : Body) → IsOfBody (IsBodyAt m place code) code given → IsOfBody (IsBodyAt m place code) code (counted_body m.fuel_globals given)
 counted_at m valid place code body.Raw raw = raw
 counted_at m valid place code (body.Drawn instructions) (not_raw, is) = (
   not_raw,
@@ -91,7 +91,7 @@ unmapped f xs d place y at =
     (get_or xs place d, here, same_Some (f (get_or xs place d)) y (sym (ap (option_map f) here) ∙ (sym (slice_get-map f xs place) ∙ at)))
 
 -- bodies with the checks of the counters of their module
-pub counted_bodies : (m : Parts) (bodies : List Body) → IsValid m → AreBodiesOf m bodies → AreBodiesOf m (map (counted_body m.fuel_globals) bodies)
+pub counted_bodies : (m : ModuleParts) (bodies : List Body) → IsValid m → AreBodiesOf m bodies → AreBodiesOf m (map (counted_body m.fuel_globals) bodies)
 counted_bodies m bodies valid are = record {
   each = length-map bodies (counted_body m.fuel_globals) ∙ are.each;
   in_place = λ place code given at there.

@@ -6,8 +6,8 @@ use Rattle.smith_types.specs.declared.code.Code.{Code}
 use Rattle.smith_types.specs.declared.composite_type.FuncType.{FuncType}
 use Rattle.smith_types.specs.declared.segments.ElementSegment.{ElementSegment}
 use Rattle.smith_types.specs.declared.value_type.ValType.{ValType}
-use Rattle.smith_contents.specs.Held.{IsRaw}
-use Rattle.smith_definitions.specs.Module.{Parts, module_features, module_imports}
+use Rattle.smith_rules.specs.Held.{IsRaw}
+use Rattle.smith_rules.specs.Module.{ModuleParts, module_features, module_imports}
 use Rattle.smith_instr.specs.Contexts.{BodyContext}
 use Rattle.smith_instr.specs.Enabled.{IsEnabled}
 use Rattle.smith_instr.specs.Sequences.{IsBodyTyped}
@@ -19,7 +19,7 @@ use Rattle.smith_program.specs.declared.program.Body.{Body}
 use Rattle.smith_program.specs.declared.program.Body.TheVariants as body
 
 -- the context of a function of this type, with these locals after its parameters
-abbrev pub function_context : Parts → FuncType → List ValType → BodyContext
+abbrev pub function_context : ModuleParts → FuncType → List ValType → BodyContext
 function_context m function locals = record {
   features = module_features m;
   types = m.types;
@@ -39,19 +39,19 @@ function_context m function locals = record {
 }
 
 -- the type of the defined function at a place: imported functions come first
-abbrev pub HasDefinedType : Parts → ℕ → FuncType → Type 0
+abbrev pub HasDefinedType : ModuleParts → ℕ → FuncType → Type 0
 HasDefinedType m place function =
     (index : ℕ) × (slice_get m.funcs (length (module_imports m).funcs + place) ≡ Some index) × IsFuncAt m.types index function
 
 -- instructions are the body of the defined function at a place, without its last `end`
-pub record IsBodyAt (m : Parts) (place : ℕ) (code : Code) (instructions : List Instr) : Type 0 where
+pub record IsBodyAt (m : ModuleParts) (place : ℕ) (code : Code) (instructions : List Instr) : Type 0 where
   pub function : FuncType
   pub there : HasDefinedType m place function
   pub typed : IsBodyTyped (function_context m function code.locals) instructions
 
 -- the same for instructions that are all enabled, not more than the fuel of a body allows, and with
 -- `disallow_traps` all without traps but `unreachable` (own rules)
-pub record IsDrawnAt (m : Parts) (place : ℕ) (code : Code) (instructions : List Instr) : Type 0 where
+pub record IsDrawnAt (m : ModuleParts) (place : ℕ) (code : Code) (instructions : List Instr) : Type 0 where
   pub body : IsBodyAt m place code instructions
   pub enabled : All (IsEnabled (module_features m) m.config.allowed_instructions) instructions
   pub trapless : IsTrue m.config.disallow_traps → All IsTrapless instructions
@@ -63,14 +63,14 @@ IsOfBody Is code body.Raw = IsRaw code.instructions
 IsOfBody Is code (body.Drawn instructions) = (¬ IsRaw code.instructions) × Is instructions
 
 -- a body for each function that a module defines
-pub record AreBodiesBy (Is : ℕ → Code → List Instr → Type 0) (m : Parts) (bodies : List Body) : Type 0 where
+pub record AreBodiesBy (Is : ℕ → Code → List Instr → Type 0) (m : ModuleParts) (bodies : List Body) : Type 0 where
   pub each : length bodies ≡ length m.code
   pub in_place : (place : ℕ) (code : Code) (body : Body) → slice_get m.code place ≡ Some code → slice_get bodies place ≡ Some body → IsOfBody (Is place code) code body
 
 -- bodies of the functions of a module
-abbrev pub AreBodiesOf : Parts → List Body → Type 0
+abbrev pub AreBodiesOf : ModuleParts → List Body → Type 0
 AreBodiesOf m bodies = AreBodiesBy (IsBodyAt m) m bodies
 
 -- bodies that were drawn for a module
-abbrev pub AreDrawnBodies : Parts → List Body → Type 0
+abbrev pub AreDrawnBodies : ModuleParts → List Body → Type 0
 AreDrawnBodies m bodies = AreBodiesBy (IsDrawnAt m) m bodies

@@ -4,7 +4,7 @@ use Rattle.smith_types.specs.declared.code.Code.{Code}
 use Rattle.smith_types.specs.declared.code.Instructions.{Instructions}
 use Rattle.smith_types.specs.declared.code.Instructions.TheVariants.{Arbitrary, Unreachable}
 use Rattle.smith_types.specs.declared.composite_type.FuncType.{FuncType}
-use Rattle.smith_definitions.specs.Module.{Parts, module_imports}
+use Rattle.smith_rules.specs.Module.{ModuleParts, module_imports}
 use Rattle.smith_code.specs.Bodies.{body_at}
 use Rattle.smith_code_nodes.specs.Offered.{function_in}
 use Rattle.smith_program.specs.Bodies.{function_context}
@@ -12,26 +12,26 @@ use Rattle.smith_program.specs.declared.program.Body.{Body}
 use Rattle.smith_program.specs.declared.program.Body.TheVariants as body
 
 -- the type of the defined function at a place, which a valid module has
-abbrev pub defined_at : Parts → ℕ → Option FuncType
-defined_at m place = function_in m.types (slice_get m.funcs (length (module_imports m).funcs + place))
+abbrev pub defined_func_type : ModuleParts → ℕ → Option FuncType
+defined_func_type m place = function_in m.types (slice_get m.funcs (length (module_imports m).funcs + place))
 
 -- the body of a function of this type
-abbrev pub body_of : Parts → Code → Option FuncType → List ℕ → Body × List ℕ
+abbrev pub body_of : ModuleParts → Code → Option FuncType → List ℕ → Body × List ℕ
 body_of m code (Some function) bytes =
     let drawn = body_at m.config (function_context m function code.locals) m.config.max_instructions bytes in
     (body.Drawn drawn.0, drawn.1)
 body_of m code None bytes = (body.Raw, bytes)
 
 -- that of the defined function at a place: raw bytes are kept, and no byte is read for them
-abbrev pub unless_raw : Parts → ℕ → Code → Instructions → List ℕ → Body × List ℕ
+abbrev pub unless_raw : ModuleParts → ℕ → Code → Instructions → List ℕ → Body × List ℕ
 unless_raw m place code (Arbitrary raw) bytes = (body.Raw, bytes)
-unless_raw m place code Unreachable bytes = body_of m code (defined_at m place) bytes
+unless_raw m place code Unreachable bytes = body_of m code (defined_func_type m place) bytes
 
-unfoldable pub one_at : Parts → ℕ → Code → List ℕ → Body × List ℕ
+unfoldable pub one_at : ModuleParts → ℕ → Code → List ℕ → Body × List ℕ
 one_at m place code bytes = unless_raw m place code code.instructions bytes
 
 -- those of the functions from a place, one after another
-abbrev pub bodies_from : Parts → ℕ → List Code → List ℕ → List Body × List ℕ
+abbrev pub bodies_from : ModuleParts → ℕ → List Code → List ℕ → List Body × List ℕ
 bodies_from m place [] bytes = ([], bytes)
 bodies_from m place (code ∷ more) bytes =
     let first = one_at m place code bytes in
@@ -39,5 +39,5 @@ bodies_from m place (code ∷ more) bytes =
     (first.0 ∷ rest.0, rest.1)
 
 -- the body of each function that a module defines, and the bytes left
-unfoldable pub bodies_at : Parts → List ℕ → List Body × List ℕ
+unfoldable pub bodies_at : ModuleParts → List ℕ → List Body × List ℕ
 bodies_at m bytes = bodies_from m 0 m.code bytes

@@ -4,14 +4,14 @@ use Rattle.smith_bytes.specs.Source.{IsPiece, KeepsPieces}
 use Rattle.smith_bytes.specs.declared.error.Error.{Error}
 use Rattle.smith_bytes.specs.declared.error.Error.TheVariants.{Memory}
 use Rattle.smith_config.specs.declared.config.Config.{Config}
-use Rattle.smith_definitions.specs.Module.{Parts}
+use Rattle.smith_rules.specs.Module.{ModuleParts}
 use Rattle.wasm_smith.specs.Generated.{IsGenerated}
 use Rattle.smith_program.specs.Bodies.{AreDrawnBodies}
 use Rattle.smith_program.specs.DrawnBodies.{bodies_at}
 use Rattle.smith_program.specs.declared.program.Program.{Program}
 
 -- a module that `Module::new` returns, and the bytes after it, of which some are left
-pub record IsModuleOf (given : Config) (bytes left : List ℕ) (m : Parts) : Type 0 where
+pub record IsModuleOf (given : Config) (bytes left : List ℕ) (m : ModuleParts) : Type 0 where
   pub after : List ℕ
   pub generated : IsGenerated false given bytes (Ok m) after
   pub source : KeepsPieces after left
@@ -24,7 +24,7 @@ pub record IsProgramOf (given : Config) (bytes left : List ℕ) (program : Progr
 -- memory runs out for the bodies of a module that is returned
 pub record LacksMemory (given : Config) (bytes left : List ℕ) (e : Error) : Type 0 where
   pub is : e ≡ Memory
-  pub m : Parts
+  pub m : ModuleParts
   pub of : IsModuleOf given bytes left m
 
 -- the answer for a configuration and the bytes of the source, of which some are left: a refusal is

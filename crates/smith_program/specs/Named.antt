@@ -1,11 +1,11 @@
 -- The parts of the context of bodies that are made from a module once.
 use Rattle.std.specs.Prelude.{◌≡◌, map}
 use Rattle.smith_types.specs.declared.segments.ElementSegment.{ElementSegment}
-use Rattle.smith_definitions.specs.Module.{Parts}
+use Rattle.smith_rules.specs.Module.{ModuleParts}
 use Rattle.smith_program.specs.References.{references_of}
 use Rattle.smith_program.specs.declared.bodies.Named.{Named}
 
 -- the types of the element segments, and the functions that `ref.func` may name
-pub record IsNamed (m : Parts) (named : Named) : Type 0 where
+pub record IsNamed (m : ModuleParts) (named : Named) : Type 0 where
   pub elements : named.elements ≡ map (λ (segment : ElementSegment). segment.ty) m.elems
   pub references : named.references ≡ references_of m

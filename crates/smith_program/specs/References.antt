@@ -9,7 +9,7 @@ use Rattle.smith_types.specs.declared.entity_type.ExportKind.TheVariants as kind
 use Rattle.smith_types.specs.declared.segments.ElementSegment.{ElementSegment}
 use Rattle.smith_types.specs.declared.segments.Elements.{Elements}
 use Rattle.smith_types.specs.declared.segments.Elements.TheVariants as elements
-use Rattle.smith_definitions.specs.Module.{Parts}
+use Rattle.smith_rules.specs.Module.{ModuleParts}
 
 -- the functions that an instruction of a constant expression names, and those that the expression
 -- does
@@ -36,7 +36,7 @@ named_by_table None = []
 
 -- the functions that a module names outside of its functions and its start function, each as often
 -- as it is named; an offset names none (Validation, Modules, C.refs)
-abbrev pub references_of : Parts → List ℕ
+abbrev pub references_of : ModuleParts → List ℕ
 references_of m =
     flat_map (λ (export : List ℕ × ExportKind × ℕ). exported_by export.1 export.2) m.exports
     ++ (flat_map (λ (segment : ElementSegment). named_by_elements segment.items) m.elems

@@ -6,7 +6,7 @@ use Rattle.smith_binary.specs.Numbers.{IsUnsigned}
 use Rattle.smith_binary.specs.Pieces.{Is, Joined, Each, IsList, IsSection}
 use Rattle.smith_types.specs.declared.code.Code.{Code}
 use Rattle.smith_types.specs.declared.value_type.ValType.{ValType}
-use Rattle.smith_definitions.specs.Module.{Parts}
+use Rattle.smith_rules.specs.Module.{ModuleParts}
 use Rattle.smith_sections.specs.Codes.{IsBody, IsLocals}
 use Rattle.smith_sections.specs.Data.{IsData}
 use Rattle.smith_sections.specs.Modules.{Contents}
@@ -91,7 +91,7 @@ around_some {X = X} m Code Some some piece h =
     behind_some (behind_some (behind_some (behind_some (behind_some (behind_some (behind_some (behind_some (behind_some (behind_some (behind_some (behind_some last))))))))))) piece h
 
 -- a module around the bodies of a program
-pub program_is : (m : Parts) (bodies : List Body) (piece : List ℕ) → IsModuleAround (contents_of m) (IsSectionIf (is_filled m.code) 10 (AreBodiesOf m.fuel_globals m.code bodies)) piece → IsProgramBinary m bodies piece
+pub program_is : (m : ModuleParts) (bodies : List Body) (piece : List ℕ) → IsModuleAround (contents_of m) (IsSectionIf (is_filled m.code) 10 (AreBodiesOf m.fuel_globals m.code bodies)) piece → IsProgramBinary m bodies piece
 program_is m bodies piece h =
     let (x, is) = around_some (contents_of m) (IsSectionIf (is_filled m.code) 10 (AreBodiesOf m.fuel_globals m.code bodies)) (λ (x : Expressions m.fuel_globals m.code bodies). IsListSection 10 IsBody (with_expressions m.code x.0))
     (code_read (is_filled m.code) m.fuel_globals m.code bodies (not_filled m.code)) piece h in

@@ -3,7 +3,7 @@ use Rattle.std.specs.Prelude.{ℕ, ◌⊎◌, List, Any}
 use Rattle.std.specs.List.{zip}
 use Rattle.smith_types.specs.declared.code.Code.{Code}
 use Rattle.smith_types.specs.declared.value_type.ValType.{ValType}
-use Rattle.smith_definitions.specs.Module.{Parts}
+use Rattle.smith_rules.specs.Module.{ModuleParts}
 use Rattle.smith_sections.specs.Codes.{body_of}
 use Rattle.smith_sections.specs.Long.{IsLongBody, IsLongContent, IsLongList, IsNeverLong}
 use Rattle.smith_encode.specs.TooLong.{IsTooLong}
@@ -30,5 +30,5 @@ abbrev pub AreLongBodies : List ℕ → List Code → List Body → Type 0
 AreLongBodies counters codes bodies = IsLongList (IsLongBodyOf counters) (zip codes bodies)
 
 -- the module is too long, or its bodies are
-abbrev pub IsLongProgram : Parts → List Body → Type 0
+abbrev pub IsLongProgram : ModuleParts → List Body → Type 0
 IsLongProgram m bodies = IsTooLong m ⊎ (AreLongBodies m.fuel_globals m.code bodies ⊎ IsLongContent (AreBodiesOf m.fuel_globals m.code bodies))

@@ -3,7 +3,7 @@ use Rattle.std.specs.Prelude.{ℕ, List, map}
 use Rattle.std.specs.List.{AllZip, zip}
 use Rattle.smith_types.specs.declared.code.Code.{Code}
 use Rattle.smith_types.specs.declared.value_type.ValType.{ValType}
-use Rattle.smith_definitions.specs.Module.{Parts}
+use Rattle.smith_rules.specs.Module.{ModuleParts}
 use Rattle.smith_sections.specs.Modules.{Contents, IsModule}
 use Rattle.smith_encode.specs.Contents.{contents_of}
 use Rattle.smith_program.specs.declared.program.Body.{Body}
@@ -18,11 +18,11 @@ abbrev pub with_expressions : List Code → List (List ℕ) → List (List ValTy
 with_expressions codes expressions = zip (map (λ (code : Code). code.locals) codes) expressions
 
 -- the module, with these bytes of expressions
-abbrev pub program_contents : Parts → List (List ℕ) → Contents
+abbrev pub program_contents : ModuleParts → List (List ℕ) → Contents
 program_contents m expressions = record (contents_of m) { bodies = with_expressions m.code expressions }
 
 -- bytes are the module in the binary format, in which the bytes of each function's expression are those of its body
-pub record IsProgramBinary (m : Parts) (bodies : List Body) (bytes : List ℕ) : Type 0 where
+pub record IsProgramBinary (m : ModuleParts) (bodies : List Body) (bytes : List ℕ) : Type 0 where
   pub expressions : List (List ℕ)
   pub each : AreExpressionsOf m.fuel_globals (zip m.code bodies) expressions
   pub spelled : IsModule (program_contents m expressions) bytes

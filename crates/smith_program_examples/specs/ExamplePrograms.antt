@@ -9,9 +9,9 @@ use Rattle.smith_types.specs.declared.imports.Imports.TheVariants.{Single}
 use Rattle.smith_types.specs.declared.value_type.ValType.TheVariants.{I32}
 use Rattle.smith_config.specs.declared.config.Config.{Config}
 use Rattle.smith_config.specs.Config.{default_config}
-use Rattle.smith_definitions.specs.Module.{Parts}
-use Rattle.smith_examples.specs.ExampleModules.{empty_module, group_of}
-use Rattle.smith_examples.specs.ExampleParts.{import_named, trapping}
+use Rattle.smith_rules.specs.Module.{ModuleParts}
+use Rattle.smith_rules_examples.specs.ExampleModules.{empty_module, group_of}
+use Rattle.smith_rules_examples.specs.ExampleParts.{import_named, trapping}
 use Rattle.smith_instr_examples.specs.ExampleBodies.{number}
 use Rattle.smith_code_examples.specs.ExampleBytes.{narrow}
 use Rattle.smith_program.specs.declared.program.Body.{Body}
@@ -22,7 +22,7 @@ abbrev pub one_unit : Config
 one_unit = record default_config { max_instructions = 1; allow_invalid_funcs = true }
 
 -- a function of this type
-abbrev pub one_of : CompositeInnerType → Parts
+abbrev pub one_of : CompositeInnerType → ModuleParts
 one_of ty = record (empty_module one_unit) {
   types = final_type ty ∷ [];
   groups = group_of 0 1 ∷ [];
@@ -33,13 +33,13 @@ one_of ty = record (empty_module one_unit) {
 }
 
 -- a function that takes and gives nothing, one that gives an i32, and two of these
-abbrev pub plain : Parts
+abbrev pub plain : ModuleParts
 plain = one_of plain_func
 
-abbrev pub narrow_function : Parts
+abbrev pub narrow_function : ModuleParts
 narrow_function = one_of (giving (I32 ∷ []))
 
-abbrev pub two_functions : Parts
+abbrev pub two_functions : ModuleParts
 two_functions = record narrow_function { funcs = 0 ∷ 0 ∷ []; num_defined_funcs = 2; code = trapping ∷ trapping ∷ [] }
 
 -- a body of raw bytes
@@ -47,11 +47,11 @@ abbrev pub raw : Code
 raw = record { locals = []; instructions = Arbitrary (7 ∷ 8 ∷ []) }
 
 -- two such functions, and between them one with raw bytes
-abbrev pub raw_between : Parts
+abbrev pub raw_between : ModuleParts
 raw_between = record narrow_function { funcs = 0 ∷ 0 ∷ 0 ∷ []; num_defined_funcs = 3; code = trapping ∷ raw ∷ trapping ∷ [] }
 
 -- an imported function that gives nothing, and a function that gives an i32
-abbrev pub after_an_import : Parts
+abbrev pub after_an_import : ModuleParts
 after_an_import = record narrow_function {
   types = final_type plain_func ∷ final_type (giving (I32 ∷ [])) ∷ [];
   groups = group_of 0 1 ∷ group_of 1 2 ∷ [];

@@ -1,7 +1,7 @@
 ghost use Rattle.std.specs.Prelude.{◌≡◌, [], ◌∷◌, ◌++◌};
 ghost use Rattle.smith_config.specs.Config.{default_config};
-ghost use Rattle.smith_examples.specs.ExampleModules.{empty_module};
-ghost use Rattle.smith_examples.specs.ExampleParts.{trapping};
+ghost use Rattle.smith_rules_examples.specs.ExampleModules.{empty_module};
+ghost use Rattle.smith_rules_examples.specs.ExampleParts.{trapping};
 ghost use Rattle.smith_instr.specs.declared.control.BlockType.TheVariants as block;
 ghost use Rattle.smith_instr.specs.declared.instr.Instr.TheVariants as instr;
 ghost use Rattle.smith_instr.specs.declared.numeric.IntBinary.TheVariants.{Sub};

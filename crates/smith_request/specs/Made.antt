@@ -16,7 +16,7 @@ pub data IsConfigured (text : List ℕ) (config : Config) : Type 0 where
 
 -- a possible answer of the generator for a configuration and an input: all that it promises holds
 -- of it
-pub record Answers (config : Config) (input : List ℕ) (answer : Result Program Error) : Type 0 where
+pub record IsProgramAnswer (config : Config) (input : List ℕ) (answer : Result Program Error) : Type 0 where
   pub left : List ℕ
   pub generated : IsProgram config input answer left
 
@@ -24,7 +24,7 @@ pub record Answers (config : Config) (input : List ℕ) (answer : Result Program
 pub record AnswersText (text input : List ℕ) (answer : Result Program Error) : Type 0 where
   pub config : Config
   pub configured : IsConfigured text config
-  pub answers : Answers config input answer
+  pub answers : IsProgramAnswer config input answer
 
 -- the bytes are that program in the binary format, with the sections that its module requires
 pub record IsBinary (text input bytes : List ℕ) : Type 0 where

@@ -1,6 +1,6 @@
 ghost use Rattle.std.specs.Prelude.{◌≡◌, ℕ, List, [], Ok, Err, IfOk, IfErr};
 ghost use Rattle.smith_json.specs.Objects.{ReadsText};
-ghost use Rattle.smith_request.specs.Made.{IsConfigured, Answers, AnswersText, IsBinary, HasProgram};
+ghost use Rattle.smith_request.specs.Made.{IsConfigured, IsProgramAnswer, AnswersText, IsBinary, HasProgram};
 ghost use Rattle.smith_request.specs.Refusals.{IsRefusal, IsNotTooLong};
 
 use crate::refusal::Refusal;
@@ -38,7 +38,7 @@ fn configured(alloc: Global, text: &[u8]) -> Result<Config, Refusal>
 }
 
 fn drawn(alloc: Global, config: Config, input: &[u8]) -> Result<Program, Error>
-    ensures { Answers config input.now result }
+    ensures { IsProgramAnswer config input.now result }
 {
     Program::new(alloc, config, &mut Unstructured::new(input))
 }

@@ -6,7 +6,7 @@ use Rattle.smith_bytes.specs.declared.error.Error.{Error}
 use Rattle.smith_bytes.specs.declared.error.Error.TheVariants.{Memory}
 use Rattle.smith_config.specs.Config.{default_config}
 use Rattle.wasm_smith.specs.Generated.{IsGenerated}
-use Rattle.smith_definitions.specs.Module.{Parts}
+use Rattle.smith_rules.specs.Module.{ModuleParts}
 use Rattle.smith_run.specs.declared.run.Outcome.{Outcome}
 use Rattle.smith_run.specs.declared.run.RunFault.{RunFault}
 use Rattle.smith_run.specs.declared.run.RunFault.TheVariants as fault
@@ -15,14 +15,14 @@ use Rattle.smith_run.specs.Line.{line_of}
 use Rattle.smith_run.specs.Run.{MayAnswer, IsAnswered, IsUnread, outcome_of}
 
 -- the line of a possible answer was written
-pub answer_told : (drawn : Bool) (left : Option (List ℕ)) (input : List ℕ) (answer : Result Parts Error) (before after : Option (List ℕ)) (result : Result Outcome RunFault)
+pub answer_told : (drawn : Bool) (left : Option (List ℕ)) (input : List ℕ) (answer : Result ModuleParts Error) (before after : Option (List ℕ)) (result : Result Outcome RunFault)
     → AreKnown left input → MayAnswer drawn input answer → OnOk result (Appends before after (line_of answer)) → IfOk result (λ outcome. outcome ≡ outcome_of answer)
     → IfOk result (λ outcome. IsAnswered drawn left before after outcome ⊎ IsUnread before after outcome)
 answer_told drawn left input answer before after (Ok outcome) read allowed written told = inl (record { input = input; answer = answer; read = read; allowed = allowed; written = written; told = told })
 answer_told drawn left input answer before after (Err e) read allowed written told = search rules
 
 -- an answer for the default configuration is possible if no configuration is drawn
-pub answered_by_default : (drawn : Bool) (input : List ℕ) (answer : Result Parts Error) (left : List ℕ) → drawn ≡ false → IsGenerated false default_config input answer left → IfErr answer (λ e. e ≡ Memory) → MayAnswer drawn input answer
+pub answered_by_default : (drawn : Bool) (input : List ℕ) (answer : Result ModuleParts Error) (left : List ℕ) → drawn ≡ false → IsGenerated false default_config input answer left → IfErr answer (λ e. e ≡ Memory) → MayAnswer drawn input answer
 answered_by_default false input answer left off generated memory_alone = record { answered = record { left = left; generated = generated }; memory_alone = memory_alone }
 answered_by_default true input answer left off generated memory_alone = cc
 

@@ -1,8 +1,8 @@
 -- The lines that the program writes to standard output.
 use Rattle.std.specs.Prelude.{ℕ, List, ◌++◌, length, Option, Some, None, Result, Ok, Err, codes, decimal}
 use Rattle.smith_bytes.specs.declared.error.Error.{Error}
-use Rattle.smith_bytes.specs.ErrorNames.{kind_name}
-use Rattle.smith_definitions.specs.Module.{Parts}
+use Rattle.smith_bytes.specs.ErrorNames.{refusal_name}
+use Rattle.smith_rules.specs.Module.{ModuleParts}
 
 -- an index in decimal digits, or the word for none
 abbrev pub index_or_none : Option ℕ → List ℕ
@@ -10,7 +10,7 @@ index_or_none (Some index) = decimal index
 index_or_none None = codes "none"
 
 -- the number of items of each kind of a module, and its start function
-unfoldable pub counts_line : Parts → List ℕ
+unfoldable pub counts_line : ModuleParts → List ℕ
 counts_line parts =
     codes "types " ++ decimal (length parts.types)
     ++ codes " groups " ++ decimal (length parts.groups)
@@ -27,6 +27,6 @@ counts_line parts =
     ++ codes "\n"
 
 -- the line that reports a module or a refusal
-abbrev pub line_of : Result Parts Error → List ℕ
+abbrev pub line_of : Result ModuleParts Error → List ℕ
 line_of (Ok parts) = counts_line parts
-line_of (Err refusal) = codes "refused: " ++ kind_name refusal ++ codes "\n"
+line_of (Err refusal) = codes "refused: " ++ refusal_name refusal ++ codes "\n"

@@ -7,7 +7,7 @@ use Rattle.smith_config.specs.Arbitrary.{config_at}
 use Rattle.smith_config.specs.Config.{default_config}
 use Rattle.smith_config.specs.declared.config.Config.{Config}
 use Rattle.wasm_smith.specs.Generated.{IsGenerated}
-use Rattle.smith_definitions.specs.Module.{Parts}
+use Rattle.smith_rules.specs.Module.{ModuleParts}
 use Rattle.smith_run.specs.declared.run.Outcome.{Outcome}
 use Rattle.smith_run.specs.declared.run.Outcome.TheVariants.{Made, Refused}
 use Rattle.smith_run.specs.declared.run.RunFault.{RunFault}
@@ -16,30 +16,30 @@ use Rattle.smith_run.specs.Line.{line_of}
 
 -- a possible answer of the generator for a configuration and bytes, of which some are left: all
 -- that it promises holds of it
-pub record Answers (config : Config) (bytes : List ℕ) (answer : Result Parts Error) : Type 0 where
+pub record IsModuleAnswer (config : Config) (bytes : List ℕ) (answer : Result ModuleParts Error) : Type 0 where
   pub left : List ℕ
   pub generated : IsGenerated false config bytes answer left
 
 -- a possible answer for the default configuration: a module, or lack of memory
-pub record AnswersByDefault (bytes : List ℕ) (answer : Result Parts Error) : Type 0 where
-  pub answered : Answers default_config bytes answer
+pub record AnswersByDefault (bytes : List ℕ) (answer : Result ModuleParts Error) : Type 0 where
+  pub answered : IsModuleAnswer default_config bytes answer
   pub memory_alone : IfErr answer (λ e. e ≡ Memory)
 
 -- a possible answer for the input: for the default configuration, or for the one that is drawn
 -- first from the input, and the bytes left after it
-abbrev pub MayAnswer : Bool → List ℕ → Result Parts Error → Type 0
+abbrev pub MayAnswer : Bool → List ℕ → Result ModuleParts Error → Type 0
 MayAnswer false input answer = AnswersByDefault input answer
-MayAnswer true input answer = let drawn = config_at input in Answers drawn.0 drawn.1 answer
+MayAnswer true input answer = let drawn = config_at input in IsModuleAnswer drawn.0 drawn.1 answer
 
 -- the outcome that reports an answer
-abbrev pub outcome_of : Result Parts Error → Outcome
+abbrev pub outcome_of : Result ModuleParts Error → Outcome
 outcome_of (Ok _) = Made
 outcome_of (Err refusal) = Refused refusal
 
 -- the written line reports an answer for the reader's bytes
 pub record IsAnswered (drawn : Bool) (left : Option (List ℕ)) (before after : Option (List ℕ)) (outcome : Outcome) : Type 0 where
   pub input : List ℕ
-  pub answer : Result Parts Error
+  pub answer : Result ModuleParts Error
   pub read : AreKnown left input
   pub allowed : MayAnswer drawn input answer
   pub written : Appends before after (line_of answer)

@@ -1,6 +1,6 @@
 ghost use Rattle.std.specs.Prelude.{◌≡◌, ◌+◌, ◌≤◌, ◌++◌, length, decimal, codes};
 ghost use Rattle.arrayvec.specs.ArrayString.{array_string_len};
-ghost use Rattle.smith_bytes.specs.ErrorNames.{kind_name};
+ghost use Rattle.smith_bytes.specs.ErrorNames.{refusal_name};
 ghost use Rattle.smith_run.specs.Line.{line_of, counts_line, index_or_none};
 
 use arrayvec::ArrayString;
@@ -61,7 +61,7 @@ fn push_start(line: &mut Line, start: Option<u32>)
 }
 
 fn refused(refusal: &Error) -> Line
-    ensures { result.bytes ≡ codes "refused: " ++ kind_name refusal.now ++ codes "\n" }
+    ensures { result.bytes ≡ codes "refused: " ++ refusal_name refusal.now ++ codes "\n" }
 {
     let mut line = Line::new();
     line.push_str("refused: ");

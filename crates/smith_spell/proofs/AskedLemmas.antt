@@ -7,7 +7,7 @@ use Rattle.smith_bytes.specs.declared.error.Count.TheVariants.{Types, Imports, T
 use Rattle.smith_config.specs.declared.config.Config.{Config}
 use Rattle.smith_config.specs.Faults.{counts, minimum_of}
 use Rattle.smith_config.specs.Sanitized.{sanitized}
-use Rattle.smith_spell.specs.Minimums.{HasNoMinimums}
+use Rattle.smith_config.specs.Minimums.{HasNoMinimums}
 use Rattle.smith_spell.specs.Decided.{AsksForNothing}
 
 -- there are no minimums if each is 0

@@ -4,13 +4,12 @@ use Rattle.std.specs.Prelude.{slice_get, All, if◌then◌else◌}
 use Rattle.std.proofs.Math.ListN.{drop_of_length-le}
 use Rattle.std.proofs.lemmas.Option.{same_Some, slice_get_within, get_or_from_slice_get}
 use Rattle.smith_bytes.specs.Spelling.{Listed}
-use Rattle.smith_types.specs.Entities.{IsFuncValid}
+use Rattle.smith_types.specs.Entities.{IsFuncTypeIndex}
 use Rattle.smith_types.specs.declared.composite_type.SubType.{SubType}
 use Rattle.smith_config.specs.declared.config.Config.{Config}
-use Rattle.smith_draw.specs.TypeUses.{is_unshared_function, places_from, may_be_used}
+use Rattle.smith_draw.specs.TypeUses.{is_unshared_function, places_from, may_be_used, func_types}
 use Rattle.smith_draw.specs.declared.type_use.TypeUse.TheVariants.{DefinedFunc}
-use Rattle.smith_spell.specs.FuncTypes.{func_types}
-use Rattle.smith_spell.specs.Spelling.{SpellsFuncs}
+use Rattle.smith_draw.specs.SpelledParts.{SpellsFuncs}
 use Rattle.smith_spell.specs.Written.{ArePlaces}
 
 -- for each item, how many items before it pass a test, plus n
@@ -57,7 +56,7 @@ place_found test m (y ∷ ys) (suc place) x at passes =
     found_turn (test y) m (m + suc place) (places_from test (suc m) ys) (places_from test (suc m) (take place ys)) (place_found test (suc m) ys place x at passes ∙ ap Some next)
 
 -- the type of a function is at its place
-pub func_place : (types : List SubType) (places : List ℕ) (func d : ℕ) → ArePlaces types places → All (λ (t : SubType). t.composite_type.shared ≡ false) types → IsFuncValid types func
+pub func_place : (types : List SubType) (places : List ℕ) (func d : ℕ) → ArePlaces types places → All (λ (t : SubType). t.composite_type.shared ≡ false) types → IsFuncTypeIndex types func
     → slice_get (func_types types) (get_or places func d) ≡ Some func
 unfolding is_unshared_function
 func_place types places func d are unshared (function, (t, at, is)) =
@@ -68,7 +67,7 @@ func_place types places func d are unshared (function, (t, at, is)) =
     rw (are.told func d inside) (found ∙ ap Some same)
 
 -- if no type may be that of a function, there is no function
-pub no_funcs : (config : Config) (types : List SubType) (funcs : List ℕ) → length (func_types types) ≡ 0 → All (λ (t : SubType). t.composite_type.shared ≡ false) types → All (IsFuncValid types) funcs → SpellsFuncs config types funcs []
+pub no_funcs : (config : Config) (types : List SubType) (funcs : List ℕ) → length (func_types types) ≡ 0 → All (λ (t : SubType). t.composite_type.shared ≡ false) types → All (IsFuncTypeIndex types) funcs → SpellsFuncs config types funcs []
 unfolding Listed
 no_funcs config types [] none unshared valid = rw none refl
 no_funcs config types (func ∷ funcs) none unshared valid =
@@ -76,5 +75,5 @@ no_funcs config types (func ∷ funcs) none unshared valid =
     let stands = func_place types places func 0 (places_told types places refl) unshared (valid 0 func (omega arith)) in
     absurd (omega (arith, slice_get_within (func_types types) (get_or places func 0) func stands, none))
 
-pub func_inside : (types : List SubType) (places : List ℕ) (func : ℕ) → ArePlaces types places → IsFuncValid types func → func < length places
+pub func_inside : (types : List SubType) (places : List ℕ) (func : ℕ) → ArePlaces types places → IsFuncTypeIndex types func → func < length places
 func_inside types places func are (function, (t, at, is)) = omega (arith, slice_get_within types func t at, are.sized)

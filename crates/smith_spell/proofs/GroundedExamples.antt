@@ -16,7 +16,7 @@ use Rattle.smith_types.specs.ExampleTypes.{plain}
 use Rattle.smith_draw.specs.Spelling.{IsRoot}
 use Rattle.smith_spell.specs.declared.earlier.Known.{Known}
 use Rattle.smith_spell.specs.Decided.{IsKnown}
-use Rattle.smith_spell.specs.ExampleMembers.{final, alone}
+use Rattle.smith_config.specs.ExampleMembers.{final, alone}
 use Rattle.smith_spell.proofs.KnownLemmas.{abstract_known, concrete_known}
 
 -- facts about one type

@@ -1,4 +1,3 @@
-pub mod EachPlaceLemmas
 pub mod FamilyFitLemmas
 pub mod WrittenLemmas
 pub mod DigitLemmas

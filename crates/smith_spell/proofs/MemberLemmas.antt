@@ -5,7 +5,7 @@ use Rattle.std.specs.List.{flat_map}
 use Rattle.std.proofs.lemmas.Option.{same_Some}
 use Rattle.smith_types.specs.declared.composite_type.SubType.{SubType}
 use Rattle.smith_config.specs.declared.config.Config.{Config}
-use Rattle.smith_types.specs.Entities.{IsFuncValid}
+use Rattle.smith_types.specs.Entities.{IsFuncTypeIndex}
 use Rattle.smith_types.specs.Groups.{space_of}
 use Rattle.smith_spell.specs.Family.{IsMemberType, IsInFamily}
 use Rattle.smith_spell.specs.Decided.{AreMembersAfter, AreGroupsInFamily}
@@ -72,7 +72,7 @@ module _ (config : Config) where
     members = all_after [] (space_of groups).types h.each_type;
   }
 
-  pub family_of_groups : (groups : List (List SubType)) (funcs : List ℕ) → AreGroupsInFamily config groups → length funcs ≤ config.max_funcs → All (IsFuncValid (space_of groups).types) funcs → IsInFamily config groups funcs
+  pub family_of_groups : (groups : List (List SubType)) (funcs : List ℕ) → AreGroupsInFamily config groups → length funcs ≤ config.max_funcs → All (IsFuncTypeIndex (space_of groups).types) funcs → IsInFamily config groups funcs
   family_of_groups groups funcs h few valid = record {
     filled = h.filled;
     single = h.single;

@@ -10,7 +10,8 @@ use Rattle.smith_config.specs.declared.config.Config.{Config}
 use Rattle.smith_draw.specs.TypeUses.{places_from}
 use Rattle.smith_draw.specs.Spelling.{SpellsGroups}
 use Rattle.smith_spell.specs.Family.{IsInFamily}
-use Rattle.smith_spell.specs.Spelling.{SpellsMember, SpellsNoTag, SpellsFuncs}
+use Rattle.smith_spell.specs.Spelling.{SpellsMember}
+use Rattle.smith_draw.specs.SpelledParts.{SpellsNoTag, SpellsFuncs}
 use Rattle.smith_spell.specs.Written.{Writes}
 use Rattle.smith_spell.proofs.WrittenLemmas.{joined_written, written_as}
 use Rattle.smith_spell.proofs.GroupsWrittenLoop.{at_place}

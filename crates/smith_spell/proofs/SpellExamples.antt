@@ -1,7 +1,7 @@
 -- Facts that the examples of spelled lists share.
 use Rattle.std.proofs.Common.{rules, arith, List, [], ◌∷◌, take, refl, inr, false}
 use Rattle.std.proofs.lemmas.List.Elements.{All-from_recursion}
-use Rattle.smith_types.specs.Entities.{IsFuncValid}
+use Rattle.smith_types.specs.Entities.{IsFuncTypeIndex}
 use Rattle.smith_types.specs.declared.value_type.HeapType.TheVariants.{Concrete}
 use Rattle.smith_types.specs.declared.value_type.ValType.TheVariants.{Ref}
 use Rattle.smith_types.specs.declared.composite_type.StorageType.TheVariants.{Val}
@@ -10,8 +10,8 @@ use Rattle.smith_types.specs.ExampleTypes.{constant, not_null}
 use Rattle.smith_config.specs.Config.{default_config}
 use Rattle.smith_spell.specs.Family.{IsMemberField, IsMemberType, IsInFamily}
 use Rattle.smith_spell.specs.SpellAnswers.{IsSpellable}
-use Rattle.smith_spell.specs.ExampleMembers.{final, alone, one_function_type, plain_function, struct_of_bytes, struct_with, struct_and_holder, with_non_nullable}
-use Rattle.smith_spell.proofs.EachPlaceLemmas.{each_place}
+use Rattle.smith_config.specs.ExampleMembers.{final, alone, one_function_type, plain_function, struct_of_bytes, struct_with, struct_and_holder, with_non_nullable}
+use Rattle.smith_types.proofs.EachPlaceLemmas.{each_place}
 use Rattle.smith_spell.proofs.GroundedExamples.{grounds_itself}
 
 function_member : IsMemberType default_config [] (final plain_function)
@@ -25,7 +25,7 @@ function_in_family = record {
   few_types = omega arith;
   each_type = each_place (λ index t. IsMemberType default_config (take index (alone plain_function)) t) (alone plain_function) (function_member, tt);
   few_funcs = omega arith;
-  each_func = All-from_recursion (IsFuncValid (final plain_function ∷ [])) (0 ∷ []) ((record { params = []; results = [] }, (final plain_function, refl, refl)), tt);
+  each_func = All-from_recursion (IsFuncTypeIndex (final plain_function ∷ [])) (0 ∷ []) ((record { params = []; results = [] }, (final plain_function, refl, refl)), tt);
 }
 
 -- the types of a struct, and of one that holds a reference to it

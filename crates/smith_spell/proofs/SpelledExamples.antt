@@ -12,8 +12,9 @@ use Rattle.smith_draw.specs.ValueTypes.{value_classes}
 use Rattle.smith_draw.specs.Spelling.{SpellsPlace, SpellsNullable, SpellsRefType, SpellsUnshared, SpellsGroups, SpellsGroup, SpellsSubTypes, SpellsFuncType}
 use Rattle.smith_draw.specs.SpelledConstants.{SpellsI32, SpellsConstant}
 use Rattle.smith_draw.specs.TypeUses.{is_tag_type, is_unshared_function}
-use Rattle.smith_spell.specs.Spelling.{SpellsMember, SpellsGlobal}
-use Rattle.smith_spell.specs.ExampleMembers.{one_function_type}
+use Rattle.smith_spell.specs.Spelling.{SpellsMember}
+use Rattle.smith_draw.specs.SpelledParts.{SpellsGlobal}
+use Rattle.smith_config.specs.ExampleMembers.{one_function_type}
 
 -- one piece after another
 pub joined : {First Second : List ℕ → Type 0} (first second : List ℕ) → First first → Second second → Joined First Second (first ++ second)

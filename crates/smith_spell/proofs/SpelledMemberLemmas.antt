@@ -23,7 +23,8 @@ use Rattle.smith_config.specs.Shapes.{space_of}
 use Rattle.smith_draw.specs.RecGroups.{types_at}
 use Rattle.smith_draw.specs.Spelling.{GroupsFit}
 use Rattle.smith_draw.proofs.SpelledGroupLemmas.{types_read}
-use Rattle.smith_spell.specs.Spelling.{SpellsMember, SpellsNoTag, SpellsFuncs}
+use Rattle.smith_spell.specs.Spelling.{SpellsMember}
+use Rattle.smith_draw.specs.SpelledParts.{SpellsNoTag, SpellsFuncs}
 
 -- the bytes after the groups
 abbrev pub SpellsBehindGroups : Config → List SubType → List ℕ → List ℕ → Type 0

@@ -12,7 +12,7 @@ use Rattle.smith_config.specs.InUse.{HasNoShapes}
 use Rattle.smith_draw.specs.Spelling.{IsRoot}
 use Rattle.smith_spell.specs.declared.earlier.Known.{Known}
 use Rattle.smith_spell.specs.Family.{IsMemberType}
-use Rattle.smith_spell.specs.Minimums.{HasNoMinimums}
+use Rattle.smith_config.specs.Minimums.{HasNoMinimums}
 
 -- the configuration imposes no minimums, shapes or export-everything
 pub record AsksForNothing (config : Config) : Type 0 where

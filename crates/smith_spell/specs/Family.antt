@@ -3,7 +3,7 @@
 -- that produce it.
 use Rattle.std.specs.Prelude.{◌≡◌, ℕ, ◌<◌, ◌≤◌, ◌⊎◌, false, IsTrue, List, Some, None, length, slice_get, take, All}
 use Rattle.std.specs.List.{Contains}
-use Rattle.smith_types.specs.Entities.{IsFuncValid}
+use Rattle.smith_types.specs.Entities.{IsFuncTypeIndex}
 use Rattle.smith_types.specs.Grounded.{IsGroundedByStructs}
 use Rattle.smith_types.specs.declared.value_type.HeapType.{HeapType}
 use Rattle.smith_types.specs.declared.value_type.HeapType.TheVariants.{Abstract, Concrete, Exact}
@@ -86,4 +86,4 @@ pub record IsInFamily (config : Config) (groups : List (List SubType)) (funcs : 
   pub few_types : length (space_of groups).types ≤ config.max_types
   pub each_type : (index : ℕ) (t : SubType) → slice_get (space_of groups).types index ≡ Some t → IsMemberType config (take index (space_of groups).types) t
   pub few_funcs : length funcs ≤ config.max_funcs
-  pub each_func : All (IsFuncValid (space_of groups).types) funcs
+  pub each_func : All (IsFuncTypeIndex (space_of groups).types) funcs

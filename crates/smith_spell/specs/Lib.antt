@@ -1,9 +1,6 @@
-pub mod FuncTypes
 pub mod Family
-pub mod Minimums
 pub mod Decided
 pub mod Spelling
 pub mod SpellAnswers
 pub mod Written
 pub mod ReadLaws
-pub mod ExampleMembers

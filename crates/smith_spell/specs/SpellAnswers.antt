@@ -8,7 +8,7 @@ use Rattle.smith_config.specs.declared.config.Config.{Config}
 use Rattle.smith_config.specs.Faults.{Passes}
 use Rattle.smith_config.specs.InUse.{HasNoShapes}
 use Rattle.smith_config.specs.Sanitized.{sanitized}
-use Rattle.smith_spell.specs.Minimums.{HasNoMinimums}
+use Rattle.smith_config.specs.Minimums.{HasNoMinimums}
 use Rattle.smith_spell.specs.Family.{IsInFamily}
 use Rattle.smith_spell.specs.Spelling.{SpellsMember}
 

@@ -6,7 +6,7 @@ use Rattle.smith_types.specs.declared.composite_type.SubType.{SubType}
 use Rattle.smith_config.specs.declared.config.Config.{Config}
 use Rattle.smith_draw.specs.Spelling.{is_open}
 use Rattle.smith_spell.specs.Family.{IsMemberType}
-use Rattle.smith_spell.specs.FuncTypes.{func_types}
+use Rattle.smith_draw.specs.TypeUses.{func_types}
 use Rattle.smith_spell.specs.declared.sub_types.Before.{Before}
 
 -- the new bytes are the old ones followed by a piece with this property

@@ -2,7 +2,7 @@ ghost use Rattle.std.specs.Prelude.{◌≡◌, ◌↔◌, IsTrue, All, map};
 ghost use Rattle.smith_config.specs.Faults.{counts, minimum_of};
 ghost use Rattle.smith_config.specs.InUse.{HasNoShapes};
 ghost use Rattle.smith_config.specs.Sanitized.{sanitized};
-ghost use Rattle.smith_spell.specs.Minimums.{HasNoMinimums};
+ghost use Rattle.smith_config.specs.Minimums.{HasNoMinimums};
 ghost use Rattle.smith_spell.specs.Decided.{AsksForNothing};
 
 use smith_config::Config;

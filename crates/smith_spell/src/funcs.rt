@@ -1,10 +1,9 @@
 ghost use Rattle.std.specs.Prelude.{◌≡◌, ◌≤◌, false, OnOk, IfOk, IfErr, length, All};
 ghost use Rattle.smith_bytes.specs.declared.error.Error.TheVariants.{Memory};
-ghost use Rattle.smith_types.specs.Entities.{IsFuncValid};
+ghost use Rattle.smith_types.specs.Entities.{IsFuncTypeIndex};
 ghost use Rattle.smith_types.specs.declared.composite_type.SubType.{SubType as Sub};
-ghost use Rattle.smith_draw.specs.TypeUses.{is_unshared_function};
-ghost use Rattle.smith_spell.specs.FuncTypes.{func_types};
-ghost use Rattle.smith_spell.specs.Spelling.{SpellsFuncs};
+ghost use Rattle.smith_draw.specs.TypeUses.{is_unshared_function, func_types};
+ghost use Rattle.smith_draw.specs.SpelledParts.{SpellsFuncs};
 ghost use Rattle.smith_spell.specs.Written.{Writes, ArePlaces};
 
 use crate::pieces::{write_bool, write_end, write_number};
@@ -50,7 +49,7 @@ pub(crate) fn write_funcs(
 ) -> Result<(), Error>
     requires few { length funcs.now ≤ config.now.max_funcs }
     requires unshared { All (λ (t : Sub). t.composite_type.shared ≡ false) types.now }
-    requires valid { All (IsFuncValid types.now) funcs.now }
+    requires valid { All (IsFuncTypeIndex types.now) funcs.now }
     ensures writes { OnOk result (Writes (SpellsFuncs config.now types.now funcs.now) bytes.old bytes.new) }
     ensures memory { IfErr result (λ e. e ≡ Memory) }
 {

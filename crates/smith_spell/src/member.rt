@@ -5,7 +5,8 @@ ghost use Rattle.smith_bytes.specs.Spelling.{SpellsAnyByte, Joined, SpellsNone};
 ghost use Rattle.smith_types.specs.Groups.{space_of};
 ghost use Rattle.smith_draw.specs.TypeUses.{is_tag_type};
 ghost use Rattle.smith_spell.specs.Family.{IsInFamily};
-ghost use Rattle.smith_spell.specs.Spelling.{SpellsMember, SpellsNoTag};
+ghost use Rattle.smith_spell.specs.Spelling.{SpellsMember};
+ghost use Rattle.smith_draw.specs.SpelledParts.{SpellsNoTag};
 ghost use Rattle.smith_spell.specs.Written.{Writes};
 
 use crate::funcs::write_funcs;

@@ -1,12 +1,15 @@
 -- Constant expressions, built instruction by instruction.
-use Rattle.std.proofs.Common.{List, [], ◌∷◌, ◌++◌, refl}
+use Rattle.std.proofs.Common.{List, [], ◌∷◌, ◌++◌, refl, ℤ}
 use Rattle.std.specs.List.{AllZip}
 use Rattle.std.specs.Prelude.{All}
+use Rattle.std.proofs.lemmas.List.Elements.{All-nil, All-cons}
 use Rattle.smith_types.specs.declared.value_type.ValType.{ValType}
 use Rattle.smith_types.specs.declared.const_instr.ConstInstr.{ConstInstr}
 use Rattle.smith_types.specs.Flags.{IsInstrEnabled}
 use Rattle.smith_types.specs.Subtyping.{IsValBelow}
 use Rattle.smith_types.specs.Expressions.{Context, HasType, IsStackStep, IsConstExpr}
+use Rattle.smith_types.specs.declared.value_type.ValType.TheVariants.{I32}
+use Rattle.smith_types.specs.declared.const_instr.ConstInstr.TheVariants.{I32Const}
 
 -- one instruction takes its operands from the top and leaves the rest
 pub one_step : (context : Context) (instruction : ConstInstr) (operands : List ValType) (result : ValType) (rest taken : List ValType) → HasType context instruction operands result → AllZip (IsValBelow context.types) taken operands
@@ -32,3 +35,8 @@ after_one context first second taken operand value wanted typed typed' accepted 
   below = below;
   enabled = enabled;
 }
+
+-- a constant number leaves a number
+pub number_given : (context : Context) (value : ℤ) → IsConstExpr context I32 (I32Const value ∷ [])
+number_given context value = alone context (I32Const value) I32 I32 (refl, refl) tt
+    (All-cons (IsInstrEnabled context.features context.imported_globals) (I32Const value) [] tt (All-nil (IsInstrEnabled context.features context.imported_globals)))

@@ -31,3 +31,5 @@ pub mod ExpressionGrowthLemmas
 pub mod SegmentGrowthLemmas
 pub mod ExportGrowthLemmas
 pub mod ConstStepLemmas
+pub mod DistinctLemmas
+pub mod EachPlaceLemmas

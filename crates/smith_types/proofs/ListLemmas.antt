@@ -1,6 +1,6 @@
 -- Positions of items in a list that grows at its end.
 use Rattle.std.proofs.Common.{◌≡◌, ◌+◌, ◌<◌, ◌⊎◌, ℕ, suc, zero, List, [], ◌∷◌, ◌++◌, Some, length, take, get_or, refl, sym, ◌∙◌, inl, inr, ap, arith}
-use Rattle.std.specs.Prelude.{slice_get}
+use Rattle.std.specs.Prelude.{slice_get, map}
 use Rattle.std.specs.List.{AllZip}
 use Rattle.std.proofs.lemmas.List.{take-append-le, take_all, get_or-append-add}
 
@@ -45,3 +45,13 @@ AllZip-weaker R S weaker [] [] h = tt
 AllZip-weaker R S weaker [] (y ∷ ys) h = absurd h
 AllZip-weaker R S weaker (x ∷ xs) [] h = absurd h
 AllZip-weaker R S weaker (x ∷ xs) (y ∷ ys) (p, q) = (weaker x y p, AllZip-weaker R S weaker xs ys q)
+
+pub mapped_at : {A B : Type 0} {f : A → B} (xs : List A) (i : ℕ) (y : B) → slice_get (map f xs) i ≡ Some y → (x : A) × (slice_get xs i ≡ Some x) × (f x ≡ y)
+mapped_at [] i y at = absurd cc
+mapped_at {f = f} (x ∷ xs) zero y at = (x, refl, cc)
+mapped_at {f = f} (x ∷ xs) (suc i) y at = mapped_at xs i y at
+
+-- an item after the end of the first of two lists is in the second
+pub slice_get-behind : {A : Type 0} (xs ys : List A) (i : ℕ) → slice_get (xs ++ ys) (length xs + i) ≡ slice_get ys i
+slice_get-behind {A = A} [] ys i = let none : length {A = A} [] + i ≡ i = omega arith in rw none refl
+slice_get-behind (x ∷ xs) ys i = let one : length (x ∷ xs) + i ≡ suc (length xs + i) = omega arith in rw one (slice_get-behind xs ys i)

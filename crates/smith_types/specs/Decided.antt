@@ -6,7 +6,7 @@ use Rattle.smith_types.specs.Features.{Features}
 use Rattle.smith_types.specs.Imports.{IndexSpaces}
 use Rattle.smith_types.specs.ValidTypes.{values_of, IsTypeValid}
 use Rattle.smith_types.specs.Matching.{IsInnerInRange}
-use Rattle.smith_types.specs.Entities.{IsFuncValid, IsTagValid, IsTableValid, IsMemoryValid, IsGlobalValid}
+use Rattle.smith_types.specs.Entities.{IsFuncTypeIndex, IsTagValid, IsTableValid, IsMemoryValid, IsGlobalValid}
 use Rattle.smith_types.specs.Exports.{AreExportsStanding}
 use Rattle.smith_types.specs.declared.value_type.ValType.{ValType}
 use Rattle.smith_types.specs.declared.value_type.ValType.TheVariants.{Ref}
@@ -54,7 +54,7 @@ IsTagType _ = ⊥
 
 -- functions of these types are valid
 pub record AreFuncsValid (types : List SubType) (funcs : List ℕ) : Type 0 where
-  pub each : All (IsFuncValid types) funcs
+  pub each : All (IsFuncTypeIndex types) funcs
 
 -- tags of these types are valid
 pub record AreTagsValid (types : List SubType) (tags : List ℕ) : Type 0 where

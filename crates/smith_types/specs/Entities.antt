@@ -62,8 +62,8 @@ abbrev pub IsFuncAt : List SubType → ℕ → FuncType → Type 0
 IsFuncAt types index function = (t : SubType) × (slice_get types index ≡ Some t) × (t.composite_type.inner ≡ Func function)
 
 -- the index of a function type, valid for a function (Validation, Functions)
-abbrev pub IsFuncValid : List SubType → ℕ → Type 0
-IsFuncValid types index = (function : FuncType) × IsFuncAt types index function
+abbrev pub IsFuncTypeIndex : List SubType → ℕ → Type 0
+IsFuncTypeIndex types index = (function : FuncType) × IsFuncAt types index function
 
 -- the index of a function type (Validation, Tag Types) without results (own rule), valid for a tag
 abbrev pub IsTagValid : List SubType → ℕ → Type 0
@@ -72,7 +72,7 @@ IsTagValid types index = (function : FuncType) × IsFuncAt types index function 
 -- every entity of the index spaces, imported or defined, is valid (Validation, External Types)
 pub record AreEntitiesValid (features : Features) (types : List SubType) (spaces : IndexSpaces) : Type 0 where
   pub tags : All (IsTagValid types) spaces.tags
-  pub funcs : All (IsFuncValid types) spaces.funcs
+  pub funcs : All (IsFuncTypeIndex types) spaces.funcs
   pub tables : All (IsTableValid features types) spaces.tables
   pub memories : All (IsMemoryValid features) spaces.memories
   pub globals : All (IsGlobalValid features types) spaces.globals

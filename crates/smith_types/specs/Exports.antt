@@ -38,3 +38,11 @@ abbrev pub IsStartValid : List SubType → List ℕ → Option ℕ → Type 0
 IsStartValid types funcs None = Unit {0}
 IsStartValid types funcs (Some function) =
     (index : ℕ) × (slice_get funcs function ≡ Some index) × IsFuncAt types index (record { params = []; results = [] })
+
+-- the kind of an entity
+abbrev pub entity_kind : EntityType → ExportKind
+entity_kind (entity.Tag index) = kind.Tag
+entity_kind (entity.Func index) = kind.Func
+entity_kind (entity.Global global) = kind.Global
+entity_kind (entity.Memory memory) = kind.Memory
+entity_kind (entity.Table table) = kind.Table

@@ -4,6 +4,9 @@ use Rattle.smith_types.specs.declared.value_type.ValType.{ValType}
 use Rattle.smith_types.specs.declared.value_type.ValType.TheVariants.{F32, F64}
 use Rattle.smith_types.specs.declared.composite_type.SubType.{SubType}
 use Rattle.smith_types.specs.ValidTypes.{values_of}
+use Rattle.smith_types.specs.declared.const_instr.ConstInstr.{ConstInstr}
+use Rattle.smith_types.specs.declared.const_instr.ConstInstr.TheVariants.{F32Const, F64Const}
+use Rattle.smith_types.specs.declared.entity_type.GlobalType.{GlobalType}
 
 -- a value type other than a float
 abbrev pub IsNoFloat : ValType → Type 0
@@ -14,3 +17,13 @@ IsNoFloat _ = Unit {0}
 -- a type without floats among its parameters, results and fields
 abbrev pub HasNoFloat : SubType → Type 0
 HasNoFloat t = All IsNoFloat (values_of t.composite_type.inner)
+
+-- an instruction other than a float constant
+abbrev pub GivesNoFloat : ConstInstr → Type 0
+GivesNoFloat (F32Const bits) = ⊥
+GivesNoFloat (F64Const bits) = ⊥
+GivesNoFloat _ = Unit {0}
+
+-- the value of a global is not a float
+abbrev pub HasNoFloatValue : GlobalType → Type 0
+HasNoFloatValue global = IsNoFloat global.val_type

@@ -81,3 +81,7 @@ pub record Defines {A : Type 0} (imports : List A) (count : ℕ) (space : List A
 pub record IsImportsValid (features : Features) (group : Imports) : Type 0 where
   pub filled : 0 < length (imports_of group)
   pub enabled : IsImportsEnabled features group
+
+-- the index spaces of a single entity
+abbrev pub entity_spaces : EntityType → IndexSpaces
+entity_spaces one = record { tags = tag_of one; funcs = func_of one; tables = table_of one; memories = memory_of one; globals = global_of one }

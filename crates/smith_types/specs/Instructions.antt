@@ -1,7 +1,7 @@
 -- Kinds of instructions, their sets as bits, and their names.
 use Rattle.std.specs.Prelude.{Bool, ◌-◌, if◌then◌else◌, ◌≡◌, ℕ, ◌+◌, ◌^◌, List, [], ◌∷◌, take, codes, bit_or, fold, map, Result, Ok, Err, slice_get, Some}
 use Rattle.std.specs.List.{AllZip}
-use Rattle.smith_types.specs.Parts.{parts_of}
+use Rattle.smith_types.specs.Parts.{split_at_commas}
 use Rattle.std.specs.Char.{to_ascii_lowercase}
 use Rattle.smith_types.specs.declared.instruction_kind.InstructionKind.{InstructionKind}
 use Rattle.smith_types.specs.declared.instruction_kind.InstructionKind.TheVariants.{
@@ -60,19 +60,19 @@ abbrev pub union_of : List InstructionKind → ℕ
 union_of kinds = fold (λ bits kind. bit_or bits (kind_bits kind)) 0 kinds
 
 -- the name of a kind
-abbrev pub kind_name : InstructionKind → List ℕ
-kind_name NumericInt = codes "numeric_non_float"
-kind_name Numeric = codes "numeric"
-kind_name VectorInt = codes "vector_non_float"
-kind_name Vector = codes "vector"
-kind_name Reference = codes "reference"
-kind_name Parametric = codes "parametric"
-kind_name Variable = codes "variable"
-kind_name Table = codes "table"
-kind_name MemoryInt = codes "memory_non_float"
-kind_name Memory = codes "memory"
-kind_name Control = codes "control"
-kind_name Aggregate = codes "aggregate"
+abbrev pub instruction_kind_name : InstructionKind → List ℕ
+instruction_kind_name NumericInt = codes "numeric_non_float"
+instruction_kind_name Numeric = codes "numeric"
+instruction_kind_name VectorInt = codes "vector_non_float"
+instruction_kind_name Vector = codes "vector"
+instruction_kind_name Reference = codes "reference"
+instruction_kind_name Parametric = codes "parametric"
+instruction_kind_name Variable = codes "variable"
+instruction_kind_name Table = codes "table"
+instruction_kind_name MemoryInt = codes "memory_non_float"
+instruction_kind_name Memory = codes "memory"
+instruction_kind_name Control = codes "control"
+instruction_kind_name Aggregate = codes "aggregate"
 
 -- the flag of each kind
 abbrev pub kind_table : List (List ℕ × ℕ)
@@ -93,7 +93,7 @@ kind_table =
 
 -- the text is the name of the kind, ignoring case
 abbrev pub IsNamed : List ℕ → InstructionKind → Type 0
-IsNamed text kind = map to_ascii_lowercase text ≡ kind_name kind
+IsNamed text kind = map to_ascii_lowercase text ≡ instruction_kind_name kind
 
 -- the result of parsing a kind: the kind named by the text, or an error if it names none
 abbrev pub IsReadKind : List ℕ → Result InstructionKind UnknownKind → Type 0
@@ -110,5 +110,5 @@ pub record IsFirstUnknown (parts : List (List ℕ)) (place : ℕ) : Type 0 where
 
 -- the result of parsing a set: the kinds named by the parts of the text, or the position of the first part that names none
 abbrev pub AreReadKinds : List ℕ → Result InstructionKinds UnknownKind → Type 0
-AreReadKinds text (Ok all) = (kinds : List InstructionKind) × AllZip IsNamed (parts_of text) kinds × (kinds_bits all ≡ union_of kinds)
-AreReadKinds text (Err e) = IsFirstUnknown (parts_of text) e.part
+AreReadKinds text (Ok all) = (kinds : List InstructionKind) × AllZip IsNamed (split_at_commas text) kinds × (kinds_bits all ≡ union_of kinds)
+AreReadKinds text (Err e) = IsFirstUnknown (split_at_commas text) e.part

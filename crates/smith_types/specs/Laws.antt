@@ -12,7 +12,7 @@ use Rattle.smith_types.specs.Matching.{IsCompositeMatch}
 use Rattle.smith_types.specs.Features.{Features}
 use Rattle.smith_types.specs.ValidTypes.{AreTypesValid}
 use Rattle.smith_types.specs.Imports.{IndexSpaces}
-use Rattle.smith_types.specs.Entities.{IsTableValid, IsGlobalValid, IsTagValid, IsFuncValid, AreEntitiesValid}
+use Rattle.smith_types.specs.Entities.{IsTableValid, IsGlobalValid, IsTagValid, IsFuncTypeIndex, AreEntitiesValid}
 use Rattle.smith_types.specs.Expressions.{Context, HasType, IsStackStep, AreStackSteps, IsConstExpr}
 use Rattle.smith_types.specs.Segments.{IsElementValid, IsDataValid}
 use Rattle.smith_types.specs.Exports.{IsEntityAt, AreExportsValid, IsStartValid}
@@ -67,7 +67,7 @@ pub record ValidEntitiesSurviveGrowth : Type 0 where
   pub table : (features : Features) (types more : List SubType) (ty : TableType) → IsTableValid features types ty → IsTableValid features (types ++ more) ty
   pub global : (features : Features) (types more : List SubType) (ty : GlobalType) → IsGlobalValid features types ty → IsGlobalValid features (types ++ more) ty
   pub tag : (types more : List SubType) (index : ℕ) → IsTagValid types index → IsTagValid (types ++ more) index
-  pub func : (types more : List SubType) (index : ℕ) → IsFuncValid types index → IsFuncValid (types ++ more) index
+  pub func : (types more : List SubType) (index : ℕ) → IsFuncTypeIndex types index → IsFuncTypeIndex (types ++ more) index
   pub all : (features : Features) (types more : List SubType) (spaces : IndexSpaces) → AreEntitiesValid features types spaces → AreEntitiesValid features (types ++ more) spaces
 
 -- typing and validity of constant expressions are preserved in a grown context

@@ -2,7 +2,7 @@ ghost use Rattle.std.specs.Prelude.{◌≡◌, ◌↔◌, ⊤, IsTrue, bit_and};
 ghost use Rattle.bitflags.specs.Sets.{without};
 ghost use Rattle.smith_types.specs.Instructions.{
   kind_bits,
-  kind_name,
+  instruction_kind_name,
   kind_table,
   kinds_bits,
   every_kind,
@@ -105,7 +105,7 @@ impl InstructionKind {
     }
 
     fn name(self) -> &'static str
-        ensures { result.now ≡ kind_name self }
+        ensures { result.now ≡ instruction_kind_name self }
     {
         match self {
             InstructionKind::NumericInt => "numeric_non_float",

@@ -7,7 +7,7 @@ ghost use Rattle.smith_types.specs.Entities.{
   AreLimitsValid,
   most_elements,
   most_pages as pages,
-  IsFuncValid,
+  IsFuncTypeIndex,
   IsTagValid,
   IsTableValid,
   IsMemoryValid,
@@ -207,7 +207,7 @@ struct ValidFunc<'a> {
 }
 
 impl<'a> Predicate<u32> for ValidFunc<'a> {
-    ghost meaning = { λ valid index. IsFuncValid valid.types.now index };
+    ghost meaning = { λ valid index. IsFuncTypeIndex valid.types.now index };
 
     fn holds(&self, item: &u32) -> bool {
         is_func_valid(self.types, *item)
@@ -215,7 +215,7 @@ impl<'a> Predicate<u32> for ValidFunc<'a> {
 }
 
 fn is_func_valid(types: &[SubType], index: u32) -> bool
-    ensures { IsTrue result ↔ IsFuncValid types.now index }
+    ensures { IsTrue result ↔ IsFuncTypeIndex types.now index }
 {
     match types.get(index as usize) {
         Some(ty) => matches!(&ty.composite_type.inner, CompositeInnerType::Func(_)),

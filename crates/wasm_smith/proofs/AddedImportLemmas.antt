@@ -12,19 +12,20 @@ use Rattle.smith_config.specs.declared.shape.Shape.{Shape}
 use Rattle.smith_config.specs.Faults.{Passes}
 use Rattle.smith_config.specs.InUse.{FixesImports}
 use Rattle.smith_config.specs.Sanitized.{IsSanitized}
-use Rattle.smith_imports.specs.Imported.{HasNoFloatValue, HasGroundedElements, HasGroundedValue, IsImported, MayImport}
+use Rattle.smith_types.specs.Floats.{HasNoFloatValue}
+use Rattle.smith_config.specs.Granted.{HasGroundedElements, HasGroundedValue, AreTypesGranted}
+use Rattle.smith_imports.specs.Imported.{IsImported, MayImport}
 use Rattle.smith_imports.specs.ImportedEntities.{import_scope}
 use Rattle.smith_draw.specs.ConstBounds.{HoldsUngroundedField}
-use Rattle.smith_draw.specs.Granted.{AreTypesGranted}
 use Rattle.smith_draw.proofs.FilledLemmas.{fields_imported}
 use Rattle.smith_imports.proofs.ImportsGrownLemmas.{ungrounded_imported}
 use Rattle.smith_imports.specs.declared.imported.Imported.{Imported}
 use Rattle.wasm_smith.specs.Begun.{begun_of}
-use Rattle.smith_definitions.specs.Bounds.{brought}
+use Rattle.smith_rules.specs.Bounds.{items_of_shapes}
 use Rattle.wasm_smith.specs.DrawnSteps.{AreImportsDrawn, AreTypesDrawn, HoldsGrounded, IsBeyond, drawn_next}
 use Rattle.wasm_smith.specs.declared.build.drawn.Drawn.{Drawn}
-use Rattle.smith_definitions.proofs.ExtensionLemmas.{all_kept}
-use Rattle.smith_definitions.proofs.DefinedMoreLemmas.{none_float}
+use Rattle.smith_defined.proofs.ExtensionLemmas.{all_kept}
+use Rattle.smith_defined.proofs.DefinedGrowthLemmas.{none_float}
 use Rattle.wasm_smith.proofs.FreelyImportedLemmas.{freely_stands}
 use Rattle.wasm_smith.proofs.GrantedLaterLemmas.{types_later}
 
@@ -59,7 +60,7 @@ module _ (config : Config) (drawn : Drawn) (passes : Passes config) (sanitized :
     sanitized = sanitized;
     free = free_of config free none;
     valid = old.may.so_far.stands.types;
-    few = let brings : brought config counts.Types ≡ 0 = rw (none, free) refl in omega (arith, brings, old.may.so_far.most_types, passes.few counts.Types);
+    few = let brings : items_of_shapes config counts.Types ≡ 0 = rw (none, free) refl in omega (arith, brings, old.may.so_far.most_types, passes.few counts.Types);
     small = (old.free (free_of config free none)).small;
   }
 

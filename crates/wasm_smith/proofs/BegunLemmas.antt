@@ -21,15 +21,15 @@ use Rattle.smith_config.specs.Features.{features_of}
 use Rattle.smith_config.specs.Sanitized.{IsSanitized}
 use Rattle.smith_config.specs.Shapes.{IsShapeValid, shape_imports, shape_spaces, shape_types, space_of}
 use Rattle.smith_imports.specs.Imported.{AreNumbersWithin}
-use Rattle.smith_imports.specs.ShapeImports.{count_in}
-use Rattle.smith_definitions.specs.Defined.{nothing_defined}
-use Rattle.smith_definitions.specs.Bounds.{brought_by_module, exported_of}
-use Rattle.smith_definitions.specs.Defined.{HasRoom}
-use Rattle.smith_definitions.specs.Refusals.{AreShapesValid, shape_for}
-use Rattle.smith_definitions.specs.Defined.{StandsBehind}
-use Rattle.smith_definitions.specs.Required.{AddsLimitsOf, MayDefineMore}
-use Rattle.smith_definitions.specs.RequiredExports.{Answers, then_with}
-use Rattle.smith_definitions.proofs.RequiredExportsLoop.{refused_by}
+use Rattle.smith_rules.specs.ShapeImports.{count_in}
+use Rattle.smith_defined.specs.Defined.{nothing_defined}
+use Rattle.smith_rules.specs.Bounds.{items_of_module_shape, items_of_exports}
+use Rattle.smith_defined.specs.Defined.{HasRoom}
+use Rattle.smith_rules.specs.Refusals.{AreShapesValid, shape_for}
+use Rattle.smith_defined.specs.Defined.{StandsBehind}
+use Rattle.smith_defined.specs.Required.{AddsLimitsOf, MayDefineMore}
+use Rattle.smith_defined.specs.RequiredExports.{Answers, then_with}
+use Rattle.smith_defined.proofs.RequiredExportsLoop.{refused_by}
 
 -- there are no more of one kind than imports
 none_more : {A : Type 0} (of_kind : EntityType → List A) → ((one : EntityType) → length (of_kind one) ≤ 1) → (imports : List Import) → length (imported of_kind imports) ≤ length imports
@@ -107,7 +107,7 @@ may_begin config shape sanitized valid entities = record {
 }
 
 -- a module shape adds as many of a kind as it imports and exports
-pub brought_so : (count : Count) (shape : Shape) → (count ≡ counts.Types → ⊥) → (count ≡ counts.Imports → ⊥) → count_in (imported_spaces (shape_imports shape)) count + exported_of count shape ≡ brought_by_module count shape
+pub brought_so : (count : Count) (shape : Shape) → (count ≡ counts.Types → ⊥) → (count ≡ counts.Imports → ⊥) → count_in (imported_spaces (shape_imports shape)) count + items_of_exports count shape ≡ items_of_module_shape count shape
 brought_so counts.Types shape types imports = absurd (types refl)
 brought_so counts.Imports shape types imports = absurd (imports refl)
 brought_so counts.Tags shape types imports = refl

@@ -6,7 +6,7 @@ use Rattle.std.specs.List.{Contains}
 use Rattle.std.proofs.lemmas.List.Elements.{All-nil, All-weaker, Contains-append_left}
 use Rattle.smith_bytes.specs.declared.error.Count.{Count}
 use Rattle.smith_bytes.specs.declared.error.Count.TheVariants as counts
-use Rattle.smith_types.specs.Entities.{AreEntitiesValid, AreCountsEnabled, IsTagValid, IsFuncValid, IsTableValid, IsMemoryValid, IsGlobalValid}
+use Rattle.smith_types.specs.Entities.{AreEntitiesValid, AreCountsEnabled, IsTagValid, IsFuncTypeIndex, IsTableValid, IsMemoryValid, IsGlobalValid}
 use Rattle.smith_types.specs.Imports.{IndexSpaces, IsImportsValid, flattened, imported_spaces}
 use Rattle.smith_types.specs.IndexSpaces.{spaces_in}
 use Rattle.smith_types.specs.Space.{Space}
@@ -18,21 +18,21 @@ use Rattle.smith_config.specs.Faults.{maximum_of}
 use Rattle.smith_config.specs.Features.{features_of}
 use Rattle.smith_config.specs.Shapes.{shape_spaces}
 use Rattle.smith_imports.specs.Imported.{AreNumbersWithin}
-use Rattle.smith_imports.specs.ShapeImports.{count_in}
-use Rattle.wasm_smith.specs.Begun.{Begun, HasNothing, IsBegun, IsBegunByModule, IsBegunByImports, IsOfEntities, IsTableKept, IsMemoryKept, StandsSoFar}
-use Rattle.smith_definitions.specs.Bounds.{brought, brought_by_module, brought_by_imports}
+use Rattle.smith_rules.specs.ShapeImports.{count_in}
+use Rattle.wasm_smith.specs.Begun.{ModuleSoFar, HasNothing, IsBegun, IsBegunByModule, IsBegunByImports, IsOfEntities, IsTableKept, IsMemoryKept, StandsSoFar}
+use Rattle.smith_rules.specs.Bounds.{items_of_shapes, items_of_module_shape, items_of_available_imports}
 use Rattle.wasm_smith.specs.declared.build.drawn.Drawn.{Drawn}
 use Rattle.wasm_smith.proofs.BegunLemmas.{stands_alone}
 
 -- a module shape, with which no other shape counts, adds these
-module_brings : (config : Config) (shape : Shape) (count : Count) → config.module_shape ≡ Some shape → brought config count ≡ brought_by_module count shape
+module_brings : (config : Config) (shape : Shape) (count : Count) → config.module_shape ≡ Some shape → items_of_shapes config count ≡ items_of_module_shape count shape
 module_brings config shape count given = rw given (omega arith)
 
-imports_bring : (config : Config) (shape : Shape) (count : Count) → config.module_shape ≡ None → config.available_imports ≡ Some shape → brought config count ≡ brought_by_imports count shape
+imports_bring : (config : Config) (shape : Shape) (count : Count) → config.module_shape ≡ None → config.available_imports ≡ Some shape → items_of_shapes config count ≡ items_of_available_imports count shape
 imports_bring config shape count none given = rw (none, given) (omega arith)
 
-module_entities : (shape : Shape) (spaces : IndexSpaces) → ((count : Count) → (count ≡ counts.Types → ⊥) → (count ≡ counts.Imports → ⊥) → count_in spaces count ≡ brought_by_module count shape) → (count : Count) → IsOfEntities count
-    → count_in spaces count ≡ brought_by_module count shape
+module_entities : (shape : Shape) (spaces : IndexSpaces) → ((count : Count) → (count ≡ counts.Types → ⊥) → (count ≡ counts.Imports → ⊥) → count_in spaces count ≡ items_of_module_shape count shape) → (count : Count) → IsOfEntities count
+    → count_in spaces count ≡ items_of_module_shape count shape
 module_entities shape spaces counted counts.Tags is = counted counts.Tags (λ e. cc) (λ e. cc)
 module_entities shape spaces counted counts.Funcs is = counted counts.Funcs (λ e. cc) (λ e. cc)
 module_entities shape spaces counted counts.Tables is = counted counts.Tables (λ e. cc) (λ e. cc)
@@ -82,7 +82,7 @@ module _ (config : Config) (shape : Shape) (bytes : List ℕ) (drawn : Drawn) wh
 no_entities : (config : Config) → AreEntitiesValid (features_of config) [] (imported_spaces [])
 no_entities config = record {
   tags = All-nil (IsTagValid []);
-  funcs = All-nil (IsFuncValid []);
+  funcs = All-nil (IsFuncTypeIndex []);
   tables = All-nil (IsTableValid (features_of config) []);
   memories = All-nil (IsMemoryValid (features_of config));
   globals = All-nil (IsGlobalValid (features_of config) []);
@@ -102,10 +102,10 @@ nothing_in _ is = absurd is
 -- nothing exists yet
 freely : (config : Config) (drawn : Drawn) → config.module_shape ≡ None → config.available_imports ≡ None → HasNothing drawn → StandsSoFar config drawn
 freely config drawn none free begun =
-    let groups : drawn.imported.groups ≡ [] = ap (λ (b : Begun). b.groups) begun.begun in
-    let spaces : spaces_in drawn.imported.spaces ≡ imported_spaces [] = ap (λ (b : Begun). b.spaces) begun.begun in
-    let types : drawn.types ≡ record { types = []; groups = [] } = ap (λ (b : Begun). b.types) begun.begun in
-    let defined = ap (λ (b : Begun). b.defined) begun.begun in
+    let groups : drawn.imported.groups ≡ [] = ap (λ (b : ModuleSoFar). b.groups) begun.begun in
+    let spaces : spaces_in drawn.imported.spaces ≡ imported_spaces [] = ap (λ (b : ModuleSoFar). b.spaces) begun.begun in
+    let types : drawn.types ≡ record { types = []; groups = [] } = ap (λ (b : ModuleSoFar). b.types) begun.begun in
+    let defined = ap (λ (b : ModuleSoFar). b.defined) begun.begun in
     record {
       groups = rw groups (All-nil (IsImportsValid (features_of config)));
       count = rw groups begun.imports.count;

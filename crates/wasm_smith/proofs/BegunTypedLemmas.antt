@@ -23,15 +23,14 @@ use Rattle.smith_config.specs.InUse.{FixesImports}
 use Rattle.smith_config.specs.Shapes.{most_listed, shape_spaces, shape_types, space_of}
 use Rattle.smith_draw.specs.ConstBounds.{HoldsUngroundedField}
 use Rattle.smith_draw.specs.FuncSizes.{HasFewValues, IsSmall}
-use Rattle.smith_draw.specs.Granted.{AreTypesGranted, HasGranted}
+use Rattle.smith_config.specs.Granted.{AreTypesGranted, HasGranted, HasGroundedElements, HasGroundedValue}
 use Rattle.smith_draw.specs.Grounding.{over}
 use Rattle.smith_draw.proofs.FilledLemmas.{ungrounded_before}
-use Rattle.smith_imports.specs.Imported.{HasGroundedElements, HasGroundedValue}
-use Rattle.smith_contents.proofs.SizedLemmas.{shape_few}
-use Rattle.wasm_smith.specs.Begun.{Begun, HasNothing, IsBegun, IsBegunByModule, IsBegunByImports}
+use Rattle.smith_draw.proofs.FuncSizeLemmas.{shape_few}
+use Rattle.wasm_smith.specs.Begun.{ModuleSoFar, HasNothing, IsBegun, IsBegunByModule, IsBegunByImports}
 use Rattle.wasm_smith.specs.DrawnSteps.{AreTypesDrawn, HoldsGrounded, drawn_next}
-use Rattle.smith_definitions.proofs.ExtensionLemmas.{all_kept}
-use Rattle.smith_definitions.specs.Refusals.{AreShapesValid, HoldsNonNullable}
+use Rattle.smith_defined.proofs.ExtensionLemmas.{all_kept}
+use Rattle.smith_rules.specs.Refusals.{AreShapesValid, HoldsNonNullable}
 use Rattle.wasm_smith.specs.declared.build.drawn.Drawn.{Drawn}
 use Rattle.wasm_smith.proofs.BegunLemmas.{module_used, imports_used}
 use Rattle.wasm_smith.proofs.BegunStandsLemmas.{begun_stands}
@@ -80,10 +79,10 @@ by_imports config shape bytes drawn none given valid begun = record {
 
 freely : (config : Config) (drawn : Drawn) → HasNothing drawn → MayBegin config drawn
 freely config drawn nothing =
-    let types : drawn.types.types ≡ [] = ap (λ (b : Begun). b.types.types) nothing.begun in
-    let tables : drawn.imported.spaces.tables ≡ [] = ap (λ (b : Begun). b.spaces.tables) nothing.begun in
-    let globals : drawn.imported.spaces.globals ≡ [] = ap (λ (b : Begun). b.spaces.globals) nothing.begun in
-    let exports : drawn.contents.exports ≡ [] = ap (λ (b : Begun). b.exports) nothing.begun in
+    let types : drawn.types.types ≡ [] = ap (λ (b : ModuleSoFar). b.types.types) nothing.begun in
+    let tables : drawn.imported.spaces.tables ≡ [] = ap (λ (b : ModuleSoFar). b.spaces.tables) nothing.begun in
+    let globals : drawn.imported.spaces.globals ≡ [] = ap (λ (b : ModuleSoFar). b.spaces.globals) nothing.begun in
+    let exports : drawn.contents.exports ≡ [] = ap (λ (b : ModuleSoFar). b.exports) nothing.begun in
     let context = drawn_next config drawn in
     record {
       few_values = rw types (All-nil (HasFewValues most_listed));
@@ -152,11 +151,11 @@ types_drawn config bytes drawn types valid begun more =
       };
       free = λ none. let nothing = begun.freely none in record {
         imports = nothing.imports;
-        nothing = ap (λ (b : Begun). b.defined) nothing.begun;
-        small = more.few_values 20 (omega arith) (subst (λ (all : List SubType). All IsSmall all) (sym (ap (λ (b : Begun). b.types.types) nothing.begun)) (All-nil IsSmall));
+        nothing = ap (λ (b : ModuleSoFar). b.defined) nothing.begun;
+        small = more.few_values 20 (omega arith) (subst (λ (all : List SubType). All IsSmall all) (sym (ap (λ (b : ModuleSoFar). b.types.types) nothing.begun)) (All-nil IsSmall));
       };
       floats = λ off none. let nothing = begun.freely (none_fixes config none.module_shape none.available_imports) in
-          more.floats off (subst (λ (all : List SubType). All HasNoFloat all) (sym (ap (λ (b : Begun). b.types.types) nothing.begun)) (All-nil HasNoFloat));
+          more.floats off (subst (λ (all : List SubType). All HasNoFloat all) (sym (ap (λ (b : ModuleSoFar). b.types.types) nothing.begun)) (All-nil HasNoFloat));
     }
 
 stays_within : (most old new : ℕ) → (old ≤ most → new ≤ most) → (most ≤ old → new ≡ old) → new ≤ max most old

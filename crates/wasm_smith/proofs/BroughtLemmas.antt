@@ -12,11 +12,11 @@ use Rattle.smith_types.specs.declared.imports.Import.{Import}
 use Rattle.smith_config.specs.declared.config.Config.{Config}
 use Rattle.smith_config.specs.declared.shape.Shape.{Shape}
 use Rattle.smith_config.specs.Shapes.{IsShapeValid, IsShort, in_use, shape_imports}
-use Rattle.smith_imports.specs.ShapeImports.{count_in}
-use Rattle.smith_definitions.specs.Bounds.{added, brought, brought_by_imports, brought_by_module, counts_as, exported_of, where_given}
-use Rattle.smith_definitions.specs.Defined.{HasRoom}
-use Rattle.smith_definitions.specs.Refusals.{AreShapesValid, shape_for}
-use Rattle.smith_definitions.specs.ShapesKept.{Export}
+use Rattle.smith_rules.specs.ShapeImports.{count_in}
+use Rattle.smith_rules.specs.Bounds.{items_of_export_shape, items_of_shapes, items_of_available_imports, items_of_module_shape, counts_as, items_of_exports, where_given}
+use Rattle.smith_defined.specs.Defined.{HasRoom}
+use Rattle.smith_rules.specs.Refusals.{AreShapesValid, shape_for}
+use Rattle.smith_rules.specs.ExportedItems.{Export}
 use Rattle.wasm_smith.proofs.BegunLemmas.{imported_room}
 
 -- an export is at most one item of a kind
@@ -38,7 +38,7 @@ no_more_counted count (one ∷ more) =
     let whole = sum_by-cons (λ (each : Export). counts_as count each.1) one more in
     omega (arith, here, later, whole)
 
-few_exported : (count : Count) (shape : Shape) → IsShort shape → exported_of count shape ≤ 2 ^ 29
+few_exported : (count : Count) (shape : Shape) → IsShort shape → items_of_exports count shape ≤ 2 ^ 29
 few_exported count shape short = let here = no_more_counted count shape.exports in omega (arith, here, short.exports)
 
 few_imported : (count : Count) (imports : List Import) → length imports ≤ 2 ^ 29 → count_in (imported_spaces imports) count ≤ 2 ^ 29
@@ -53,7 +53,7 @@ few_imported count imports short =
       | _ ↦ omega arith
     ]
 
-few_by_module : (count : Count) (shape : Shape) → IsShort shape → brought_by_module count shape ≤ 2 ^ 30
+few_by_module : (count : Count) (shape : Shape) → IsShort shape → items_of_module_shape count shape ≤ 2 ^ 30
 few_by_module counts.Types shape short = omega (arith, short.types)
 few_by_module counts.Imports shape short = omega (arith, short.imports)
 few_by_module count shape short =
@@ -61,7 +61,7 @@ few_by_module count shape short =
     let exported = few_exported count shape short in
     omega (arith, offered, exported)
 
-few_by_imports : (count : Count) (shape : Shape) → IsShort shape → brought_by_imports count shape ≤ 2 ^ 30
+few_by_imports : (count : Count) (shape : Shape) → IsShort shape → items_of_available_imports count shape ≤ 2 ^ 30
 few_by_imports counts.Types shape short = omega (arith, short.types)
 few_by_imports _ shape short = omega arith
 
@@ -72,14 +72,14 @@ few_given Holds of_shape most few None h = omega arith
 -- with a module shape no other adds any
 few_in_use : (config : Config) (count : Count) (available exports shaped : Option Shape) → let used = in_use (record { available_imports = available; exports = exports; module_shape = shaped }) in
     IfSome used.module_shape (IsShapeValid which.ModuleShape config) → IfSome used.available_imports (IsShapeValid which.AvailableImports config)
-    → where_given (brought_by_module count) used.module_shape + where_given (brought_by_imports count) used.available_imports ≤ 2 ^ 30
+    → where_given (items_of_module_shape count) used.module_shape + where_given (items_of_available_imports count) used.available_imports ≤ 2 ^ 30
 few_in_use config count available exports (Some shape) own offered = let few = few_by_module count shape own.short in omega (arith, few)
-few_in_use config count available exports None own offered = let few = few_given (IsShapeValid which.AvailableImports config) (brought_by_imports count) (2 ^ 30) (λ shape valid. few_by_imports count shape valid.short) available offered in omega (arith, few)
+few_in_use config count available exports None own offered = let few = few_given (IsShapeValid which.AvailableImports config) (items_of_available_imports count) (2 ^ 30) (λ shape valid. few_by_imports count shape valid.short) available offered in omega (arith, few)
 
 -- shapes may have few items past a maximum
-pub few_brought : (config : Config) → AreShapesValid config → (count : Count) → brought config count ≤ 2 ^ 30
+pub few_brought : (config : Config) → AreShapesValid config → (count : Count) → items_of_shapes config count ≤ 2 ^ 30
 few_brought config valid count = few_in_use config count config.available_imports config.exports config.module_shape (valid which.ModuleShape) (valid which.AvailableImports)
 
 -- and add few to it
-pub few_added : (config : Config) → AreShapesValid config → (count : Count) → added config count ≤ 2 ^ 29
-few_added config valid count = few_given (IsShapeValid which.Exports config) (exported_of count) (2 ^ 29) (λ shape short. few_exported count shape short.short) (shape_for config which.Exports) (valid which.Exports)
+pub few_added : (config : Config) → AreShapesValid config → (count : Count) → items_of_export_shape config count ≤ 2 ^ 29
+few_added config valid count = few_given (IsShapeValid which.Exports config) (items_of_exports count) (2 ^ 29) (λ shape short. few_exported count shape short.short) (shape_for config which.Exports) (valid which.Exports)

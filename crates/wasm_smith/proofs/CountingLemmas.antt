@@ -1,41 +1,34 @@
 -- A valid module stays valid with one more global, which counts fuel.
-use Rattle.std.proofs.Common.{rules, arith, ◌≡◌, ℕ, ◌+◌, ◌≤◌, Bool, true, false, ℤ, List, [], ◌∷◌, ◌++◌, Some, length, inl, inr, refl, sym, subst, ap, ◌∙◌}
+use Rattle.std.proofs.Common.{rules, arith, ◌≡◌, ℕ, ◌+◌, ◌≤◌, Bool, true, false, List, [], ◌∷◌, ◌++◌, Some, length, inl, inr, refl, sym, subst, ap, ◌∙◌}
 use Rattle.std.specs.Prelude.{slice_get, if◌then◌else◌, Result, Ok, Err}
 use Rattle.smith_bytes.specs.declared.error.Error.{Error}
 use Rattle.std.specs.Int.{cast_signed, w32}
 use Rattle.std.specs.List.{All}
 use Rattle.std.proofs.lemmas.List.{length-append, append_assoc}
 use Rattle.std.proofs.lemmas.List.Elements.{All-nil, All-cons, All-append, All-weaker}
-use Rattle.smith_types.specs.Flags.{IsInstrEnabled}
 use Rattle.smith_types.specs.Grown.{IsContextGrown, AreSpacesGrown}
 use Rattle.smith_types.specs.Imports.{Defines}
 use Rattle.smith_types.specs.Entities.{IsGlobalValid}
-use Rattle.smith_types.specs.Expressions.{Context, IsConstExpr, seeing, seen_by_tables, seen_by_global, seen_by_segments}
+use Rattle.smith_types.specs.Expressions.{seeing, seen_by_tables, seen_by_global, seen_by_segments}
 use Rattle.smith_types.specs.Segments.{IsElementValid, IsDataValid}
 use Rattle.smith_types.specs.Bodies.{IsFuel}
-use Rattle.smith_types.specs.declared.value_type.ValType.TheVariants.{I32}
 use Rattle.smith_types.specs.declared.const_instr.ConstInstr.{ConstInstr}
 use Rattle.smith_types.specs.declared.const_instr.ConstInstr.TheVariants.{I32Const}
 use Rattle.smith_types.specs.declared.segments.ElementSegment.{ElementSegment}
 use Rattle.smith_types.specs.declared.segments.DataSegment.{DataSegment}
-use Rattle.smith_types.proofs.ConstStepLemmas.{alone}
+use Rattle.smith_types.proofs.ConstStepLemmas.{number_given}
 use Rattle.smith_types.proofs.ListLemmas.{slice_get-grown, slice_get-last, slice_get-push}
 use Rattle.smith_types.proofs.EntityGrowthLemmas.{no_fewer}
 use Rattle.smith_types.proofs.ExpressionGrowthLemmas.{IsConstExpr-grown}
 use Rattle.smith_types.proofs.SegmentGrowthLemmas.{IsElementValid-grown, IsDataValid-grown}
 use Rattle.smith_types.proofs.ExportGrowthLemmas.{AreExportsValid-grown}
-use Rattle.smith_definitions.specs.Module.{module_context, Parts, IsValid, IsGlobalDefined, module_features, module_spaces, module_imports, table_context, global_context, segment_context}
+use Rattle.smith_rules.specs.Module.{module_context, ModuleParts, IsValid, IsGlobalDefined, module_features, module_spaces, module_imports, table_context, global_context, segment_context}
 use Rattle.wasm_smith.specs.Termination.{counter, AddsFuel, AnswersFuel}
-use Rattle.smith_definitions.proofs.ExtensionLemmas.{all_kept}
-use Rattle.smith_definitions.proofs.InitialLemmas.{IsTableInitialised-grown}
-
--- a constant number leaves a number
-pub number_given : (context : Context) (value : ℤ) → IsConstExpr context I32 (I32Const value ∷ [])
-number_given context value = alone context (I32Const value) I32 I32 (refl, refl) tt
-    (All-cons (IsInstrEnabled context.features context.imported_globals) (I32Const value) [] tt (All-nil (IsInstrEnabled context.features context.imported_globals)))
+use Rattle.smith_defined.proofs.ExtensionLemmas.{all_kept}
+use Rattle.smith_rules.proofs.InitialLemmas.{IsTableInitialised-grown}
 
 -- a module with a counter of this index
-abbrev counted : ℕ → ℕ → Parts → Parts
+abbrev counted : ℕ → ℕ → ModuleParts → ModuleParts
 counted fuel index m = record m {
   globals = m.globals ++ counter ∷ [];
   defined_globals = m.defined_globals ++ (index, I32Const (cast_signed w32 fuel) ∷ []) ∷ [];
@@ -46,8 +39,8 @@ counted fuel index m = record m {
 no_more : {A : Type 0} (xs : List A) → xs ++ [] ≡ xs
 no_more xs = search rules
 
-module _ (fuel : ℕ) (old : Parts) (valid : IsValid old) where
-  abbrev new : Parts
+module _ (fuel : ℕ) (old : ModuleParts) (valid : IsValid old) where
+  abbrev new : ModuleParts
   new = counted fuel (length old.globals) old
 
   -- a context of the old module grows into one of the new, if at least as much is visible
@@ -170,10 +163,10 @@ module _ (fuel : ℕ) (old : Parts) (valid : IsValid old) where
     bodies = record { each = valid.bodies.each; bodies = valid.bodies.bodies; fuel = fuel_valid };
   }
 
-pub adds_valid : (fuel index : ℕ) (old new : Parts) → AddsFuel fuel index old new → IsValid old → IsValid new
+pub adds_valid : (fuel index : ℕ) (old new : ModuleParts) → AddsFuel fuel index old new → IsValid old → IsValid new
 adds_valid fuel index old after adds valid = subst IsValid (sym adds.added) (subst (λ n. IsValid (counted fuel n old)) (sym adds.last) (counted_valid fuel old valid))
 
 -- a valid module stays valid, whatever the answer
-pub answered_valid : (fuel : ℕ) (old new : Parts) (result : Result ℕ Error) → AnswersFuel fuel old new result → IsValid old → IsValid new
+pub answered_valid : (fuel : ℕ) (old new : ModuleParts) (result : Result ℕ Error) → AnswersFuel fuel old new result → IsValid old → IsValid new
 answered_valid fuel old after (Ok index) (no_bytes, adds) valid = adds_valid fuel index old after adds valid
 answered_valid fuel old after (Err error) (reason, kept) valid = subst IsValid (sym kept) valid

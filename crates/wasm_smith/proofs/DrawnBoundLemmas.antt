@@ -9,7 +9,7 @@ use Rattle.smith_types.specs.declared.entity_type.ExportKind.TheVariants as kind
 use Rattle.smith_config.specs.declared.config.Config.{Config}
 use Rattle.smith_config.specs.declared.shape.Shape.{Shape}
 use Rattle.smith_config.specs.Faults.{minimum_of, maximum_of}
-use Rattle.smith_definitions.specs.Bounds.{KeepsBounds, MeetsMinimums, HasMost, HasLeast, count_of, brought, added, export_size, imports_size, exports_size}
+use Rattle.smith_rules.specs.Bounds.{KeepsBounds, MeetsMinimums, MaximumApplies, MinimumApplies, count_of, items_of_shapes, items_of_export_shape, export_size, imports_size, exports_size}
 use Rattle.smith_types.specs.Imports.{IndexSpaces}
 use Rattle.smith_types.specs.IndexSpaces.{spaces_in}
 use Rattle.smith_types.specs.declared.composite_type.SubType.{SubType}
@@ -18,23 +18,23 @@ use Rattle.wasm_smith.specs.Begun.{size_of_imports}
 use Rattle.wasm_smith.specs.Build.{parts_of}
 use Rattle.wasm_smith.specs.DrawnContents.{AreExportsMade}
 use Rattle.wasm_smith.specs.DrawnParts.{IsDrawnFor}
-use Rattle.smith_contents.specs.Exporting.{Export, item_size, exported_size}
-use Rattle.smith_definitions.specs.Module.{Parts, module_spaces}
+use Rattle.smith_rules.specs.ExportedItems.{Export, item_size, exported_size}
+use Rattle.smith_rules.specs.Module.{ModuleParts, module_spaces}
 use Rattle.wasm_smith.specs.declared.build.drawn.Drawn.{Drawn}
 use Rattle.wasm_smith.proofs.MadeExportsLemmas.{exports_free}
 
 -- an export has the size of its item
-same_size : (m : Parts) (of_kind : ExportKind) (index : ℕ) → export_size m of_kind index ≡ item_size m.types (module_spaces m) of_kind index
+same_size : (m : ModuleParts) (of_kind : ExportKind) (index : ℕ) → export_size m of_kind index ≡ item_size m.types (module_spaces m) of_kind index
 same_size m kind.Func index = refl
 same_size m kind.Table index = refl
 same_size m kind.Memory index = refl
 same_size m kind.Global index = refl
 same_size m kind.Tag index = refl
 
-same_sizes : (m : Parts) (exports : List Export) → sum_by (λ (one : Export). export_size m one.1 one.2 + 1) exports ≡ exported_size m.types (module_spaces m) exports
+same_sizes : (m : ModuleParts) (exports : List Export) → sum_by (λ (one : Export). export_size m one.1 one.2 + 1) exports ≡ exported_size m.types (module_spaces m) exports
 same_sizes m exports = λ i. sum_by (λ (one : Export). same_size m one.1 one.2 i + 1) exports
 
-module _ (config : Config) (m : Parts) where
+module _ (config : Config) (m : ModuleParts) where
   -- the size of exports is counted if they are drawn, and is 0 otherwise
   exports_counted : exports_size config m ≡ (if is_some config.module_shape || is_some config.exports then 0 else exported_size m.types (module_spaces m) m.exports)
   exports_counted = λ i. if is_some config.module_shape || is_some config.exports then 0 else same_sizes m m.exports i
@@ -51,10 +51,10 @@ pub made_size : (config : Config) (types : List SubType) (spaces : IndexSpaces) 
 made_size config types spaces size made h = sized_so config types spaces size made config.module_shape config.exports refl refl h
 
 module _ (distinct : Bool) (config : Config) (drawn : Drawn) (h : IsDrawnFor distinct config drawn) where
-  abbrev m : Parts
+  abbrev m : ModuleParts
   m = parts_of config drawn
 
-  most : (count : Count) → HasMost config count → count_of m count ≤ max (maximum_of config count) (brought config count) + added config count
+  most : (count : Count) → MaximumApplies config count → count_of m count ≤ max (maximum_of config count) (items_of_shapes config count) + items_of_export_shape config count
   most counts.Types asked = h.whole.most_types
   most counts.Imports asked = omega (arith, h.whole.count, h.whole.most_imports)
   most counts.Tags asked = h.whole.most counts.Tags tt
@@ -67,7 +67,7 @@ module _ (distinct : Bool) (config : Config) (drawn : Drawn) (h : IsDrawnFor dis
   most counts.Elements asked = omega (arith, h.contents.segments.most_items)
   most counts.DataSegments asked = omega (arith, h.contents.segments.most_data)
 
-  least : (count : Count) → HasLeast config count → minimum_of config count ≤ count_of m count
+  least : (count : Count) → MinimumApplies config count → minimum_of config count ≤ count_of m count
   least counts.Types asked = h.least_types
   least counts.Imports asked = (h.free asked).least
   least counts.Tags asked = h.least counts.Tags tt

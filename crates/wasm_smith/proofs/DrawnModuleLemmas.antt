@@ -7,12 +7,12 @@ use Rattle.smith_types.specs.declared.const_instr.ConstInstr.{ConstInstr}
 use Rattle.smith_config.specs.declared.config.Config.{Config}
 use Rattle.wasm_smith.specs.Build.{parts_of}
 use Rattle.wasm_smith.specs.DrawnParts.{IsDrawnFor}
-use Rattle.smith_definitions.specs.Module.{Parts, IsValid, AreSpacesMade, IsTableDefined, IsGlobalDefined, module_imports}
+use Rattle.smith_rules.specs.Module.{ModuleParts, IsValid, AreSpacesMade, IsTableDefined, IsGlobalDefined, module_imports}
 use Rattle.wasm_smith.specs.declared.build.drawn.Drawn.{Drawn}
-use Rattle.smith_definitions.proofs.StandsBehindLemmas.{defined_end}
+use Rattle.smith_defined.proofs.StandsBehindLemmas.{defined_end}
 
 module _ (distinct : Bool) (config : Config) (drawn : Drawn) (h : IsDrawnFor distinct config drawn) where
-  abbrev m : Parts
+  abbrev m : ModuleParts
   m = parts_of config drawn
 
   spaces_made : AreSpacesMade m

@@ -7,7 +7,8 @@ use Rattle.smith_types.specs.Imports.{IndexSpaces}
 use Rattle.smith_types.specs.declared.entity_type.EntityType.{EntityType}
 use Rattle.smith_types.proofs.ExportGrowthLemmas.{AreExportsValid-grown, IsEntityAt-grown}
 use Rattle.smith_types.proofs.ListLemmas.{AllZip-weaker}
-use Rattle.smith_definitions.specs.ShapesKept.{Export, IsSameExport}
+use Rattle.smith_rules.specs.ExportedItems.{Export}
+use Rattle.smith_rules.specs.ShapesKept.{IsSameExport}
 
 -- valid exports stay valid
 pub exports_grown : (old new : IndexSpaces) (exports : List Export) → AreSpacesGrown old new → AreExportsValid old exports → AreExportsValid new exports

@@ -6,11 +6,11 @@ use Rattle.std.proofs.lemmas.List.Elements.{All-weaker}
 use Rattle.smith_types.specs.Imports.{IndexSpaces, flattened, imported_spaces}
 use Rattle.smith_config.specs.declared.config.Config.{Config}
 use Rattle.smith_config.specs.Sanitized.{IsSanitized}
-use Rattle.smith_draw.specs.Bounds.{IsTableWithin, IsMemoryWithin}
+use Rattle.smith_config.specs.EntityBounds.{IsTableWithin, IsMemoryWithin}
 use Rattle.smith_imports.specs.Imported.{AreNumbersWithin, AreSpacesWithin, IsImported, spaces_of}
 use Rattle.smith_imports.specs.declared.imported.Imported.{Imported}
 use Rattle.wasm_smith.specs.Begun.{IsMemoryKept, IsTableKept, StandsSoFar}
-use Rattle.smith_definitions.specs.Defined.{nothing_defined}
+use Rattle.smith_defined.specs.Defined.{nothing_defined}
 use Rattle.wasm_smith.specs.declared.build.drawn.Drawn.{Drawn}
 use Rattle.wasm_smith.proofs.BegunLemmas.{stands_alone, taken_enabled}
 use Rattle.wasm_smith.proofs.BegunStandsLemmas.{taken_most}

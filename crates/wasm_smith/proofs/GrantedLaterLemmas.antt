@@ -11,9 +11,7 @@ use Rattle.smith_types.specs.declared.entity_type.TableType.{TableType}
 use Rattle.smith_types.specs.declared.value_type.ValType.{ValType}
 use Rattle.smith_types.specs.declared.value_type.ValType.TheVariants.{Ref}
 use Rattle.smith_config.specs.declared.config.Config.{Config}
-use Rattle.smith_draw.specs.ConstBounds.{IsUngrounded}
-use Rattle.smith_draw.specs.Granted.{HasGranted, IsGranted}
-use Rattle.smith_imports.specs.Imported.{HasGroundedElements, HasGroundedValue}
+use Rattle.smith_config.specs.Granted.{IsUngrounded, HasGranted, IsGranted, HasGroundedElements, HasGroundedValue}
 
 module _ (config : Config) (old new : Context) (before : (value : ValType) → IsUngrounded config new value → IsUngrounded config old value) where
   pub value_later : (value : ValType) → IsGranted config old value → IsGranted config new value

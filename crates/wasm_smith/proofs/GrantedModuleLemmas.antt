@@ -12,12 +12,10 @@ use Rattle.smith_types.specs.declared.value_type.ValType.{ValType}
 use Rattle.smith_types.specs.declared.value_type.ValType.TheVariants as vals
 use Rattle.smith_types.proofs.HeldValueLemmas.{all_values_joined}
 use Rattle.smith_config.specs.declared.config.Config.{Config}
-use Rattle.smith_draw.specs.ConstBounds.{IsUngrounded}
-use Rattle.smith_draw.specs.Granted.{IsGranted}
-use Rattle.smith_contents.specs.DrawnElements.{HasGroundedItems}
-use Rattle.smith_definitions.specs.Module.{Parts, module_context}
-use Rattle.smith_definitions.specs.Promises.{HasGrantedLocals, HoldsGranted}
-use Rattle.smith_definitions.proofs.StandsBehindLemmas.{left_over}
+use Rattle.smith_config.specs.Granted.{IsUngrounded, IsGranted, HasGroundedItems}
+use Rattle.smith_rules.specs.Module.{ModuleParts, module_context}
+use Rattle.smith_rules.specs.Promises.{HasGrantedLocals, HoldsGranted}
+use Rattle.smith_defined.proofs.StandsBehindLemmas.{left_over}
 use Rattle.wasm_smith.specs.Begun.{StandsWhole}
 use Rattle.wasm_smith.specs.Build.{parts_of}
 use Rattle.wasm_smith.specs.DrawnContents.{HasGrantedContents}
@@ -26,7 +24,7 @@ use Rattle.wasm_smith.specs.declared.build.drawn.Drawn.{Drawn}
 use Rattle.wasm_smith.proofs.GrantedLaterLemmas.{elements_later, globals_later, types_later, value_later}
 
 module _ (config : Config) (drawn : Drawn) (whole : StandsWhole config drawn) where
-  abbrev m : Parts
+  abbrev m : ModuleParts
   m = parts_of config drawn
 
   abbrev before : Context

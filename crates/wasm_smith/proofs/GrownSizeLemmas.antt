@@ -5,7 +5,7 @@ use Rattle.std.specs.Prelude.{All, Option, option_map, slice_get, sum_by, unwrap
 use Rattle.std.proofs.lemmas.List.Elements.{All-head}
 use Rattle.std.proofs.lemmas.List.Sums.{sum_by-cons}
 use Rattle.std.proofs.lemmas.Option.{slice_get_within}
-use Rattle.smith_types.specs.Entities.{IsFuncValid}
+use Rattle.smith_types.specs.Entities.{IsFuncTypeIndex}
 use Rattle.smith_types.specs.Grown.{Extends}
 use Rattle.smith_types.specs.Imports.{flattened, imported, imported_spaces, func_of}
 use Rattle.smith_types.specs.IndexSpaces.{spaces_in}
@@ -21,7 +21,7 @@ use Rattle.smith_config.specs.declared.config.Config.{Config}
 use Rattle.smith_config.specs.Features.{features_of}
 use Rattle.wasm_smith.specs.Begun.{StandsSoFar, size_of_imports}
 use Rattle.wasm_smith.specs.declared.build.drawn.Drawn.{Drawn}
-use Rattle.smith_definitions.proofs.StandsBehindLemmas.{stands_over}
+use Rattle.smith_defined.proofs.StandsBehindLemmas.{stands_over}
 
 same_place : {A : Type 0} (xs more : List A) (i : ℕ) → i < length xs → slice_get (xs ++ more) i ≡ slice_get xs i
 same_place [] more i inside = absurd (omega arith)
@@ -40,19 +40,19 @@ size_grown types more (entity.Memory memory) longer typed = refl
 size_grown types more (entity.Global global) longer typed = refl
 
 -- valid imports have existing types
-typed_by : (types : List SubType) (one : EntityType) → All (IsFuncValid types) (func_of one) → IsTyped types one
-typed_by types (entity.Func index) valid = let (function, (t, at, is)) = All-head (IsFuncValid types) index [] valid in slice_get_within types index t at
+typed_by : (types : List SubType) (one : EntityType) → All (IsFuncTypeIndex types) (func_of one) → IsTyped types one
+typed_by types (entity.Func index) valid = let (function, (t, at, is)) = All-head (IsFuncTypeIndex types) index [] valid in slice_get_within types index t at
 typed_by types (entity.Tag index) valid = tt
 typed_by types (entity.Table table) valid = tt
 typed_by types (entity.Memory memory) valid = tt
 typed_by types (entity.Global global) valid = tt
 
 -- imports together keep any count of their sizes
-sizes_grown : (count : ℕ → ℕ) (types more : List SubType) (imports : List Import) → Extends types more → All (IsFuncValid types) (imported func_of imports)
+sizes_grown : (count : ℕ → ℕ) (types more : List SubType) (imports : List Import) → Extends types more → All (IsFuncTypeIndex types) (imported func_of imports)
     → sum_by (λ (one : Import). count (size_in more one.entity_type)) imports ≡ sum_by (λ (one : Import). count (size_in types one.entity_type)) imports
 sizes_grown count types more [] longer valid = refl
 sizes_grown count types more (one ∷ imports) longer valid =
-    let both = all_apart (IsFuncValid types) (func_of one.entity_type) (imported func_of imports) valid in
+    let both = all_apart (IsFuncTypeIndex types) (func_of one.entity_type) (imported func_of imports) valid in
     let here = ap count (size_grown types more one.entity_type longer (typed_by types one.entity_type both.0)) in
     let rest = sizes_grown count types more imports longer both.1 in
     let new = sum_by-cons (λ (each : Import). count (size_in more each.entity_type)) one imports in
@@ -60,7 +60,7 @@ sizes_grown count types more (one ∷ imports) longer valid =
     omega (arith, here, rest, new, old)
 
 -- the amount that imports add to the type size stays
-pub imports_grown : (config : Config) (types more : List SubType) (imports : List Import) → Extends types more → All (IsFuncValid types) (imported func_of imports) → size_of_imports config more imports ≡ size_of_imports config types imports
+pub imports_grown : (config : Config) (types more : List SubType) (imports : List Import) → Extends types more → All (IsFuncTypeIndex types) (imported func_of imports) → size_of_imports config more imports ≡ size_of_imports config types imports
 imports_grown config types more imports longer valid =
     let plain = sizes_grown (λ n. n) types more imports longer valid in
     let one_more = sizes_grown (λ n. n + 1) types more imports longer valid in
@@ -71,7 +71,7 @@ pub stands_typed : (config : Config) (drawn : Drawn) (types : Space) → StandsS
 stands_typed config drawn types now valid longer few =
     let spaces = spaces_in drawn.imported.spaces in
     let all = imported_spaces (flattened drawn.imported.groups) in
-    let funcs : All (IsFuncValid drawn.types.types) (all.funcs ++ now.stands.funcs.defined) = rw now.stands.funcs.parts at now.stands.entities.funcs in
+    let funcs : All (IsFuncTypeIndex drawn.types.types) (all.funcs ++ now.stands.funcs.defined) = rw now.stands.funcs.parts at now.stands.entities.funcs in
     record {
       groups = now.groups;
       count = now.count;
@@ -81,6 +81,6 @@ stands_typed config drawn types now valid longer few =
       most_imports = now.most_imports;
       tables = now.tables;
       memories = now.memories;
-      type_size = now.type_size ∙ sym (imports_grown config drawn.types.types types.types (flattened drawn.imported.groups) longer (all_apart (IsFuncValid drawn.types.types) all.funcs now.stands.funcs.defined funcs).0);
+      type_size = now.type_size ∙ sym (imports_grown config drawn.types.types types.types (flattened drawn.imported.groups) longer (all_apart (IsFuncTypeIndex drawn.types.types) all.funcs now.stands.funcs.defined funcs).0);
       within = now.within;
     }

@@ -14,14 +14,15 @@ use Rattle.smith_config.specs.declared.shape.Shape.{Shape}
 use Rattle.smith_config.specs.Faults.{maximum_of}
 use Rattle.smith_config.specs.InUse.{shapes_of}
 use Rattle.smith_config.specs.Shapes.{shape_imports, shape_spaces, shape_types}
-use Rattle.smith_imports.specs.ShapeImports.{count_for, is_allowed, is_fitting, is_picked, taken_from}
-use Rattle.wasm_smith.specs.Begun.{Begun, begun_of}
+use Rattle.smith_rules.specs.ShapeImports.{count_for, is_allowed, is_fitting, is_picked, taken_from}
+use Rattle.wasm_smith.specs.Begun.{ModuleSoFar, begun_of}
 use Rattle.wasm_smith.specs.Build.{parts_of}
 use Rattle.wasm_smith.specs.DrawnSteps.{BeginsWithTypes, IsBeyond, KeepsBegun, KeepsImportsSoFar, KeepsModuleSoFar}
-use Rattle.smith_definitions.specs.ShapesKept.{Export, IsSameExport, IsSameType, KeepsAvailableImports, KeepsModuleShape, KeepsShapes}
+use Rattle.smith_rules.specs.ExportedItems.{Export}
+use Rattle.smith_rules.specs.ShapesKept.{IsSameExport, IsSameType, KeepsAvailableImports, KeepsModuleShape, KeepsShapes}
 use Rattle.wasm_smith.specs.declared.build.drawn.Drawn.{Drawn}
 use Rattle.wasm_smith.proofs.ExportsGrownLemmas.{same_exports_grown}
-use Rattle.smith_definitions.proofs.RequiredExportsLoop.{extends_both}
+use Rattle.smith_defined.proofs.RequiredExportsLoop.{extends_both}
 
 -- the configuration that a module returns
 abbrev shown : Config → Config
@@ -60,7 +61,7 @@ taken_shown config types bytes place taken (one ∷ more) =
     ap (λ (fits : Bool). taken_from (shown config) types bytes (suc place) (if is_picked bytes place && fits then taken ++ one ∷ [] else taken) more) (fitting_shown config types taken one)
     ∙ taken_shown config types bytes (suc place) next more
 
-types_beyond : {config : Config} {shape : Shape} {old new : Begun} → IsBeyond config old new → BeginsWithTypes shape old → BeginsWithTypes shape new
+types_beyond : {config : Config} {shape : Shape} {old new : ModuleSoFar} → IsBeyond config old new → BeginsWithTypes shape old → BeginsWithTypes shape new
 types_beyond beyond h = record { types = extends_both h.types beyond.types; groups = extends_both h.groups beyond.groups }
 
 -- a fact about a module shape, which is used if there is one
@@ -77,7 +78,7 @@ of_available config P shape none given h = rw (none, given) at h
 to_available : (config : Config) (P : Shape → Type 0) (shape : Shape) → config.module_shape ≡ None → config.available_imports ≡ Some shape → P shape → IfSome (shapes_of config).available_imports P
 to_available config P shape none given h = rw (none, given) h
 
-kept_by : (config : Config) (bytes : List ℕ) (old new : Begun) (of_module available : Option Shape) → config.module_shape ≡ of_module → config.available_imports ≡ available → IsBeyond config old new → KeepsBegun config bytes old → KeepsBegun config bytes new
+kept_by : (config : Config) (bytes : List ℕ) (old new : ModuleSoFar) (of_module available : Option Shape) → config.module_shape ≡ of_module → config.available_imports ≡ available → IsBeyond config old new → KeepsBegun config bytes old → KeepsBegun config bytes new
 kept_by config bytes old new (Some shape) available given also beyond kept =
     let was = of_module_shape config (λ each. KeepsModuleSoFar config each old) shape given kept.module_shape in
     record {
@@ -97,7 +98,7 @@ kept_by config bytes old new None (Some shape) none given beyond kept =
 kept_by config bytes old new None None none free beyond kept = record { module_shape = rw none tt; available_imports = rw (none, free) tt }
 
 -- later parts keep the shapes that a module begins with
-pub kept_beyond : {config : Config} {bytes : List ℕ} {old new : Begun} → IsBeyond config old new → KeepsBegun config bytes old → KeepsBegun config bytes new
+pub kept_beyond : {config : Config} {bytes : List ℕ} {old new : ModuleSoFar} → IsBeyond config old new → KeepsBegun config bytes old → KeepsBegun config bytes new
 kept_beyond {config = config} {bytes = bytes} {old = old} {new = new} beyond kept = kept_by config bytes old new config.module_shape config.available_imports refl refl beyond kept
 
 shown_by : (config : Config) (bytes : List ℕ) (drawn : Drawn) (of_module available : Option Shape) → config.module_shape ≡ of_module → config.available_imports ≡ available → KeepsBegun config bytes (begun_of drawn)

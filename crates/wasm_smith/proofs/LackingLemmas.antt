@@ -31,19 +31,17 @@ use Rattle.smith_types.proofs.HeldValueLemmas.{held_from_values, all_values_apar
 use Rattle.smith_config.specs.declared.config.Config.{Config}
 use Rattle.smith_config.specs.declared.shape.Shape.{Shape}
 use Rattle.smith_config.specs.Shapes.{shape_imports, shape_spaces, shape_types, shape_values}
-use Rattle.smith_draw.specs.ConstBounds.{IsNonNullable, IsUngrounded}
+use Rattle.smith_config.specs.Granted.{IsNonNullable, IsUngrounded, HasGranted, IsGranted, HasGroundedElements, HasGroundedValue}
 use Rattle.smith_draw.specs.ConstScopes.{fields_of}
-use Rattle.smith_draw.specs.Granted.{HasGranted, IsGranted}
 use Rattle.smith_draw.specs.Grounding.{over}
 use Rattle.smith_draw.proofs.FilledLemmas.{any_weaker}
 use Rattle.smith_draw.proofs.NullableLemmas.{ungrounded_not_null}
-use Rattle.smith_imports.specs.Imported.{HasGroundedElements, HasGroundedValue}
 use Rattle.wasm_smith.specs.Begun.{MayRefuseBegun}
-use Rattle.smith_definitions.specs.Bounds.{brought_by_module}
+use Rattle.smith_rules.specs.Bounds.{items_of_module_shape}
 use Rattle.wasm_smith.specs.DrawnSteps.{HoldsGrounded}
-use Rattle.smith_definitions.specs.Defined.{drawn_beside, nothing_defined}
-use Rattle.smith_definitions.specs.Refusals.{Brings, HoldsNonNullable, MayRefuse, shape_for}
-use Rattle.smith_definitions.specs.Required.{MayLackIn, MayRefuseRequired}
+use Rattle.smith_defined.specs.Defined.{drawn_beside, nothing_defined}
+use Rattle.smith_rules.specs.Refusals.{Brings, HoldsNonNullable, MayRefuse, shape_for}
+use Rattle.smith_defined.specs.Required.{MayLackIn, MayRefuseRequired}
 use Rattle.wasm_smith.proofs.NonNullableLemmas.{holds_or_not}
 
 -- not a non-nullable reference
@@ -139,7 +137,7 @@ module_lacks config shape e given (inl memory) = subst (MayRefuse config) (sym m
 module_lacks config shape e given (inr (empty, lacks)) = subst (MayRefuse config) (sym empty) (shape_lacks config shape given lacks)
 
 -- a module shape adds its exports
-module_brings : (config : Config) (shape : Shape) (count : Count) → config.module_shape ≡ Some shape → 0 < brought_by_module count shape → Brings config count
+module_brings : (config : Config) (shape : Shape) (count : Count) → config.module_shape ≡ Some shape → 0 < items_of_module_shape count shape → Brings config count
 module_brings config shape count given some = inr (rw given some)
 
 module_refused : (config : Config) (shape : Shape) (e : Error) → config.module_shape ≡ Some shape → MayRefuseRequired config (beside_shape config shape) shape e → MayRefuse config e

@@ -24,27 +24,26 @@ use Rattle.smith_config.specs.Sanitized.{IsSanitized}
 use Rattle.smith_config.specs.Shapes.{IsShapeValid, most_listed, shape_spaces, shape_types}
 use Rattle.smith_draw.specs.ConstBounds.{HoldsUngroundedField}
 use Rattle.smith_draw.specs.FuncSizes.{HasFewValues}
-use Rattle.smith_draw.specs.Granted.{HasGranted}
+use Rattle.smith_config.specs.Granted.{HasGranted, HasGroundedElements, HasGroundedValue}
 use Rattle.smith_draw.proofs.FilledLemmas.{ungrounded_before}
-use Rattle.smith_imports.specs.Imported.{HasGroundedElements, HasGroundedValue}
-use Rattle.smith_imports.specs.ShapeImports.{count_in}
-use Rattle.smith_contents.specs.Exporting.{Export, exported_size}
+use Rattle.smith_rules.specs.ShapeImports.{count_in}
+use Rattle.smith_rules.specs.ExportedItems.{Export, exported_size}
 use Rattle.smith_contents.specs.declared.exported.Exports.{Exports}
 use Rattle.smith_contents.proofs.SizedLemmas.{few_sized}
-use Rattle.wasm_smith.specs.Begun.{Begun, IsOfEntities, StandsSoFar, begun_of, size_of_imports}
-use Rattle.smith_definitions.specs.Bounds.{exported_of}
+use Rattle.wasm_smith.specs.Begun.{ModuleSoFar, IsOfEntities, StandsSoFar, begun_of, size_of_imports}
+use Rattle.smith_rules.specs.Bounds.{items_of_exports}
 use Rattle.wasm_smith.specs.Build.{begun_size, exports_of}
 use Rattle.wasm_smith.specs.Contents.{MayHoldContents}
-use Rattle.smith_definitions.specs.Defined.{StandsBehind, drawn_beside}
+use Rattle.smith_defined.specs.Defined.{StandsBehind, drawn_beside}
 use Rattle.wasm_smith.specs.DrawnSteps.{AreEntitiesDrawn, AreExportsDrawn, HoldsGrounded, IsBeyond, MayGoOn, drawn_next}
-use Rattle.smith_definitions.specs.Refusals.{AreShapesValid, HoldsNonNullable, MayRefuse, shape_for}
-use Rattle.smith_definitions.specs.Required.{AddsLimitsOf, AddsTypesOf, MayDefineMore, MayLackIn, MayRefuseRequired}
-use Rattle.smith_definitions.specs.declared.definitions.Definitions.{Definitions}
+use Rattle.smith_rules.specs.Refusals.{AreShapesValid, HoldsNonNullable, MayRefuse, shape_for}
+use Rattle.smith_defined.specs.Required.{AddsLimitsOf, AddsTypesOf, MayDefineMore, MayLackIn, MayRefuseRequired}
+use Rattle.smith_defined.specs.declared.definitions.Definitions.{Definitions}
 use Rattle.wasm_smith.specs.declared.build.drawn.Drawn.{Drawn}
 use Rattle.wasm_smith.proofs.BroughtLemmas.{few_added, few_brought}
-use Rattle.smith_definitions.proofs.ExtensionLemmas.{all_kept}
-use Rattle.smith_definitions.proofs.DefinedMoreLemmas.{stands_within}
-use Rattle.smith_definitions.proofs.StandsBehindLemmas.{defined_end}
+use Rattle.smith_defined.proofs.ExtensionLemmas.{all_kept}
+use Rattle.smith_defined.proofs.DefinedGrowthLemmas.{stands_within}
+use Rattle.smith_defined.proofs.StandsBehindLemmas.{defined_end}
 use Rattle.wasm_smith.proofs.GrantedLaterLemmas.{elements_later, globals_later, types_later}
 use Rattle.wasm_smith.proofs.LackingLemmas.{shape_granted}
 use Rattle.wasm_smith.proofs.NonNullableLemmas.{holds_or_not}
@@ -101,7 +100,7 @@ may_hold_contents config drawn passes sanitized valid now =
 nothing_more : {A : Type 0} (size more : ℕ) (of_module exports : Option A) (one : A) → of_module ≡ None → exports ≡ Some one → size ≡ size + (if is_some of_module || is_some exports then 0 else more)
 nothing_more size more of_module exports one none given = rw (none, given) (omega arith)
 
-pub required_size : (config : Config) (shape : Shape) (begun : Begun) (type_size : ℕ) → config.module_shape ≡ None → config.exports ≡ Some shape → type_size ≡ size_of_imports config begun.types.types (flattened begun.groups)
+pub required_size : (config : Config) (shape : Shape) (begun : ModuleSoFar) (type_size : ℕ) → config.module_shape ≡ None → config.exports ≡ Some shape → type_size ≡ size_of_imports config begun.types.types (flattened begun.groups)
     → ◌≡◌ {A = Exports} (record { exports = begun.exports; type_size = type_size }) (exports_of config begun)
 required_size config shape begun type_size none given is =
     let size = begun_size config begun in
@@ -181,9 +180,9 @@ module _ (config : Config) (shape : Shape) (drawn : Drawn) (none : config.module
 
 -- the exports of a shape are made after the existing entities
 module _ (config : Config) (shape : Shape) (drawn : Drawn) (types : Space) (spaces : Held) (defined : Definitions) (none : config.module_shape ≡ None) (given : config.exports ≡ Some shape) where
-  pub required_drawn : AreEntitiesDrawn config drawn → Extends drawn.types.types types.types → length types.types ≤ length drawn.types.types + exported_of counts.Types shape
+  pub required_drawn : AreEntitiesDrawn config drawn → Extends drawn.types.types types.types → length types.types ≤ length drawn.types.types + items_of_exports counts.Types shape
       → (HoldsUngroundedField config (drawn_beside config types.types (spaces_in spaces) defined) → HoldsUngroundedField config (drawn_next config drawn)) → (All (HasFewValues most_listed) drawn.types.types → All (HasFewValues most_listed) types.types)
-      → ((count : Count) → (count ≡ counts.Types → ⊥) → count_in (spaces_in spaces) count ≡ count_in (spaces_in drawn.imported.spaces) count + exported_of count shape)
+      → ((count : Count) → (count ≡ counts.Types → ⊥) → count_in (spaces_in spaces) count ≡ count_in (spaces_in drawn.imported.spaces) count + items_of_exports count shape)
       → AreSpacesGrown (spaces_in drawn.imported.spaces) (spaces_in spaces)
       → AddsTypesOf shape drawn.types.types types.types
       → AddsLimitsOf shape (spaces_in drawn.imported.spaces) (spaces_in spaces)

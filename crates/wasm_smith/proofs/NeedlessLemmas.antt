@@ -19,9 +19,9 @@ use Rattle.smith_config.specs.ShapeFaults.{HasShapeFault, IsRefused}
 use Rattle.smith_config.specs.Shapes.{IsShapeValid}
 use Rattle.smith_config.proofs.FaultLemmas.{no_fault}
 use Rattle.smith_config.proofs.ShapeLemmas.{no_fault as no_shape_fault}
-use Rattle.smith_definitions.specs.Bounds.{where_given, exported_of, brought_by_module}
+use Rattle.smith_rules.specs.Bounds.{where_given, items_of_exports, items_of_module_shape}
 use Rattle.wasm_smith.specs.CheckedShapes.{IsFirstFaulty}
-use Rattle.smith_definitions.specs.Refusals.{AreShapesValid, AsksNothingImpossible, Brings, HasShape, MayRefuse, shape_for}
+use Rattle.smith_rules.specs.Refusals.{AreShapesValid, AsksNothingImpossible, Brings, HasShape, MayRefuse, shape_for}
 
 given_some : (of_shape : Shape → ℕ) (given : Option Shape) → 0 < where_given of_shape given → IsSome given
 given_some of_shape (Some shape) some = refl
@@ -29,8 +29,8 @@ given_some of_shape None some = absurd (omega (arith, some))
 
 -- a shape that adds items exists
 shape_brings : (config : Config) (count : Count) → Brings config count → HasShape config
-shape_brings config count (inl some) = (which.Exports, given_some (exported_of count) (shapes_of config).exports some)
-shape_brings config count (inr some) = (which.ModuleShape, given_some (brought_by_module count) (shapes_of config).module_shape some)
+shape_brings config count (inl some) = (which.Exports, given_some (items_of_exports count) (shapes_of config).exports some)
+shape_brings config count (inr some) = (which.ModuleShape, given_some (items_of_module_shape count) (shapes_of config).module_shape some)
 
 -- an accepted shape has no fault
 faultless : (config : Config) (for_use : Which) (found : ShapeFault) (given : Option Shape) → IfSome given (λ shape. IsShapeValid for_use config shape) → IsSomeAnd given (λ shape. HasShapeFault for_use config shape found) → ⊥

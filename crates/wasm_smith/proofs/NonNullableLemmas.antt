@@ -10,8 +10,8 @@ use Rattle.smith_types.specs.declared.value_type.ValType.TheVariants as value
 use Rattle.smith_config.specs.declared.config.Config.{Config}
 use Rattle.smith_config.specs.declared.shape.Shape.{Shape}
 use Rattle.smith_config.specs.Shapes.{shape_values}
-use Rattle.smith_draw.specs.ConstBounds.{IsNonNullable}
-use Rattle.smith_definitions.specs.Refusals.{HoldsNonNullable, shape_for}
+use Rattle.smith_config.specs.Granted.{IsNonNullable}
+use Rattle.smith_rules.specs.Refusals.{HoldsNonNullable, shape_for}
 
 never_null : ValType → Bool
 never_null (value.Ref reference) = not reference.nullable

@@ -8,21 +8,21 @@ use Rattle.smith_types.specs.Imports.{flattened, imported_spaces}
 use Rattle.smith_types.specs.IndexSpaces.{spaces_in}
 use Rattle.smith_config.specs.declared.config.Config.{Config}
 use Rattle.smith_config.specs.InUse.{FixesImports, HasNoShapes}
-use Rattle.smith_imports.specs.Steps.{section_flag_at}
+use Rattle.smith_bytes.specs.Steps.{section_flag_at}
 use Rattle.smith_imports.specs.declared.imported.Imported.{Imported}
 use Rattle.smith_contents.specs.declared.exported.Exports.{Exports}
-use Rattle.wasm_smith.specs.Begun.{Begun, StandsWhole}
+use Rattle.wasm_smith.specs.Begun.{ModuleSoFar, StandsWhole}
 use Rattle.wasm_smith.specs.Build.{GivesOrLacks, begun_typed_at, defined_at, exported_at, exports_of, imported_at, in_full, module_at, module_of}
 use Rattle.wasm_smith.specs.DrawnContents.{AreContents, HasGrantedContents, HasNoFloatContents, behind_exports_at, imported_in}
 use Rattle.wasm_smith.specs.DrawnParts.{IsDrawnFor}
 use Rattle.wasm_smith.specs.DrawnSteps.{AreExportsDrawn, AreFreeImports, HasSameImports, drawn_next}
-use Rattle.smith_definitions.specs.Module.{Parts}
-use Rattle.smith_definitions.specs.InterestingValues.{AreAll, IsInteresting32, IsInteresting64}
+use Rattle.smith_rules.specs.Module.{ModuleParts}
+use Rattle.smith_rules.specs.InterestingValues.{AreAll, IsInteresting32, IsInteresting64}
 use Rattle.wasm_smith.specs.declared.build.contents.Contents.{Contents}
 use Rattle.wasm_smith.specs.declared.build.drawn.Drawn.{Drawn}
 
 -- the reads of the steps make the read of all of them
-pub module_read : (distinct : Bool) (config : Config) (bytes : List ℕ) (typed imported defined whole : Begun) (flag : Bool) (made : Exports) (contents : Contents) (count : ℕ) (first second third fourth fifth last : List ℕ)
+pub module_read : (distinct : Bool) (config : Config) (bytes : List ℕ) (typed imported defined whole : ModuleSoFar) (flag : Bool) (made : Exports) (contents : Contents) (count : ℕ) (first second third fourth fifth last : List ℕ)
     → begun_typed_at config bytes ≡ Ok (typed, first) → imported_at distinct config typed first ≡ Ok (imported, second) → section_flag_at (length imported.groups) second ≡ (flag, third)
     → defined_at config imported third ≡ Ok (defined, fourth) → exported_at config defined fourth ≡ Ok (whole, fifth) → made ≡ exports_of config whole
     → in_full (behind_exports_at config whole.types.types (imported_spaces (flattened whole.groups)) whole.spaces made fifth) ≡ Ok (contents, last) → count ≡ length (flattened whole.groups)
@@ -32,14 +32,14 @@ module_read distinct config bytes typed imported defined whole flag made content
     let behind_own = subst (λ (own : Exports). in_full (behind_exports_at config whole.types.types (imported_spaces (flattened whole.groups)) whole.spaces own fifth) ≡ Ok (contents, last)) size behind in
     rw (begins, imports, flags, defines, exports, behind_own, counted) refl
 
-lacks_so : {X Z : Type 0} (view : X → Parts × List ℕ) (own : Z → Contents × List ℕ) (e : Error) (read : Result (Contents × List ℕ) Error) (whole : Result (Parts × List ℕ) Error) → (read ≡ Err e → whole ≡ Err e) → GivesOrLacks own (Err e) read
+lacks_so : {X Z : Type 0} (view : X → ModuleParts × List ℕ) (own : Z → Contents × List ℕ) (e : Error) (read : Result (Contents × List ℕ) Error) (whole : Result (ModuleParts × List ℕ) Error) → (read ≡ Err e → whole ≡ Err e) → GivesOrLacks own (Err e) read
     → GivesOrLacks view (Err e) whole
 lacks_so view own errors.Memory read whole both h = tt
 lacks_so view own errors.EmptyChoose read whole both h = tt
 lacks_so view own e read whole both h = both h
 
 -- if contents are refused, so is the module
-pub module_refused : {X Z : Type 0} (view : X → Parts × List ℕ) (own : Z → Contents × List ℕ) (result : Result X Error) (e : Error) (distinct : Bool) (config : Config) (bytes : List ℕ) (typed imported defined whole : Begun) (flag : Bool) (made : Exports)
+pub module_refused : {X Z : Type 0} (view : X → ModuleParts × List ℕ) (own : Z → Contents × List ℕ) (result : Result X Error) (e : Error) (distinct : Bool) (config : Config) (bytes : List ℕ) (typed imported defined whole : ModuleSoFar) (flag : Bool) (made : Exports)
     (first second third fourth fifth : List ℕ) → begun_typed_at config bytes ≡ Ok (typed, first) → imported_at distinct config typed first ≡ Ok (imported, second) → section_flag_at (length imported.groups) second ≡ (flag, third)
     → defined_at config imported third ≡ Ok (defined, fourth) → exported_at config defined fourth ≡ Ok (whole, fifth) → made ≡ exports_of config whole
     → GivesOrLacks own (Err e) (in_full (behind_exports_at config whole.types.types (imported_spaces (flattened whole.groups)) whole.spaces made fifth)) → IsErrAnd result (λ y. y ≡ e) → GivesOrLacks view result (module_at distinct config bytes)

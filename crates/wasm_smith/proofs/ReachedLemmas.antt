@@ -24,38 +24,39 @@ use Rattle.smith_config.specs.Shapes.{space_of}
 use Rattle.smith_draw.specs.SpelledGlobals.{mutable_i32}
 use Rattle.smith_draw.proofs.SpelledGroupLemmas.{types_read}
 use Rattle.smith_spell.specs.Family.{IsInFamily}
-use Rattle.smith_spell.specs.Minimums.{HasNoMinimums}
+use Rattle.smith_config.specs.Minimums.{HasNoMinimums}
 use Rattle.smith_spell.specs.SpellAnswers.{IsSpellable}
-use Rattle.smith_spell.specs.Spelling.{SpellsMember, SpellsRest, SpellsNoTag, SpellsFuncs, SpellsGlobal, SpellsNoStart, SpellsSegments}
+use Rattle.smith_spell.specs.Spelling.{SpellsMember, SpellsRest, SpellsSegments}
+use Rattle.smith_draw.specs.SpelledParts.{SpellsNoTag, SpellsFuncs, SpellsGlobal, SpellsNoStart}
 use Rattle.smith_spell.proofs.FamilyFitLemmas.{family_fits}
-use Rattle.wasm_smith.specs.Begun.{Begun, begun_at, nothing_begun}
-use Rattle.wasm_smith.specs.Build.{GivesOrLacks, IsGiven, as_drawn, begun_size, begun_typed_at, defined_at, exported_at, exported_for, exports_of, functions_begun, imported_at, in_full, module_at, module_of, typed_at}
-use Rattle.smith_definitions.specs.Defined.{nothing_defined}
-use Rattle.smith_definitions.specs.Definitions.{defined_in, definitions_at, standing_over, tables_at, memories_at, globals_at}
+use Rattle.wasm_smith.specs.Begun.{ModuleSoFar, begun_at, nothing_begun}
+use Rattle.wasm_smith.specs.Build.{GivesOrLacks, IsGiven, as_drawn, begun_size, begun_typed_at, defined_at, exported_at, exported_for, exports_of, functions_begun, imported_at, in_full, module_at, module_of, with_types_at}
+use Rattle.smith_defined.specs.Defined.{nothing_defined}
+use Rattle.smith_defined.specs.Definitions.{defined_in, definitions_at, scope_over, tables_at, memories_at, globals_at}
 use Rattle.wasm_smith.specs.DrawnContents.{segment_scope, all_segments_at, behind_exports_at}
 use Rattle.wasm_smith.specs.Members.{HasMember, HasRest}
-use Rattle.smith_definitions.specs.Module.{Parts}
+use Rattle.smith_rules.specs.Module.{ModuleParts}
 use Rattle.smith_contents.specs.PassiveData.{passive_data}
 use Rattle.wasm_smith.specs.Reached.{ReachesMembers, ReachesRests}
-use Rattle.smith_definitions.specs.Refusals.{AsksNothingImpossible}
-use Rattle.smith_definitions.specs.RequiredExports.{then_with}
+use Rattle.smith_rules.specs.Refusals.{AsksNothingImpossible}
+use Rattle.smith_defined.specs.RequiredExports.{then_with}
 use Rattle.smith_contents.specs.AllExports.{exports_at}
-use Rattle.smith_contents.specs.Exporting.{Export}
+use Rattle.smith_rules.specs.ExportedItems.{Export}
 use Rattle.smith_contents.specs.declared.exported.Exports.{Exports}
 use Rattle.smith_imports.specs.Importing.{imports_at}
-use Rattle.smith_imports.specs.Steps.{◌>>=◌, section_flag_at}
+use Rattle.smith_bytes.specs.Steps.{◌>>=◌, section_flag_at}
 use Rattle.wasm_smith.specs.declared.build.contents.Contents.{Contents}
-use Rattle.smith_definitions.specs.declared.definitions.Definitions.{Definitions}
-use Rattle.smith_definitions.proofs.DefinedMemoryLemmas.{no_memory_read}
-use Rattle.smith_definitions.proofs.DefinedTableLemmas.{no_table_read}
+use Rattle.smith_defined.specs.declared.definitions.Definitions.{Definitions}
+use Rattle.smith_defined.proofs.DefinedMemoryLemmas.{no_memory_read}
+use Rattle.smith_defined.proofs.DefinedTableLemmas.{no_table_read}
 use Rattle.wasm_smith.proofs.NoShapeLemmas.{no_shapes_valid, none_used}
 use Rattle.smith_contents.proofs.ElementCountLemmas.{elements_none}
 use Rattle.smith_contents.proofs.ExportRefusalLemmas.{exports_free, no_export_read}
 use Rattle.smith_imports.proofs.NoImportLemmas.{no_import_read}
-use Rattle.smith_definitions.proofs.NumberedGlobalLemmas.{listed_read}
+use Rattle.smith_defined.proofs.NumberedGlobalLemmas.{listed_read}
 use Rattle.smith_contents.proofs.PassiveDataLemmas.{data_read}
 use Rattle.smith_contents.proofs.StartLemmas.{start_none}
-use Rattle.smith_definitions.proofs.TypedLemmas.{no_tag_read, funcs_read}
+use Rattle.smith_defined.proofs.TypedLemmas.{no_tag_read, funcs_read}
 
 -- whether an empty section is written is one byte
 flag_by : (empty : Bool) (piece after : List ℕ) → Where empty SpellsAnyByte piece → (cond empty (bool_at (piece ++ after)) (true, piece ++ after)).1 ≡ after
@@ -74,7 +75,7 @@ nothing = imported_spaces (flattened [])
 -- the tables, memories and globals that the bytes after functions produce, without imports
 abbrev behind_funcs_at : Config → List SubType → List ℕ → List ℕ → (IndexSpaces × Definitions) × List ℕ
 behind_funcs_at config types funcs bytes =
-    let standing = standing_over types funcs 0 [] in
+    let standing = scope_over types funcs 0 [] in
     let tables = tables_at config standing [] [] bytes in
     let memories = memories_at config [] tables.1 in
     let globals = globals_at config standing [] [] memories.1 in
@@ -92,30 +93,30 @@ definitions_read config types funcs piece after least h =
     ) refl
 
 -- the state after entities are defined over types, without imports
-abbrev with_entities : List (List SubType) → IndexSpaces × Definitions → Begun
+abbrev with_entities : List (List SubType) → IndexSpaces × Definitions → ModuleSoFar
 with_entities groups made = record nothing_begun { types = space_of groups; spaces = made.0; defined = made.1 }
 
 -- the module that the bytes after exports produce, with this flag of imports
-abbrev whole_at : Config → Bool → Begun → List ℕ → Result (Parts × List ℕ) Error
+abbrev whole_at : Config → Bool → ModuleSoFar → List ℕ → Result (ModuleParts × List ℕ) Error
 whole_at config flag whole bytes =
     in_full (behind_exports_at config whole.types.types (imported_spaces (flattened whole.groups)) whole.spaces (exports_of config whole) bytes) >>= λ (contents : Contents × List ℕ). Ok (module_of config whole contents.0 flag, contents.1)
 
 -- the module that the bytes after entities produce
-abbrev ending_at : Config → Bool → Begun → List ℕ → Result (Parts × List ℕ) Error
-ending_at config flag begun bytes = exported_at config begun bytes >>= λ (exported : Begun × List ℕ). whole_at config flag exported.0 exported.1
+abbrev ending_at : Config → Bool → ModuleSoFar → List ℕ → Result (ModuleParts × List ℕ) Error
+ending_at config flag begun bytes = exported_at config begun bytes >>= λ (exported : ModuleSoFar × List ℕ). whole_at config flag exported.0 exported.1
 
 -- without shapes a module begins with the drawn types
-types_alone : (config : Config) (bytes : List ℕ) → HasNoShapes config → begun_typed_at config bytes ≡ Ok (typed_at config nothing_begun bytes)
+types_alone : (config : Config) (bytes : List ℕ) → HasNoShapes config → begun_typed_at config bytes ≡ Ok (with_types_at config nothing_begun bytes)
 unfolding begun_typed_at begun_at
 types_alone config bytes none = rw (none.module_shape, none.available_imports) refl
 
 -- and neither imports nor exports are fixed
-freely_imported : (distinct : Bool) (config : Config) (begun : Begun) (bytes : List ℕ) → HasNoShapes config
+freely_imported : (distinct : Bool) (config : Config) (begun : ModuleSoFar) (bytes : List ℕ) → HasNoShapes config
     → imported_at distinct config begun bytes ≡ then_with (λ groups. record begun { groups = groups; spaces = imported_spaces (flattened groups) }) (in_full (imports_at config begun.types.types distinct bytes))
 unfolding imported_at
 freely_imported distinct config begun bytes none = rw (none.module_shape, none.available_imports) refl
 
-freely_exported : (config : Config) (begun : Begun) (bytes : List ℕ) → HasNoShapes config → exported_at config begun bytes ≡ exported_for config None None begun bytes
+freely_exported : (config : Config) (begun : ModuleSoFar) (bytes : List ℕ) → HasNoShapes config → exported_at config begun bytes ≡ exported_for config None None begun bytes
 unfolding exported_at
 freely_exported config begun bytes none =
     ap (λ (given : Option Shape). exported_for config given config.exports begun bytes) none.module_shape ∙ ap (λ (given : Option Shape). exported_for config None given begun bytes) none.exports
@@ -148,15 +149,15 @@ member_read distinct config groups funcs piece after sanitized none least member
     )
 
 -- whatever follows, these are the types and functions of the module
-whole_ended : (config : Config) (groups : List (List SubType)) (begun : Begun) (flag : Bool) (contents : Result (Contents × List ℕ) Why) → begun.types ≡ space_of groups
-    → IfOk {T = Parts × List ℕ} (in_full contents >>= λ (made : Contents × List ℕ). Ok (module_of config begun made.0 flag, made.1)) (λ drawn. HasMember groups begun.spaces.funcs drawn.0)
+whole_ended : (config : Config) (groups : List (List SubType)) (begun : ModuleSoFar) (flag : Bool) (contents : Result (Contents × List ℕ) Why) → begun.types ≡ space_of groups
+    → IfOk {T = ModuleParts × List ℕ} (in_full contents >>= λ (made : Contents × List ℕ). Ok (module_of config begun made.0 flag, made.1)) (λ drawn. HasMember groups begun.spaces.funcs drawn.0)
 whole_ended config groups begun flag (Ok made) same = record { types = ap (λ (space : Space). space.types) same; groups_are = ap (λ (space : Space). space.groups) same; funcs_are = refl }
 whole_ended config groups begun flag (Err why) same = tt
 
 member_ended : (config : Config) (groups : List (List SubType)) (made : IndexSpaces × Definitions) (flag : Bool) (exports : Result (List Export × List ℕ) Why)
-    → IfOk (then_with (λ exports. record (with_entities groups made) { exports = exports }) (in_full exports) >>= λ (exported : Begun × List ℕ). whole_at config flag exported.0 exported.1) (λ drawn. HasMember groups made.0.funcs drawn.0)
+    → IfOk (then_with (λ exports. record (with_entities groups made) { exports = exports }) (in_full exports) >>= λ (exported : ModuleSoFar × List ℕ). whole_at config flag exported.0 exported.1) (λ drawn. HasMember groups made.0.funcs drawn.0)
 member_ended config groups made flag (Ok drawn) =
-    let whole : Begun = record (with_entities groups made) { exports = drawn.0 } in
+    let whole : ModuleSoFar = record (with_entities groups made) { exports = drawn.0 } in
     whole_ended config groups whole flag (behind_exports_at config whole.types.types (imported_spaces (flattened whole.groups)) whole.spaces (exports_of config whole) drawn.1) refl
 member_ended config groups made flag (Err why) = tt
 
@@ -219,7 +220,7 @@ record AreNumbered (numbers : List ℤ) (drawn : (IndexSpaces × Definitions) ×
 entities_read : (config : Config) (types : List SubType) (funcs : List ℕ) (numbers : List ℤ) (tables memories globals after : List ℕ) → HasNoMinimums config → SpellsNone config.max_tables tables → SpellsNone config.max_memories memories
     → Listed (SpellsGlobal config) config.max_globals numbers globals → AreNumbered numbers (behind_funcs_at config types funcs (tables ++ (memories ++ (globals ++ after)))) after
 entities_read config types funcs numbers tables memories globals after least no_table no_memory h =
-    let standing = standing_over types funcs 0 [] in
+    let standing = scope_over types funcs 0 [] in
     let none = no_table_read config standing [] [] tables (memories ++ (globals ++ after)) (least counts.Tables) refl no_table in
     let no_memories = no_memory_read config [] [] memories (globals ++ after) (least counts.Memories) refl (record { none = refl; spelled = no_memory }) in
     let listed : Listing = (map (λ number. mutable_i32) numbers, map (λ number. I32Const number ∷ []) numbers) in
@@ -233,7 +234,7 @@ entities_read config types funcs numbers tables memories globals after least no_
     })
 
 -- without shapes, there is no export if the bytes say so
-no_export_made : (config : Config) (begun : Begun) (piece after : List ℕ) → HasNoShapes config → HasNoMinimums config → config.export_everything ≡ false → SpellsNone config.max_exports piece
+no_export_made : (config : Config) (begun : ModuleSoFar) (piece after : List ℕ) → HasNoShapes config → HasNoMinimums config → config.export_everything ≡ false → SpellsNone config.max_exports piece
     → exported_at config begun (piece ++ after) ≡ Ok (record begun { exports = [] }, after)
 no_export_made config begun piece after none least some h =
     let size = begun_size config begun in
@@ -245,7 +246,7 @@ no_export_made config begun piece after none least some h =
 
 rest_ended : (config : Config) (groups : List (List SubType)) (numbers : List ℤ) (passive : List (List ℕ)) (drawn : (IndexSpaces × Definitions) × List ℕ) (after : List ℕ) (flag : Bool) (contents : Result (Contents × List ℕ) Why)
     → AreNumbered numbers drawn after → IfOk contents (λ made. IsBare passive made.0)
-    → IfOk {T = Parts × List ℕ} (in_full contents >>= λ (made : Contents × List ℕ). Ok (module_of config (with_entities groups drawn.0) made.0 flag, made.1)) (λ made. HasRest numbers passive made.0)
+    → IfOk {T = ModuleParts × List ℕ} (in_full contents >>= λ (made : Contents × List ℕ). Ok (module_of config (with_entities groups drawn.0) made.0 flag, made.1)) (λ made. HasRest numbers passive made.0)
 rest_ended config groups numbers passive drawn after flag (Ok made) numbered bare = record {
   tables = numbered.tables;
   memories = numbered.memories;
@@ -274,16 +275,16 @@ rest_reached distinct config groups funcs numbers passive piece rest after sanit
     let begun = with_entities groups drawn.0 in
     let numbered = entities_read config types funcs numbers h.first memories.first globals.first later least h.is_first memories.is_first globals.is_first in
     let made = no_export_made config begun exports.first behind_exports none least some exports.is_first in
-    let whole : Begun = record begun { exports = [] } in
+    let whole : ModuleSoFar = record begun { exports = [] } in
     let bare = contents_read config types nothing drawn.0.0 (exports_of config whole) passive exports.second after least refl numbered.tables numbered.memories exports.is_second in
     let ended = rest_ended config groups numbers passive drawn later read.0 (behind_exports_at config types nothing drawn.0.0 (exports_of config whole) behind_exports) numbered bare in
     let ending : IfOk (ending_at config read.0 begun drawn.1) (λ made. HasRest numbers passive made.0) = rw (numbered.left, made) ended in
     rw read.1 (subst (λ (bytes : List ℕ). let all = behind_funcs_at config types funcs bytes in IfOk (ending_at config read.0 (with_entities groups all.0) all.1) (λ made. HasRest numbers passive made.0)) (sym parts) ending)
 
 -- a property of every module of these bytes, apart from interesting values, is one of the answer
-answered : (Holds : Parts → Type 0) (distinct : Bool) (config : Config) (bytes left : List ℕ) (answer : Result Parts Error) → ((m : Parts) → Holds (as_drawn m) → Holds m) → GivesOrLacks (λ m. (as_drawn m, left)) answer (module_at distinct config bytes)
+answered : (Holds : ModuleParts → Type 0) (distinct : Bool) (config : Config) (bytes left : List ℕ) (answer : Result ModuleParts Error) → ((m : ModuleParts) → Holds (as_drawn m) → Holds m) → GivesOrLacks (λ m. (as_drawn m, left)) answer (module_at distinct config bytes)
     → IfErr answer (λ e. e ≡ errors.Memory) → IfOk (module_at distinct config bytes) (λ drawn. Holds drawn.0) → MatchResult answer Holds (λ e. e ≡ errors.Memory)
-answered Holds distinct config bytes left (Ok m) keeps given memory held = keeps m (subst (λ (read : Result (Parts × List ℕ) Error). IfOk read (λ drawn. Holds drawn.0)) given held)
+answered Holds distinct config bytes left (Ok m) keeps given memory held = keeps m (subst (λ (read : Result (ModuleParts × List ℕ) Error). IfOk read (λ drawn. Holds drawn.0)) given held)
 answered Holds distinct config bytes left (Err e) keeps given memory held = memory
 
 some_at_all : {A : Type 0} (given : Option A) → IsSome given → IsSomeAnd given (λ _. ⊤)
@@ -300,7 +301,7 @@ spellable_asks config groups funcs fit = record {
   several = λ h. absurd (none_used (λ _. ⊤) config h.0 fit.no_shapes (some_at_all _ h.1));
 }
 
-module _ {distinct : Bool} {config : Config} {bytes left : List ℕ} {answer : Result Parts Error} (sanitized : IsSanitized config) (given : IsGiven distinct config bytes answer left)
+module _ {distinct : Bool} {config : Config} {bytes left : List ℕ} {answer : Result ModuleParts Error} (sanitized : IsSanitized config) (given : IsGiven distinct config bytes answer left)
     (needless : AsksNothingImpossible config → IfErr answer (λ e. e ≡ errors.Memory)) where
   pub members_reached : ReachesMembers config bytes answer
   members_reached = λ groups funcs behind h.

@@ -14,9 +14,10 @@ use Rattle.smith_contents.specs.DrawnElements.{HasUngroundedElements, MayLackIte
 use Rattle.smith_contents.specs.Exported.{MayRunOut, MayRefuseExports}
 use Rattle.wasm_smith.proofs.NonNullableLemmas.{holds_or_not}
 use Rattle.wasm_smith.specs.Contents.{MayRefuseContents}
-use Rattle.smith_imports.specs.Imported.{HasGroundedElements, MayRefuseImports}
+use Rattle.smith_config.specs.Granted.{HasGroundedElements}
+use Rattle.smith_imports.specs.Imported.{MayRefuseImports}
 use Rattle.wasm_smith.specs.DrawnSteps.{HoldsGrounded}
-use Rattle.smith_definitions.specs.Refusals.{HasShape, HoldsNonNullable, MayLackExports, MayRefuse}
+use Rattle.smith_rules.specs.Refusals.{HasShape, HoldsNonNullable, MayLackExports, MayRefuse}
 
 -- a configuration has no shapes, or one that is used
 shapes_by : (config : Config) (of_module available exports : Option Shape) → config.module_shape ≡ of_module → config.available_imports ≡ available → config.exports ≡ exports → HasNoShapes config ⊎ HasShape config

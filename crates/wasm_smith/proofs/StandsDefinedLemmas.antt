@@ -8,13 +8,13 @@ use Rattle.smith_types.specs.IndexSpaces.{spaces_in}
 use Rattle.smith_types.specs.declared.index_spaces.IndexSpaces.{IndexSpaces as Held}
 use Rattle.smith_config.specs.declared.config.Config.{Config}
 use Rattle.smith_config.specs.Faults.{maximum_of}
-use Rattle.smith_draw.specs.Bounds.{IsTableWithin, IsMemoryWithin}
-use Rattle.smith_imports.specs.ShapeImports.{count_in}
+use Rattle.smith_config.specs.EntityBounds.{IsTableWithin, IsMemoryWithin}
+use Rattle.smith_rules.specs.ShapeImports.{count_in}
 use Rattle.wasm_smith.specs.Begun.{IsMemoryKept, IsOfEntities, IsTableKept, StandsSoFar}
-use Rattle.smith_definitions.specs.Defined.{AreDefinedMore, AreFilled}
-use Rattle.smith_definitions.specs.declared.definitions.Definitions.{Definitions}
+use Rattle.smith_defined.specs.Defined.{AreDefinedMore, AreFilled}
+use Rattle.smith_defined.specs.declared.definitions.Definitions.{Definitions}
 use Rattle.wasm_smith.specs.declared.build.drawn.Drawn.{Drawn}
-use Rattle.smith_definitions.proofs.DefinedLemmas.{added_weaker, all_behind}
+use Rattle.smith_defined.proofs.DefinedLemmas.{added_weaker, all_behind}
 
 -- of each kind there are at most the maximum, or as many as before
 no_more_than : (config : Config) (before spaces : IndexSpaces) → AreFilled config before spaces → (count : Count) → IsOfEntities count → count_in spaces count ≤ max (maximum_of config count) (count_in before count)

@@ -6,7 +6,7 @@ use Rattle.std.specs.List.{Contains}
 use Rattle.std.proofs.lemmas.List.Elements.{All-contains, All-weaker, Contains-append_left, Contains-append_right}
 use Rattle.smith_bytes.specs.declared.error.Count.{Count}
 use Rattle.smith_bytes.specs.declared.error.Count.TheVariants as counts
-use Rattle.smith_types.specs.Entities.{IsFuncValid}
+use Rattle.smith_types.specs.Entities.{IsFuncTypeIndex}
 use Rattle.smith_types.specs.Grown.{Extends}
 use Rattle.smith_types.specs.Imports.{flattened, imported_spaces}
 use Rattle.smith_types.specs.IndexSpaces.{spaces_in}
@@ -16,12 +16,12 @@ use Rattle.smith_types.proofs.HeldValueLemmas.{all_apart}
 use Rattle.smith_config.specs.declared.config.Config.{Config}
 use Rattle.smith_config.specs.declared.shape.Shape.{Shape}
 use Rattle.smith_config.specs.Shapes.{shape_spaces}
-use Rattle.smith_imports.specs.ShapeImports.{count_in}
+use Rattle.smith_rules.specs.ShapeImports.{count_in}
 use Rattle.wasm_smith.specs.Begun.{IsMemoryKept, IsOfEntities, IsTableKept, StandsSoFar, StandsWhole}
-use Rattle.smith_definitions.specs.Bounds.{added, exported_of}
-use Rattle.smith_definitions.specs.Defined.{StandsBehind}
-use Rattle.smith_definitions.specs.Required.{AddsLimitsOf}
-use Rattle.smith_definitions.specs.declared.definitions.Definitions.{Definitions}
+use Rattle.smith_rules.specs.Bounds.{items_of_export_shape, items_of_exports}
+use Rattle.smith_defined.specs.Defined.{StandsBehind}
+use Rattle.smith_defined.specs.Required.{AddsLimitsOf}
+use Rattle.smith_defined.specs.declared.definitions.Definitions.{Definitions}
 use Rattle.wasm_smith.specs.declared.build.drawn.Drawn.{Drawn}
 use Rattle.wasm_smith.proofs.GrownSizeLemmas.{imports_grown}
 
@@ -41,7 +41,7 @@ stands_whole config drawn now = record {
 }
 
 -- the additions of the exports of a shape are counted
-exports_add : (config : Config) (shape : Shape) (count : Count) → config.module_shape ≡ None → config.exports ≡ Some shape → added config count ≡ exported_of count shape
+exports_add : (config : Config) (shape : Shape) (count : Count) → config.module_shape ≡ None → config.exports ≡ Some shape → items_of_export_shape config count ≡ items_of_exports count shape
 exports_add config shape count none given = rw (none, given) refl
 
 -- no kind of entities is that of types
@@ -64,14 +64,14 @@ either_kept {A = A} Kept before theirs space stood shape either =
     ]) space either
 
 module _ (config : Config) (shape : Shape) (drawn : Drawn) (types : Space) (spaces : Held) (defined : Definitions) where
-  pub stands_required : config.module_shape ≡ None → config.exports ≡ Some shape → StandsSoFar config drawn → Extends drawn.types.types types.types → length types.types ≤ length drawn.types.types + exported_of counts.Types shape
-      → ((count : Count) → (count ≡ counts.Types → ⊥) → count_in (spaces_in spaces) count ≡ count_in (spaces_in drawn.imported.spaces) count + exported_of count shape)
+  pub stands_required : config.module_shape ≡ None → config.exports ≡ Some shape → StandsSoFar config drawn → Extends drawn.types.types types.types → length types.types ≤ length drawn.types.types + items_of_exports counts.Types shape
+      → ((count : Count) → (count ≡ counts.Types → ⊥) → count_in (spaces_in spaces) count ≡ count_in (spaces_in drawn.imported.spaces) count + items_of_exports count shape)
       → AddsLimitsOf shape (spaces_in drawn.imported.spaces) (spaces_in spaces)
       → StandsBehind config (imported_spaces (flattened drawn.imported.groups)) types (spaces_in spaces) defined
       → StandsWhole config (record drawn { types = types; imported = record drawn.imported { spaces = spaces }; definitions = defined })
   stands_required none given now longer few counted limits stands =
       let all = imported_spaces (flattened drawn.imported.groups) in
-      let funcs : All (IsFuncValid drawn.types.types) (all.funcs ++ now.stands.funcs.defined) = rw now.stands.funcs.parts at now.stands.entities.funcs in
+      let funcs : All (IsFuncTypeIndex drawn.types.types) (all.funcs ++ now.stands.funcs.defined) = rw now.stands.funcs.parts at now.stands.entities.funcs in
       record {
         groups = now.groups;
         count = now.count;
@@ -85,6 +85,6 @@ module _ (config : Config) (shape : Shape) (drawn : Drawn) (types : Space) (spac
         memories =
             either_kept (IsMemoryKept config) drawn.imported.spaces.memories (shape_spaces shape).memories spaces.memories now.memories
             (λ memory h. inl (rw (none, given) (Contains-append_right _ _ memory (Contains-append_left (shape_spaces shape).memories [] memory h)))) limits.memories;
-        type_size = now.type_size ∙ sym (imports_grown config drawn.types.types types.types (flattened drawn.imported.groups) longer (all_apart (IsFuncValid drawn.types.types) all.funcs now.stands.funcs.defined funcs).0);
+        type_size = now.type_size ∙ sym (imports_grown config drawn.types.types types.types (flattened drawn.imported.groups) longer (all_apart (IsFuncTypeIndex drawn.types.types) all.funcs now.stands.funcs.defined funcs).0);
         within = now.within;
       }

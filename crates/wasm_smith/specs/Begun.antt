@@ -21,21 +21,21 @@ use Rattle.smith_config.specs.InUse.{FixesImports}
 use Rattle.smith_config.specs.Shapes.{shape_imports, shape_spaces, shape_types, space_of}
 use Rattle.smith_imports.specs.AvailableImports.{AreImportsWithin, available_at}
 use Rattle.smith_imports.specs.Imported.{HasNoImports}
-use Rattle.smith_imports.specs.ShapeImports.{kept_groups, sizes_of, count_in, taken_from}
+use Rattle.smith_rules.specs.ShapeImports.{kept_groups, sizes_of, count_in, taken_from}
 use Rattle.smith_bytes.specs.declared.error.Count.{Count}
 use Rattle.smith_bytes.specs.declared.error.Count.TheVariants as counts
-use Rattle.smith_draw.specs.Bounds.{IsTableWithin, IsMemoryWithin}
-use Rattle.smith_contents.specs.Exporting.{Export}
-use Rattle.smith_definitions.specs.Bounds.{added, brought, brought_by_module, of_shapes}
-use Rattle.smith_definitions.specs.Defined.{StandsBehind, drawn_beside, nothing_defined}
-use Rattle.smith_definitions.specs.Required.{MayRefuseRequired}
-use Rattle.smith_definitions.specs.RequiredExports.{Required, required_at, then_with}
-use Rattle.smith_definitions.specs.ShapesKept.{IsSameExport}
-use Rattle.smith_definitions.specs.declared.definitions.Definitions.{Definitions}
+use Rattle.smith_config.specs.EntityBounds.{IsTableWithin, IsMemoryWithin}
+use Rattle.smith_rules.specs.ExportedItems.{Export}
+use Rattle.smith_rules.specs.Bounds.{items_of_export_shape, items_of_shapes, items_of_module_shape, of_shapes}
+use Rattle.smith_defined.specs.Defined.{StandsBehind, drawn_beside, nothing_defined}
+use Rattle.smith_defined.specs.Required.{MayRefuseRequired}
+use Rattle.smith_defined.specs.RequiredExports.{Required, required_at, then_with}
+use Rattle.smith_rules.specs.ShapesKept.{IsSameExport}
+use Rattle.smith_defined.specs.declared.definitions.Definitions.{Definitions}
 use Rattle.wasm_smith.specs.declared.build.drawn.Drawn.{Drawn}
 
 -- the state of a module: types, groups of imports, index spaces, their definitions, and exports
-pub record Begun : Type 0 where
+pub record ModuleSoFar : Type 0 where
   pub types : Space
   pub groups : List Imports
   pub spaces : IndexSpaces
@@ -43,7 +43,7 @@ pub record Begun : Type 0 where
   pub exports : List Export
 
 -- the state with the parts of a module
-abbrev pub begun_of : Drawn → Begun
+abbrev pub begun_of : Drawn → ModuleSoFar
 begun_of drawn = record {
   types = drawn.types;
   groups = drawn.imported.groups;
@@ -53,7 +53,7 @@ begun_of drawn = record {
 }
 
 -- the empty state
-abbrev pub nothing_begun : Begun
+abbrev pub nothing_begun : ModuleSoFar
 nothing_begun = record { types = record { types = []; groups = [] }; groups = []; spaces = imported_spaces []; defined = nothing_defined; exports = [] }
 
 pub record HasNothing (drawn : Drawn) : Type 0 where
@@ -62,25 +62,25 @@ pub record HasNothing (drawn : Drawn) : Type 0 where
 
 -- from a module shape: its types and its imports, and its exports, each of an entity that is
 -- defined for it
-unfoldable pub begun_by_module_at : Config → Shape → List ℕ → Result (Begun × List ℕ) Error
+unfoldable pub begun_by_module_at : Config → Shape → List ℕ → Result (ModuleSoFar × List ℕ) Error
 begun_by_module_at config shape bytes =
     then_with
     (λ (made : Required). record { types = made.types; groups = kept_groups config shape; spaces = made.spaces; defined = made.defined; exports = made.exports })
     (required_at false config shape (space_of shape.groups) (imported_spaces (shape_imports shape)) nothing_defined bytes)
 
 -- from available imports: the types of their shape, and those imports that the bytes take
-unfoldable pub begun_by_imports_at : Config → Shape → List ℕ → Begun × List ℕ
+unfoldable pub begun_by_imports_at : Config → Shape → List ℕ → ModuleSoFar × List ℕ
 begun_by_imports_at config shape bytes =
     let taken = available_at config shape bytes in
     (record { types = space_of shape.groups; groups = taken.0; spaces = imported_spaces (flattened taken.0); defined = nothing_defined; exports = [] }, taken.1)
 
 -- from the shapes that are used: a module shape, else available imports, else nothing
-abbrev pub begun_for : Config → Option Shape → Option Shape → List ℕ → Result (Begun × List ℕ) Error
+abbrev pub begun_for : Config → Option Shape → Option Shape → List ℕ → Result (ModuleSoFar × List ℕ) Error
 begun_for config (Some shape) available bytes = begun_by_module_at config shape bytes
 begun_for config None (Some shape) bytes = Ok (begun_by_imports_at config shape bytes)
 begun_for config None None bytes = Ok (nothing_begun, bytes)
 
-unfoldable pub begun_at : Config → List ℕ → Result (Begun × List ℕ) Error
+unfoldable pub begun_at : Config → List ℕ → Result (ModuleSoFar × List ℕ) Error
 begun_at config bytes = begun_for config config.module_shape config.available_imports bytes
 
 -- the parts of a module from a module shape, all of them valid
@@ -92,7 +92,7 @@ pub record IsBegunByModule (config : Config) (shape : Shape) (drawn : Drawn) : T
   pub type_size : drawn.imported.type_size ≡ 0
   pub valid : All (IsImportsValid (features_of config)) drawn.imported.groups
   pub stands : StandsBehind config (imported_spaces (shape_imports shape)) drawn.types (spaces_in drawn.imported.spaces) drawn.definitions
-  pub counted : (count : Count) → (count ≡ counts.Types → ⊥) → (count ≡ counts.Imports → ⊥) → count_in (spaces_in drawn.imported.spaces) count ≡ brought_by_module count shape
+  pub counted : (count : Count) → (count ≡ counts.Types → ⊥) → (count ≡ counts.Imports → ⊥) → count_in (spaces_in drawn.imported.spaces) count ≡ items_of_module_shape count shape
   pub tables : All (Contains (shape_spaces shape).tables) drawn.imported.spaces.tables
   pub memories : All (Contains (shape_spaces shape).memories) drawn.imported.spaces.memories
   pub globals : All (Contains (shape_spaces shape).globals) drawn.imported.spaces.globals
@@ -154,9 +154,9 @@ pub record StandsSoFar (config : Config) (drawn : Drawn) : Type 0 where
   pub groups : All (IsImportsValid (features_of config)) drawn.imported.groups
   pub count : drawn.imported.count ≡ length (flattened drawn.imported.groups)
   pub stands : StandsBehind config (imported_spaces (flattened drawn.imported.groups)) drawn.types (spaces_in drawn.imported.spaces) drawn.definitions
-  pub most : (count : Count) → IsOfEntities count → count_in (spaces_in drawn.imported.spaces) count ≤ max (maximum_of config count) (brought config count)
-  pub most_types : length drawn.types.types ≤ max config.max_types (brought config counts.Types)
-  pub most_imports : length (flattened drawn.imported.groups) ≤ max config.max_imports (brought config counts.Imports)
+  pub most : (count : Count) → IsOfEntities count → count_in (spaces_in drawn.imported.spaces) count ≤ max (maximum_of config count) (items_of_shapes config count)
+  pub most_types : length drawn.types.types ≤ max config.max_types (items_of_shapes config counts.Types)
+  pub most_imports : length (flattened drawn.imported.groups) ≤ max config.max_imports (items_of_shapes config counts.Imports)
   pub tables : All (IsTableKept config) drawn.imported.spaces.tables
   pub memories : All (IsMemoryKept config) drawn.imported.spaces.memories
   pub type_size : drawn.imported.type_size ≡ size_of_imports config drawn.types.types (flattened drawn.imported.groups)
@@ -167,9 +167,9 @@ pub record StandsWhole (config : Config) (drawn : Drawn) : Type 0 where
   pub groups : All (IsImportsValid (features_of config)) drawn.imported.groups
   pub count : drawn.imported.count ≡ length (flattened drawn.imported.groups)
   pub stands : StandsBehind config (imported_spaces (flattened drawn.imported.groups)) drawn.types (spaces_in drawn.imported.spaces) drawn.definitions
-  pub most : (count : Count) → IsOfEntities count → count_in (spaces_in drawn.imported.spaces) count ≤ max (maximum_of config count) (brought config count) + added config count
-  pub most_types : length drawn.types.types ≤ max config.max_types (brought config counts.Types) + added config counts.Types
-  pub most_imports : length (flattened drawn.imported.groups) ≤ max config.max_imports (brought config counts.Imports)
+  pub most : (count : Count) → IsOfEntities count → count_in (spaces_in drawn.imported.spaces) count ≤ max (maximum_of config count) (items_of_shapes config count) + items_of_export_shape config count
+  pub most_types : length drawn.types.types ≤ max config.max_types (items_of_shapes config counts.Types) + items_of_export_shape config counts.Types
+  pub most_imports : length (flattened drawn.imported.groups) ≤ max config.max_imports (items_of_shapes config counts.Imports)
   pub tables : All (IsTableKept config) drawn.imported.spaces.tables
   pub memories : All (IsMemoryKept config) drawn.imported.spaces.memories
   pub type_size : drawn.imported.type_size ≡ size_of_imports config drawn.types.types (flattened drawn.imported.groups)

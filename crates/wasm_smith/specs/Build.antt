@@ -12,18 +12,18 @@ use Rattle.smith_config.specs.declared.shape.Shape.{Shape}
 use Rattle.smith_config.specs.Features.{features_of}
 use Rattle.smith_draw.specs.RecGroups.{types_at}
 use Rattle.smith_imports.specs.Importing.{imports_at}
-use Rattle.smith_imports.specs.Steps.{◌>>=◌, section_flag_at}
+use Rattle.smith_bytes.specs.Steps.{◌>>=◌, section_flag_at}
 use Rattle.smith_contents.specs.AllExports.{exports_at}
-use Rattle.smith_contents.specs.Exporting.{exported_size}
+use Rattle.smith_rules.specs.ExportedItems.{exported_size}
 use Rattle.smith_contents.specs.declared.exported.Exports.{Exports}
-use Rattle.wasm_smith.specs.Begun.{Begun, begun_at, begun_of, size_of_imports}
-use Rattle.smith_definitions.specs.Definitions.{definitions_at}
+use Rattle.wasm_smith.specs.Begun.{ModuleSoFar, begun_at, begun_of, size_of_imports}
+use Rattle.smith_defined.specs.Definitions.{definitions_at}
 use Rattle.wasm_smith.specs.DrawnContents.{behind_exports_at}
-use Rattle.smith_definitions.specs.Module.{Parts}
-use Rattle.smith_definitions.specs.Refusals.{MayGive}
-use Rattle.smith_definitions.specs.RequiredExports.{Required, required_at, then_with}
+use Rattle.smith_rules.specs.Module.{ModuleParts}
+use Rattle.smith_rules.specs.Refusals.{MayGive}
+use Rattle.smith_defined.specs.RequiredExports.{Required, required_at, then_with}
 use Rattle.wasm_smith.specs.declared.build.contents.Contents.{Contents}
-use Rattle.smith_definitions.specs.declared.definitions.Definitions.{Definitions}
+use Rattle.smith_defined.specs.declared.definitions.Definitions.{Definitions}
 use Rattle.wasm_smith.specs.declared.build.drawn.Drawn.{Drawn}
 
 -- the context of functions, of which this number is imported, without types and globals
@@ -31,12 +31,12 @@ abbrev pub functions_over : Config → List ℕ → ℕ → Context
 functions_over config funcs imported = record { features = features_of config; types = []; funcs = funcs; globals = []; imported_funcs = imported; imported_globals = 0; visible = 0 }
 
 -- the context of the functions so far
-abbrev pub functions_begun : Config → Begun → Context
+abbrev pub functions_begun : Config → ModuleSoFar → Context
 functions_begun config begun = functions_over config begun.spaces.funcs (length begun.spaces.funcs - begun.defined.num_funcs)
 
 -- the state with more types at the end
-abbrev pub typed_at : Config → Begun → List ℕ → Begun × List ℕ
-typed_at config begun bytes = let types = types_at config (functions_begun config begun) begun.types bytes in (record begun { types = types.0 }, types.1)
+abbrev pub with_types_at : Config → ModuleSoFar → List ℕ → ModuleSoFar × List ℕ
+with_types_at config begun bytes = let types = types_at config (functions_begun config begun) begun.types bytes in (record begun { types = types.0 }, types.1)
 
 -- the result of a step that may be out of shape, as an answer
 abbrev pub in_full : {A : Type 0} → Result A Why → Result A Error
@@ -44,34 +44,34 @@ in_full (Ok drawn) = Ok drawn
 in_full (Err why) = Err (errors.IncorrectFormat why)
 
 -- the state with imports, unless a shape fixes them; with `distinct` no two have the same names
-unfoldable pub imported_at : Bool → Config → Begun → List ℕ → Result (Begun × List ℕ) Error
+unfoldable pub imported_at : Bool → Config → ModuleSoFar → List ℕ → Result (ModuleSoFar × List ℕ) Error
 imported_at distinct config begun bytes =
     if is_some config.available_imports || is_some config.module_shape then Ok (begun, bytes)
     else then_with (λ groups. record begun { groups = groups; spaces = imported_spaces (flattened groups) }) (in_full (imports_at config begun.types.types distinct bytes))
 
 -- the state with entities defined after those so far
-unfoldable pub defined_at : Config → Begun → List ℕ → Result (Begun × List ℕ) Error
+unfoldable pub defined_at : Config → ModuleSoFar → List ℕ → Result (ModuleSoFar × List ℕ) Error
 defined_at config begun bytes =
     then_with (λ (made : IndexSpaces × Definitions). record begun { spaces = made.0; defined = made.1 }) (in_full (definitions_at config begun.types.types begun.spaces begun.defined bytes))
 
 -- the amount that the imports of a module add to its type size
-abbrev pub begun_size : Config → Begun → ℕ
+abbrev pub begun_size : Config → ModuleSoFar → ℕ
 begun_size config begun = size_of_imports config begun.types.types (flattened begun.groups)
 
 -- the state with exports: those of a module shape are made already; those of a shape for exports
 -- are each of an entity that is defined for it; else they are drawn
-abbrev pub exported_for : Config → Option Shape → Option Shape → Begun → List ℕ → Result (Begun × List ℕ) Error
+abbrev pub exported_for : Config → Option Shape → Option Shape → ModuleSoFar → List ℕ → Result (ModuleSoFar × List ℕ) Error
 exported_for config (Some shape) exports begun bytes = Ok (begun, bytes)
 exported_for config None (Some shape) begun bytes =
     then_with (λ (made : Required). record begun { types = made.types; spaces = made.spaces; defined = made.defined; exports = made.exports }) (required_at true config shape begun.types begun.spaces begun.defined bytes)
 exported_for config None None begun bytes = then_with (λ exports. record begun { exports = exports }) (in_full (exports_at config begun.types.types begun.spaces (begun_size config begun) bytes))
 
-unfoldable pub exported_at : Config → Begun → List ℕ → Result (Begun × List ℕ) Error
+unfoldable pub exported_at : Config → ModuleSoFar → List ℕ → Result (ModuleSoFar × List ℕ) Error
 exported_at config begun bytes = exported_for config config.module_shape config.exports begun bytes
 
 -- the exports, and the type size of a module that has them: those that a shape fixes add nothing to
 -- it
-abbrev pub exports_of : Config → Begun → Exports
+abbrev pub exports_of : Config → ModuleSoFar → Exports
 exports_of config begun = record {
   exports = begun.exports;
   type_size = begun_size config begun + (if is_some config.module_shape || is_some config.exports then 0 else exported_size begun.types.types begun.spaces begun.exports);
@@ -79,7 +79,7 @@ exports_of config begun = record {
 
 -- the module of a state and the contents drawn after it, and whether a section of imports is
 -- written; it shows no available imports, and its interesting values are not drawn
-abbrev pub module_of : Config → Begun → Contents → Bool → Parts
+abbrev pub module_of : Config → ModuleSoFar → Contents → Bool → ModuleParts
 module_of config begun contents encodes_imports = record {
   config = record config { available_imports = None };
   types = begun.types.types;
@@ -110,13 +110,13 @@ module_of config begun contents encodes_imports = record {
 }
 
 -- the first parts of a module, and the types after them
-unfoldable pub begun_typed_at : Config → List ℕ → Result (Begun × List ℕ) Error
+unfoldable pub begun_typed_at : Config → List ℕ → Result (ModuleSoFar × List ℕ) Error
 begun_typed_at config bytes = do
   begun ← begun_at config bytes
-  Ok (typed_at config begun.0 begun.1)
+  Ok (with_types_at config begun.0 begun.1)
 
 -- the module that the bytes produce, step by step, and the bytes left
-unfoldable pub module_at : Bool → Config → List ℕ → Result (Parts × List ℕ) Error
+unfoldable pub module_at : Bool → Config → List ℕ → Result (ModuleParts × List ℕ) Error
 module_at distinct config bytes = do
   typed ← begun_typed_at config bytes
   imported ← imported_at distinct config typed.0 typed.1
@@ -128,7 +128,7 @@ module_at distinct config bytes = do
   Ok (module_of config whole contents.0 import_flag.0, contents.1)
 
 -- the parts that were drawn, as a module
-abbrev pub parts_of : Config → Drawn → Parts
+abbrev pub parts_of : Config → Drawn → ModuleParts
 parts_of config drawn =
     record (module_of config (begun_of drawn) drawn.contents drawn.encodes_imports) {
       num_imports = drawn.imported.count;
@@ -137,7 +137,7 @@ parts_of config drawn =
     }
 
 -- a module without its interesting values, which follow from its tables and memories
-abbrev pub as_drawn : Parts → Parts
+abbrev pub as_drawn : ModuleParts → ModuleParts
 as_drawn m = record m { interesting_values32 = []; interesting_values64 = [] }
 
 -- Drawing returns the result of `read`, with the bytes left, except if memory runs out or there is
@@ -150,5 +150,5 @@ GivesOrLacks view (Err e) read = read ≡ Err e
 
 -- an answer is the module that a configuration and bytes produce, with the bytes left, or their
 -- refusal; this holds for a configuration for which a module can be drawn
-pub record IsGiven (distinct : Bool) (config : Config) (bytes : List ℕ) (answer : Result Parts Error) (left : List ℕ) : Type 0 where
+pub record IsGiven (distinct : Bool) (config : Config) (bytes : List ℕ) (answer : Result ModuleParts Error) (left : List ℕ) : Type 0 where
   pub exact : MayGive config → GivesOrLacks (λ m. (as_drawn m, left)) answer (module_at distinct config bytes)

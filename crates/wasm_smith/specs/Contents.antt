@@ -17,8 +17,8 @@ use Rattle.smith_config.specs.Sanitized.{IsSanitized}
 use Rattle.smith_draw.specs.FuncSizes.{IsSmall}
 use Rattle.smith_draw.specs.declared.spaces.Spaces.{Spaces}
 use Rattle.smith_contents.specs.DrawnElements.{MayLackItem}
-use Rattle.smith_contents.specs.Exported.{IsIndexed, IsSized}
-use Rattle.smith_definitions.specs.Refusals.{MayRefuse}
+use Rattle.smith_contents.specs.Exported.{IsIndexed, HasSizeIn32Bits}
+use Rattle.smith_rules.specs.Refusals.{MayRefuse}
 
 -- contents may be drawn over these index spaces, if the imports add a number to the type size: all
 -- is valid, sizes and indices have 32 bits, and the minimums of tables, memories and globals are
@@ -27,7 +27,7 @@ pub record MayHoldContents (config : Config) (space : Space) (spaces : IndexSpac
   pub passes : Passes config
   pub sanitized : IsSanitized config
   pub types : AreTypesValid (features_of config) space
-  pub sized : All IsSized space.types
+  pub sized : All HasSizeIn32Bits space.types
   pub small : HasNoShapes config → All IsSmall space.types
   pub entities : AreEntitiesValid (features_of config) space.types spaces
   pub few : IsIndexed spaces

@@ -6,7 +6,7 @@ use Rattle.smith_bytes.specs.declared.error.Why.{Why}
 use Rattle.smith_types.specs.Bodies.{IsBodyValid}
 use Rattle.smith_types.specs.Exports.{AreExportsValid, IsStartValid}
 use Rattle.smith_types.specs.Expressions.{Context}
-use Rattle.smith_types.specs.Floats.{IsNoFloat}
+use Rattle.smith_types.specs.Floats.{IsNoFloat, GivesNoFloat}
 use Rattle.smith_types.specs.Imports.{IndexSpaces, flattened, imported_spaces}
 use Rattle.smith_types.specs.Segments.{IsElementValid, IsElementInside, IsDataValid, IsDataInside}
 use Rattle.smith_types.specs.declared.composite_type.SubType.{SubType}
@@ -16,25 +16,20 @@ use Rattle.smith_types.specs.declared.code.Code.{Code}
 use Rattle.smith_config.specs.declared.config.Config.{Config}
 use Rattle.smith_config.specs.Features.{features_of}
 use Rattle.smith_config.specs.InUse.{FixesExports}
-use Rattle.smith_draw.specs.Granted.{IsGranted}
+use Rattle.smith_config.specs.Granted.{IsGranted, HasGroundedItems, HasGroundedElements}
 use Rattle.smith_draw.specs.Grounding.{without_globals}
-use Rattle.smith_draw.specs.ConstFloats.{GivesNoFloat}
-use Rattle.smith_contents.specs.DrawnElements.{HasGroundedItems}
-use Rattle.smith_contents.specs.Held.{HasItems}
-use Rattle.smith_contents.specs.ExportedItems.{AreAllExported}
+use Rattle.smith_rules.specs.Held.{HasItems, expressions_of}
+use Rattle.smith_rules.specs.ExportedItems.{AreAllExported, exported_size}
 use Rattle.smith_contents.specs.DataSegments.{data_at}
-use Rattle.smith_definitions.specs.Defined.{standing_in}
-use Rattle.smith_definitions.specs.Definitions.{global_scope}
+use Rattle.smith_defined.specs.Defined.{scope_in}
+use Rattle.smith_defined.specs.Definitions.{global_scope}
 use Rattle.smith_contents.specs.DrawnBodies.{bodies_at}
 use Rattle.smith_contents.specs.ElementSegments.{elements_at, items_in}
-use Rattle.smith_contents.specs.Exporting.{exported_size}
-use Rattle.smith_contents.specs.Held.{expressions_of}
 use Rattle.smith_contents.specs.Start.{start_at}
 use Rattle.smith_contents.specs.declared.exported.Exports.{Exports}
-use Rattle.smith_imports.specs.Steps.{◌>>=◌, section_flag_at}
+use Rattle.smith_bytes.specs.Steps.{◌>>=◌, section_flag_at}
 use Rattle.wasm_smith.specs.declared.build.contents.Contents.{Contents}
-use Rattle.smith_definitions.specs.declared.definitions.Definitions.{Definitions}
-use Rattle.smith_imports.specs.Imported.{HasGroundedElements}
+use Rattle.smith_defined.specs.declared.definitions.Definitions.{Definitions}
 use Rattle.smith_imports.specs.declared.imported.Imported.{Imported}
 use Rattle.wasm_smith.specs.declared.build.segments.Segments.{Segments}
 
@@ -49,7 +44,7 @@ pub record TellsImported (imported spaces : IndexSpaces) (defined : Definitions)
 
 -- the context of a segment
 abbrev pub segment_scope : Config → List SubType → IndexSpaces → IndexSpaces → Context
-segment_scope config types imported spaces = global_scope config (standing_in types imported spaces) spaces.globals
+segment_scope config types imported spaces = global_scope config (scope_in types imported spaces) spaces.globals
 
 -- the element segments, then the data segments
 unfoldable pub all_segments_at : Config → List SubType → IndexSpaces → IndexSpaces → List ℕ → Result (Segments × List ℕ) Why

@@ -6,13 +6,13 @@ use Rattle.smith_types.specs.IndexSpaces.{spaces_in}
 use Rattle.smith_config.specs.declared.config.Config.{Config}
 use Rattle.smith_config.specs.Faults.{minimum_of}
 use Rattle.smith_config.specs.InUse.{HasNoShapes, FixesImports}
-use Rattle.smith_imports.specs.ShapeImports.{count_in}
+use Rattle.smith_rules.specs.ShapeImports.{count_in}
 use Rattle.wasm_smith.specs.Begun.{StandsWhole, IsOfEntities}
-use Rattle.smith_definitions.specs.Defined.{HaveNoFloats}
+use Rattle.smith_defined.specs.Defined.{HaveNoFloats}
 use Rattle.wasm_smith.specs.DrawnContents.{AreContents, HasGrantedContents, HasNoFloatContents, imported_in}
 use Rattle.wasm_smith.specs.DrawnSteps.{AreFreeImports, HoldsGrounded, drawn_next}
-use Rattle.smith_definitions.specs.Refusals.{HoldsNonNullable}
-use Rattle.smith_definitions.specs.InterestingValues.{AreAll, IsInteresting32, IsInteresting64}
+use Rattle.smith_rules.specs.Refusals.{HoldsNonNullable}
+use Rattle.smith_rules.specs.InterestingValues.{AreAll, IsInteresting32, IsInteresting64}
 use Rattle.wasm_smith.specs.declared.build.drawn.Drawn.{Drawn}
 
 -- no part that is drawn holds a float

@@ -16,14 +16,14 @@ use Rattle.smith_config.specs.InUse.{HasNoShapes, FixesImports, shapes_of}
 use Rattle.smith_config.specs.Shapes.{most_listed, shape_imports, shape_spaces, shape_types, space_of}
 use Rattle.smith_draw.specs.ConstBounds.{HoldsUngroundedField}
 use Rattle.smith_draw.specs.FuncSizes.{HasFewValues, IsSmall}
-use Rattle.smith_draw.specs.Granted.{AreTypesGranted}
-use Rattle.smith_imports.specs.Imported.{HasNoImports, HasGroundedElements, HasGroundedValue}
-use Rattle.smith_imports.specs.ShapeImports.{kept_groups, taken_from, count_in}
+use Rattle.smith_config.specs.Granted.{AreTypesGranted, HasGroundedElements, HasGroundedValue}
+use Rattle.smith_imports.specs.Imported.{HasNoImports}
+use Rattle.smith_rules.specs.ShapeImports.{kept_groups, taken_from, count_in}
 use Rattle.smith_imports.specs.declared.imported.Imported.{Imported}
-use Rattle.wasm_smith.specs.Begun.{Begun, StandsSoFar, StandsWhole, IsOfEntities}
-use Rattle.smith_definitions.specs.Defined.{HaveNoFloats, drawn_beside, nothing_defined}
-use Rattle.smith_definitions.specs.Refusals.{HoldsNonNullable}
-use Rattle.smith_definitions.specs.ShapesKept.{IsSameExport}
+use Rattle.wasm_smith.specs.Begun.{ModuleSoFar, StandsSoFar, StandsWhole, IsOfEntities}
+use Rattle.smith_defined.specs.Defined.{HaveNoFloats, drawn_beside, nothing_defined}
+use Rattle.smith_rules.specs.Refusals.{HoldsNonNullable}
+use Rattle.smith_rules.specs.ShapesKept.{IsSameExport}
 use Rattle.wasm_smith.specs.declared.build.drawn.Drawn.{Drawn}
 
 -- the context of the next draw: the types and functions so far
@@ -107,7 +107,7 @@ pub record HasSameImports (old new : Imported) : Type 0 where
 
 -- the parts before are kept: types and entities come after them, and imports and exports that a
 -- shape fixes stay
-pub record IsBeyond (config : Config) (old new : Begun) : Type 0 where
+pub record IsBeyond (config : Config) (old new : ModuleSoFar) : Type 0 where
   pub types : Extends old.types.types new.types.types
   pub groups : Extends old.types.groups new.types.groups
   pub imports : FixesImports config → new.groups ≡ old.groups
@@ -115,22 +115,22 @@ pub record IsBeyond (config : Config) (old new : Begun) : Type 0 where
   pub exports : IsTrue (is_some config.module_shape) → new.exports ≡ old.exports
 
 -- the types and groups of a shape come first
-pub record BeginsWithTypes (shape : Shape) (begun : Begun) : Type 0 where
+pub record BeginsWithTypes (shape : Shape) (begun : ModuleSoFar) : Type 0 where
   pub types : Extends (shape_types shape) begun.types.types
   pub groups : Extends (space_of shape.groups).groups begun.types.groups
 
 -- a module shape is kept so far
-pub record KeepsModuleSoFar (config : Config) (shape : Shape) (begun : Begun) : Type 0 where
+pub record KeepsModuleSoFar (config : Config) (shape : Shape) (begun : ModuleSoFar) : Type 0 where
   pub types : BeginsWithTypes shape begun
   pub imports : begun.groups ≡ kept_groups config shape
   pub exports : AllZip (IsSameExport (λ mine yours. mine ≡ yours) begun.spaces (shape_spaces shape)) begun.exports shape.exports
 
 -- available imports are taken, as the bytes pick them
-pub record KeepsImportsSoFar (config : Config) (bytes : List ℕ) (shape : Shape) (begun : Begun) : Type 0 where
+pub record KeepsImportsSoFar (config : Config) (bytes : List ℕ) (shape : Shape) (begun : ModuleSoFar) : Type 0 where
   pub types : BeginsWithTypes shape begun
   pub imports : flattened begun.groups ≡ taken_from config (shape_types shape) bytes 0 [] (shape_imports shape)
 
 -- the shapes that a module begins with are kept so far
-pub record KeepsBegun (config : Config) (bytes : List ℕ) (begun : Begun) : Type 0 where
+pub record KeepsBegun (config : Config) (bytes : List ℕ) (begun : ModuleSoFar) : Type 0 where
   pub module_shape : IfSome (shapes_of config).module_shape (λ shape. KeepsModuleSoFar config shape begun)
   pub available_imports : IfSome (shapes_of config).available_imports (λ shape. KeepsImportsSoFar config bytes shape begun)

@@ -6,15 +6,15 @@ use Rattle.smith_bytes.specs.declared.error.Error.TheVariants as errors
 use Rattle.smith_config.specs.declared.config.Config.{Config}
 use Rattle.smith_config.specs.Faults.{IsFirstFault, Passes}
 use Rattle.smith_config.specs.Sanitized.{sanitized}
-use Rattle.smith_definitions.specs.Bounds.{KeepsBounds, MeetsMinimums}
+use Rattle.smith_rules.specs.Bounds.{KeepsBounds, MeetsMinimums}
 use Rattle.wasm_smith.specs.Build.{IsGiven}
-use Rattle.smith_definitions.specs.InterestingValues.{HasInterestingValues}
-use Rattle.smith_definitions.specs.Module.{Parts, IsValid, shown_config}
-use Rattle.smith_definitions.specs.Promises.{KeepsPromises}
+use Rattle.smith_rules.specs.InterestingValues.{HasInterestingValues}
+use Rattle.smith_rules.specs.Module.{ModuleParts, IsValid, shown_config}
+use Rattle.smith_rules.specs.Promises.{KeepsPromises}
 use Rattle.wasm_smith.specs.CheckedShapes.{IsFirstFaulty}
 use Rattle.wasm_smith.specs.Reached.{ReachesMembers, ReachesRests}
-use Rattle.smith_definitions.specs.Refusals.{AreShapesValid, AsksNothingImpossible, MayGive, MayRefuse}
-use Rattle.smith_definitions.specs.ShapesKept.{KeepsShapes}
+use Rattle.smith_rules.specs.Refusals.{AreShapesValid, AsksNothingImpossible, MayGive, MayRefuse}
+use Rattle.smith_rules.specs.ShapesKept.{KeepsShapes}
 use Rattle.wasm_smith.specs.declared.module.DuplicateImportsBehavior.{DuplicateImportsBehavior}
 use Rattle.wasm_smith.specs.declared.module.DuplicateImportsBehavior.TheVariants.{Allowed, Disallowed}
 
@@ -29,7 +29,7 @@ IsFaulted config (errors.Config fault) = IsFirstFault config fault
 IsFaulted config _ = ⊥
 
 -- the answer for a configuration of the caller and the bytes of the source, with the bytes left
-pub record IsGenerated (distinct : Bool) (given : Config) (bytes : List ℕ) (answer : Result Parts Error) (left : List ℕ) : Type 0 where
+pub record IsGenerated (distinct : Bool) (given : Config) (bytes : List ℕ) (answer : Result ModuleParts Error) (left : List ℕ) : Type 0 where
   -- the module: the one that the configuration and the bytes produce
   pub exact : IsGiven distinct (sanitized given) bytes answer left
   pub config : IfOk answer (λ m. m.config ≡ shown_config given)

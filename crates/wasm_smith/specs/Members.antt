@@ -7,17 +7,17 @@ use Rattle.smith_types.specs.declared.const_instr.ConstInstr.TheVariants.{I32Con
 use Rattle.smith_types.specs.declared.segments.DataSegmentKind.TheVariants.{Passive}
 use Rattle.smith_config.specs.Shapes.{space_of}
 use Rattle.smith_draw.specs.SpelledGlobals.{mutable_i32}
-use Rattle.smith_definitions.specs.Module.{Parts}
+use Rattle.smith_rules.specs.Module.{ModuleParts}
 
 -- a module has these types and functions
-pub record HasMember (groups : List (List SubType)) (funcs : List ℕ) (m : Parts) : Type 0 where
+pub record HasMember (groups : List (List SubType)) (funcs : List ℕ) (m : ModuleParts) : Type 0 where
   pub types : m.types ≡ (space_of groups).types
   pub groups_are : m.groups ≡ (space_of groups).groups
   pub funcs_are : m.funcs ≡ funcs
 
 -- a module has globals of these numbers and these passive data, and no table, memory, export, start
 -- or element segment
-pub record HasRest (numbers : List ℤ) (passive : List (List ℕ)) (m : Parts) : Type 0 where
+pub record HasRest (numbers : List ℤ) (passive : List (List ℕ)) (m : ModuleParts) : Type 0 where
   pub tables : m.tables ≡ []
   pub memories : m.memories ≡ []
   pub globals : m.globals ≡ map (λ number. mutable_i32) numbers

@@ -8,7 +8,7 @@ use Rattle.smith_config.specs.declared.config.Config.{Config}
 use Rattle.smith_spell.specs.SpellAnswers.{IsSpellable}
 use Rattle.smith_spell.specs.Spelling.{SpellsMember, SpellsRest, IsRest}
 use Rattle.wasm_smith.specs.Members.{HasMember, HasRest}
-use Rattle.smith_definitions.specs.Module.{Parts}
+use Rattle.smith_rules.specs.Module.{ModuleParts}
 
 -- a source is bytes that spell these lists, which can be spelled, followed by this rest
 pub record BeginsWithMember (config : Config) (groups : List (List SubType)) (funcs bytes behind : List ℕ) : Type 0 where
@@ -27,12 +27,12 @@ pub record BeginsWithRest (config : Config) (groups : List (List SubType)) (func
   pub parts : bytes ≡ piece ++ after
 
 -- the module has the lists that a source begins with, unless memory runs out
-abbrev pub ReachesMembers : Config → List ℕ → Result Parts Error → Type 0
+abbrev pub ReachesMembers : Config → List ℕ → Result ModuleParts Error → Type 0
 ReachesMembers config bytes answer =
     (groups : List (List SubType)) (funcs behind : List ℕ) → BeginsWithMember config groups funcs bytes behind → MatchResult answer (HasMember groups funcs) (λ e. e ≡ Memory)
 
 -- and it has the rest that follows them
-abbrev pub ReachesRests : Config → List ℕ → Result Parts Error → Type 0
+abbrev pub ReachesRests : Config → List ℕ → Result ModuleParts Error → Type 0
 ReachesRests config bytes answer =
     (groups : List (List SubType)) (funcs behind : List ℕ) (numbers : List ℤ) (passive : List (List ℕ)) → BeginsWithMember config groups funcs bytes behind
     → BeginsWithRest config groups funcs numbers passive behind → MatchResult answer (HasRest numbers passive) (λ e. e ≡ Memory)

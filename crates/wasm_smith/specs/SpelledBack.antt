@@ -7,11 +7,11 @@ use Rattle.smith_config.specs.declared.config.Config.{Config}
 use Rattle.smith_spell.specs.SpellAnswers.{AnswersSpelling}
 use Rattle.wasm_smith.specs.Generated.{IsGenerated}
 use Rattle.wasm_smith.specs.Members.{HasMember}
-use Rattle.smith_definitions.specs.Module.{Parts}
+use Rattle.smith_rules.specs.Module.{ModuleParts}
 
 -- if `spell` returns these bytes for lists of types and functions, a module that is drawn from
 -- them, whatever follows, has these lists, unless memory runs out
 abbrev pub SpelledComesBack : Type 0
 SpelledComesBack =
-    (distinct : Bool) (given : Config) (groups : List (List SubType)) (funcs piece behind left : List ℕ) (answer : Result Parts Error)
+    (distinct : Bool) (given : Config) (groups : List (List SubType)) (funcs piece behind left : List ℕ) (answer : Result ModuleParts Error)
     → AnswersSpelling given groups funcs (Ok (Some piece)) → IsGenerated distinct given (piece ++ behind) answer left → MatchResult answer (HasMember groups funcs) (λ e. e ≡ Memory)

@@ -9,11 +9,11 @@ use Rattle.smith_types.specs.declared.value_type.ValType.TheVariants.{I32}
 use Rattle.smith_types.specs.declared.entity_type.GlobalType.{GlobalType}
 use Rattle.smith_types.specs.declared.const_instr.ConstInstr.TheVariants.{I32Const}
 use Rattle.smith_types.specs.declared.code.Code.{Code}
-use Rattle.smith_contents.specs.Held.{IsRaw}
-use Rattle.smith_definitions.specs.Module.{Parts, IsValid}
+use Rattle.smith_rules.specs.Held.{IsRaw}
+use Rattle.smith_rules.specs.Module.{ModuleParts, IsValid}
 
 -- some body of a module is raw bytes
-abbrev pub HasRawBody : Parts → Type 0
+abbrev pub HasRawBody : ModuleParts → Type 0
 HasRawBody m = Any (λ (body : Code). IsRaw body.instructions) m.code
 
 -- the type of a global that counts fuel
@@ -22,7 +22,7 @@ counter = record { val_type = I32; mutable = true; shared = false }
 
 -- `new` is `old` with a counter of this index, which is the last global, is initialised with the
 -- number of the same 32 bits as the fuel, and is the last counter; nothing else is new
-pub record AddsFuel (fuel index : ℕ) (old new : Parts) : Type 0 where
+pub record AddsFuel (fuel index : ℕ) (old new : ModuleParts) : Type 0 where
   pub last : index ≡ length old.globals
   pub added : new ≡ record old {
     globals = old.globals ++ counter ∷ [];
@@ -31,17 +31,17 @@ pub record AddsFuel (fuel index : ℕ) (old new : Parts) : Type 0 where
   }
 
 -- the reasons why no counter is added: a body is raw bytes, else lack of memory
-abbrev pub MayAddNone : Parts → Error → Type 0
+abbrev pub MayAddNone : ModuleParts → Error → Type 0
 MayAddNone m (errors.IncorrectFormat RawBody) = HasRawBody m
 MayAddNone m errors.Memory = HasRawBody m → ⊥
 MayAddNone m _ = ⊥
 
 -- the answer: the index of the counter that was added, or the reason why none was, and then nothing
 -- is new
-abbrev pub AnswersFuel : ℕ → Parts → Parts → Result ℕ Error → Type 0
+abbrev pub AnswersFuel : ℕ → ModuleParts → ModuleParts → Result ℕ Error → Type 0
 AnswersFuel fuel old new (Ok index) = (HasRawBody old → ⊥) × AddsFuel fuel index old new
 AnswersFuel fuel old new (Err error) = MayAddNone old error × (new ≡ old)
 
 -- a valid module stays valid with a counter
 abbrev pub CountingIsValid : Type 0
-CountingIsValid = (fuel index : ℕ) (old new : Parts) → AddsFuel fuel index old new → IsValid old → IsValid new
+CountingIsValid = (fuel index : ℕ) (old new : ModuleParts) → AddsFuel fuel index old new → IsValid old → IsValid new

@@ -12,12 +12,11 @@ mod termination;
 pub use module::{DuplicateImportsBehavior, Module};
 pub use smith_bytes::{
     Arbitrary, ConfigFault, Count, Error, Int, ShapeFault, Unstructured, Which, Why,
-    arbitrary_loop, goes_on, limited_str, limited_string, unique_kebab_string, unique_string,
-    unique_url,
+    arbitrary_loop, limited_str, limited_string, unique_kebab_string, unique_string, unique_url,
 };
 pub use smith_config::{Config, MemoryOffsetChoices, OffsetChoicesFault, Shape};
 pub use smith_draw::{
-    Entities, Spaces, add_type, arbitrary_composite_type, arbitrary_const_expr,
+    Entities, Spaces, TypeUse, add_type, arbitrary_composite_type, arbitrary_const_expr,
     arbitrary_field_type, arbitrary_func_type, arbitrary_global_type, arbitrary_heap_type,
     arbitrary_limits64, arbitrary_locals, arbitrary_matching_field_type,
     arbitrary_matching_func_type, arbitrary_matching_heap_type, arbitrary_matching_ref_type,
@@ -26,17 +25,19 @@ pub use smith_draw::{
     arbitrary_storage_type, arbitrary_struct_type, arbitrary_sub_type,
     arbitrary_sub_type_of_super_type, arbitrary_super_type_of_heap_type,
     arbitrary_super_type_of_ref_type, arbitrary_super_type_of_val_type, arbitrary_table_init,
-    arbitrary_table_type, arbitrary_tag_type, arbitrary_types, arbitrary_valtype, clone_rec_group,
-    globals_for_const_expr, gradually_grow,
+    arbitrary_table_type, arbitrary_tag_type, arbitrary_types, arbitrary_valtype, choose,
+    clone_rec_group, count_types, globals_for_const_expr, gradually_grow, list_types,
 };
 pub use smith_spell::spell;
 
 // Plain data, and decisions about it.
 pub use smith_types::{
-    AbstractHeapType, ArrayType, Code, CompositeInnerType, CompositeType, ConstInstr, DataSegment,
-    DataSegmentKind, ElementKind, ElementSegment, Elements, EntityType, ExportKind, FieldType,
-    FuncType, GlobalType, HeapType, Import, ImportItem, Imports, IndexSpaces, InstructionKind,
-    InstructionKinds, Instructions, Items, MemoryType, Name, Offset, RefType, StorageType,
-    StructType, SubType, TableType, TypeSpace, UnknownKind, ValType, WasmFeatures,
-    are_entities_valid, are_exports_standing, are_types_valid, imported_spaces_of, type_space_of,
+    AbstractHeapType, ArrayType, CloneIn, Code, CompositeInnerType, CompositeType, ConstInstr,
+    DataSegment, DataSegmentKind, ElementKind, ElementSegment, Elements, EntityType, ExportKind,
+    FieldType, FuncType, GlobalType, HeapType, Import, ImportItem, Imports, IndexSpaces,
+    InstructionKind, InstructionKinds, Instructions, Items, MemoryType, Name, Offset, RefType,
+    StorageType, StructType, SubType, TableType, TypeSpace, UnknownKind, ValType, WasmFeatures,
+    are_counts_enabled, are_defaultable, are_entities_valid, are_exports_standing, are_funcs_valid,
+    are_globals_valid, are_limits_valid, are_memories_valid, are_tables_valid, are_tags_valid,
+    are_types_valid, imported_spaces_of, is_ref_type_valid, is_val_type_valid, type_space_of,
 };

@@ -46,9 +46,9 @@ pub struct Module {
 }
 
 impl Model for Module {
-    ghost use Rattle.smith_definitions.specs.Module.{Parts};
+    ghost use Rattle.smith_rules.specs.Module.{ModuleParts};
 
-    ghost Value = { Parts };
+    ghost Value = { ModuleParts };
 
     ghost view = { λ m. record {
       config = m.config.value;
@@ -104,7 +104,7 @@ impl DuplicateImportsBehavior {
 
 impl Module {
     ghost use Rattle.smith_config.specs.Config.{default_config};
-    ghost use Rattle.smith_definitions.specs.Module.{module_types};
+    ghost use Rattle.smith_rules.specs.Module.{module_types};
     ghost use Rattle.wasm_smith.specs.Generated.{IsGenerated, is_distinct};
 
     /// Draws a module as [`Module::new`] does, for the default configuration. Fails only for lack

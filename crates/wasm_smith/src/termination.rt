@@ -2,8 +2,8 @@ ghost use Rattle.std.specs.Prelude.{◌≡◌, ◌<◌, ◌-◌, ◌^◌, ◌++�
 ghost use Rattle.std.specs.Int.{cast_signed, w32};
 ghost use Rattle.smith_types.specs.declared.const_instr.ConstInstr.TheVariants.{I32Const as NumberConst};
 ghost use Rattle.smith_types.specs.declared.code.Code.{Code as Body};
-ghost use Rattle.smith_definitions.specs.Module.{IsValid};
-ghost use Rattle.smith_contents.specs.Held.{IsRaw};
+ghost use Rattle.smith_rules.specs.Module.{IsValid};
+ghost use Rattle.smith_rules.specs.Held.{IsRaw};
 ghost use Rattle.wasm_smith.specs.Termination.{AnswersFuel, counter};
 
 use crate::module::Module;

@@ -7,7 +7,7 @@ ghost use Rattle.smith_bytes.specs.Takes.{Takes};
 ghost use Rattle.smith_types.specs.ValidTypes.{IsRefTypeValid, IsValTypeValid};
 ghost use Rattle.smith_types.specs.declared.value_type.ValType.TheVariants.{I32, Ref};
 ghost use Rattle.smith_types.specs.Expressions.{IsConstExpr};
-ghost use Rattle.smith_types.specs.Floats.{IsNoFloat, HasNoFloat};
+ghost use Rattle.smith_types.specs.Floats.{IsNoFloat, HasNoFloat, GivesNoFloat};
 ghost use Rattle.smith_config.specs.Features.{features_of};
 ghost use Rattle.smith_draw.specs.Grounding.{standing_in};
 ghost use Rattle.smith_draw.specs.SpelledConstants.{SpellsConstExpr};
@@ -16,7 +16,6 @@ ghost use Rattle.smith_draw.specs.ConstExprs.{const_expr_at, table_init_at};
 ghost use Rattle.smith_draw.specs.ConstScopes.{seen_by, IsReadable, AreSpacesValid};
 ghost use Rattle.smith_draw.specs.ConstBounds.{most_instructions, MayRefuseConstExpr};
 ghost use Rattle.smith_draw.specs.KeptOffers.{AreKeptOffers};
-ghost use Rattle.smith_draw.specs.ConstFloats.{GivesNoFloat};
 
 mod constant;
 mod drawn;

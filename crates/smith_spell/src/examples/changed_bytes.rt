@@ -1,7 +1,7 @@
 ghost use Rattle.std.specs.Prelude.{[], ◌∷◌, pos};
 ghost use Rattle.smith_config.specs.Config.{default_config};
 ghost use Rattle.smith_spell.specs.Spelling.{SpellsMember, SpellsRest};
-ghost use Rattle.smith_spell.specs.ExampleMembers.{
+ghost use Rattle.smith_config.specs.ExampleMembers.{
   alone,
   one_function_type,
   array_and_struct,

@@ -6,7 +6,7 @@ ghost use Rattle.smith_types.specs.declared.composite_type.StorageType.TheVarian
 ghost use Rattle.smith_types.specs.ExampleTypes.{plain, constant, nullable, not_null};
 ghost use Rattle.smith_config.specs.Config.{default_config};
 ghost use Rattle.smith_spell.specs.Family.{IsInFamily, IsMemberType, IsMemberInner, IsMemberField, IsMemberValType, IsMemberHeapType};
-ghost use Rattle.smith_spell.specs.ExampleMembers.{final, alone, one_function_type, array_and_struct, array_and_struct_together, taking_a_number, taking_numbers, giving_numbers, giving, giving_two, struct_of, struct_of_bytes, struct_with, struct_and_holder, one_of_each_without_gc, single_results, without_gc, without_floats, with_shared_types, with_non_nullable, with_exact_types, a_type, bytes_array, plain_function, taking};
+ghost use Rattle.smith_config.specs.ExampleMembers.{final, alone, one_function_type, array_and_struct, array_and_struct_together, taking_a_number, taking_numbers, giving_numbers, giving, giving_two, struct_of, struct_of_bytes, struct_with, struct_and_holder, one_of_each_without_gc, single_results, without_gc, without_floats, with_shared_types, with_non_nullable, with_exact_types, a_type, bytes_array, plain_function, taking};
 
 fn members()
     ensures a_function { IsInFamily default_config one_function_type (0 ∷ []) }

@@ -1,7 +1,6 @@
 ghost use Rattle.std.specs.Prelude.{[], ◌∷◌, ◌≡◌, true, false};
-ghost use Rattle.smith_draw.specs.TypeUses.{is_tag_type};
-ghost use Rattle.smith_spell.specs.FuncTypes.{func_types};
-ghost use Rattle.smith_spell.specs.ExampleMembers.{final, bytes_array, plain_function, foo_type, quux_type};
+ghost use Rattle.smith_draw.specs.TypeUses.{is_tag_type, func_types};
+ghost use Rattle.smith_config.specs.ExampleMembers.{final, bytes_array, plain_function, foo_type, quux_type};
 
 fn chosen_types()
     ensures functions_alone { func_types (final bytes_array ∷ final plain_function ∷ foo_type ∷ []) ≡ 1 ∷ 2 ∷ [] }

@@ -3,7 +3,7 @@ ghost use Rattle.smith_bytes.specs.declared.error.Error.TheVariants.{EmptyChoose
 ghost use Rattle.smith_config.specs.Config.{default_config};
 ghost use Rattle.smith_config.specs.ExampleShapes.{exported_table};
 ghost use Rattle.smith_spell.specs.SpellAnswers.{IsSpellable, AnswersSpelling};
-ghost use Rattle.smith_spell.specs.ExampleMembers.{one_function_type, function_bytes};
+ghost use Rattle.smith_config.specs.ExampleMembers.{one_function_type, function_bytes};
 
 fn spellable()
     ensures nothing { IsSpellable default_config [] [] }

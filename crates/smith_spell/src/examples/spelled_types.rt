@@ -22,7 +22,7 @@ ghost use Rattle.smith_draw.specs.Spelling.{
   SpellsAdded,
   SpellsSpace,
 };
-ghost use Rattle.smith_spell.specs.ExampleMembers.{final, alone, one_function_type, array_and_struct, struct_of, struct_of_bytes, struct_with, struct_and_holder, single_results, without_gc, without_floats, with_shared_types, with_non_nullable, a_type, bytes_array, plain_function};
+ghost use Rattle.smith_config.specs.ExampleMembers.{final, alone, one_function_type, array_and_struct, struct_of, struct_of_bytes, struct_with, struct_and_holder, single_results, without_gc, without_floats, with_shared_types, with_non_nullable, a_type, bytes_array, plain_function};
 
 fn places()
     ensures a_place { SpellsPlace {A = ℕ} (7 ∷ 8 ∷ []) 8 (3 ∷ []) }

@@ -7,8 +7,9 @@ ghost use Rattle.smith_types.specs.declared.composite_type.StorageType.TheVarian
 ghost use Rattle.smith_types.specs.ExampleTypes.{plain, not_null};
 ghost use Rattle.smith_draw.specs.Spelling.{SpellsGroups, SpellsStorage, SpellsHeapType, SpellsUnshared, SpellsSize, SpellsBehindClass};
 ghost use Rattle.smith_bytes.specs.Spelling.{SpellsNone};
-ghost use Rattle.smith_spell.specs.Spelling.{SpellsMember, SpellsRest, SpellsNoTag, SpellsFuncs, SpellsGlobal, SpellsBytes, SpellsNoStart, SpellsSegments, IsRest};
-ghost use Rattle.smith_spell.specs.ExampleMembers.{final, one_function_type, array_and_struct, struct_and_holder, taking_a_number, giving_two, alone, one_of_each_without_gc, no_types_and_imports, nothing_may_be, with_shared_types, with_non_nullable, function_bytes, full_bytes, array_and_struct_bytes, struct_and_holder_bytes, number_bytes, data_bytes, bytes_array, plain_function};
+ghost use Rattle.smith_spell.specs.Spelling.{SpellsMember, SpellsRest, SpellsSegments, IsRest};
+ghost use Rattle.smith_draw.specs.SpelledParts.{SpellsNoTag, SpellsFuncs, SpellsGlobal, SpellsBytes, SpellsNoStart};
+ghost use Rattle.smith_config.specs.ExampleMembers.{final, one_function_type, array_and_struct, struct_and_holder, taking_a_number, giving_two, alone, one_of_each_without_gc, no_types_and_imports, nothing_may_be, with_shared_types, with_non_nullable, function_bytes, full_bytes, array_and_struct_bytes, struct_and_holder_bytes, number_bytes, data_bytes, bytes_array, plain_function};
 
 fn members()
     ensures a_function { SpellsMember default_config one_function_type (0 ∷ []) function_bytes }

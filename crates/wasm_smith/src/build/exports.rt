@@ -12,14 +12,14 @@ ghost use Rattle.wasm_smith.specs.Begun.{begun_of};
 ghost use Rattle.wasm_smith.specs.Build.{GivesOrLacks, exported_at, exports_of};
 ghost use Rattle.wasm_smith.specs.DrawnContents.{AreExportsMade};
 ghost use Rattle.wasm_smith.specs.DrawnSteps.{AreEntitiesDrawn, AreExportsDrawn, HasSameImports, IsBeyond};
-ghost use Rattle.smith_definitions.specs.Refusals.{AreShapesValid, MayRefuse};
-ghost use Rattle.smith_definitions.specs.ShapesKept.{IsSameExport, IsSameType};
+ghost use Rattle.smith_rules.specs.Refusals.{AreShapesValid, MayRefuse};
+ghost use Rattle.smith_rules.specs.ShapesKept.{IsSameExport, IsSameType};
 
 use crate::build::drawn::Drawn;
 use smith_bytes::{Error, Unstructured};
 use smith_config::Config;
 use smith_contents::{Exports, arbitrary_exports};
-use smith_definitions::make_required_exports;
+use smith_defined::make_required_exports;
 use smith_types::Items;
 use std::alloc::Global;
 use std::mem;

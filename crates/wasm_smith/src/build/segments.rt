@@ -1,18 +1,18 @@
 ghost use Rattle.std.specs.Prelude.{◌≡◌, [], IfOk, IfErr, All};
 ghost use Rattle.smith_bytes.specs.Source.{KeepsPieces};
 ghost use Rattle.smith_types.specs.Floats.{HasNoFloat};
-ghost use Rattle.smith_definitions.specs.Defined.{drawn_beside};
+ghost use Rattle.smith_defined.specs.Defined.{drawn_beside};
 ghost use Rattle.wasm_smith.specs.Contents.{MayHoldContents, MayRefuseContents};
 ghost use Rattle.wasm_smith.specs.DrawnContents.{TellsImported, AreSegmentsFit, HaveNoFloatItems, imported_in, all_segments_at};
-ghost use Rattle.smith_contents.specs.DrawnElements.{HasGroundedItems};
-ghost use Rattle.smith_imports.specs.Imported.{HasGroundedElements, spaces_of};
-ghost use Rattle.smith_imports.specs.Steps.{Gives};
+ghost use Rattle.smith_config.specs.Granted.{HasGroundedItems, HasGroundedElements};
+ghost use Rattle.smith_imports.specs.Imported.{spaces_of};
+ghost use Rattle.smith_bytes.specs.Steps.{Gives};
 
 use crate::build::segment_spaces::segment_spaces;
 use smith_bytes::{Error, Unstructured};
 use smith_config::Config;
 use smith_contents::{arbitrary_data, arbitrary_elements};
-use smith_definitions::Definitions;
+use smith_defined::Definitions;
 use smith_imports::Imported;
 use smith_types::{DataSegment, ElementSegment, Items, TypeSpace};
 use std::alloc::Global;

@@ -8,14 +8,14 @@ ghost use Rattle.smith_config.specs.Sanitized.{IsSanitized};
 ghost use Rattle.wasm_smith.specs.Begun.{HasNothing, begun_of};
 ghost use Rattle.wasm_smith.specs.Build.{GivesOrLacks, begun_typed_at, imported_at, defined_at};
 ghost use Rattle.wasm_smith.specs.DrawnSteps.{AreTypesDrawn, AreImportsDrawn, AreFreeImports, AreEntitiesDrawn, HasSameImports, IsBeyond, KeepsBegun};
-ghost use Rattle.smith_definitions.specs.Refusals.{AreShapesValid, MayRefuse};
+ghost use Rattle.smith_rules.specs.Refusals.{AreShapesValid, MayRefuse};
 
 use crate::build::begun::begin;
 use crate::build::drawn::Drawn;
 use crate::build::types::add_more_types;
 use smith_bytes::{Error, Unstructured};
 use smith_config::Config;
-use smith_definitions::define;
+use smith_defined::define;
 use smith_imports::arbitrary_imports;
 use std::alloc::Global;
 

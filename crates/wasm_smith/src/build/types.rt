@@ -8,7 +8,7 @@ ghost use Rattle.smith_config.specs.Sanitized.{IsSanitized};
 ghost use Rattle.smith_draw.specs.ConstBounds.{HoldsUngroundedField};
 ghost use Rattle.smith_draw.specs.Drawing.{DrawsInto};
 ghost use Rattle.smith_draw.specs.FuncSizes.{HasFewValues};
-ghost use Rattle.smith_draw.specs.Granted.{AreTypesGranted};
+ghost use Rattle.smith_config.specs.Granted.{AreTypesGranted};
 ghost use Rattle.smith_draw.specs.Grounding.{over};
 ghost use Rattle.smith_draw.specs.RecGroups.{types_at};
 ghost use Rattle.wasm_smith.specs.Build.{functions_over};

@@ -4,7 +4,7 @@ use Rattle.smith_draw.specs.ConstScopes.{seen_by}
 use Rattle.smith_contents.specs.DrawnElements.{AreItemsFit}
 use Rattle.smith_contents.specs.ElementSegments.{functions_at}
 use Rattle.smith_contents.proofs.ElementFunctionLemmas.{functions_fit}
-use Rattle.smith_imports.proofs.GivenLemmas.{given_is}
+use Rattle.smith_bytes.proofs.StepLemmas.{given_is}
 use Rattle.smith_contents.proofs.element_items.draw_functions.Goals as goal
 
 pub returns-clause-fit : goal.returns-clause-fit

@@ -1,5 +1,5 @@
 use Rattle.smith_types.specs.declared.value_type.ValType.TheVariants.{Ref}
-use Rattle.smith_draw.specs.ConstBounds.{IsUngrounded}
+use Rattle.smith_config.specs.Granted.{IsUngrounded}
 use Rattle.smith_draw.specs.Grounding.{standing_in}
 use Rattle.smith_types.specs.declared.value_type.RefType.{RefType}
 use Rattle.smith_contents.specs.DrawnElements.{HasUngroundedElements}

@@ -5,12 +5,13 @@ use Rattle.smith_bytes.specs.declared.error.Count.TheVariants as counts
 use Rattle.smith_types.specs.declared.segments.ElementSegment.{ElementSegment}
 use Rattle.smith_draw.specs.ConstScopes.{seen_by}
 use Rattle.smith_draw.specs.Grounding.{standing_in}
-use Rattle.smith_contents.specs.Held.{HasItems}
-use Rattle.smith_contents.specs.DrawnElements.{HasGroundedItems, IsElementFit}
+use Rattle.smith_rules.specs.Held.{HasItems}
+use Rattle.smith_config.specs.Granted.{HasGroundedItems}
+use Rattle.smith_contents.specs.DrawnElements.{IsElementFit}
 use Rattle.smith_contents.specs.ElementSegments.{elements_at}
 use Rattle.smith_contents.proofs.ElementCountLemmas.{elements_least, elements_taken}
 use Rattle.smith_contents.proofs.ElementFitLemmas.{elements_no_float}
-use Rattle.smith_imports.proofs.GivenLemmas.{given_is}
+use Rattle.smith_bytes.proofs.StepLemmas.{given_is}
 use Rattle.smith_contents.proofs.elements.arbitrary_elements.Goals as goal
 
 pub returns-clause-least : goal.returns-clause-least

@@ -3,7 +3,7 @@ use Rattle.smith_types.specs.Entities.{IsGlobalValid}
 use Rattle.smith_types.specs.Floats.{IsNoFloat}
 use Rattle.smith_types.specs.declared.entity_type.GlobalType.{GlobalType}
 use Rattle.smith_config.specs.Features.{features_of}
-use Rattle.smith_draw.specs.ConstBounds.{IsNonNullable, IsUngrounded}
+use Rattle.smith_config.specs.Granted.{IsNonNullable, IsUngrounded}
 use Rattle.smith_draw.specs.GlobalTypes.{global_type_at}
 use Rattle.smith_draw.specs.Grounding.{over}
 use Rattle.smith_draw.proofs.FilledLemmas.{global_type_filled}

@@ -6,7 +6,7 @@ use Rattle.std.specs.Prelude.{All}
 use Rattle.smith_types.specs.ValidTypes.{values_of}
 use Rattle.smith_types.specs.declared.composite_type.FuncType.{FuncType}
 use Rattle.smith_types.specs.declared.composite_type.CompositeInnerType.TheVariants.{Func}
-use Rattle.smith_draw.specs.Granted.{IsGranted}
+use Rattle.smith_config.specs.Granted.{IsGranted}
 use Rattle.smith_draw.specs.Grounding.{standing_in}
 use Rattle.smith_draw.proofs.GrantedLemmas.{matching_func_granted}
 use Rattle.smith_draw.proofs.matching.arbitrary_matching_func_type.Goals as goal

@@ -2,7 +2,7 @@ use Rattle.smith_draw.proofs.SharedLemmas.{val_shareable}
 use Rattle.smith_draw.proofs.MatchingLemmas.{matching_val_below, matching_val_valid}
 use Rattle.smith_draw.proofs.StandingLemmas.{val_stands}
 use Rattle.smith_draw.proofs.DrawingLemmas.{of_drawn}
-use Rattle.smith_draw.specs.Granted.{IsGranted}
+use Rattle.smith_config.specs.Granted.{IsGranted}
 use Rattle.smith_draw.specs.Grounding.{standing_in}
 use Rattle.smith_draw.proofs.FilledLemmas.{matching_value}
 use Rattle.smith_draw.proofs.matching.arbitrary_matching_val_type.Goals as goal

@@ -4,7 +4,7 @@ use Rattle.std.specs.Prelude.{All}
 use Rattle.smith_types.specs.ValidTypes.{values_of}
 use Rattle.smith_types.specs.declared.composite_type.StructType.{StructType}
 use Rattle.smith_types.specs.declared.composite_type.CompositeInnerType.TheVariants.{Struct}
-use Rattle.smith_draw.specs.Granted.{IsGranted}
+use Rattle.smith_config.specs.Granted.{IsGranted}
 use Rattle.smith_draw.specs.Grounding.{standing_in}
 use Rattle.smith_draw.proofs.GrantedLemmas.{matching_struct_granted}
 use Rattle.smith_draw.proofs.matching_composite.arbitrary_matching_struct_type.Goals as goal

@@ -5,7 +5,7 @@ use Rattle.smith_bytes.specs.declared.error.Count.TheVariants.{Types}
 use Rattle.smith_types.specs.Space.{Space}
 use Rattle.smith_types.specs.ValidTypes.{AreTypesValid}
 use Rattle.smith_config.specs.Features.{features_of}
-use Rattle.smith_draw.specs.Granted.{AreTypesGranted}
+use Rattle.smith_config.specs.Granted.{AreTypesGranted}
 use Rattle.smith_draw.specs.Grounding.{over}
 use Rattle.smith_draw.proofs.GrantedLemmas.{clone_granted}
 use Rattle.smith_draw.proofs.GroupSizeLemmas.{clone_rec_group_most}

@@ -4,7 +4,7 @@ use Rattle.smith_draw.specs.Grounding.{functions_in, standing_in}
 use Rattle.smith_draw.proofs.SubTypeLemmas.{sub_type_valid, sub_type_follows}
 use Rattle.smith_draw.proofs.TakenLemmas.{sub_type_taken}
 use Rattle.smith_draw.proofs.DrawingLemmas.{of_drawn}
-use Rattle.smith_draw.specs.Granted.{HasGranted}
+use Rattle.smith_config.specs.Granted.{HasGranted}
 use Rattle.smith_draw.proofs.GrantedLemmas.{sub_type_granted}
 use Rattle.smith_draw.proofs.sub_type.arbitrary_sub_type.Goals as goal
 

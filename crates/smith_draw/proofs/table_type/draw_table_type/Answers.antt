@@ -3,7 +3,7 @@ use Rattle.smith_types.specs.Flags.{IsElementEnabled}
 use Rattle.smith_types.specs.declared.value_type.RefType.{RefType}
 use Rattle.smith_config.specs.Features.{features_of}
 use Rattle.smith_types.specs.declared.value_type.ValType.TheVariants.{Ref}
-use Rattle.smith_draw.specs.ConstBounds.{IsUngrounded}
+use Rattle.smith_config.specs.Granted.{IsUngrounded}
 use Rattle.smith_draw.proofs.FilledLemmas.{ref_type_filled}
 use Rattle.smith_draw.proofs.MemoryLemmas.{limits_fit}
 use Rattle.smith_draw.proofs.NullableLemmas.{ref_type_nullable}

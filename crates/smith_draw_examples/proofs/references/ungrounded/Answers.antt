@@ -13,7 +13,7 @@ use Rattle.smith_types.specs.ExampleTypes.{open_type, final_type, struct_and_bel
 use Rattle.smith_types.proofs.GroundedLemmas.{grounded_at}
 use Rattle.smith_config.specs.Config.{default_config}
 use Rattle.smith_draw.specs.ConstScopes.{fields_of}
-use Rattle.smith_draw.specs.ConstBounds.{IsUngrounded}
+use Rattle.smith_config.specs.Granted.{IsUngrounded}
 use Rattle.smith_draw.specs.ExampleConstExprs.{context_of_types}
 use Rattle.smith_draw.proofs.FilledLemmas.{each_none}
 use Rattle.smith_draw_examples.proofs.references.ungrounded.Goals as goal

@@ -1,6 +1,6 @@
 use Rattle.std.proofs.Common.{◌⊎◌, inl, inr}
 use Rattle.std.proofs.lemmas.Result.{IfOk-weaker}
-use Rattle.smith_definitions.specs.Module.{Parts}
+use Rattle.smith_rules.specs.Module.{ModuleParts}
 use Rattle.smith_sections.specs.Codes.{IsBody, body_of}
 use Rattle.smith_sections.specs.Long.{IsLongBody, IsLongContent, IsLongList}
 use Rattle.smith_sections.specs.Modules.{IsModule}
@@ -16,7 +16,7 @@ use Rattle.smith_encode.proofs.MappedLemmas.{fault_weaker, long_mapped}
 use Rattle.smith_encode.proofs.modules.encode.Goals as goal
 
 -- its bodies are too long, or other parts are
-too_long : (m : Parts) → IsTooLong m ⊎ (IsLongList (λ (code : Code). IsLongBody (body_of m.fuel_globals code)) m.code ⊎ IsLongContent (AreOwnBodies m)) → IsTooLong m
+too_long : (m : ModuleParts) → IsTooLong m ⊎ (IsLongList (λ (code : Code). IsLongBody (body_of m.fuel_globals code)) m.code ⊎ IsLongContent (AreOwnBodies m)) → IsTooLong m
 too_long m (inl other) = other
 too_long m (inr long) = IsTooLong.bodies (long_mapped IsBody IsLongBody (body_of m.fuel_globals) m.code long)
 

@@ -1,13 +1,14 @@
 use Rattle.std.proofs.Common.{◌≡◌, ◌<◌, [], length, nat_lt, refl, sym, ap, subst}
 use Rattle.std.proofs.lemmas.List.Elements.{All-nil, All-cons}
 use Rattle.std.proofs.lemmas.Bool.{ltb-true}
-use Rattle.smith_types.specs.Entities.{IsTagValid, IsFuncValid}
+use Rattle.smith_types.specs.Entities.{IsTagValid, IsFuncTypeIndex}
 use Rattle.smith_types.specs.Expressions.{Context}
 use Rattle.smith_draw.specs.Choices.{chosen_at}
 use Rattle.smith_draw.specs.TypeUses.{types_for}
 use Rattle.smith_draw.specs.declared.type_use.TypeUse.TheVariants.{Tag, ImportedFunc}
 use Rattle.smith_draw.proofs.CallerLemmas.{passes_but_imports}
-use Rattle.smith_imports.specs.Imported.{HasGroundedElements, HasGroundedValue, spaces_of}
+use Rattle.smith_config.specs.Granted.{HasGroundedElements, HasGroundedValue}
+use Rattle.smith_imports.specs.Imported.{spaces_of}
 use Rattle.smith_imports.specs.ImportedEntities.{import_scope}
 use Rattle.smith_imports.proofs.ImportedEntityLemmas.{first_holds, second_holds, chosen_usable, fit_without_references, tag_fit, func_fit, global_fit, memory_fit, table_fit}
 use Rattle.smith_imports.proofs.import_entities.draw_entity_of_kind.Goals as goal
@@ -25,7 +26,7 @@ returns-in-Func-clause-fit c =
     let types = c.args.types.now.types in
     let some : 0 < length (types_for ImportedFunc types) = ltb-true _ _ (rw c.in-Func.is at c.requires.kind) in
     let exact : chosen_at 0 (types_for ImportedFunc types) c.args.u.now ≡ (c.choose-in-Func.result, c.choose-in-Func.new.u) = rw c.for_funcs.ensures at (c.choose-in-Func.ensures.exact 0) in
-    fit_without_references c.args.config.now c.args.types.now.types (spaces_of c.args.imported.now) _ (func_fit c.args.config.now c.args.types.now c.requires.may c.choose-in-Func.result (subst (λ drawn. IsFuncValid types drawn.0) exact (chosen_usable ImportedFunc types c.args.u.now some))) refl refl
+    fit_without_references c.args.config.now c.args.types.now.types (spaces_of c.args.imported.now) _ (func_fit c.args.config.now c.args.types.now c.requires.may c.choose-in-Func.result (subst (λ drawn. IsFuncTypeIndex types drawn.0) exact (chosen_usable ImportedFunc types c.args.u.now some))) refl refl
 
 pub returns-in-Global-clause-fit : goal.returns-in-Global-clause-fit
 returns-in-Global-clause-fit c =

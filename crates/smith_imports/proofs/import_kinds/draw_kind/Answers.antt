@@ -2,7 +2,8 @@ use Rattle.std.proofs.Common.{◌≡◌, ◌∙◌, sym, refl, List, ◌∷◌, 
 use Rattle.smith_types.specs.declared.entity_type.ExportKind.{ExportKind}
 use Rattle.smith_imports.specs.Imported.{spaces_of}
 use Rattle.smith_imports.specs.ImportedEntities.{kind_rows}
-use Rattle.smith_imports.proofs.ImportedEntityLemmas.{length_enabled, row_offered}
+use Rattle.smith_draw.proofs.EnabledLemmas.{length_enabled}
+use Rattle.smith_imports.proofs.ImportedEntityLemmas.{row_offered}
 use Rattle.smith_imports.proofs.import_kinds.draw_kind.Goals as goal
 
 pub returns-clause-offered : goal.returns-clause-offered

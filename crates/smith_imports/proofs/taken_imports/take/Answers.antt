@@ -1,5 +1,5 @@
 use Rattle.std.proofs.Common.{◌≡◌, ◌∙◌, sym, refl, false, true}
-use Rattle.smith_imports.specs.ShapeImports.{is_fitting}
+use Rattle.smith_rules.specs.ShapeImports.{is_fitting}
 use Rattle.smith_imports.proofs.AvailableImportLemmas.{fits_is}
 use Rattle.smith_imports.proofs.taken_imports.take.Goals as goal
 

@@ -5,14 +5,14 @@ use Rattle.std.proofs.lemmas.Iterator.Splits.{YieldsList-from_str_split}
 use Rattle.std.proofs.lemmas.Option.{slice_get_read}
 use Rattle.std.proofs.lemmas.List.{take_more_set}
 use Rattle.std.proofs.lemmas.Grind.{common_steps}
-use Rattle.smith_types.specs.Parts.{parts_of}
+use Rattle.smith_types.specs.Parts.{split_at_commas}
 use Rattle.smith_types.proofs.PartLemmas.{AllZip-next}
 use Rattle.smith_config.specs.OffsetChoices.{IsNumber, AllNumbers}
 use Rattle.smith_config.proofs.offset_choices.MemoryOffsetChoicesFromStr.from_str.Goals as goal
 
 pub returns-then-place-eq3 : goal.returns-then-place-eq3
 returns-then-place-eq3 c =
-    let parts = parts_of c.args.s.now in
+    let parts = split_at_commas c.args.s.now in
     let e = YieldsList-at c.into_iter-part-iterator.ensures.into_iter_gives
     (YieldsList-from_str_split 44 c.args.s.now (lit< tt) c.split-part-items.ensures.text c.split-part-items.ensures.has_more c.split-part-items.ensures.pattern) in
     let text = c.in-Some.part.now in
@@ -25,7 +25,7 @@ returns-then-place-eq3 c =
 
 pub returns-in-Err : goal.returns-in-Err
 returns-in-Err c =
-    let parts = parts_of c.args.s.now in
+    let parts = split_at_commas c.args.s.now in
     let e = YieldsList-at c.into_iter-part-iterator.ensures.into_iter_gives
     (YieldsList-from_str_split 44 c.args.s.now (lit< tt) c.split-part-items.ensures.text c.split-part-items.ensures.has_more c.split-part-items.ensures.pattern) in
     let text = c.in-Some.part.now in
@@ -43,7 +43,7 @@ returns-in-Err c =
 
 pub loop-part-preserved : goal.loop-part-preserved
 loop-part-preserved c =
-    let parts = parts_of c.args.s.now in
+    let parts = split_at_commas c.args.s.now in
     let e = YieldsList-at c.into_iter-part-iterator.ensures.into_iter_gives
     (YieldsList-from_str_split 44 c.args.s.now (lit< tt) c.split-part-items.ensures.text c.split-part-items.ensures.has_more c.split-part-items.ensures.pattern) in
     let text = c.in-Some.part.now in
@@ -64,7 +64,7 @@ loop-part-preserved c =
 
 pub returns-then-place-lt3 : goal.returns-then-place-lt3
 returns-then-place-lt3 c =
-    let parts = parts_of c.args.s.now in
+    let parts = split_at_commas c.args.s.now in
     let e = YieldsList-at c.into_iter-part-iterator.ensures.into_iter_gives
     (YieldsList-from_str_split 44 c.args.s.now (lit< tt) c.split-part-items.ensures.text c.split-part-items.ensures.has_more c.split-part-items.ensures.pattern) in
     let end = YieldsList-end e c.loop-part.yielded _ c.loop-part.yielded_by _ _ c.in-None.is c.next.ensures.steps in
@@ -83,7 +83,7 @@ three (a ∷ b ∷ c ∷ d ∷ xs) e = absurd (omega arith)
 
 pub returns-then-are_zero : goal.returns-then-are_zero
 returns-then-are_zero c =
-    let parts = parts_of c.args.s.now in
+    let parts = split_at_commas c.args.s.now in
     let e = YieldsList-at c.into_iter-part-iterator.ensures.into_iter_gives
     (YieldsList-from_str_split 44 c.args.s.now (lit< tt) c.split-part-items.ensures.text c.split-part-items.ensures.has_more c.split-part-items.ensures.pattern) in
     let end = YieldsList-end e c.loop-part.yielded _ c.loop-part.yielded_by _ _ c.in-None.is c.next.ensures.steps in
@@ -100,7 +100,7 @@ returns-then-are_zero c =
 
 pub returns : goal.returns
 returns c =
-    let parts = parts_of c.args.s.now in
+    let parts = split_at_commas c.args.s.now in
     let e = YieldsList-at c.into_iter-part-iterator.ensures.into_iter_gives
     (YieldsList-from_str_split 44 c.args.s.now (lit< tt) c.split-part-items.ensures.text c.split-part-items.ensures.has_more c.split-part-items.ensures.pattern) in
     let end = YieldsList-end e c.loop-part.yielded _ c.loop-part.yielded_by _ _ c.in-None.is c.next.ensures.steps in

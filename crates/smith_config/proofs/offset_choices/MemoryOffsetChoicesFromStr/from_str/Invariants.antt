@@ -1,6 +1,6 @@
 use Rattle.std.proofs.Common.{◌≡◌, ◌≤◌, length, take}
 use Rattle.smith_config.specs.OffsetChoices.{IsNumber}
-use Rattle.smith_types.specs.Parts.{parts_of}
+use Rattle.smith_types.specs.Parts.{split_at_commas}
 use Rattle.std.specs.List.{AllZip}
 use Rattle.smith_config.proofs.offset_choices.MemoryOffsetChoicesFromStr.from_str.Given as goal
 
@@ -9,5 +9,5 @@ invariant-loop-part l = record {
   count : l.place ≡ length l.yielded;
   long : length l.numbers ≡ 3;
   few : l.place ≤ 3;
-  read : AllZip IsNumber (take l.place (parts_of l.s)) (take l.place l.numbers);
+  read : AllZip IsNumber (take l.place (split_at_commas l.s)) (take l.place l.numbers);
 }

@@ -6,7 +6,8 @@ use Rattle.smith_bytes.specs.Spelling.{SpellsBool, SpellsNumber, SpellsAnyByte, 
 use Rattle.smith_config.specs.Config.{default_config}
 use Rattle.smith_draw.specs.Spelling.{SpellsUnshared}
 use Rattle.smith_draw.specs.SpelledConstants.{SpellsI32}
-use Rattle.smith_spell.specs.Spelling.{SpellsRest, SpellsGlobal, SpellsBytes, SpellsNoStart, SpellsSegments}
+use Rattle.smith_spell.specs.Spelling.{SpellsRest, SpellsSegments}
+use Rattle.smith_draw.specs.SpelledParts.{SpellsGlobal, SpellsBytes, SpellsNoStart}
 use Rattle.smith_spell.proofs.SpelledExamples.{one_odd, bool_first, any_first, digit_first, this_first, word_first, without_nothing, global_parts, opened}
 use Rattle.smith_spell.proofs.examples.changed_bytes.rests.Goals as goal
 

@@ -17,7 +17,7 @@ use Rattle.smith_config.specs.Shapes.{space_of}
 use Rattle.smith_types.specs.Space.{Space}
 use Rattle.smith_draw.specs.TypeUses.{is_tag_type, is_unshared_function}
 use Rattle.smith_spell.specs.Spelling.{SpellsMember}
-use Rattle.smith_spell.specs.ExampleMembers.{alone, one_function_type, array_and_struct, struct_and_holder, taking_a_number, one_of_each_without_gc, with_non_nullable}
+use Rattle.smith_config.specs.ExampleMembers.{alone, one_function_type, array_and_struct, struct_and_holder, taking_a_number, one_of_each_without_gc, with_non_nullable}
 use Rattle.smith_spell.proofs.FamilyFitLemmas.{family_fits}
 use Rattle.smith_spell.proofs.SpellExamples.{holder_in_family}
 use Rattle.smith_spell.proofs.SpelledExamples.{joined, any_byte, one_odd, bool_first, any_first, place_alone, without_nothing}

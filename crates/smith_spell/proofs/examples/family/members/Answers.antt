@@ -5,11 +5,11 @@ use Rattle.smith_types.specs.declared.value_type.HeapType.TheVariants.{Concrete}
 use Rattle.smith_types.specs.declared.value_type.ValType.TheVariants.{I32, Ref}
 use Rattle.smith_types.specs.declared.composite_type.StorageType.TheVariants.{Val}
 use Rattle.smith_types.specs.ExampleTypes.{plain, constant, not_null}
-use Rattle.smith_types.specs.Entities.{IsFuncValid}
+use Rattle.smith_types.specs.Entities.{IsFuncTypeIndex}
 use Rattle.smith_config.specs.Config.{default_config}
 use Rattle.smith_spell.specs.Family.{IsMemberType, IsMemberField}
-use Rattle.smith_spell.specs.ExampleMembers.{final, alone, field_of, struct_of, struct_of_bytes, struct_with, taking_a_number, one_of_each_without_gc, with_non_nullable}
-use Rattle.smith_spell.proofs.EachPlaceLemmas.{each_place}
+use Rattle.smith_config.specs.ExampleMembers.{final, alone, field_of, struct_of, struct_of_bytes, struct_with, taking_a_number, one_of_each_without_gc, with_non_nullable}
+use Rattle.smith_types.proofs.EachPlaceLemmas.{each_place}
 use Rattle.smith_spell.proofs.SpellExamples.{function_in_family, holder_in_family}
 use Rattle.smith_spell.proofs.GroundedExamples.{none_grounded}
 use Rattle.smith_spell.proofs.examples.family.members.Goals as goal
@@ -27,7 +27,7 @@ returns-clause-full_without_gc c = record {
   few_types = omega arith;
   each_type = each_place (λ index t. IsMemberType one_of_each_without_gc (take index (alone taking_a_number)) t) (alone taking_a_number) (taking, tt);
   few_funcs = omega arith;
-  each_func = All-from_recursion (IsFuncValid (final taking_a_number ∷ [])) (0 ∷ []) ((record { params = I32 ∷ []; results = [] }, (final taking_a_number, refl, refl)), tt);
+  each_func = All-from_recursion (IsFuncTypeIndex (final taking_a_number ∷ [])) (0 ∷ []) ((record { params = I32 ∷ []; results = [] }, (final taking_a_number, refl, refl)), tt);
 }
 
 pub returns-clause-a_type_that_refers_to_itself : goal.returns-clause-a_type_that_refers_to_itself

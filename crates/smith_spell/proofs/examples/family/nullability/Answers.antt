@@ -1,6 +1,6 @@
 use Rattle.std.proofs.Common.{◌≡◌, true, false, refl, inl, inr, arith}
 use Rattle.smith_types.specs.declared.value_type.AbstractHeapType.TheVariants as heap
-use Rattle.smith_spell.specs.ExampleMembers.{bytes_array, struct_of_bytes, struct_with}
+use Rattle.smith_config.specs.ExampleMembers.{bytes_array, struct_of_bytes, struct_with}
 use Rattle.smith_types.specs.ExampleTypes.{plain}
 use Rattle.smith_spell.proofs.GroundedExamples.{grounds_itself, grounds_above}
 use Rattle.smith_spell.proofs.examples.family.nullability.Goals as goal

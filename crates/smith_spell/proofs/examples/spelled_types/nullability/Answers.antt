@@ -5,7 +5,7 @@ use Rattle.smith_types.specs.declared.value_type.AbstractHeapType.TheVariants.{F
 use Rattle.smith_draw.specs.Choices.{enabled}
 use Rattle.smith_draw.specs.ValueTypes.{abstract_heap_types}
 use Rattle.smith_draw.specs.Spelling.{SpellsPlace, SpellsValType}
-use Rattle.smith_spell.specs.ExampleMembers.{with_non_nullable}
+use Rattle.smith_config.specs.ExampleMembers.{with_non_nullable}
 use Rattle.smith_spell.proofs.SpelledExamples.{joined, go, stop, one_odd, zero_even, place_first, without_nothing, opened, after_reference}
 use Rattle.smith_spell.proofs.examples.spelled_types.nullability.Goals as goal
 

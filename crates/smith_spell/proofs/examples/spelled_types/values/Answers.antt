@@ -5,7 +5,7 @@ use Rattle.smith_draw.specs.Spelling.{class_of, SpellsPlace, SpellsField, Spells
 use Rattle.smith_types.specs.declared.value_type.ValType.TheVariants.{I32}
 use Rattle.smith_draw.specs.Choices.{enabled}
 use Rattle.smith_draw.specs.ValueTypes.{value_classes}
-use Rattle.smith_spell.specs.ExampleMembers.{single_results}
+use Rattle.smith_config.specs.ExampleMembers.{single_results}
 use Rattle.smith_spell.proofs.SpelledExamples.{joined, go, stop, one_odd, bool_first, digit_first, place_first, without_nothing, opened, after_reference}
 use Rattle.smith_spell.proofs.examples.spelled_types.values.Goals as goal
 

@@ -1,7 +1,8 @@
 use Rattle.std.proofs.Common.{[], ◌∷◌, refl}
 use Rattle.smith_bytes.specs.Spelling.{Listed}
 use Rattle.smith_bytes.specs.Draws.{digit_count}
-use Rattle.smith_spell.specs.Spelling.{SpellsRest, SpellsGlobal, SpellsBytes}
+use Rattle.smith_spell.specs.Spelling.{SpellsRest}
+use Rattle.smith_draw.specs.SpelledParts.{SpellsGlobal, SpellsBytes}
 use Rattle.smith_spell.proofs.SpelledExamples.{joined, go, stop, any_byte}
 use Rattle.smith_spell.proofs.examples.spelling.rests.Goals as goal
 

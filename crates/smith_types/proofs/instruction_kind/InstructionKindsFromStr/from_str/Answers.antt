@@ -4,7 +4,7 @@ use Rattle.std.proofs.lemmas.Iterator.Splits.{YieldsList-from_str_split}
 use Rattle.std.proofs.lemmas.Option.{slice_get_read}
 use Rattle.std.proofs.lemmas.Grind.{common_steps}
 use Rattle.smith_types.specs.Instructions.{IsNamed, kinds_bits}
-use Rattle.smith_types.specs.Parts.{parts_of}
+use Rattle.smith_types.specs.Parts.{split_at_commas}
 use Rattle.std.specs.List.{AllZip}
 use Rattle.smith_types.proofs.KindLemmas.{union_of-push}
 use Rattle.smith_types.proofs.PartLemmas.{AllZip-next}
@@ -12,7 +12,7 @@ use Rattle.smith_types.proofs.instruction_kind.InstructionKindsFromStr.from_str.
 
 pub returns-in-Err : goal.returns-in-Err
 returns-in-Err c =
-    let parts = parts_of c.args.s.now in
+    let parts = split_at_commas c.args.s.now in
     let text = c.in-Some.part.now in
     let e = YieldsList-at c.into_iter-part-iterator.ensures.into_iter_gives
     (YieldsList-from_str_split 44 c.args.s.now (lit< tt) c.split-part-items.ensures.text c.split-part-items.ensures.has_more c.split-part-items.ensures.pattern) in
@@ -30,7 +30,7 @@ returns-in-Err c =
 
 pub loop-part-preserved : goal.loop-part-preserved
 loop-part-preserved c =
-    let parts = parts_of c.args.s.now in
+    let parts = split_at_commas c.args.s.now in
     let text = c.in-Some.part.now in
     let e = YieldsList-at c.into_iter-part-iterator.ensures.into_iter_gives
     (YieldsList-from_str_split 44 c.args.s.now (lit< tt) c.split-part-items.ensures.text c.split-part-items.ensures.has_more c.split-part-items.ensures.pattern) in
@@ -49,7 +49,7 @@ loop-part-preserved c =
 
 pub returns : goal.returns
 returns c =
-    let parts = parts_of c.args.s.now in
+    let parts = split_at_commas c.args.s.now in
     let e = YieldsList-at c.into_iter-part-iterator.ensures.into_iter_gives
     (YieldsList-from_str_split 44 c.args.s.now (lit< tt) c.split-part-items.ensures.text c.split-part-items.ensures.has_more c.split-part-items.ensures.pattern) in
     let end = YieldsList-end e c.loop-part.yielded _ c.loop-part.yielded_by _ _ c.in-None.is c.next.ensures.steps in

@@ -1,6 +1,6 @@
 use Rattle.std.proofs.Common.{◌≡◌, List, length, take}
 use Rattle.smith_types.specs.Instructions.{kinds_bits, union_of, IsNamed}
-use Rattle.smith_types.specs.Parts.{parts_of}
+use Rattle.smith_types.specs.Parts.{split_at_commas}
 use Rattle.std.specs.List.{AllZip}
 use Rattle.smith_types.specs.declared.instruction_kind.InstructionKind.{InstructionKind}
 use Rattle.smith_types.proofs.instruction_kind.InstructionKindsFromStr.from_str.Given as goal
@@ -8,5 +8,5 @@ use Rattle.smith_types.proofs.instruction_kind.InstructionKindsFromStr.from_str.
 abbrev pub invariant-loop-part : goal.invariant-loop-part
 invariant-loop-part l = record {
   count : l.place ≡ length l.yielded;
-  named : (kinds : List InstructionKind) × AllZip IsNamed (take l.place (parts_of l.s)) kinds × (kinds_bits l.all ≡ union_of kinds);
+  named : (kinds : List InstructionKind) × AllZip IsNamed (take l.place (split_at_commas l.s)) kinds × (kinds_bits l.all ≡ union_of kinds);
 }

@@ -6,13 +6,13 @@ use Rattle.smith_types.proofs.GroupsAddedLemmas.{valid_following}
 use Rattle.smith_config.specs.Features.{features_of}
 use Rattle.smith_config.specs.Shapes.{shape_imports, space_of}
 use Rattle.smith_draw.proofs.ConstStepLemmas.{passed_on}
-use Rattle.smith_contents.specs.Exporting.{Export}
-use Rattle.smith_imports.specs.ShapeImports.{count_in, kept_groups}
-use Rattle.wasm_smith.specs.Begun.{Begun, begun_by_module_at}
-use Rattle.smith_definitions.specs.Defined.{nothing_defined}
-use Rattle.smith_definitions.specs.Bounds.{exported_of}
-use Rattle.smith_definitions.specs.declared.definitions.Definitions.{Definitions}
-use Rattle.smith_definitions.specs.RequiredExports.{Required, standing_with, then_with}
+use Rattle.smith_rules.specs.ExportedItems.{Export}
+use Rattle.smith_rules.specs.ShapeImports.{count_in, kept_groups}
+use Rattle.wasm_smith.specs.Begun.{ModuleSoFar, begun_by_module_at}
+use Rattle.smith_defined.specs.Defined.{nothing_defined}
+use Rattle.smith_rules.specs.Bounds.{items_of_exports}
+use Rattle.smith_defined.specs.declared.definitions.Definitions.{Definitions}
+use Rattle.smith_defined.specs.RequiredExports.{Required, standing_with, then_with}
 use Rattle.wasm_smith.proofs.BegunLemmas.{stands_alone, may_begin, brought_so, tables_of_shape, memories_of_shape, globals_of_shape, refused_with}
 use Rattle.wasm_smith.proofs.build.begun.begin_with_module.Goals as goal
 
@@ -22,14 +22,14 @@ types_of_shape-requires-clause-following c = valid_following (features_of c.args
 pub make_shape_exports-requires-clause-may : goal.make_shape_exports-requires-clause-may
 make_shape_exports-requires-clause-may c =
     let kept = c.in_ok-drawn-2.ensures.kept in
-    let nothing : c.args.drawn.now.definitions ≡ nothing_defined = ap (λ (begun : Begun). begun.defined) c.requires.nothing.begun in
+    let nothing : c.args.drawn.now.definitions ≡ nothing_defined = ap (λ (begun : ModuleSoFar). begun.defined) c.requires.nothing.begun in
     rw (c.in_ok-drawn.ensures.types, kept.spaces, nothing) (may_begin c.args.config.now c.args.shape.now c.requires.sanitized c.requires.valid kept.entities)
 
 pub returns-in_err-drawn-3-clause-exact : goal.returns-in_err-drawn-3-clause-exact
 unfolding begun_by_module_at
 returns-in_err-drawn-3-clause-exact c =
     let kept = c.in_ok-drawn-2.ensures.kept in
-    let nothing : c.args.drawn.now.definitions ≡ nothing_defined = ap (λ (begun : Begun). begun.defined) c.requires.nothing.begun in
+    let nothing : c.args.drawn.now.definitions ≡ nothing_defined = ap (λ (begun : ModuleSoFar). begun.defined) c.requires.nothing.begun in
     let given = rw (c.in_ok-drawn.ensures.types, kept.spaces, nothing) at c.in_err-drawn-3.ensures.exact in
     refused_with
     (λ (made : Required). record { types = made.types; groups = kept_groups c.args.config.now c.args.shape.now; spaces = made.spaces; defined = made.defined; exports = made.exports })
@@ -39,7 +39,7 @@ returns-in_err-drawn-3-clause-exact c =
 pub returns-in_err-drawn-3-clause-refusal : goal.returns-in_err-drawn-3-clause-refusal
 returns-in_err-drawn-3-clause-refusal c =
     let kept = c.in_ok-drawn-2.ensures.kept in
-    let nothing : c.args.drawn.now.definitions ≡ nothing_defined = ap (λ (begun : Begun). begun.defined) c.requires.nothing.begun in
+    let nothing : c.args.drawn.now.definitions ≡ nothing_defined = ap (λ (begun : ModuleSoFar). begun.defined) c.requires.nothing.begun in
     let types = ap (λ (space : Space). space.types) c.in_ok-drawn.ensures.types in
     let funcs = ap (λ (spaces : IndexSpaces). spaces.funcs) kept.spaces in
     let defined = ap (λ (made : Definitions). made.num_funcs) nothing in
@@ -49,7 +49,7 @@ pub returns-clause-exact : goal.returns-clause-exact
 unfolding begun_by_module_at
 returns-clause-exact c =
     let kept = c.in_ok-drawn-2.ensures.kept in
-    let nothing : c.args.drawn.now.definitions ≡ nothing_defined = ap (λ (begun : Begun). begun.defined) c.requires.nothing.begun in
+    let nothing : c.args.drawn.now.definitions ≡ nothing_defined = ap (λ (begun : ModuleSoFar). begun.defined) c.requires.nothing.begun in
     let made = rw (c.in_ok-drawn.ensures.types, kept.spaces, nothing) at c.in_ok-drawn-3.ensures.exact in
     rw kept.groups
     (ap (then_with (λ (made : Required). record { types = made.types; groups = kept_groups c.args.config.now c.args.shape.now; spaces = made.spaces; defined = made.defined; exports = made.exports })) made)
@@ -59,7 +59,7 @@ returns-clause-begun c =
     let shape = c.args.shape.now in
     let kept = c.in_ok-drawn-2.ensures.kept in
     let made = c.in_ok-drawn-3.ensures in
-    let nothing : c.args.drawn.now.definitions ≡ nothing_defined = ap (λ (begun : Begun). begun.defined) c.requires.nothing.begun in
+    let nothing : c.args.drawn.now.definitions ≡ nothing_defined = ap (λ (begun : ModuleSoFar). begun.defined) c.requires.nothing.begun in
     let imported = imported_spaces (shape_imports shape) in
     record {
       types = made.types ∙ c.in_ok-drawn.ensures.types;
@@ -69,7 +69,7 @@ returns-clause-begun c =
       type_size = kept.type_size;
       valid = kept.valid;
       stands = made.stands imported (rw (c.in_ok-drawn.ensures.types, kept.spaces, nothing) (stands_alone c.args.config.now (space_of shape.groups) imported c.requires.valid.consistent.types kept.entities kept.counts));
-      counted = λ count types imports. made.counted count types ∙ (ap (λ (spaces : IndexSpaces). count_in spaces count + exported_of count shape) kept.spaces ∙ brought_so count shape types imports);
+      counted = λ count types imports. made.counted count types ∙ (ap (λ (spaces : IndexSpaces). count_in spaces count + items_of_exports count shape) kept.spaces ∙ brought_so count shape types imports);
       tables = tables_of_shape shape (spaces_in c.make_shape_exports.new.spaces) (rw kept.spaces at made.limits);
       memories = memories_of_shape shape (spaces_in c.make_shape_exports.new.spaces) (rw kept.spaces at made.limits);
       globals = globals_of_shape shape (spaces_in c.make_shape_exports.new.spaces) (rw kept.spaces at made.limits);

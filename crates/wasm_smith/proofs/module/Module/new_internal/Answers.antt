@@ -10,8 +10,8 @@ use Rattle.smith_config.specs.Sanitized.{IsSanitized, sanitized}
 use Rattle.wasm_smith.specs.Build.{GivesOrLacks, IsGiven, as_drawn, module_at}
 use Rattle.wasm_smith.specs.CheckedShapes.{IsFirstFaulty}
 use Rattle.wasm_smith.specs.Generated.{IsFaulted, IsGenerated, is_distinct}
-use Rattle.smith_definitions.specs.Module.{Parts}
-use Rattle.smith_definitions.specs.Refusals.{AreShapesValid, AsksNothingImpossible, MayGive, MayRefuse}
+use Rattle.smith_rules.specs.Module.{ModuleParts}
+use Rattle.smith_rules.specs.Refusals.{AreShapesValid, AsksNothingImpossible, MayGive, MayRefuse}
 use Rattle.wasm_smith.proofs.NeedlessLemmas.{memory_alone, first_faulty_refuses, first_faulty_memory}
 use Rattle.wasm_smith.proofs.ReachedLemmas.{members_reached, rests_reached}
 use Rattle.wasm_smith.proofs.module.Module.new_internal.Goals as goal
@@ -46,13 +46,13 @@ module _ (distinct : Bool) (given : Config) (bytes : List ℕ) (sound : IsSaniti
       }
 
   -- the refusal of a shape, passed on
-  shape_refused : (answer : Result Parts Error) (e : Error) → Passes (sanitized given) → IsFirstFaulty (sanitized given) e → IsErrAnd answer (λ other. other ≡ e) → IsGenerated distinct given bytes answer bytes
+  shape_refused : (answer : Result ModuleParts Error) (e : Error) → Passes (sanitized given) → IsFirstFaulty (sanitized given) e → IsErrAnd answer (λ other. other ≡ e) → IsGenerated distinct given bytes answer bytes
   shape_refused (Ok m) e passes first passed = absurd passed
   shape_refused (Err other) e passes first passed =
       let faulty : IsFirstFaulty (sanitized given) other = subst (IsFirstFaulty (sanitized given)) (sym passed) first in
       refused_undrawn other (first_faulty_refuses (sanitized given) other faulty) (λ may_give. first_faulty_memory (sanitized given) other may_give.shapes_valid faulty) (λ fails. absurd (fails passes)) (λ _ _. faulty)
 
-given_there : (answer : Result Parts Error) (P : Type 0) → P → OnOk answer P
+given_there : (answer : Result ModuleParts Error) (P : Type 0) → P → OnOk answer P
 given_there (Ok m) P h = h
 given_there (Err e) P h = tt
 

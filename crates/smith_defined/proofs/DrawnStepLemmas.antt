@@ -1,0 +1,63 @@
+-- Facts that one step of drawing a module hands on to the next.
+use Rattle.std.proofs.Common.{inl, inr, ℕ, ◌-◌, ◌≤◌, max, List, [], length, refl, arith}
+use Rattle.std.specs.Prelude.{All}
+use Rattle.smith_bytes.specs.declared.error.Error.{Error}
+use Rattle.smith_bytes.specs.declared.error.Count.TheVariants as counts
+use Rattle.std.proofs.lemmas.List.{length-take}
+use Rattle.std.proofs.lemmas.List.Elements.{All-take}
+use Rattle.smith_types.specs.Entities.{IsFuncTypeIndex, IsGlobalValid}
+use Rattle.smith_types.specs.Expressions.{Context}
+use Rattle.smith_types.specs.Grown.{Extends, IsContextGrown}
+use Rattle.smith_types.specs.Imports.{IndexSpaces}
+use Rattle.smith_types.specs.Space.{Space}
+use Rattle.smith_types.specs.declared.composite_type.SubType.{SubType}
+use Rattle.smith_types.specs.declared.value_type.ValType.{ValType}
+use Rattle.smith_config.specs.declared.config.Config.{Config}
+use Rattle.smith_config.specs.Features.{features_of}
+use Rattle.smith_config.specs.Granted.{IsUngrounded}
+use Rattle.smith_draw.specs.ConstBounds.{MayRefuseConstExpr}
+use Rattle.smith_draw.proofs.FilledLemmas.{fields_before}
+use Rattle.smith_defined.specs.Defined.{MayDefine, MayInitialise, MayRefuseDrawn, MayRefuseDefined, drawn_over, drawn_beside}
+use Rattle.smith_defined.specs.Definitions.{scope_among, scope_over}
+use Rattle.smith_defined.specs.declared.definitions.Definitions.{Definitions}
+use Rattle.smith_defined.proofs.ExtensionLemmas.{all_kept}
+
+-- the parts that initialisers refer to are valid after functions are defined
+pub may_initialise : (config : Config) (space : Space) (before : IndexSpaces) (so_far : Definitions) (funcs : List ℕ) → MayDefine config space before so_far → All (IsFuncTypeIndex space.types) funcs → length funcs ≤ max config.max_funcs (length before.funcs)
+    → MayInitialise config space (scope_among space.types funcs (length before.funcs - so_far.num_funcs) (length before.globals - length so_far.globals) before.globals)
+may_initialise config space before so_far funcs may valid few =
+    let imported = length before.globals - length so_far.globals in
+    record {
+      passes = may.passes;
+      sanitized = may.sanitized;
+      valid = may.valid;
+      types = refl;
+      funcs = valid;
+      globals = All-take (IsGlobalValid (features_of config) space.types) imported before.globals may.entities.globals;
+      few_funcs = omega (arith, few, may.room.funcs, may.passes.few counts.Funcs);
+      few_globals = omega (arith, length-take imported before.globals, may.room.globals);
+    }
+
+-- an initialiser whose type is nullable or grounded is refused as any drawn one is
+pub drawn_refused : (config : Config) (context : Context) (value : ValType) (e : Error) → ¬ IsUngrounded config context value → MayRefuseConstExpr config context value e → MayRefuseDrawn config context e
+drawn_refused config context value e grounded (inl memory) = inl memory
+drawn_refused config context value e grounded (inr (empty, inl lacks)) = absurd (grounded lacks)
+drawn_refused config context value e grounded (inr (empty, inr holds)) = inr (empty, holds)
+
+-- a refusal after functions are defined is one over the entities before
+pub refused_before : (config : Config) (types : List SubType) (before : IndexSpaces) (so_far : Definitions) (funcs : List ℕ) (e : Error) → Extends before.funcs funcs
+    → MayRefuseDrawn config (drawn_over config (scope_over types funcs (length before.funcs - so_far.num_funcs) [])) e → MayRefuseDefined config (drawn_beside config types before so_far) e
+refused_before config types before so_far funcs e extends (inl memory) = inr (inl memory)
+refused_before config types before so_far funcs e extends (inr (empty, holds)) =
+    let old = drawn_beside config types before so_far in
+    let new = drawn_over config (scope_over types funcs (length before.funcs - so_far.num_funcs) []) in
+    let growth : IsContextGrown old new = record {
+      features = refl;
+      types = all_kept types;
+      funcs = extends;
+      globals = all_kept [];
+      imported_funcs = refl;
+      imported_globals = refl;
+      visible = omega arith;
+    } in
+    inr (inr (empty, fields_before config old new growth refl holds))

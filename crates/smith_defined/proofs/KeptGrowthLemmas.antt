@@ -1,0 +1,96 @@
+-- The kept globals and functions stay right, as types, globals and functions are added.
+use Rattle.std.proofs.Common.{◌≡◌, ℕ, ◌+◌, ◌<◌, ◌≤◌, Bool, List, [], ◌∷◌, ◌++◌, take, length, refl, sym, ap, ◌∙◌, subst, arith}
+use Rattle.std.specs.Prelude.{All, not, ◌&&◌, nat_le, if◌then◌else◌}
+use Rattle.std.proofs.lemmas.List.{length-append, take-append-le}
+use Rattle.std.proofs.lemmas.List.Elements.{All-head, All-tail, All-take, All-weaker}
+use Rattle.std.proofs.lemmas.Option.{slice_get_within}
+use Rattle.smith_types.specs.Entities.{IsFuncTypeIndex, IsGlobalValid}
+use Rattle.smith_types.specs.Expressions.{Context, reference_to, function_reference}
+use Rattle.smith_types.specs.Grown.{Extends}
+use Rattle.smith_types.specs.Subtyping.{IsValInRange}
+use Rattle.smith_types.specs.Types.{IsOrderly}
+use Rattle.smith_types.specs.declared.value_type.HeapType.TheVariants.{Concrete, Exact}
+use Rattle.smith_types.specs.declared.value_type.ValType.{ValType}
+use Rattle.smith_types.specs.declared.composite_type.SubType.{SubType}
+use Rattle.smith_types.specs.declared.entity_type.GlobalType.{GlobalType}
+use Rattle.smith_types.proofs.ReferredTypeLemmas.{value_in_range}
+use Rattle.smith_draw.specs.Below.{is_val_below}
+use Rattle.smith_draw.specs.ConstOffers.{each_from, offered_if, global_offers, function_offers}
+use Rattle.smith_draw.specs.KeptOffers.{IsKeptOffer}
+use Rattle.smith_draw.specs.declared.const_expr.kept_offers.KeptOffer.{KeptOffer}
+use Rattle.smith_draw.proofs.GroundingLemmas.{within_reference}
+use Rattle.smith_defined.proofs.BelowGrowthLemmas.{value_longer, value_same}
+
+-- the globals and functions of a context are valid over its types, which are orderly
+pub record AreValidOver (context : Context) : Type 0 where
+  pub orderly : IsOrderly context.types
+  pub funcs : All (IsFuncTypeIndex context.types) context.funcs
+  pub globals : All (IsGlobalValid context.features context.types) context.globals
+
+-- a context with more types, functions and globals at their ends, of the same features, and with
+-- the same number of imported functions
+pub record HasMore (old new : Context) : Type 0 where
+  pub features : new.features ≡ old.features
+  pub types : Extends old.types new.types
+  pub funcs : Extends old.funcs new.funcs
+  pub globals : Extends old.globals new.globals
+  pub imported_funcs : new.imported_funcs ≡ old.imported_funcs
+
+-- if each item offers the same, so do all
+each_same : {A B : Type 0} (P : A → Type 0) (f g : ℕ → A → List B) → ((i : ℕ) (x : A) → P x → f i x ≡ g i x) → (start : ℕ) (xs : List A) → All P xs → each_from f start xs ≡ each_from g start xs
+each_same P f g same start [] each = refl
+each_same P f g same start (x ∷ xs) each =
+    ap (λ ys. ys ++ each_from f (start + 1) xs) (same start x (All-head P x xs each)) ∙ ap (λ ys. g start x ++ ys) (each_same P f g same (start + 1) xs (All-tail P x xs each))
+
+-- the offers of two tests with the same result
+offered_same : {B : Type 0} (a b : Bool) (x : B) → a ≡ b → offered_if a x ≡ offered_if b x
+offered_same a b x same = ap (λ (offered : Bool). offered_if offered x) same
+
+-- the first items of a longer list are the same
+seen_same : {A : Type 0} (n : ℕ) (xs ys : List A) → Extends xs ys → n ≤ length xs → take n xs ≡ take n ys
+seen_same n xs ys longer inside = sym (ap (take n) longer.parts ∙ take-append-le n xs longer.more inside)
+
+no_shorter : {A : Type 0} (n : ℕ) (xs ys : List A) → Extends xs ys → n ≤ length xs → n ≤ length ys
+no_shorter n xs ys longer inside = let longer = ap length longer.parts ∙ length-append xs longer.more in omega (arith, longer, inside)
+
+func_in_range : (types : List SubType) (index : ℕ) → IsFuncTypeIndex types index → index < length types
+func_in_range types index (function, (t, at, is)) = slice_get_within types index t at
+
+module _ (old new : Context) (valid : AreValidOver old) (more : HasMore old new) where
+  below_same : (a b : ValType) → IsValInRange old.types a → IsValInRange old.types b → is_val_below new.types a b ≡ is_val_below old.types a b
+  below_same a b lower upper = subst (λ (xs : List SubType). is_val_below xs a b ≡ is_val_below old.types a b) (sym more.types.parts) (value_same old.types more.types.more valid.orderly a b lower upper)
+
+  reference_same : (function index : ℕ) → function_reference new function index ≡ function_reference old function index
+  reference_same function index = λ i. if nat_le (more.imported_funcs i) function then reference_to (if (more.features i).custom_descriptors then Exact index else Concrete index) else reference_to (Concrete index)
+
+  global_same : (wanted : ValType) → IsValInRange old.types wanted → (i : ℕ) (global : GlobalType) → IsGlobalValid old.features old.types global → global_offers old wanted i global ≡ global_offers new wanted i global
+  global_same wanted upper i global is =
+      let below = sym (below_same global.val_type wanted (value_in_range old.features old.types global.val_type is.value) upper) in
+      offered_same (not global.mutable && is_val_below old.types global.val_type wanted) (not global.mutable && is_val_below new.types global.val_type wanted) _ (ap (λ (yes : Bool). not global.mutable && yes) below)
+
+  function_same : (wanted : ValType) → IsValInRange old.types wanted → (i index : ℕ) → IsFuncTypeIndex old.types index → function_offers old wanted i index ≡ function_offers new wanted i index
+  function_same wanted upper i index is =
+      let lower = within_reference old.types index (nat_le old.imported_funcs i) old.features.custom_descriptors (func_in_range old.types index is) in
+      let below = ap (λ (reference : ValType). is_val_below new.types reference wanted) (reference_same i index) ∙ below_same (function_reference old i index) wanted lower upper in
+      offered_same (is_val_below old.types (function_reference old i index) wanted) (is_val_below new.types (function_reference new i index) wanted) _ (sym below)
+
+  offer_grown : (offer : KeptOffer) → IsKeptOffer old offer → IsKeptOffer new offer
+  offer_grown offer kept = record {
+    wanted = subst (λ (xs : List SubType). IsValInRange xs offer.wanted) (sym more.types.parts) (value_longer old.types more.types.more offer.wanted kept.wanted);
+    globals_seen = no_shorter offer.globals_seen old.globals new.globals more.globals kept.globals_seen;
+    globals =
+        kept.globals
+        ∙ each_same (IsGlobalValid old.features old.types) (global_offers old offer.wanted) (global_offers new offer.wanted) (global_same offer.wanted kept.wanted) 0 (take offer.globals_seen old.globals)
+        (All-take (IsGlobalValid old.features old.types) offer.globals_seen old.globals valid.globals)
+        ∙ ap (λ (xs : List GlobalType). each_from (global_offers new offer.wanted) 0 xs) (seen_same offer.globals_seen old.globals new.globals more.globals kept.globals_seen);
+    funcs_seen = no_shorter offer.funcs_seen old.funcs new.funcs more.funcs kept.funcs_seen;
+    funcs =
+        kept.funcs
+        ∙ each_same (IsFuncTypeIndex old.types) (function_offers old offer.wanted) (function_offers new offer.wanted) (function_same offer.wanted kept.wanted) 0 (take offer.funcs_seen old.funcs)
+        (All-take (IsFuncTypeIndex old.types) offer.funcs_seen old.funcs valid.funcs)
+        ∙ ap (λ (xs : List ℕ). each_from (function_offers new offer.wanted) 0 xs) (seen_same offer.funcs_seen old.funcs new.funcs more.funcs kept.funcs_seen);
+  }
+
+  -- what was kept is right
+  pub kept_grown : (offers : List KeptOffer) → All (IsKeptOffer old) offers → All (IsKeptOffer new) offers
+  kept_grown offers all = All-weaker (IsKeptOffer old) (IsKeptOffer new) offer_grown offers all

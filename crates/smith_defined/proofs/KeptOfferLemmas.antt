@@ -1,0 +1,76 @@
+-- The kept globals and functions are right for later initialisers.
+use Rattle.std.proofs.Common.{◌≡◌, Bool, List, [], ◌∷◌, ◌++◌, refl}
+use Rattle.std.specs.Prelude.{All}
+use Rattle.std.proofs.lemmas.List.Elements.{All-weaker}
+use Rattle.smith_types.specs.Entities.{IsFuncTypeIndex, IsGlobalValid}
+use Rattle.smith_types.specs.Grown.{Extends}
+use Rattle.smith_types.specs.Imports.{IndexSpaces}
+use Rattle.smith_types.specs.IndexSpaces.{with_entity}
+use Rattle.smith_types.specs.Space.{Space}
+use Rattle.smith_types.specs.Types.{IsOrderly}
+use Rattle.smith_types.specs.declared.composite_type.SubType.{SubType}
+use Rattle.smith_types.specs.declared.entity_type.EntityType.{EntityType}
+use Rattle.smith_types.specs.declared.entity_type.GlobalType.{GlobalType}
+use Rattle.smith_config.specs.declared.config.Config.{Config}
+use Rattle.smith_config.specs.Features.{features_of}
+use Rattle.smith_draw.specs.KeptOffers.{IsKeptOffer}
+use Rattle.smith_draw.specs.declared.const_expr.kept_offers.KeptOffer.{KeptOffer}
+use Rattle.smith_defined.specs.Definitions.{InitialiserScope, global_scope}
+use Rattle.smith_defined.specs.Required.{MayDefineMore, IsInitialised}
+use Rattle.smith_defined.specs.RequiredExports.{scope_beside}
+use Rattle.smith_defined.specs.declared.definitions.Definitions.{Definitions}
+use Rattle.smith_defined.proofs.ExtensionLemmas.{all_kept}
+use Rattle.smith_defined.proofs.KeptGrowthLemmas.{AreValidOver, HasMore, kept_grown}
+use Rattle.smith_defined.proofs.RequiredExportLemmas.{still_imported}
+use Rattle.smith_defined.proofs.StandsBehindLemmas.{spaces_grown}
+
+-- with one more defined global
+pub kept_pushed : (config : Config) (standing : InitialiserScope) (globals more : List GlobalType) (one : GlobalType) (offers : List KeptOffer) → IsOrderly standing.types → All (IsFuncTypeIndex standing.types) standing.funcs → All (IsGlobalValid (features_of config) standing.types) globals → more ≡ globals ++ one ∷ []
+    → All (IsKeptOffer (global_scope config standing globals)) offers → All (IsKeptOffer (global_scope config standing more)) offers
+kept_pushed config standing globals more one offers orderly funcs valid longer =
+    let sound : AreValidOver (global_scope config standing globals) = record { orderly = orderly; funcs = funcs; globals = valid } in
+    let grown : HasMore (global_scope config standing globals) (global_scope config standing more) = record {
+      features = refl;
+      types = all_kept standing.types;
+      funcs = all_kept standing.funcs;
+      globals = record { more = one ∷ []; parts = longer };
+      imported_funcs = refl;
+    } in
+    kept_grown (global_scope config standing globals) (global_scope config standing more) sound grown offers
+
+-- for the initialisers of tables and of globals alike: which globals an initialiser may read isn't kept
+pub kept_alike : (config : Config) (types : List SubType) (spaces : IndexSpaces) (defined : Definitions) (one other : Bool) (offers : List KeptOffer) → All (IsKeptOffer (scope_beside config types spaces defined one)) offers
+    → All (IsKeptOffer (scope_beside config types spaces defined other)) offers
+kept_alike config types spaces defined one other offers all =
+    All-weaker (IsKeptOffer (scope_beside config types spaces defined one)) (IsKeptOffer (scope_beside config types spaces defined other))
+    (λ offer kept. record { wanted = kept.wanted; globals_seen = kept.globals_seen; globals = kept.globals; funcs_seen = kept.funcs_seen; funcs = kept.funcs }) offers all
+
+module _ (config : Config) (space : Space) (spaces : IndexSpaces) (defined : Definitions) (allow : Bool) (may : MayDefineMore config space spaces defined 1) where
+  sound : AreValidOver (scope_beside config space.types spaces defined allow)
+  sound = record { orderly = may.valid.orderly; funcs = may.entities.funcs; globals = may.entities.globals }
+
+  -- with one more entity, which an export of a shape adds
+  pub kept_beside : (later : IndexSpaces) (fuller : Definitions) (added : EntityType) (offers : List KeptOffer) → IsInitialised config space.types spaces defined fuller added → later ≡ with_entity spaces added
+      → All (IsKeptOffer (scope_beside config space.types spaces defined allow)) offers → All (IsKeptOffer (scope_beside config space.types later fuller allow)) offers
+  kept_beside later fuller added offers initialised longer =
+      let grown : HasMore (scope_beside config space.types spaces defined allow) (scope_beside config space.types later fuller allow) = record {
+        features = refl;
+        types = all_kept space.types;
+        funcs = rw longer (spaces_grown spaces added).funcs;
+        globals = rw longer (spaces_grown spaces added).globals;
+        imported_funcs = still_imported config space.types spaces later defined fuller added longer initialised;
+      } in
+      kept_grown (scope_beside config space.types spaces defined allow) (scope_beside config space.types later fuller allow) sound grown offers
+
+  -- over the types that it adds
+  pub kept_over : (types : List SubType) (offers : List KeptOffer) → Extends space.types types
+      → All (IsKeptOffer (scope_beside config space.types spaces defined allow)) offers → All (IsKeptOffer (scope_beside config types spaces defined allow)) offers
+  kept_over types offers longer =
+      let grown : HasMore (scope_beside config space.types spaces defined allow) (scope_beside config types spaces defined allow) = record {
+        features = refl;
+        types = longer;
+        funcs = all_kept spaces.funcs;
+        globals = all_kept spaces.globals;
+        imported_funcs = refl;
+      } in
+      kept_grown (scope_beside config space.types spaces defined allow) (scope_beside config types spaces defined allow) sound grown offers

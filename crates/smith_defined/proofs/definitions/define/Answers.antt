@@ -1,0 +1,92 @@
+use Rattle.std.proofs.Common.{refl}
+use Rattle.smith_types.specs.IndexSpaces.{spaces_in}
+use Rattle.smith_draw.proofs.ConstStepLemmas.{passed_on}
+use Rattle.smith_defined.proofs.DrawnStepLemmas.{may_initialise, refused_before}
+use Rattle.smith_defined.proofs.DefinedGrowthLemmas.{defined_more}
+use Rattle.smith_defined.proofs.definitions.define.Goals as goal
+
+pub define_tables-requires-clause-may : goal.define_tables-requires-clause-may
+define_tables-requires-clause-may c =
+    let over = c.standing_imported-imported.ensures in
+    rw (over.types, over.funcs, over.imported_funcs, over.globals, c.as_slice-func_types.ensures, c.as_slice-all_globals.ensures, c.len-funcs_before.ensures, c.len-globals_before.ensures, c.len-globals_defined.ensures)
+    (may_initialise _ _ _ _ _ c.requires.may (c.in_ok-define_funcs.ensures.valid c.requires.may.entities.funcs) c.in_ok-define_funcs.ensures.filled.within)
+
+pub define_tables-requires-clause-standing : goal.define_tables-requires-clause-standing
+define_tables-requires-clause-standing c =
+    let over = c.standing_imported-imported.ensures in
+    let scope = c.standing-scope.ensures in
+    rw (over.types, over.funcs, over.imported_funcs) (rw (scope.types, scope.funcs, scope.imported_funcs) at c.standing-drawn.ensures)
+
+pub define_globals-requires-clause-standing : goal.define_globals-requires-clause-standing
+define_globals-requires-clause-standing c =
+    let scope = c.standing-scope.ensures in
+    rw (scope.types, scope.funcs, scope.imported_funcs) at c.standing-drawn.ensures
+
+pub returns-in_err-define_tables-clause-refusal : goal.returns-in_err-define_tables-clause-refusal
+returns-in_err-define_tables-clause-refusal c =
+    let over = c.standing_imported-imported.ensures in
+    passed_on _ c.from_residual-in_err-define_tables.result c.in_err-define_tables.field-0.0 c.from_residual-in_err-define_tables.ensures.1
+    (refused_before c.args.config.now c.args.types.now.types (spaces_in c.args.spaces.now) c.args.definitions.now _ _ c.in_ok-define_funcs.ensures.filled.extends
+    (rw (over.types, over.funcs, over.imported_funcs, c.as_slice-func_types.ensures, c.len-funcs_before.ensures) at c.in_err-define_tables.ensures.refusal))
+
+pub returns-in_err-define_memories-clause-left : goal.returns-in_err-define_memories-clause-left
+returns-in_err-define_memories-clause-left c = λ whole h. c.define_memories.ensures.draws.left whole (c.define_tables.ensures.left whole (c.define_funcs.ensures.left whole (c.define_tags.ensures.left whole h)))
+
+pub define_globals-requires-clause-may : goal.define_globals-requires-clause-may
+define_globals-requires-clause-may c =
+    rw (c.as_slice-func_types.ensures, c.len-funcs_before.ensures, c.len-globals_before.ensures, c.len-globals_defined.ensures)
+    (may_initialise _ _ _ _ _ c.requires.may (c.in_ok-define_funcs.ensures.valid c.requires.may.entities.funcs) c.in_ok-define_funcs.ensures.filled.within)
+
+pub returns-in_err-define_globals-clause-refusal : goal.returns-in_err-define_globals-clause-refusal
+returns-in_err-define_globals-clause-refusal c =
+    passed_on _ c.from_residual-in_err-define_globals.result c.in_err-define_globals.field-0.0 c.from_residual-in_err-define_globals.ensures.1
+    (refused_before c.args.config.now c.args.types.now.types (spaces_in c.args.spaces.now) c.args.definitions.now _ _ c.in_ok-define_funcs.ensures.filled.extends
+    (rw (c.as_slice-func_types.ensures, c.len-funcs_before.ensures) at c.in_err-define_globals.ensures.refusal))
+
+pub returns-in_err-define_globals-clause-left : goal.returns-in_err-define_globals-clause-left
+returns-in_err-define_globals-clause-left c = λ whole h. c.define_globals.ensures.left whole (c.define_memories.ensures.draws.left whole (c.define_tables.ensures.left whole (c.define_funcs.ensures.left whole (c.define_tags.ensures.left whole h))))
+
+pub returns-clause-defined : goal.returns-clause-defined
+returns-clause-defined c =
+    let over = c.standing_imported-imported.ensures in
+    let entities = c.requires.may.entities in
+    let counts = c.requires.may.counts in
+    defined_more _ _ _ _ _ _ (record {
+      filled = record {
+        tags = c.in_ok-define_tags.ensures.filled;
+        funcs = c.in_ok-define_funcs.ensures.filled;
+        tables = c.in_ok-define_tables.ensures.filled;
+        memories = c.in_ok-define_memories.ensures.filled;
+        globals = c.in_ok-define_globals.ensures.filled;
+        each_table = c.in_ok-define_tables.ensures.within;
+        each_memory = c.in_ok-define_memories.ensures.within;
+      };
+      entities = record {
+        tags = c.in_ok-define_tags.ensures.valid entities.tags;
+        funcs = c.in_ok-define_funcs.ensures.valid entities.funcs;
+        tables = rw over.types at c.in_ok-define_tables.ensures.valid entities.tables;
+        memories = c.in_ok-define_memories.ensures.valid entities.memories;
+        globals = c.in_ok-define_globals.ensures.valid;
+      };
+      counts = record {
+        tags = c.in_ok-define_tags.ensures.enabled counts.tags;
+        several_tables = c.in_ok-define_tables.ensures.several counts.several_tables;
+        several_memories = c.in_ok-define_memories.ensures.several counts.several_memories;
+      };
+      tables = rw (over.types, over.funcs, over.imported_funcs, over.globals, c.as_slice-func_types.ensures, c.as_slice-all_globals.ensures, c.len-funcs_before.ensures, c.len-globals_before.ensures, c.len-globals_defined.ensures) at c.in_ok-define_tables.ensures.drawn;
+      globals = rw (c.as_slice-func_types.ensures, c.len-funcs_before.ensures, c.len-globals_before.ensures, c.len-globals_defined.ensures) at c.in_ok-define_globals.ensures.defined;
+      grounded = rw (c.as_slice-func_types.ensures, c.len-funcs_before.ensures) at c.in_ok-define_globals.ensures.grounded;
+      num_tags = rw (c.len.ensures, c.len-tags_before.ensures) refl;
+      num_funcs = rw (c.len-2.ensures, c.len-funcs_before.ensures) refl;
+      num_memories = rw (c.len-3.ensures, c.len-memories_before.ensures) refl;
+    })
+
+pub returns-clause-floats : goal.returns-clause-floats
+returns-clause-floats c = λ off types before. record {
+  globals = c.in_ok-define_globals.ensures.floats off before.globals;
+  tables = c.in_ok-define_tables.ensures.floats (rw c.standing_imported-imported.ensures.types types) before.tables;
+  initials = c.in_ok-define_globals.ensures.constants off types before.initials;
+}
+
+pub returns-clause-left : goal.returns-clause-left
+returns-clause-left c = λ whole h. c.define_globals.ensures.left whole (c.define_memories.ensures.draws.left whole (c.define_tables.ensures.left whole (c.define_funcs.ensures.left whole (c.define_tags.ensures.left whole h))))

@@ -1,0 +1,6 @@
+pub mod Definitions
+pub mod Defined
+pub mod DefinedTables
+pub mod NumberedGlobals
+pub mod RequiredExports
+pub mod Required

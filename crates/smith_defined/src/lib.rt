@@ -1,0 +1,20 @@
+//! The entities that a module defines: tags, functions, tables, memories and globals, and those that
+//! the exports of a shape require.
+#![tactic(auto)]
+
+mod definitions;
+mod funcs;
+mod globals;
+mod memories;
+mod past_maximum;
+mod required_entities;
+mod required_types;
+mod shape_entities;
+mod shape_exports;
+mod standing;
+mod tables;
+mod tags;
+mod typed;
+
+pub use definitions::{Definitions, define};
+pub use shape_exports::{make_required_exports, make_shape_exports};

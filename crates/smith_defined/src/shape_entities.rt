@@ -1,0 +1,64 @@
+ghost use Rattle.std.specs.Prelude.{◌≡◌, ◌++◌, ◌<◌, length, Some, slice_get};
+ghost use Rattle.smith_types.specs.Exports.{IsEntityAt};
+ghost use Rattle.smith_types.specs.Imports.{imported_spaces};
+ghost use Rattle.smith_types.specs.IndexSpaces.{spaces_in};
+ghost use Rattle.smith_config.specs.Shapes.{shape_imports, shape_spaces};
+ghost use Rattle.smith_rules.specs.ExportedItems.{IsStanding};
+ghost use Rattle.smith_defined.specs.RequiredExports.{entity_of};
+
+use smith_config::Shape;
+use smith_types::{EntityType, ExportKind, IndexSpaces};
+
+/// Finds the item at `index` of an index space that has the items `imported`, then the items
+/// `defined`.
+fn item_behind<T: Copy>(imported: &[T], defined: &[T], index: usize) -> T
+    requires { index < length (imported.now ++ defined.now) }
+    ensures { slice_get (imported.now ++ defined.now) index ≡ Some result }
+{
+    if index < imported.len() {
+        return imported[index];
+    }
+    defined[index - imported.len()]
+}
+
+/// Finds the entity of the kind `kind` at `index` in the index spaces of `shape`, which begin with
+/// `imported`.
+pub(crate) fn entity_of_shape(
+    shape: &Shape,
+    imported: &IndexSpaces,
+    kind: ExportKind,
+    index: u32,
+) -> EntityType
+    requires imported { spaces_in imported.now ≡ imported_spaces (shape_imports shape.now) }
+    requires stands { IsStanding (shape_spaces shape.now) kind index }
+    ensures { entity_of (shape_spaces shape.now) kind index ≡ Some result }
+{
+    let index = index as usize;
+    match kind {
+        ExportKind::Func => EntityType::Func(item_behind(
+            imported.funcs.as_slice(),
+            shape.funcs.as_slice(),
+            index,
+        )),
+        ExportKind::Table => EntityType::Table(item_behind(
+            imported.tables.as_slice(),
+            shape.tables.as_slice(),
+            index,
+        )),
+        ExportKind::Memory => EntityType::Memory(item_behind(
+            imported.memories.as_slice(),
+            shape.memories.as_slice(),
+            index,
+        )),
+        ExportKind::Global => EntityType::Global(item_behind(
+            imported.globals.as_slice(),
+            shape.globals.as_slice(),
+            index,
+        )),
+        ExportKind::Tag => EntityType::Tag(item_behind(
+            imported.tags.as_slice(),
+            shape.tags.as_slice(),
+            index,
+        )),
+    }
+}

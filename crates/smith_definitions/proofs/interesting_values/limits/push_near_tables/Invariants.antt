@@ -1,8 +1,0 @@
-use Rattle.std.specs.Prelude.{take}
-use Rattle.std.specs.List.{Any}
-use Rattle.smith_definitions.specs.CollectedValues.{Adds}
-use Rattle.smith_definitions.specs.InterestingValues.{IsNearTable}
-use Rattle.smith_definitions.proofs.interesting_values.limits.push_near_tables.Given as goal
-
-abbrev pub invariant-loop-table : goal.invariant-loop-table
-invariant-loop-table l = Adds (λ n. Any (IsNearTable n) (take l.table-index l.tables)) l.initial.numbers l.numbers

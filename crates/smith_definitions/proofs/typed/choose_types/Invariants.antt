@@ -1,6 +1,0 @@
-use Rattle.smith_draw.specs.Choices.{chosen_at}
-use Rattle.smith_definitions.proofs.DefinedLoop.{IsBehind}
-use Rattle.smith_definitions.proofs.typed.choose_types.Given as goal
-
-abbrev pub invariant-loop-made : goal.invariant-loop-made
-invariant-loop-made l = IsBehind (λ _. chosen_at 0 l.choices) l.least l.most l.fn.items l.items l.made l.fn.u l.u

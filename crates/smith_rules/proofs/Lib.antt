@@ -1,0 +1,4 @@
+pub mod CollectedValueLemmas
+pub mod ConstantValueLemmas
+pub mod InitialLemmas
+pub mod MergeLemmas

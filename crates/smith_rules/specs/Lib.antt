@@ -1,0 +1,10 @@
+pub mod Bounds
+pub mod CollectedValues
+pub mod ExportedItems
+pub mod Held
+pub mod InterestingValues
+pub mod Module
+pub mod Promises
+pub mod Refusals
+pub mod ShapeImports
+pub mod ShapesKept

@@ -1,0 +1,70 @@
+-- What the examples of references that may not be null have in common.
+use Rattle.std.proofs.Common.{ℕ, zero, suc, List, [], ◌∷◌, length, refl, ap, ◌∙◌, inl, inr}
+use Rattle.std.proofs.lemmas.Option.{same_Some}
+use Rattle.smith_types.specs.declared.value_type.AbstractHeapType.TheVariants as heap
+use Rattle.smith_types.specs.declared.value_type.ValType.{ValType}
+use Rattle.smith_types.specs.declared.value_type.ValType.TheVariants.{Ref}
+use Rattle.smith_types.specs.declared.composite_type.SubType.{SubType}
+use Rattle.smith_types.specs.declared.entity_type.GlobalType.{GlobalType}
+use Rattle.smith_types.specs.ExampleTypes.{plain, not_null}
+use Rattle.smith_types.specs.Expressions.{Context}
+use Rattle.smith_types.specs.Features.{Features}
+use Rattle.smith_types.specs.Grounded.{IsGrounded}
+use Rattle.smith_config.specs.Granted.{IsGranted}
+use Rattle.smith_config.specs.ExampleMembers.{final, taking}
+use Rattle.smith_rules.specs.Module.{ModuleParts, module_features, module_imports}
+use Rattle.smith_rules_examples.specs.ExampleReferences.{with_references}
+
+-- a reference to anything
+abbrev pub to_any : ValType
+to_any = Ref (not_null (plain heap.Any))
+
+-- a context without functions
+abbrev over : Features → List SubType → List GlobalType → ℕ → ℕ → Context
+over features types globals imported_funcs imported_globals = record {
+  features = features;
+  types = types;
+  funcs = [];
+  globals = globals;
+  imported_funcs = imported_funcs;
+  imported_globals = imported_globals;
+  visible = 0;
+}
+
+-- a function type that takes it
+abbrev taken : List SubType
+taken = final (taking to_any) ∷ []
+
+module _ (features : Features) (globals : List GlobalType) (imported_funcs imported_globals : ℕ) where
+  nothing_grounds : ¬ IsGrounded (over features [] globals imported_funcs imported_globals) (plain heap.Any)
+  nothing_grounds (inl (index, g)) =
+      let (t, at, is) = g.struct in
+      cc at
+  nothing_grounds (inr (function, index, at, below)) = cc at
+
+  -- it is not granted where there is no type, nor beside a function type that takes it
+  any_ungranted : ¬ IsGranted with_references (over features [] globals imported_funcs imported_globals) to_any
+  any_ungranted granted = granted (refl, λ on. nothing_grounds)
+
+  nothing_beside : ¬ IsGrounded (over features taken globals imported_funcs imported_globals) (plain heap.Any)
+  nothing_beside (inl (zero, g)) =
+      let (t, at, is) = g.struct in
+      let never = ap (λ (t : SubType). t.composite_type.inner) (same_Some _ t at) ∙ is in
+      cc never
+  nothing_beside (inl (suc index, g)) =
+      let (t, at, is) = g.struct in
+      cc at
+  nothing_beside (inr (function, index, at, below)) = cc at
+
+  taken_ungranted : ¬ IsGranted with_references (over features taken globals imported_funcs imported_globals) to_any
+  taken_ungranted granted = granted (refl, λ on. nothing_beside)
+
+-- the same over the globals of a module
+abbrev in_module : ModuleParts → List SubType → Context
+in_module m types = over (module_features m) types m.globals (length (module_imports m).funcs) (length (module_imports m).globals)
+
+pub any_not_granted : (m : ModuleParts) → ¬ IsGranted with_references (in_module m []) to_any
+any_not_granted m = any_ungranted (module_features m) m.globals (length (module_imports m).funcs) (length (module_imports m).globals)
+
+pub any_taken : (m : ModuleParts) → ¬ IsGranted with_references (in_module m taken) to_any
+any_taken m = taken_ungranted (module_features m) m.globals (length (module_imports m).funcs) (length (module_imports m).globals)

@@ -1,0 +1,6 @@
+pub mod GrantedExamples
+pub mod NearNumberLemmas
+pub mod PartExamples
+pub mod PromiseExamples
+pub mod RefusedExamples
+pub mod ShapeExamples

@@ -1,0 +1,40 @@
+-- What examples of refused modules have in common.
+use Rattle.std.proofs.Common.{arith, ◌≡◌, false, [], ◌∷◌, None, refl, sym, subst}
+use Rattle.std.specs.Prelude.{codes, IsTrue}
+use Rattle.std.specs.List.{All}
+use Rattle.std.proofs.lemmas.Option.{same_Some}
+use Rattle.std.proofs.lemmas.List.Elements.{All-head}
+use Rattle.smith_types.specs.ExampleTypes.{not_null, plain}
+use Rattle.smith_types.specs.Exports.{AreExportsValid}
+use Rattle.smith_types.specs.Segments.{IsElementValid, IsDataValid}
+use Rattle.smith_types.specs.declared.value_type.AbstractHeapType.TheVariants as heap
+use Rattle.smith_types.specs.declared.entity_type.TableType.{TableType}
+use Rattle.smith_types.specs.declared.segments.Elements.TheVariants.{Expressions}
+use Rattle.smith_types.specs.declared.segments.DataSegmentKind.TheVariants as data_kind
+use Rattle.smith_config.specs.declared.config.Config.{Config}
+use Rattle.smith_config.specs.Config.{default_config}
+use Rattle.smith_rules.specs.Module.{AreDefinitionsValid, module_spaces, segment_context}
+use Rattle.smith_rules_examples.specs.ExampleParts.{table, no_function, passive_elements}
+use Rattle.smith_rules_examples.specs.ExampleModules.{exported_twice, null_of_no_null, two_elements, passive_bytes}
+
+abbrev without_bulk_memory : Config
+without_bulk_memory = record default_config { bulk_memory_enabled = false }
+
+pub null_refused : ¬ AreDefinitionsValid null_of_no_null
+null_refused valid =
+    let (stands, at, null) = valid.tables 0 None refl in
+    let never : IsTrue false = subst (λ (one : TableType). IsTrue one.element_type.nullable) (sym (same_Some (table (not_null (plain heap.Func)) 1 None) stands at)) null in
+    cc never
+
+pub name_refused : ¬ AreExportsValid (module_spaces (exported_twice [] [])) (exported_twice (codes "a") (codes "a")).exports
+name_refused valid = let same : 0 ≡ 1 = valid.distinct.once 0 1 (codes "a") refl refl in omega (arith, same)
+
+pub elements_refused : ¬ All (IsElementValid (segment_context (record two_elements { config = without_bulk_memory })) []) two_elements.elems
+elements_refused valid =
+    let segment = All-head (IsElementValid (segment_context (record two_elements { config = without_bulk_memory })) []) (passive_elements (Expressions (no_function ∷ no_function ∷ []))) [] valid in
+    cc segment.kind
+
+pub bytes_refused : ¬ All (IsDataValid (segment_context (record passive_bytes { config = without_bulk_memory })) []) passive_bytes.segments
+bytes_refused valid =
+    let never = All-head (IsDataValid (segment_context (record passive_bytes { config = without_bulk_memory })) []) (record { kind = data_kind.Passive; init = 42 ∷ [] }) [] valid in
+    cc never

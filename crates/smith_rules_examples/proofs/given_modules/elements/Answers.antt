@@ -1,0 +1,30 @@
+use Rattle.std.proofs.Common.{rules, [], refl}
+use Rattle.std.proofs.lemmas.List.Elements.{All-replicate, All-from_recursion}
+use Rattle.smith_types.specs.Flags.{funcref}
+use Rattle.smith_types.specs.Expressions.{IsConstExpr}
+use Rattle.smith_types.specs.Segments.{IsElementValid}
+use Rattle.smith_types.specs.declared.value_type.ValType.TheVariants.{Ref}
+use Rattle.smith_rules.specs.Module.{IsValid, segment_context}
+use Rattle.smith_rules_examples.specs.ExampleParts.{no_function}
+use Rattle.smith_rules_examples.specs.ExampleGiven.{sixty_elements}
+use Rattle.smith_rules_examples.proofs.PartExamples.{no_function_given}
+use Rattle.smith_rules_examples.proofs.given_modules.elements.Goals as goal
+
+sixty_valid : IsValid sixty_elements
+sixty_valid =
+    let context = segment_context sixty_elements in
+    search (
+      rules,
+      All-from_recursion (IsElementValid context []) sixty_elements.elems (
+        record {
+          ty = search rules;
+          ty_enabled = λ _. refl;
+          items = (refl, All-replicate (IsConstExpr context (Ref funcref)) 60 no_function (no_function_given context refl));
+          kind = refl;
+        },
+        tt,
+      ),
+    )
+
+pub returns : goal.returns
+returns c = record { sixty = sixty_valid }

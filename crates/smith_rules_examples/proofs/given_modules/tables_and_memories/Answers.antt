@@ -1,0 +1,18 @@
+use Rattle.std.proofs.Common.{rules, None, refl}
+use Rattle.std.proofs.lemmas.List.Elements.{All-from_recursion}
+use Rattle.smith_types.specs.Flags.{funcref}
+use Rattle.smith_types.specs.Segments.{IsDataValid}
+use Rattle.smith_types.proofs.EachPlaceLemmas.{each_place}
+use Rattle.smith_rules.specs.Module.{IsTableDefined, segment_context}
+use Rattle.smith_rules_examples.specs.ExampleParts.{memory, table}
+use Rattle.smith_rules_examples.specs.ExampleGiven.{null_table, last_byte}
+use Rattle.smith_rules_examples.proofs.given_modules.tables_and_memories.Goals as goal
+
+pub returns-clause-many_references : goal.returns-clause-many_references
+returns-clause-many_references c = search (rules, each_place (IsTableDefined (null_table 6789)) (null_table 6789).defined_tables ((table funcref 6789 None, refl, refl), tt))
+
+pub returns-clause-more_references : goal.returns-clause-more_references
+returns-clause-more_references c = search (rules, each_place (IsTableDefined (null_table 996093)) (null_table 996093).defined_tables ((table funcref 996093 None, refl, refl), tt))
+
+pub returns-clause-a_byte_at_the_last_address : goal.returns-clause-a_byte_at_the_last_address
+returns-clause-a_byte_at_the_last_address c = search (rules, All-from_recursion (IsDataValid (segment_context last_byte) last_byte.memories) last_byte.segments ((memory 65536 None, refl, refl), tt))

@@ -1,0 +1,31 @@
+use Rattle.std.proofs.Common.{rules, ℕ, List, [], ◌∷◌, refl}
+use Rattle.std.specs.Prelude.{codes}
+use Rattle.std.proofs.lemmas.List.Elements.{All-from_recursion, All-head}
+use Rattle.smith_types.specs.Exports.{IsEntityAt, AreDistinct}
+use Rattle.smith_types.specs.declared.entity_type.EntityType.{EntityType}
+use Rattle.smith_types.specs.declared.entity_type.EntityType.TheVariants as entity
+use Rattle.smith_types.specs.declared.entity_type.ExportKind.{ExportKind}
+use Rattle.smith_types.specs.declared.entity_type.ExportKind.TheVariants as kind
+use Rattle.smith_rules.specs.Module.{module_spaces}
+use Rattle.smith_rules_examples.specs.ExampleModules.{exported_twice, one_number}
+use Rattle.smith_rules_examples.proofs.RefusedExamples.{name_refused}
+use Rattle.smith_rules_examples.proofs.refused_modules.exports.Goals as goal
+
+two : AreDistinct {A = List ℕ} (codes "a" ∷ codes "b" ∷ [])
+two = search rules
+
+pub returns-clause-two_names : goal.returns-clause-two_names
+returns-clause-two_names c = record {
+  stand = All-from_recursion (λ (one : List ℕ × ExportKind × ℕ). (ty : EntityType) × IsEntityAt (module_spaces (exported_twice [] [])) one.1 one.2 ty) (exported_twice (codes "a") (codes "b")).exports
+      ((entity.Func 0, (0, refl, refl)), ((entity.Func 0, (0, refl, refl)), tt));
+  distinct = two;
+}
+
+pub returns-clause-a_name_twice : goal.returns-clause-a_name_twice
+returns-clause-a_name_twice c = name_refused
+
+pub returns-clause-what_is_not_there : goal.returns-clause-what_is_not_there
+returns-clause-what_is_not_there c = λ valid.
+    let (ty, entity) = All-head (λ (one : List ℕ × ExportKind × ℕ). (ty : EntityType) × IsEntityAt (module_spaces one_number) one.1 one.2 ty) ([], kind.Func, 0) [] valid.stand in
+    let (func, at, is) = entity in
+    cc at

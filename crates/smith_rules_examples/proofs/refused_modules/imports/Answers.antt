@@ -1,0 +1,22 @@
+use Rattle.std.proofs.Common.{arith, [], ◌∷◌, false}
+use Rattle.std.specs.Prelude.{codes}
+use Rattle.std.proofs.lemmas.List.Elements.{All-head}
+use Rattle.smith_types.specs.Imports.{IsImportsValid}
+use Rattle.smith_types.specs.declared.entity_type.EntityType.TheVariants as entity
+use Rattle.smith_types.specs.declared.imports.Imports.TheVariants.{Compact2}
+use Rattle.smith_config.specs.Config.{default_config}
+use Rattle.smith_config.specs.Features.{features_of}
+use Rattle.smith_rules.specs.Module.{module_features}
+use Rattle.smith_rules_examples.specs.ExampleParts.{number}
+use Rattle.smith_rules_examples.specs.ExampleModules.{two_imports}
+use Rattle.smith_rules_examples.proofs.refused_modules.imports.Goals as goal
+
+pub returns-clause-an_empty_group : goal.returns-clause-an_empty_group
+returns-clause-an_empty_group c = λ valid.
+    let group = All-head (IsImportsValid (module_features two_imports)) (Compact2 [] (entity.Global number) []) [] valid in
+    omega (arith, group.filled)
+
+pub returns-clause-a_group_without_its_feature : goal.returns-clause-a_group_without_its_feature
+returns-clause-a_group_without_its_feature c = λ valid.
+    let group = All-head (IsImportsValid (features_of (record default_config { compact_imports_enabled = false }))) (Compact2 [] (entity.Global number) ([] ∷ codes "b" ∷ [])) [] valid in
+    cc group.enabled

@@ -1,0 +1,5 @@
+pub mod ExampleGiven
+pub mod ExampleModules
+pub mod ExampleParts
+pub mod ExampleReferences
+pub mod ExampleShapes

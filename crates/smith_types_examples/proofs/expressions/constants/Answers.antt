@@ -1,0 +1,25 @@
+use Rattle.std.proofs.Common.{rules, [], ◌∷◌, pos, refl}
+use Rattle.smith_types.specs.declared.value_type.ValType.TheVariants.{I32}
+use Rattle.smith_types.specs.declared.const_instr.ConstInstr.TheVariants.{I32Const, I32Add}
+use Rattle.smith_types.specs.ExampleFeatures.{usual_features}
+use Rattle.smith_types.specs.ExampleContexts.{context_with}
+use Rattle.smith_types.proofs.ConstStepLemmas.{one_step}
+use Rattle.smith_types_examples.proofs.expressions.constants.Goals as goal
+
+pub returns-clause-sum : goal.returns-clause-sum
+returns-clause-sum c =
+    let context = context_with usual_features 2 in
+    record {
+      value = I32;
+      steps = (
+        I32 ∷ [],
+        one_step context (I32Const (pos 1)) [] I32 [] [] (refl, refl) tt,
+        (
+          I32 ∷ I32 ∷ [],
+          one_step context (I32Const (pos 2)) [] I32 (I32 ∷ []) [] (refl, refl) tt,
+          (I32 ∷ [], one_step context I32Add (I32 ∷ I32 ∷ []) I32 [] (I32 ∷ I32 ∷ []) (refl, refl) (tt, (tt, tt)), refl),
+        ),
+      );
+      below = tt;
+      enabled = search rules;
+    }

@@ -1,0 +1,10 @@
+use Rattle.std.proofs.Common.{[], ◌∷◌}
+use Rattle.std.proofs.lemmas.List.Elements.{All-head}
+use Rattle.smith_types.specs.ValidTypes.{IsGroupValid}
+use Rattle.smith_types.specs.ExampleFeatures.{usual_features}
+use Rattle.smith_types.specs.ExampleTypes.{range, referring}
+use Rattle.smith_types_examples.proofs.TypeExamples.{referring_behind}
+use Rattle.smith_types_examples.proofs.refused_types.reference_past_its_group.Goals as goal
+
+pub returns-clause-refused : goal.returns-clause-refused
+returns-clause-refused c = λ valid. referring_behind usual_features (All-head (IsGroupValid usual_features referring) (range 0 1) (range 1 2 ∷ []) valid.groups)

@@ -1,0 +1,2 @@
+pub mod FaultyExamples
+mod ReachedExamples

@@ -1,0 +1,16 @@
+//! Values that meet the definitions of `wasm_smith` and of the steps below it, and values that do not. The
+//! clauses are proved, and nothing calls these functions.
+#![tactic(auto)]
+
+mod begun;
+mod contents;
+mod data_segments;
+mod definitions;
+mod drawn_bodies;
+mod element_segments;
+mod exports;
+mod first_faulty;
+mod imports;
+mod reached;
+mod start;
+mod termination;
