@@ -4,16 +4,16 @@ use Rattle.std.specs.Prelude.{Result, Ok, Err, IfOk}
 use Rattle.smith_bytes.specs.Takes.{Takes}
 use Rattle.smith_bytes.specs.declared.error.Why.{Why}
 use Rattle.smith_bytes.specs.declared.error.Error.{Error}
-use Rattle.smith_bytes.specs.Steps.{Gives}
+use Rattle.smith_bytes.specs.Steps.{ReturnsWhy}
 
 -- a property of every value that is read is a property of the result of a step
-pub given_is : {X A : Type 0} (P : A → Type 0) (view : X → A) (read : Result (A × List ℕ) Why) (after : List ℕ) (result : Result X Error) → IfOk read (λ drawn. P drawn.0) → Gives (λ x. (view x, after)) result read → IfOk result (λ x. P (view x))
+pub given_is : {X A : Type 0} (P : A → Type 0) (view : X → A) (read : Result (A × List ℕ) Why) (after : List ℕ) (result : Result X Error) → IfOk read (λ drawn. P drawn.0) → ReturnsWhy (λ x. (view x, after)) result read → IfOk result (λ x. P (view x))
 given_is {A = A} P view read after (Ok x) h given = subst (λ (r : Result (A × List ℕ) Why). IfOk r (λ drawn. P drawn.0)) given h
 given_is P view read after (Err e) h given = tt
 
 -- a step that reads each spelling takes it
 pub given_takes : {X A : Type 0} (Spelled : A → List ℕ → Type 0) (view : X → A) (read : List ℕ → Result (A × List ℕ) Why) (old after : List ℕ) (result : Result X Error)
-    → ((value : A) (piece rest : List ℕ) → Spelled value piece → read (piece ++ rest) ≡ Ok (value, rest)) → Gives (λ x. (view x, after)) result (read old) → IfOk result (λ x. Takes Spelled old (view x) after)
+    → ((value : A) (piece rest : List ℕ) → Spelled value piece → read (piece ++ rest) ≡ Ok (value, rest)) → ReturnsWhy (λ x. (view x, after)) result (read old) → IfOk result (λ x. Takes Spelled old (view x) after)
 given_takes {A = A} Spelled view read old after (Ok x) law given =
     let same = λ (value : A) (piece rest : List ℕ) (h : Spelled value piece) (starts : old ≡ piece ++ rest). sym given ∙ (ap read starts ∙ law value piece rest h) in
     record {

@@ -1,19 +1,41 @@
 -- Results of the steps of a module that may refuse, and other parts that steps share. Rules of this
 -- project.
-use Rattle.std.specs.Prelude.{◌≡◌, ℕ, Bool, true, List, Result, Ok, Err, ◌==◌, if◌then◌else◌}
+use Rattle.std.specs.Prelude.{◌≡◌, ℕ, Bool, true, false, List, Result, Ok, Err, ◌==◌, if◌then◌else◌}
 use Rattle.smith_bytes.specs.Draws.{bool_at}
 use Rattle.smith_bytes.specs.declared.error.Error.{Error}
 use Rattle.smith_bytes.specs.declared.error.Error.TheVariants as errors
 use Rattle.smith_bytes.specs.declared.error.Why.{Why}
 
+-- nothing is said of what is left open
+abbrev pub Unless : Bool → Type 0 → Type 0
+Unless true Holds = Unit {0}
+Unless false Holds = Holds
+
+-- lack of memory
+abbrev pub is_memory : Error → Bool
+is_memory errors.Memory = true
+is_memory _ = false
+
+-- lack of memory, or of anything to choose from
+abbrev pub is_lack : Error → Bool
+is_lack errors.Memory = true
+is_lack errors.EmptyChoose = true
+is_lack _ = false
+
+-- A step returns the result of `read`, except for the refusals that are left open. Separate clauses
+-- state when these may occur.
+abbrev pub Returns : {X Y : Type 0} → (Error → Bool) → (X → Y) → Result X Error → Result Y Error → Type 0
+Returns is_open view (Ok x) read = read ≡ Ok (view x)
+Returns is_open view (Err e) read = Unless (is_open e) (read ≡ Err e)
+
 -- A step returns the result of `read`, with the bytes left, except if memory runs out or there is
 -- nothing to choose from. Separate clauses state when these two may occur.
-abbrev pub Gives : {X Y : Type 0} → (X → Y) → Result X Error → Result Y Why → Type 0
-Gives view (Ok x) read = read ≡ Ok (view x)
-Gives view (Err errors.Memory) read = Unit {0}
-Gives view (Err errors.EmptyChoose) read = Unit {0}
-Gives view (Err (errors.IncorrectFormat why)) read = read ≡ Err why
-Gives view (Err _) read = ⊥
+abbrev pub ReturnsWhy : {X Y : Type 0} → (X → Y) → Result X Error → Result Y Why → Type 0
+ReturnsWhy view (Ok x) read = read ≡ Ok (view x)
+ReturnsWhy view (Err errors.Memory) read = Unit {0}
+ReturnsWhy view (Err errors.EmptyChoose) read = Unit {0}
+ReturnsWhy view (Err (errors.IncorrectFormat why)) read = read ≡ Err why
+ReturnsWhy view (Err _) read = ⊥
 
 -- a step after another
 infixl 10 ◌>>=◌

@@ -16,7 +16,7 @@ use Rattle.smith_types.specs.declared.segments.ElementSegment.{ElementSegment}
 use Rattle.smith_config.specs.declared.config.Config.{Config}
 use Rattle.smith_bytes.specs.Spelling.{SpellsEmpty}
 use Rattle.smith_contents.specs.ElementSegments.{KindChoice, table_kinds_at, element_kinds_at, element_segments_at, elements_at}
-use Rattle.smith_bytes.specs.Steps.{Gives, ◌>>=◌}
+use Rattle.smith_bytes.specs.Steps.{ReturnsWhy, ◌>>=◌}
 use Rattle.smith_contents.specs.declared.element_kinds.KindChoice.TheVariants.{Passive, Declared}
 use Rattle.smith_bytes.proofs.StepLemmas.{given_takes}
 
@@ -71,7 +71,7 @@ unfolding elements_at element_kinds_at table_kinds_at
 elements_none config context tables segments piece after none empty h = rw (empty, h.none) (none_by config context config.bulk_memory_enabled piece after none h.spelled)
 
 -- and taken, if there is no table
-pub elements_taken : (config : Config) (context : Context) (tables : List TableType) (old new : List ℕ) (result : Result (List ElementSegment) Error) → config.min_element_segments ≡ 0 → tables ≡ [] → Gives (λ segments. (segments, new)) result (elements_at config context tables old)
+pub elements_taken : (config : Config) (context : Context) (tables : List TableType) (old new : List ℕ) (result : Result (List ElementSegment) Error) → config.min_element_segments ≡ 0 → tables ≡ [] → ReturnsWhy (λ segments. (segments, new)) result (elements_at config context tables old)
     → IfOk result (λ segments. Takes (SpellsEmpty (SpellsNone (if config.bulk_memory_enabled then config.max_element_segments else 0))) old segments new)
 elements_taken config context tables old new result none empty given =
     given_takes (SpellsEmpty (SpellsNone (if config.bulk_memory_enabled then config.max_element_segments else 0))) (λ segments. segments) (elements_at config context tables) old new result

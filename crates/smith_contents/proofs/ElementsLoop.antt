@@ -11,7 +11,7 @@ use Rattle.smith_types.specs.Expressions.{Context}
 use Rattle.smith_types.specs.Segments.{item_count}
 use Rattle.smith_types.specs.declared.segments.ElementSegment.{ElementSegment}
 use Rattle.smith_config.specs.declared.config.Config.{Config}
-use Rattle.smith_bytes.specs.Steps.{◌>>=◌, Gives}
+use Rattle.smith_bytes.specs.Steps.{◌>>=◌, ReturnsWhy}
 use Rattle.smith_contents.specs.ElementSegments.{KindChoice, items_in, element_segment_at, element_segments_at}
 
 -- n segments are made, with `total` items together, and the draws from here on complete the whole
@@ -71,7 +71,7 @@ segments_full {config = config} {context = context} {kinds = kinds} {n = n} {mad
     sym now.so_far ∙ one
 
 -- the refusal of a part is that of the whole
-refused_part : {X Y A B : Type 0} (of_part : X → A) (of_whole : Y → B) (e : Error) (part : Result A Why) (whole : Result B Why) → Gives of_part (Err e) part → ((why : Why) → part ≡ Err why → whole ≡ Err why) → Gives of_whole (Err e) whole
+refused_part : {X Y A B : Type 0} (of_part : X → A) (of_whole : Y → B) (e : Error) (part : Result A Why) (whole : Result B Why) → ReturnsWhy of_part (Err e) part → ((why : Why) → part ≡ Err why → whole ≡ Err why) → ReturnsWhy of_whole (Err e) whole
 refused_part of_part of_whole errors.Memory part whole given passes = tt
 refused_part of_part of_whole errors.EmptyChoose part whole given passes = given
 refused_part of_part of_whole errors.NotEnoughData part whole given passes = given
@@ -79,7 +79,7 @@ refused_part of_part of_whole (errors.Config fault) part whole given passes = gi
 refused_part of_part of_whole (errors.Shape which fault) part whole given passes = given
 refused_part of_part of_whole (errors.IncorrectFormat why) part whole given passes = passes why given
 
-pub refused_by : {X Y A B : Type 0} (of_part : X → A) (of_whole : Y → B) (e : Error) (part : Result A Why) (whole : Result B Why) (result : Result Y Error) → Gives of_part (Err e) part → ((why : Why) → part ≡ Err why → whole ≡ Err why)
-    → IsErrAnd result (λ y. y ≡ e) → Gives of_whole result whole
+pub refused_by : {X Y A B : Type 0} (of_part : X → A) (of_whole : Y → B) (e : Error) (part : Result A Why) (whole : Result B Why) (result : Result Y Error) → ReturnsWhy of_part (Err e) part → ((why : Why) → part ≡ Err why → whole ≡ Err why)
+    → IsErrAnd result (λ y. y ≡ e) → ReturnsWhy of_whole result whole
 refused_by of_part of_whole e part whole (Ok y) given passes h = absurd h
-refused_by {X = X} of_part of_whole e part whole (Err own) given passes h = refused_part of_part of_whole own part whole (subst (λ (one : Error). Gives of_part (Err one) part) (sym h) given) passes
+refused_by {X = X} of_part of_whole e part whole (Err own) given passes h = refused_part of_part of_whole own part whole (subst (λ (one : Error). ReturnsWhy of_part (Err one) part) (sym h) given) passes

@@ -19,7 +19,7 @@ use Rattle.smith_config.specs.InUse.{HasNoShapes}
 use Rattle.smith_draw.specs.FuncSizes.{IsSmall}
 use Rattle.smith_draw.specs.Choices.{enabled}
 use Rattle.smith_draw.specs.TypeUses.{places_from}
-use Rattle.smith_bytes.specs.Steps.{Gives}
+use Rattle.smith_bytes.specs.Steps.{ReturnsWhy}
 use Rattle.smith_bytes.specs.Spelling.{SpellsEmpty}
 use Rattle.smith_rules.specs.ExportedItems.{Export, item_size, exported_size}
 use Rattle.smith_contents.specs.Exporting.{candidates, candidate_row, offered_kinds, exports_from, free_exports_at}
@@ -110,7 +110,7 @@ unfolding free_exports_at
 no_export_read config types spaces imports exports piece after none h = rw (no_exports_by config types spaces imports config.max_exports piece after none h.spelled, none, h.none) refl
 
 -- a piece that says that there is no export is taken
-pub no_export_taken : (config : Config) (types : List SubType) (spaces : IndexSpaces) (imports : ℕ) (old new : List ℕ) (result : Result Exports Error) → config.min_exports ≡ 0 → Gives (λ (made : Exports). (made.exports, new)) result (free_exports_at config types spaces imports old)
+pub no_export_taken : (config : Config) (types : List SubType) (spaces : IndexSpaces) (imports : ℕ) (old new : List ℕ) (result : Result Exports Error) → config.min_exports ≡ 0 → ReturnsWhy (λ (made : Exports). (made.exports, new)) result (free_exports_at config types spaces imports old)
     → IfOk result (λ made. Takes (SpellsEmpty (SpellsNone config.max_exports)) old made.exports new)
 no_export_taken config types spaces imports old new result none given =
     given_takes (SpellsEmpty (SpellsNone config.max_exports)) (λ (made : Exports). made.exports) (free_exports_at config types spaces imports) old new result

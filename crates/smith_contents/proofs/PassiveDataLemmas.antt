@@ -14,7 +14,7 @@ use Rattle.smith_types.specs.Expressions.{Context}
 use Rattle.smith_types.specs.declared.entity_type.MemoryType.{MemoryType}
 use Rattle.smith_types.specs.declared.segments.DataSegment.{DataSegment}
 use Rattle.smith_config.specs.declared.config.Config.{Config}
-use Rattle.smith_bytes.specs.Steps.{Gives}
+use Rattle.smith_bytes.specs.Steps.{ReturnsWhy}
 use Rattle.smith_contents.specs.DataSegments.{Targets, counting_at, targets_of, passive_at, segment_at, segments_at, data_at}
 use Rattle.smith_contents.specs.PassiveData.{passive_data, SpellsPassive}
 use Rattle.smith_draw.specs.SpelledParts.{SpellsBytes}
@@ -95,6 +95,6 @@ data_read config context memories segments piece after least none h = rw (none, 
 
 -- data segments take the bytes that spell passive ones, if there is no memory and the minimum is 0
 pub data_taken : (config : Config) (context : Context) (memories : List MemoryType) (old new : List ℕ) (result : Result (List DataSegment) Error) → config.min_data_segments ≡ 0 → memories ≡ []
-    → Gives (λ segments. (segments, new)) result (data_at config context memories old) → IfOk result (λ segments. Takes (SpellsPassive config) old segments new)
+    → ReturnsWhy (λ segments. (segments, new)) result (data_at config context memories old) → IfOk result (λ segments. Takes (SpellsPassive config) old segments new)
 data_taken config context memories old new result least none given =
     given_takes (SpellsPassive config) (λ segments. segments) (data_at config context memories) old new result (λ segments piece after h. data_read config context memories segments piece after least none h) given

@@ -2,7 +2,7 @@ ghost use Rattle.std.specs.Prelude.{◌≡◌, ◌<◌, ◌≤◌, ◌+◌, leng
 ghost use Rattle.smith_bytes.specs.Source.{KeepsPieces};
 ghost use Rattle.smith_types.specs.Exports.{AreExportsValid};
 ghost use Rattle.smith_types.specs.IndexSpaces.{spaces_in};
-ghost use Rattle.smith_bytes.specs.Steps.{Gives};
+ghost use Rattle.smith_bytes.specs.Steps.{ReturnsWhy};
 ghost use Rattle.smith_rules.specs.ExportedItems.{exported_size, every_item, AreAllExported};
 ghost use Rattle.smith_contents.specs.Exported.{IsIndexed, MayExport, AreExportsFit, MayRefuseAll};
 ghost use Rattle.smith_contents.specs.AllExports.{everything_at};
@@ -66,7 +66,7 @@ fn push_exports(
 ) -> Result<Exports, Error>
     requires may { MayExport types.now.types (spaces_in spaces.now) }
     requires within { imports_size ≤ config.now.max_type_size }
-    ensures exact { Gives (λ made. (made.exports, u.new)) result (everything_at config.now types.now.types (spaces_in spaces.now) imports_size u.old) }
+    ensures exact { ReturnsWhy (λ made. (made.exports, u.new)) result (everything_at config.now types.now.types (spaces_in spaces.now) imports_size u.old) }
     ensures fit { IfOk result (λ made. AreExportsFit config.now types.now.types (spaces_in spaces.now) imports_size made.exports made.type_size) }
     ensures everything { IfOk result (λ made. AreAllExported (spaces_in spaces.now) made.exports) }
     ensures refusal { IfErr result MayRefuseAll }
@@ -101,7 +101,7 @@ pub(crate) fn export_everything(
 ) -> Result<Exports, Error>
     requires may { MayExport types.now.types (spaces_in spaces.now) }
     requires within { imports_size ≤ config.now.max_type_size }
-    ensures exact { Gives (λ made. (made.exports, u.new)) result (everything_at config.now types.now.types (spaces_in spaces.now) imports_size u.old) }
+    ensures exact { ReturnsWhy (λ made. (made.exports, u.new)) result (everything_at config.now types.now.types (spaces_in spaces.now) imports_size u.old) }
     ensures valid { IfOk result (λ made. AreExportsValid (spaces_in spaces.now) made.exports) }
     ensures everything { IfOk result (λ made. AreAllExported (spaces_in spaces.now) made.exports) }
     ensures type_size { IfOk result (λ made. made.type_size ≡ imports_size + exported_size types.now.types (spaces_in spaces.now) made.exports) }

@@ -10,7 +10,7 @@ ghost use Rattle.smith_config.specs.Faults.{Passes};
 ghost use Rattle.smith_config.specs.Features.{features_of};
 ghost use Rattle.smith_draw.specs.ConstScopes.{AreSpacesValid, seen_by};
 ghost use Rattle.smith_draw.specs.Drawing.{AlwaysDraws, Draws};
-ghost use Rattle.smith_bytes.specs.Steps.{Gives};
+ghost use Rattle.smith_bytes.specs.Steps.{ReturnsWhy};
 ghost use Rattle.smith_contents.specs.DataSegments.{HasPages, least_bytes, last_address, constant_offset, address_at, constant_placed_at, placed_at, active_at, passive_at, segment_at, segments_at, data_at};
 ghost use Rattle.smith_contents.specs.DataTargets.{TellOffsets, AreTargets, IsDataFit, MayRefuseData};
 ghost use Rattle.smith_contents.specs.PassiveData.{SpellsPassive};
@@ -222,7 +222,7 @@ fn draw_data(
     requires standing { AreSpacesValid config.now spaces.now }
     requires memories { All (IsMemoryValid (features_of config.now)) spaces.now.entities.memories.now }
     requires few { length spaces.now.entities.memories.now < 2 ^ 32 }
-    ensures exact { Gives (λ segments. (segments, u.new)) result (data_at config.now (seen_by config.now spaces.now true) spaces.now.entities.memories.now u.old) }
+    ensures exact { ReturnsWhy (λ segments. (segments, u.new)) result (data_at config.now (seen_by config.now spaces.now true) spaces.now.entities.memories.now u.old) }
     ensures fit { IfOk result (All (IsDataFit config.now (seen_by config.now spaces.now true) spaces.now.entities.memories.now)) }
     ensures most { IfOk result (λ segments. length segments ≤ config.now.max_data_segments) }
     ensures least { config.now.min_data_segments ≤ config.now.max_data_segments → IfOk result (λ segments. config.now.min_data_segments ≤ length segments) }
@@ -261,7 +261,7 @@ pub fn arbitrary_data(
     requires standing { AreSpacesValid config.now spaces.now }
     requires memories { All (IsMemoryValid (features_of config.now)) spaces.now.entities.memories.now }
     requires few { length spaces.now.entities.memories.now < 2 ^ 32 }
-    ensures exact { Gives (λ segments. (segments, u.new)) result (data_at config.now (seen_by config.now spaces.now true) spaces.now.entities.memories.now u.old) }
+    ensures exact { ReturnsWhy (λ segments. (segments, u.new)) result (data_at config.now (seen_by config.now spaces.now true) spaces.now.entities.memories.now u.old) }
     ensures valid { IfOk result (All (IsDataValid (seen_by config.now spaces.now true) spaces.now.entities.memories.now)) }
     ensures inside { IsTrue config.now.disallow_traps → IfOk result (All (IsDataInside spaces.now.entities.memories.now)) }
     ensures most { IfOk result (λ segments. length segments ≤ config.now.max_data_segments) }

@@ -12,7 +12,7 @@ ghost use Rattle.smith_draw.specs.ConstBounds.{MayRefuseConstExpr};
 ghost use Rattle.smith_draw.specs.ConstScopes.{AreSpacesValid, seen_by};
 ghost use Rattle.smith_draw.specs.Drawing.{AlwaysDraws, Draws};
 ghost use Rattle.smith_draw.specs.KeptOffers.{AreKeptOffers};
-ghost use Rattle.smith_bytes.specs.Steps.{Gives};
+ghost use Rattle.smith_bytes.specs.Steps.{ReturnsWhy};
 ghost use Rattle.smith_contents.specs.DrawnElements.{IsKindOffered, FitsTable, AreItemsFit, MayDrawElements, MayHoldItems, MayRefuseFunctions, MayRefuseItems, HasUngroundedElements};
 ghost use Rattle.smith_contents.specs.ElementSegments.{
   item_type_at,
@@ -163,7 +163,7 @@ fn draw_unshared(
     u: &mut Unstructured<'_>,
 ) -> Result<Items<u32>, Error>
     requires few { length spaces.now.entities.funcs.now < 2 ^ 32 }
-    ensures exact { Gives (λ items. (items, u.new)) result (functions_at config.now (seen_by config.now spaces.now true) most u.old) }
+    ensures exact { ReturnsWhy (λ items. (items, u.new)) result (functions_at config.now (seen_by config.now spaces.now true) most u.old) }
     ensures few { IfOk result (λ items. length items ≤ most) }
     ensures refusal { IfErr result (MayRefuseFunctions config.now) }
     ensures left { KeepsPieces u.old u.new }
@@ -185,7 +185,7 @@ fn draw_functions(
     u: &mut Unstructured<'_>,
 ) -> Result<Items<u32>, Error>
     requires { AreSpacesValid config.now spaces.now }
-    ensures exact { Gives (λ items. (items, u.new)) result (functions_at config.now (seen_by config.now spaces.now true) most u.old) }
+    ensures exact { ReturnsWhy (λ items. (items, u.new)) result (functions_at config.now (seen_by config.now spaces.now true) most u.old) }
     ensures few { IfOk result (λ items. length items ≤ most) }
     ensures fit { (ty : RefType) → IsTrue (is_funcref ty) → IfOk result (λ items. AreItemsFit config.now (seen_by config.now spaces.now true) ty (listed.Functions items)) }
     ensures refusal { IfErr result (MayRefuseFunctions config.now) }
@@ -256,7 +256,7 @@ fn draw_expressions(
 ) -> Result<Items<Items<ConstInstr>>, Error>
     requires references { IsTrue config.now.reference_types_enabled }
     requires may { MayHoldItems config.now spaces.now ty }
-    ensures exact { Gives (λ items. (items, u.new)) result (expressions_at config.now (seen_by config.now spaces.now true) ty most u.old) }
+    ensures exact { ReturnsWhy (λ items. (items, u.new)) result (expressions_at config.now (seen_by config.now spaces.now true) ty most u.old) }
     ensures few { IfOk result (λ items. length items ≤ most) }
     ensures fit { IfOk result (λ items. AreItemsFit config.now (seen_by config.now spaces.now true) ty (listed.Expressions items)) }
     ensures refusal { IfErr result (MayRefuseItems config.now (standing_in config.now spaces.now) ty) }
@@ -277,7 +277,7 @@ pub(crate) fn draw_items(
     u: &mut Unstructured<'_>,
 ) -> Result<Elements, Error>
     requires may { MayHoldItems config.now spaces.now ty }
-    ensures exact { Gives (λ items. (items, u.new)) result (items_at config.now (seen_by config.now spaces.now true) ty most u.old) }
+    ensures exact { ReturnsWhy (λ items. (items, u.new)) result (items_at config.now (seen_by config.now spaces.now true) ty most u.old) }
     ensures few { IfOk result (λ items. item_count items ≤ most) }
     ensures fit { IfOk result (AreItemsFit config.now (seen_by config.now spaces.now true) ty) }
     ensures refusal { IfErr result (MayRefuseItems config.now (standing_in config.now spaces.now) ty) }

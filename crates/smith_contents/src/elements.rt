@@ -8,7 +8,7 @@ ghost use Rattle.smith_types.specs.declared.segments.ElementSegment.{ElementSegm
 ghost use Rattle.smith_draw.specs.Grounding.{standing_in};
 ghost use Rattle.smith_draw.specs.ConstScopes.{seen_by};
 ghost use Rattle.smith_bytes.specs.Spelling.{SpellsEmpty};
-ghost use Rattle.smith_bytes.specs.Steps.{Gives};
+ghost use Rattle.smith_bytes.specs.Steps.{ReturnsWhy};
 ghost use Rattle.smith_rules.specs.Held.{HasItems, expressions_of};
 ghost use Rattle.smith_config.specs.Granted.{HasGroundedItems};
 ghost use Rattle.smith_contents.specs.DrawnElements.{HasUngroundedElements, IsKindOffered, IsElementFit, MayDrawElements, MayRefuseSegment, MayRefuseElements};
@@ -56,7 +56,7 @@ fn draw_segment(
     requires offered { All (IsKindOffered config.now spaces.now.types.now.types spaces.now.entities.tables.now) kinds.now }
     requires total { total ≤ config.now.max_elements }
     ensures within { IfOk result (λ segment. total + item_count segment.items ≤ config.now.max_elements) }
-    ensures exact { Gives (λ segment. (segment, u.new)) result (element_segment_at config.now (seen_by config.now spaces.now true) kinds.now total u.old) }
+    ensures exact { ReturnsWhy (λ segment. (segment, u.new)) result (element_segment_at config.now (seen_by config.now spaces.now true) kinds.now total u.old) }
     ensures fit { IfOk result (IsElementFit config.now (seen_by config.now spaces.now true) spaces.now.entities.tables.now) }
     ensures refusal { IfErr result (MayRefuseSegment config.now (standing_in config.now spaces.now) spaces.now.entities.tables.now) }
     ensures left { KeepsPieces u.old u.new }
@@ -92,7 +92,7 @@ fn draw_segments(
     requires standing { standing.now ≡ standing_in config.now spaces.now }
     requires some { 0 < length kinds.now }
     requires offered { All (IsKindOffered config.now spaces.now.types.now.types spaces.now.entities.tables.now) kinds.now }
-    ensures exact { Gives (λ segments. (segments, u.new)) result (element_segments_at config.now (seen_by config.now spaces.now true) kinds.now config.now.max_element_segments [] u.old) }
+    ensures exact { ReturnsWhy (λ segments. (segments, u.new)) result (element_segments_at config.now (seen_by config.now spaces.now true) kinds.now config.now.max_element_segments [] u.old) }
     ensures fit { IfOk result (All (IsElementFit config.now (seen_by config.now spaces.now true) spaces.now.entities.tables.now)) }
     ensures most { IfOk result (λ segments. (length segments ≤ config.now.max_element_segments) × (items_in segments ≤ config.now.max_elements)) }
     ensures refusal { IfErr result (MayRefuseSegment config.now (standing_in config.now spaces.now) spaces.now.entities.tables.now) }
@@ -130,7 +130,7 @@ fn draw_elements(
     u: &mut Unstructured<'_>,
 ) -> Result<Items<ElementSegment>, Error>
     requires may { MayDrawElements config.now spaces.now }
-    ensures exact { Gives (λ segments. (segments, u.new)) result (elements_at config.now (seen_by config.now spaces.now true) spaces.now.entities.tables.now u.old) }
+    ensures exact { ReturnsWhy (λ segments. (segments, u.new)) result (elements_at config.now (seen_by config.now spaces.now true) spaces.now.entities.tables.now u.old) }
     ensures fit { IfOk result (All (IsElementFit config.now (seen_by config.now spaces.now true) spaces.now.entities.tables.now)) }
     ensures most { IfOk result (λ segments. (length segments ≤ config.now.max_element_segments) × (items_in segments ≤ config.now.max_elements)) }
     ensures refusal { IfErr result (MayRefuseElements config.now (standing_in config.now spaces.now) spaces.now.entities.tables.now) }
@@ -170,7 +170,7 @@ pub fn arbitrary_elements(
     u: &mut Unstructured<'_>,
 ) -> Result<Items<ElementSegment>, Error>
     requires may { MayDrawElements config.now spaces.now }
-    ensures exact { Gives (λ segments. (segments, u.new)) result (elements_at config.now (seen_by config.now spaces.now true) spaces.now.entities.tables.now u.old) }
+    ensures exact { ReturnsWhy (λ segments. (segments, u.new)) result (elements_at config.now (seen_by config.now spaces.now true) spaces.now.entities.tables.now u.old) }
     ensures valid { IfOk result (All (IsElementValid (seen_by config.now spaces.now true) spaces.now.entities.tables.now)) }
     ensures inside { IsTrue config.now.disallow_traps → IfOk result (All (IsElementInside spaces.now.entities.tables.now)) }
     ensures most { IfOk result (λ segments. (length segments ≤ config.now.max_element_segments) × (items_in segments ≤ config.now.max_elements)) }

@@ -3,7 +3,7 @@ ghost use Rattle.smith_bytes.specs.Source.{KeepsPieces};
 ghost use Rattle.smith_bytes.specs.Takes.{Takes};
 ghost use Rattle.smith_types.specs.Exports.{AreExportsValid};
 ghost use Rattle.smith_types.specs.IndexSpaces.{spaces_in};
-ghost use Rattle.smith_bytes.specs.Steps.{Gives};
+ghost use Rattle.smith_bytes.specs.Steps.{ReturnsWhy};
 ghost use Rattle.smith_bytes.specs.Spelling.{SpellsEmpty};
 ghost use Rattle.smith_bytes.specs.Spelling.{SpellsNone};
 ghost use Rattle.smith_rules.specs.ExportedItems.{Export, exported_size, AreAllExported};
@@ -96,7 +96,7 @@ fn draw_exports(
     u: &mut Unstructured<'_>,
 ) -> Result<Exports, Error>
     requires may { MayExportFreely config.now types.now.types (spaces_in spaces.now) imports_size }
-    ensures exact { Gives (λ made. (made.exports, u.new)) result (free_exports_at config.now types.now.types (spaces_in spaces.now) imports_size u.old) }
+    ensures exact { ReturnsWhy (λ made. (made.exports, u.new)) result (free_exports_at config.now types.now.types (spaces_in spaces.now) imports_size u.old) }
     ensures kept { IfOk result (λ made. AreExported config.now types.now.types (spaces_in spaces.now) imports_size made.exports made.type_size) }
     ensures least { IfOk result (λ made. config.now.min_exports ≤ length made.exports) }
     ensures refusal { IfErr result (MayRefuseFree config.now) }
@@ -120,7 +120,7 @@ fn draw_free_exports(
     u: &mut Unstructured<'_>,
 ) -> Result<Exports, Error>
     requires may { MayExportFreely config.now types.now.types (spaces_in spaces.now) imports_size }
-    ensures exact { Gives (λ made. (made.exports, u.new)) result (free_exports_at config.now types.now.types (spaces_in spaces.now) imports_size u.old) }
+    ensures exact { ReturnsWhy (λ made. (made.exports, u.new)) result (free_exports_at config.now types.now.types (spaces_in spaces.now) imports_size u.old) }
     ensures valid { IfOk result (λ made. AreExportsValid (spaces_in spaces.now) made.exports) }
     ensures most { IfOk result (λ made. length made.exports ≤ config.now.max_exports) }
     ensures least { IfOk result (λ made. config.now.min_exports ≤ length made.exports) }
@@ -159,7 +159,7 @@ pub fn arbitrary_exports(
     u: &mut Unstructured<'_>,
 ) -> Result<Exports, Error>
     requires may { MayDrawExports config.now types.now.types (spaces_in spaces.now) imports_size }
-    ensures exact { Gives (λ made. (made.exports, u.new)) result (exports_at config.now types.now.types (spaces_in spaces.now) imports_size u.old) }
+    ensures exact { ReturnsWhy (λ made. (made.exports, u.new)) result (exports_at config.now types.now.types (spaces_in spaces.now) imports_size u.old) }
     ensures valid { IfOk result (λ made. AreExportsValid (spaces_in spaces.now) made.exports) }
     ensures most { config.now.export_everything ≡ false → IfOk result (λ made. length made.exports ≤ config.now.max_exports) }
     ensures least { config.now.export_everything ≡ false → IfOk result (λ made. config.now.min_exports ≤ length made.exports) }

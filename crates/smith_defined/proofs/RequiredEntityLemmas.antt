@@ -22,23 +22,24 @@ use Rattle.smith_draw.specs.declared.spaces.Spaces.{Spaces}
 use Rattle.smith_draw.proofs.NullableLemmas.{ungrounded_not_null}
 use Rattle.smith_defined.specs.Defined.{drawn_beside}
 use Rattle.smith_defined.specs.Required.{MayRefuseInitial}
-use Rattle.smith_defined.specs.RequiredExports.{Answers, scope_beside, made_of, with_table, with_global, defined_with_at}
+use Rattle.smith_bytes.specs.Steps.{Returns, is_memory}
+use Rattle.smith_defined.specs.RequiredExports.{scope_beside, made_of, with_table, with_global, defined_with_at}
 use Rattle.smith_defined.specs.declared.definitions.Definitions.{Definitions}
 
 -- an answer is the one that is read, if its only other result is lack of memory
-pub answered : {X Y : Type 0} (view : X → Y) (result : Result X Error) (read : Result Y Error) → IfErr result (λ e. e ≡ Memory) → IfOk result (λ x. read ≡ Ok (view x)) → Answers view result read
+pub answered : {X Y : Type 0} (view : X → Y) (result : Result X Error) (read : Result Y Error) → IfErr result (λ e. e ≡ Memory) → IfOk result (λ x. read ≡ Ok (view x)) → Returns is_memory view result read
 answered view (Ok x) read memory exact = exact
-answered view (Err e) read memory exact = subst (λ (one : Error). Answers view (Err one) read) (sym memory) tt
+answered view (Err e) read memory exact = subst (λ (one : Error). Returns is_memory view (Err one) read) (sym memory) tt
 
-refused_so : {X Y : Type 0} (view : X → Y) (config : Config) (context : Context) (wanted : ValType) (e : Error) (read : Result Y Error) → MayRefuseConstExpr config context wanted e → (e ≡ EmptyChoose → read ≡ Err EmptyChoose) → Answers view (Err e) read
-refused_so view config context wanted e read (inl memory) none = subst (λ (one : Error). Answers view (Err one) read) (sym memory) tt
-refused_so view config context wanted e read (inr (empty, lacking)) none = subst (λ (one : Error). Answers view (Err one) read) (sym empty) (none empty)
+refused_so : {X Y : Type 0} (view : X → Y) (config : Config) (context : Context) (wanted : ValType) (e : Error) (read : Result Y Error) → MayRefuseConstExpr config context wanted e → (e ≡ EmptyChoose → read ≡ Err EmptyChoose) → Returns is_memory view (Err e) read
+refused_so view config context wanted e read (inl memory) none = subst (λ (one : Error). Returns is_memory view (Err one) read) (sym memory) tt
+refused_so view config context wanted e read (inr (empty, lacking)) none = subst (λ (one : Error). Returns is_memory view (Err one) read) (sym empty) (none empty)
 
 -- so is the refusal of an initialiser, if there is nothing to choose from
 pub refused_initial : {X Y : Type 0} (view : X → Y) (result : Result X Error) (config : Config) (context : Context) (wanted : ValType) (e : Error) (read : Result Y Error) → IsErrAnd result (λ y. y ≡ e) → MayRefuseConstExpr config context wanted e
-    → (e ≡ EmptyChoose → read ≡ Err EmptyChoose) → Answers view result read
+    → (e ≡ EmptyChoose → read ≡ Err EmptyChoose) → Returns is_memory view result read
 refused_initial view (Ok x) config context wanted e read passed refusal none = absurd passed
-refused_initial view (Err y) config context wanted e read passed refusal none = subst (λ (one : Error). Answers view (Err one) read) (sym passed) (refused_so view config context wanted e read refusal none)
+refused_initial view (Err y) config context wanted e read passed refusal none = subst (λ (one : Error). Returns is_memory view (Err one) read) (sym passed) (refused_so view config context wanted e read refusal none)
 
 module _ (config : Config) (types : List SubType) (spaces : IndexSpaces) (defined : Definitions) (context : Context) (bytes : List ℕ) where
   -- a table is defined with the drawn initialiser, unless there is nothing to choose from

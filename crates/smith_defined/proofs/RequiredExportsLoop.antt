@@ -34,7 +34,8 @@ use Rattle.smith_rules.specs.ExportedItems.{IsStanding, Export}
 use Rattle.smith_defined.proofs.RequiredLimitLemmas.{no_limits, limits_both, no_types, types_both}
 use Rattle.smith_defined.specs.Defined.{StandsBehind, drawn_beside}
 use Rattle.smith_defined.specs.Required.{AddsLimitsOf, AddsTypesOf, IsKeptType, MayRequire, MayDefineMore, IsRequiredMore, AreRequired, MayLackIn, MayRefuseExported, MayRefuseRequired}
-use Rattle.smith_defined.specs.RequiredExports.{Answers, Required, entity_of, standing_with, export_required_at, required_from, required_at}
+use Rattle.smith_bytes.specs.Steps.{Returns, is_memory}
+use Rattle.smith_defined.specs.RequiredExports.{Required, entity_of, standing_with, export_required_at, required_from, required_at}
 use Rattle.smith_rules.specs.ShapesKept.{IsSameExport, IsSameFuncType}
 use Rattle.smith_defined.specs.declared.definitions.Definitions.{Definitions}
 use Rattle.smith_defined.proofs.ExtensionLemmas.{all_kept}
@@ -76,15 +77,15 @@ some_counted f [] i x inside is counted = absurd (omega arith)
 some_counted f (y ∷ xs) zero x inside is counted = let same : f y ≡ 1 = ap f (sym is) ∙ counted in let sum = sum_by-cons f y xs in omega (arith, same, sum)
 some_counted f (y ∷ xs) (suc i) x inside is counted = let later = some_counted f xs i x (omega arith) is counted in let sum = sum_by-cons f y xs in omega (arith, later, sum)
 
-refused_part : {X Y A B : Type 0} (of_part : X → A) (of_whole : Y → B) (e : Error) (part : Result A Error) (whole : Result B Error) → Answers of_part (Err e) part → ((one : Error) → part ≡ Err one → whole ≡ Err one) → Answers of_whole (Err e) whole
+refused_part : {X Y A B : Type 0} (of_part : X → A) (of_whole : Y → B) (e : Error) (part : Result A Error) (whole : Result B Error) → Returns is_memory of_part (Err e) part → ((one : Error) → part ≡ Err one → whole ≡ Err one) → Returns is_memory of_whole (Err e) whole
 refused_part of_part of_whole errors.Memory part whole given passes = tt
 refused_part of_part of_whole e part whole given passes = passes e given
 
 -- a refusal of a part is one of the whole
-pub refused_by : {X Y A B : Type 0} (of_part : X → A) (of_whole : Y → B) (e : Error) (part : Result A Error) (whole : Result B Error) (result : Result Y Error) → Answers of_part (Err e) part → ((one : Error) → part ≡ Err one → whole ≡ Err one)
-    → IsErrAnd result (λ y. y ≡ e) → Answers of_whole result whole
+pub refused_by : {X Y A B : Type 0} (of_part : X → A) (of_whole : Y → B) (e : Error) (part : Result A Error) (whole : Result B Error) (result : Result Y Error) → Returns is_memory of_part (Err e) part → ((one : Error) → part ≡ Err one → whole ≡ Err one)
+    → IsErrAnd result (λ y. y ≡ e) → Returns is_memory of_whole result whole
 refused_by of_part of_whole e part whole (Ok y) given passes h = absurd h
-refused_by {X = X} of_part of_whole e part whole (Err own) given passes h = refused_part of_part of_whole own part whole (subst (λ (one : Error). Answers of_part (Err one) part) (sym h) given) passes
+refused_by {X = X} of_part of_whole e part whole (Err own) given passes h = refused_part of_part of_whole own part whole (subst (λ (one : Error). Returns is_memory of_part (Err one) part) (sym h) given) passes
 
 -- the exports before a place are made, and making the rest completes the whole
 pub record AreRequiring (own_types : Bool) (config : Config) (shape : Shape) (old_types : Space) (old : IndexSpaces) (old_defined : Definitions) (place : ℕ) (types : Space) (spaces : IndexSpaces) (defined : Definitions) (exports : List Export) (start bytes : List ℕ) : Type 0 where

@@ -19,7 +19,7 @@ use Rattle.smith_draw.specs.declared.type_use.TypeUse.TheVariants.{Tag, DefinedF
 use Rattle.smith_draw.proofs.SpelledValueLemmas.{chosen_read}
 use Rattle.smith_draw.proofs.SupertypeLemmas.{chosen_of}
 use Rattle.smith_draw.proofs.TypeUseLemmas.{types_usable, places_any}
-use Rattle.smith_bytes.specs.Steps.{Gives}
+use Rattle.smith_bytes.specs.Steps.{ReturnsWhy}
 use Rattle.smith_bytes.specs.Spelling.{SpellsEmpty}
 use Rattle.smith_defined.specs.Defined.{IsFilled}
 use Rattle.smith_defined.specs.Definitions.{items_defined_at, type_indices_at, tag_types, tags_at, funcs_at}
@@ -66,7 +66,7 @@ typed_read count (choice ∷ others) most items piece after h =
 tag_types_usable : (config : Config) (types : List SubType) → All (IsTagValid types) (tag_types config types)
 tag_types_usable config types = cond_both config.exceptions_enabled (types_for Tag types) [] (All (IsTagValid types)) (λ on. types_usable Tag types) (λ off. All-nil (IsTagValid types))
 
-pub tags_are : (config : Config) (types : List SubType) (imported items bytes after : List ℕ) (result : Result (Unit {0}) Error) → config.min_tags ≤ config.max_tags → Gives (λ _. (items, after)) result (tags_at config types imported bytes)
+pub tags_are : (config : Config) (types : List SubType) (imported items bytes after : List ℕ) (result : Result (Unit {0}) Error) → config.min_tags ≤ config.max_tags → ReturnsWhy (λ _. (items, after)) result (tags_at config types imported bytes)
     → OnOk result (AreTyped (IsTagValid types) (tag_types config types) config.min_tags config.max_tags imported items)
 unfolding tags_at
 tags_are config types imported items bytes after result le given =
@@ -97,7 +97,7 @@ unfolding tags_at
 no_tag_read config types imported items piece after none empty h =
     rw (none, empty, h.none) (typed_read counts.Tags (tag_types config types) config.max_tags [] piece after (no_tag_turn config.exceptions_enabled (list_any is_tag_type types) config.max_tags (types_for Tag types) piece (places_any is_tag_type 0 types) h.spelled))
 
-pub funcs_are : (config : Config) (types : List SubType) (imported items bytes after : List ℕ) (result : Result (Unit {0}) Error) → config.min_funcs ≤ config.max_funcs → Gives (λ _. (items, after)) result (funcs_at config types imported bytes)
+pub funcs_are : (config : Config) (types : List SubType) (imported items bytes after : List ℕ) (result : Result (Unit {0}) Error) → config.min_funcs ≤ config.max_funcs → ReturnsWhy (λ _. (items, after)) result (funcs_at config types imported bytes)
     → OnOk result (AreTyped (IsFuncTypeIndex types) (func_types types) config.min_funcs config.max_funcs imported items)
 unfolding funcs_at
 funcs_are config types imported items bytes after result le given =

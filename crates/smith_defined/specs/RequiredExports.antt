@@ -1,6 +1,6 @@
 -- The exports that the bytes produce if a shape fixes them: each is of an entity that is defined
 -- for it. Rules of this project.
-use Rattle.std.specs.Prelude.{◌≡◌, ℕ, ◌+◌, ◌-◌, Bool, true, false, not, ◌&&◌, nat_lt, nat_le, List, [], ◌∷◌, ◌++◌, Option, Some, None, option_map, length, slice_get, Result, Ok, Err, if◌then◌else◌}
+use Rattle.std.specs.Prelude.{ℕ, ◌+◌, ◌-◌, Bool, true, false, not, ◌&&◌, nat_lt, nat_le, List, [], ◌∷◌, ◌++◌, Option, Some, None, option_map, length, slice_get, Result, Ok, Err, if◌then◌else◌}
 use Rattle.smith_bytes.specs.declared.error.Error.{Error}
 use Rattle.smith_bytes.specs.declared.error.Error.TheVariants as errors
 use Rattle.smith_bytes.specs.declared.error.Why.{Why}
@@ -23,12 +23,6 @@ use Rattle.smith_config.specs.Shapes.{shape_types, shape_spaces}
 use Rattle.smith_draw.specs.ConstExprs.{const_expr_at, table_init_at}
 use Rattle.smith_rules.specs.ExportedItems.{Export}
 use Rattle.smith_defined.specs.declared.definitions.Definitions.{Definitions}
-
--- A step returns the result of `read`, except if memory runs out.
-abbrev pub Answers : {X Y : Type 0} → (X → Y) → Result X Error → Result Y Error → Type 0
-Answers view (Ok x) read = read ≡ Ok (view x)
-Answers view (Err errors.Memory) read = Unit {0}
-Answers view (Err e) read = read ≡ Err e
 
 -- the entity of a kind and an index, if it exists
 abbrev pub entity_of : IndexSpaces → ExportKind → ℕ → Option EntityType

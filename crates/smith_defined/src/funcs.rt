@@ -6,7 +6,7 @@ ghost use Rattle.smith_types.specs.ValidTypes.{AreTypesValid};
 ghost use Rattle.smith_config.specs.Faults.{Passes};
 ghost use Rattle.smith_config.specs.Features.{features_of};
 ghost use Rattle.smith_config.specs.Sanitized.{IsSanitized};
-ghost use Rattle.smith_bytes.specs.Steps.{Gives};
+ghost use Rattle.smith_bytes.specs.Steps.{ReturnsWhy};
 ghost use Rattle.smith_defined.specs.Defined.{IsFilled};
 ghost use Rattle.smith_defined.specs.Definitions.{funcs_at};
 ghost use Rattle.smith_draw.specs.TypeUses.{func_types};
@@ -30,7 +30,7 @@ fn push_funcs(
     u: &mut Unstructured<'_>,
 ) -> Result<(), Error>
     requires few_types { length types.now.types < 2 ^ 32 }
-    ensures exact { Gives (λ _. (funcs.new, u.new)) result (funcs_at config.now types.now.types funcs.old u.old) }
+    ensures exact { ReturnsWhy (λ _. (funcs.new, u.new)) result (funcs_at config.now types.now.types funcs.old u.old) }
     ensures refusal { IfErr result (λ e. (e ≡ Error.Memory)
         ⊎ ((e ≡ Error.IncorrectFormat (Why.Unmet Count.Funcs)) × (0 < config.now.min_funcs) × (length (func_types types.now.types) ≡ 0))) }
     ensures left { KeepsPieces u.old u.new }
@@ -60,7 +60,7 @@ pub(crate) fn define_funcs(
     requires valid { AreTypesValid (features_of config.now) types.now }
     requires least { config.now.min_types ≤ length types.now.types }
     requires few_types { length types.now.types < 2 ^ 32 }
-    ensures exact { Gives (λ _. (funcs.new, u.new)) result (funcs_at config.now types.now.types funcs.old u.old) }
+    ensures exact { ReturnsWhy (λ _. (funcs.new, u.new)) result (funcs_at config.now types.now.types funcs.old u.old) }
     ensures filled { OnOk result (IsFilled config.now.min_funcs config.now.max_funcs funcs.old funcs.new) }
     ensures valid { All (IsFuncTypeIndex types.now.types) funcs.old → OnOk result (All (IsFuncTypeIndex types.now.types) funcs.new) }
     ensures refusal { IfErr result (MayRefuse config.now) }

@@ -11,7 +11,8 @@ ghost use Rattle.smith_draw.specs.KeptOffers.{AreKeptOffers};
 ghost use Rattle.smith_types.specs.Imports.{entity_spaces};
 ghost use Rattle.smith_defined.specs.Defined.{AreWithin, drawn_beside};
 ghost use Rattle.smith_defined.specs.Required.{MayDefineMore, IsInitialised, IsDefinedMore, MayRefuseInitial, MayRefuseEntity};
-ghost use Rattle.smith_defined.specs.RequiredExports.{Answers, next_index, several, scope_beside, defined_with_at, entity_required_at};
+ghost use Rattle.smith_bytes.specs.Steps.{Returns, is_memory};
+ghost use Rattle.smith_defined.specs.RequiredExports.{next_index, several, scope_beside, defined_with_at, entity_required_at};
 
 use crate::definitions::Definitions;
 use crate::standing::standing;
@@ -80,7 +81,7 @@ fn define_table(
     requires may { MayDefineMore config.now types.now (spaces_in spaces.now) definitions.old 1 }
     requires valid { IsTableValid (features_of config.now) types.now.types table }
     requires kept { AreKeptOffers (scope_beside config.now types.now.types (spaces_in spaces.now) definitions.old false) kept.old }
-    ensures exact { Answers (λ _. (definitions.new, u.new)) result (defined_with_at config.now types.now.types (spaces_in spaces.now) definitions.old (EntityType.Table table) u.old) }
+    ensures exact { Returns is_memory (λ _. (definitions.new, u.new)) result (defined_with_at config.now types.now.types (spaces_in spaces.now) definitions.old (EntityType.Table table) u.old) }
     ensures initialised { OnOk result (IsInitialised config.now types.now.types (spaces_in spaces.now) definitions.old definitions.new (EntityType.Table table)) }
     ensures kept { OnOk result (AreKeptOffers (scope_beside config.now types.now.types (spaces_in spaces.now) definitions.old false) kept.new) }
     ensures refusal { IfErr result (MayRefuseConstExpr config.now (drawn_beside config.now types.now.types (spaces_in spaces.now) definitions.old) (Ref table.element_type)) }
@@ -106,7 +107,7 @@ fn define_global(
     requires may { MayDefineMore config.now types.now (spaces_in spaces.now) definitions.old 1 }
     requires valid { IsGlobalValid (features_of config.now) types.now.types global }
     requires kept { AreKeptOffers (scope_beside config.now types.now.types (spaces_in spaces.now) definitions.old true) kept.old }
-    ensures exact { Answers (λ _. (definitions.new, u.new)) result (defined_with_at config.now types.now.types (spaces_in spaces.now) definitions.old (EntityType.Global global) u.old) }
+    ensures exact { Returns is_memory (λ _. (definitions.new, u.new)) result (defined_with_at config.now types.now.types (spaces_in spaces.now) definitions.old (EntityType.Global global) u.old) }
     ensures initialised { OnOk result (IsInitialised config.now types.now.types (spaces_in spaces.now) definitions.old definitions.new (EntityType.Global global)) }
     ensures kept { OnOk result (AreKeptOffers (scope_beside config.now types.now.types (spaces_in spaces.now) definitions.old true) kept.new) }
     ensures refusal { IfErr result (MayRefuseConstExpr config.now (drawn_beside config.now types.now.types (spaces_in spaces.now) definitions.old) global.val_type) }
@@ -133,7 +134,7 @@ fn define_initial(
     requires may { MayDefineMore config.now types.now (spaces_in spaces.now) definitions.old 1 }
     requires valid { AreEntitiesValid (features_of config.now) types.now.types (entity_spaces added) }
     requires kept { AreKeptOffers (scope_beside config.now types.now.types (spaces_in spaces.now) definitions.old true) kept.old }
-    ensures exact { Answers (λ _. (definitions.new, u.new)) result (defined_with_at config.now types.now.types (spaces_in spaces.now) definitions.old added u.old) }
+    ensures exact { Returns is_memory (λ _. (definitions.new, u.new)) result (defined_with_at config.now types.now.types (spaces_in spaces.now) definitions.old added u.old) }
     ensures initialised { OnOk result (IsInitialised config.now types.now.types (spaces_in spaces.now) definitions.old definitions.new added) }
     ensures kept { OnOk result (AreKeptOffers (scope_beside config.now types.now.types (spaces_in spaces.now) definitions.old true) kept.new) }
     ensures refusal { IfErr result (MayRefuseInitial config.now (drawn_beside config.now types.now.types (spaces_in spaces.now) definitions.old) added) }
@@ -169,7 +170,7 @@ pub(crate) fn define_entity(
     requires may { MayDefineMore config.now types.now (spaces_in spaces.old) definitions.old 1 }
     requires valid { AreEntitiesValid (features_of config.now) types.now.types (entity_spaces added) }
     requires kept { AreKeptOffers (scope_beside config.now types.now.types (spaces_in spaces.old) definitions.old true) kept.old }
-    ensures exact { Answers (λ _. ((spaces_in spaces.new, definitions.new), u.new)) result (entity_required_at config.now types.now.types (spaces_in spaces.old) definitions.old added u.old) }
+    ensures exact { Returns is_memory (λ _. ((spaces_in spaces.new, definitions.new), u.new)) result (entity_required_at config.now types.now.types (spaces_in spaces.old) definitions.old added u.old) }
     ensures defined { OnOk result (IsDefinedMore config.now types.now.types (spaces_in spaces.old) definitions.old (spaces_in spaces.new) definitions.new added) }
     ensures kept { OnOk result (AreKeptOffers (scope_beside config.now types.now.types (spaces_in spaces.new) definitions.new true) kept.new) }
     ensures refusal { IfErr result (MayRefuseEntity config.now (drawn_beside config.now types.now.types (spaces_in spaces.old) definitions.old) added) }

@@ -17,7 +17,8 @@ ghost use Rattle.smith_rules.specs.ShapeImports.{count_in};
 ghost use Rattle.smith_rules.specs.ExportedItems.{IsStanding, Export};
 ghost use Rattle.smith_defined.specs.Defined.{StandsBehind, drawn_beside};
 ghost use Rattle.smith_defined.specs.Required.{AddsLimitsOf, AddsTypesOf, MayDefineMore, MayRequire, IsRequiredMore, AreRequired, MayLackIn, MayRefuseRequired, MayRefuseExported};
-ghost use Rattle.smith_defined.specs.RequiredExports.{Answers, entity_of, scope_beside, standing_with, export_required_at, required_at};
+ghost use Rattle.smith_bytes.specs.Steps.{Returns, is_memory};
+ghost use Rattle.smith_defined.specs.RequiredExports.{entity_of, scope_beside, standing_with, export_required_at, required_at};
 ghost use Rattle.smith_rules.specs.ShapesKept.{IsSameExport, IsSameType};
 
 use crate::definitions::Definitions;
@@ -51,7 +52,7 @@ fn make_export(
     requires may { MayDefineMore config.now types.old (spaces_in spaces.old) definitions.old 1 }
     requires room { length types.old.types + 1 < 2 ^ 32 }
     requires kept { AreKeptOffers (scope_beside config.now types.old.types (spaces_in spaces.old) definitions.old true) kept.old }
-    ensures exact { (before : List Export) → Answers (λ made. (standing_with types.new (spaces_in spaces.new) definitions.new (before ++ made ∷ []), u.new)) result
+    ensures exact { (before : List Export) → Returns is_memory (λ made. (standing_with types.new (spaces_in spaces.new) definitions.new (before ++ made ∷ []), u.new)) result
         (export_required_at own_types config.now shape.now one.now (standing_with types.old (spaces_in spaces.old) definitions.old before) u.old (entity_of (shape_spaces shape.now) one.now.1 one.now.2)) }
     ensures required { IfOk result (IsRequiredMore own_types config.now shape.now types.old (spaces_in spaces.old) definitions.old types.new (spaces_in spaces.new) definitions.new one.now) }
     ensures kept { OnOk result (AreKeptOffers (scope_beside config.now types.new.types (spaces_in spaces.new) definitions.new true) kept.new) }
@@ -80,7 +81,7 @@ fn push_exports(
     requires shape { MayRequire own_types config.now shape.now types.old }
     requires may { MayDefineMore config.now types.old (spaces_in spaces.old) definitions.old (length shape.now.exports) }
     requires room { length types.old.types + length shape.now.exports < 2 ^ 32 }
-    ensures exact { Answers (λ exports. (standing_with types.new (spaces_in spaces.new) definitions.new exports, u.new)) result
+    ensures exact { Returns is_memory (λ exports. (standing_with types.new (spaces_in spaces.new) definitions.new exports, u.new)) result
         (required_at own_types config.now shape.now types.old (spaces_in spaces.old) definitions.old u.old) }
     ensures required { IfOk result (AreRequired own_types config.now shape.now types.old (spaces_in spaces.old) definitions.old types.new (spaces_in spaces.new) definitions.new) }
     ensures refusal { IfErr result (MayRefuseRequired config.now (drawn_beside config.now types.old.types (spaces_in spaces.old) definitions.old) shape.now) }
@@ -134,7 +135,7 @@ pub fn make_required_exports(
     requires valid { IsShapeValid Exports config.now shape.now }
     requires may { MayDefineMore config.now types.old (spaces_in spaces.old) definitions.old (length shape.now.exports) }
     requires room { length types.old.types + length shape.now.exports < 2 ^ 32 }
-    ensures exact { Answers (λ exports. (standing_with types.new (spaces_in spaces.new) definitions.new exports, u.new)) result
+    ensures exact { Returns is_memory (λ exports. (standing_with types.new (spaces_in spaces.new) definitions.new exports, u.new)) result
         (required_at true config.now shape.now types.old (spaces_in spaces.old) definitions.old u.old) }
     ensures kept { IfOk result (λ exports. AllZip (IsSameExport (IsSameType types.new.types (shape_types shape.now)) (spaces_in spaces.new) (shape_spaces shape.now)) exports shape.now.exports) }
     ensures valid { IfOk result (AreExportsValid (spaces_in spaces.new)) }
@@ -172,7 +173,7 @@ pub fn make_shape_exports(
     requires types { Extends (shape_types shape.now) types.old.types }
     requires may { MayDefineMore config.now types.old (spaces_in spaces.old) definitions.old (length shape.now.exports) }
     requires room { length types.old.types + length shape.now.exports < 2 ^ 32 }
-    ensures exact { Answers (λ exports. (standing_with types.new (spaces_in spaces.new) definitions.new exports, u.new)) result
+    ensures exact { Returns is_memory (λ exports. (standing_with types.new (spaces_in spaces.new) definitions.new exports, u.new)) result
         (required_at false config.now shape.now types.old (spaces_in spaces.old) definitions.old u.old) }
     ensures kept { IfOk result (λ exports. AllZip (IsSameExport (λ mine yours. mine ≡ yours) (spaces_in spaces.new) (shape_spaces shape.now)) exports shape.now.exports) }
     ensures valid { IfOk result (AreExportsValid (spaces_in spaces.new)) }

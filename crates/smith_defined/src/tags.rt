@@ -3,7 +3,7 @@ ghost use Rattle.smith_bytes.specs.Source.{KeepsPieces};
 ghost use Rattle.smith_bytes.specs.Takes.{Takes};
 ghost use Rattle.smith_types.specs.Entities.{IsTagValid};
 ghost use Rattle.smith_config.specs.Faults.{Passes};
-ghost use Rattle.smith_bytes.specs.Steps.{Gives};
+ghost use Rattle.smith_bytes.specs.Steps.{ReturnsWhy};
 ghost use Rattle.smith_bytes.specs.Spelling.{SpellsEmpty};
 ghost use Rattle.smith_defined.specs.Defined.{IsFilled};
 ghost use Rattle.smith_defined.specs.Definitions.{tag_types, tags_at};
@@ -40,7 +40,7 @@ fn push_tags(
     u: &mut Unstructured<'_>,
 ) -> Result<(), Error>
     requires few_types { length types.now.types < 2 ^ 32 }
-    ensures exact { Gives (λ _. (tags.new, u.new)) result (tags_at config.now types.now.types tags.old u.old) }
+    ensures exact { ReturnsWhy (λ _. (tags.new, u.new)) result (tags_at config.now types.now.types tags.old u.old) }
     ensures refusal { IfErr result (MayRefuse config.now) }
     ensures left { KeepsPieces u.old u.new }
 {
@@ -66,7 +66,7 @@ pub(crate) fn define_tags(
 ) -> Result<(), Error>
     requires passes { Passes config.now }
     requires few_types { length types.now.types < 2 ^ 32 }
-    ensures exact { Gives (λ _. (tags.new, u.new)) result (tags_at config.now types.now.types tags.old u.old) }
+    ensures exact { ReturnsWhy (λ _. (tags.new, u.new)) result (tags_at config.now types.now.types tags.old u.old) }
     ensures filled { OnOk result (IsFilled config.now.min_tags config.now.max_tags tags.old tags.new) }
     ensures valid { All (IsTagValid types.now.types) tags.old → OnOk result (All (IsTagValid types.now.types) tags.new) }
     ensures enabled { (0 < length tags.old → IsTrue config.now.exceptions_enabled) → OnOk result (0 < length tags.new → IsTrue config.now.exceptions_enabled) }

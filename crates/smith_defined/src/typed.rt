@@ -2,7 +2,7 @@ ghost use Rattle.std.specs.Prelude.{◌≡◌, ◌<◌, ◌⊎◌, length, IfErr
 ghost use Rattle.smith_bytes.specs.Source.{KeepsPieces};
 ghost use Rattle.smith_draw.specs.Choices.{chosen_at};
 ghost use Rattle.smith_draw.specs.Drawing.{DrawsInto};
-ghost use Rattle.smith_bytes.specs.Steps.{Gives};
+ghost use Rattle.smith_bytes.specs.Steps.{ReturnsWhy};
 ghost use Rattle.smith_defined.specs.Definitions.{items_defined_at, behind, type_indices_at};
 
 use crate::past_maximum::discard_past_maximum;
@@ -45,7 +45,7 @@ pub(crate) fn define_typed(
     items: &mut Items<u32>,
     u: &mut Unstructured<'_>,
 ) -> Result<(), Error>
-    ensures exact { Gives (λ _. (items.new, u.new)) result (type_indices_at count choices.now least most items.old u.old) }
+    ensures exact { ReturnsWhy (λ _. (items.new, u.new)) result (type_indices_at count choices.now least most items.old u.old) }
     ensures refusal { IfErr result (λ e. (e ≡ Error.Memory)
         ⊎ ((e ≡ Error.IncorrectFormat (Why.Unmet count)) × (0 < least) × (length choices.now ≡ 0))) }
     ensures left { KeepsPieces u.old u.new }

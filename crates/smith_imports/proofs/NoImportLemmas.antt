@@ -9,7 +9,7 @@ use Rattle.smith_bytes.proofs.SpelledLemmas.{bool_read}
 use Rattle.smith_types.specs.declared.composite_type.SubType.{SubType}
 use Rattle.smith_types.specs.declared.imports.Imports.{Imports}
 use Rattle.smith_config.specs.declared.config.Config.{Config}
-use Rattle.smith_bytes.specs.Steps.{Gives}
+use Rattle.smith_bytes.specs.Steps.{ReturnsWhy}
 use Rattle.smith_imports.specs.Importing.{groups_at, imports_at}
 use Rattle.smith_imports.specs.Imported.{SpellsNoImport}
 use Rattle.smith_bytes.proofs.StepLemmas.{given_takes}
@@ -34,7 +34,7 @@ no_import_read config types distinct piece after none spelled =
     let k : config.max_imports + length (piece ++ after) + 1 ≡ suc (config.max_imports + length (piece ++ after)) = omega arith in
     rw (k, no_groups_by config types distinct config.max_imports (config.max_imports + length (piece ++ after)) piece after none refl spelled, none) refl
 
-pub no_import_taken : {X : Type 0} (config : Config) (types : List SubType) (distinct : Bool) (groups : List Imports) (old new : List ℕ) (r : Result X Error) → config.min_imports ≡ 0 → Gives (λ _. (groups, new)) r (imports_at config types distinct old) → OnOk r (Takes (SpellsNoImport config) old groups new)
+pub no_import_taken : {X : Type 0} (config : Config) (types : List SubType) (distinct : Bool) (groups : List Imports) (old new : List ℕ) (r : Result X Error) → config.min_imports ≡ 0 → ReturnsWhy (λ _. (groups, new)) r (imports_at config types distinct old) → OnOk r (Takes (SpellsNoImport config) old groups new)
 unfolding SpellsNoImport
 no_import_taken config types distinct groups old new r none given =
     given_takes (SpellsNoImport config) (λ _. groups) (imports_at config types distinct) old new r

@@ -6,7 +6,7 @@ ghost use Rattle.smith_types.specs.IndexSpaces.{with_entity};
 ghost use Rattle.smith_config.specs.declared.config.Config.{Config as Configuration};
 ghost use Rattle.smith_draw.specs.Drawing.{Draws};
 ghost use Rattle.smith_imports.specs.ImportedEntities.{import_scope};
-ghost use Rattle.smith_bytes.specs.Steps.{Gives};
+ghost use Rattle.smith_bytes.specs.Steps.{ReturnsWhy};
 ghost use Rattle.smith_imports.specs.Imported.{
   MayImport,
   Counts,
@@ -339,7 +339,7 @@ fn draw_imports(
 ) -> Result<(), Error>
     requires may { MayImport config.now types.now }
     requires none { HasNoImports imported.old }
-    ensures exact { Gives (λ _. (imported.new.groups, u.new)) result (imports_at config.now types.now.types distinct u.old) }
+    ensures exact { ReturnsWhy (λ _. (imported.new.groups, u.new)) result (imports_at config.now types.now.types distinct u.old) }
     ensures so_far { OnOk result (IsImported config.now types.now.types distinct imported.new) }
     ensures least { OnOk result (config.now.min_imports ≤ imported.new.count) }
     ensures refusal { IfErr result (MayRefuseImports config.now) }
@@ -374,7 +374,7 @@ pub fn arbitrary_imports(
 ) -> Result<(), Error>
     requires may { MayImport config.now types.now }
     requires none { HasNoImports imported.old }
-    ensures exact { Gives (λ _. (imported.new.groups, u.new)) result (imports_at config.now types.now.types distinct u.old) }
+    ensures exact { ReturnsWhy (λ _. (imported.new.groups, u.new)) result (imports_at config.now types.now.types distinct u.old) }
     ensures so_far { OnOk result (IsImported config.now types.now.types distinct imported.new) }
     ensures least { OnOk result (config.now.min_imports ≤ imported.new.count) }
     ensures refusal { IfErr result (MayRefuseImports config.now) }

@@ -28,7 +28,8 @@ use Rattle.smith_defined.specs.Defined.{HasRoom}
 use Rattle.smith_rules.specs.Refusals.{AreShapesValid, shape_for}
 use Rattle.smith_defined.specs.Defined.{StandsBehind}
 use Rattle.smith_defined.specs.Required.{AddsLimitsOf, MayDefineMore}
-use Rattle.smith_defined.specs.RequiredExports.{Answers, then_with}
+use Rattle.smith_bytes.specs.Steps.{Returns, is_memory}
+use Rattle.smith_defined.specs.RequiredExports.{then_with}
 use Rattle.smith_defined.proofs.RequiredExportsLoop.{refused_by}
 
 -- there are no more of one kind than imports
@@ -139,7 +140,7 @@ pub globals_of_shape : (shape : Shape) (spaces : IndexSpaces) → AddsLimitsOf s
 globals_of_shape shape spaces added = of_one (imported_spaces (shape_imports shape)).globals shape.globals spaces.globals added.globals
 
 -- the result of a refusal is that refusal
-pub refused_with : {X Y A B : Type 0} (f : A → B) (of_part : X → A × List ℕ) (of_whole : Y → B × List ℕ) (e : Error) (part : Result (A × List ℕ) Error) (result : Result Y Error) → Answers of_part (Err e) part → IsErrAnd result (λ y. y ≡ e) → Answers of_whole result (then_with f part)
+pub refused_with : {X Y A B : Type 0} (f : A → B) (of_part : X → A × List ℕ) (of_whole : Y → B × List ℕ) (e : Error) (part : Result (A × List ℕ) Error) (result : Result Y Error) → Returns is_memory of_part (Err e) part → IsErrAnd result (λ y. y ≡ e) → Returns is_memory of_whole result (then_with f part)
 refused_with f of_part of_whole e part result given passed = refused_by of_part of_whole e part (then_with f part) result given (λ one is. ap (then_with f) is) passed
 
 several_by : (on : Bool) (most n : ℕ) → (on ≡ false → most ≤ 1) → n ≤ most → 1 < n → on ≡ true

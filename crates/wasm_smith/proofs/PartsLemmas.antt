@@ -8,11 +8,11 @@ use Rattle.smith_types.specs.Imports.{flattened, imported_spaces}
 use Rattle.smith_types.specs.IndexSpaces.{spaces_in}
 use Rattle.smith_config.specs.declared.config.Config.{Config}
 use Rattle.smith_config.specs.InUse.{FixesImports, HasNoShapes}
-use Rattle.smith_bytes.specs.Steps.{section_flag_at}
+use Rattle.smith_bytes.specs.Steps.{section_flag_at, Returns, is_lack}
 use Rattle.smith_imports.specs.declared.imported.Imported.{Imported}
 use Rattle.smith_contents.specs.declared.exported.Exports.{Exports}
 use Rattle.wasm_smith.specs.Begun.{ModuleSoFar, StandsWhole}
-use Rattle.wasm_smith.specs.Build.{GivesOrLacks, begun_typed_at, defined_at, exported_at, exports_of, imported_at, in_full, module_at, module_of}
+use Rattle.wasm_smith.specs.Build.{begun_typed_at, defined_at, exported_at, exports_of, imported_at, in_full, module_at, module_of}
 use Rattle.wasm_smith.specs.DrawnContents.{AreContents, HasGrantedContents, HasNoFloatContents, behind_exports_at, imported_in}
 use Rattle.wasm_smith.specs.DrawnParts.{IsDrawnFor}
 use Rattle.wasm_smith.specs.DrawnSteps.{AreExportsDrawn, AreFreeImports, HasSameImports, drawn_next}
@@ -32,8 +32,8 @@ module_read distinct config bytes typed imported defined whole flag made content
     let behind_own = subst (λ (own : Exports). in_full (behind_exports_at config whole.types.types (imported_spaces (flattened whole.groups)) whole.spaces own fifth) ≡ Ok (contents, last)) size behind in
     rw (begins, imports, flags, defines, exports, behind_own, counted) refl
 
-lacks_so : {X Z : Type 0} (view : X → ModuleParts × List ℕ) (own : Z → Contents × List ℕ) (e : Error) (read : Result (Contents × List ℕ) Error) (whole : Result (ModuleParts × List ℕ) Error) → (read ≡ Err e → whole ≡ Err e) → GivesOrLacks own (Err e) read
-    → GivesOrLacks view (Err e) whole
+lacks_so : {X Z : Type 0} (view : X → ModuleParts × List ℕ) (own : Z → Contents × List ℕ) (e : Error) (read : Result (Contents × List ℕ) Error) (whole : Result (ModuleParts × List ℕ) Error) → (read ≡ Err e → whole ≡ Err e) → Returns is_lack own (Err e) read
+    → Returns is_lack view (Err e) whole
 lacks_so view own errors.Memory read whole both h = tt
 lacks_so view own errors.EmptyChoose read whole both h = tt
 lacks_so view own e read whole both h = both h
@@ -42,13 +42,13 @@ lacks_so view own e read whole both h = both h
 pub module_refused : {X Z : Type 0} (view : X → ModuleParts × List ℕ) (own : Z → Contents × List ℕ) (result : Result X Error) (e : Error) (distinct : Bool) (config : Config) (bytes : List ℕ) (typed imported defined whole : ModuleSoFar) (flag : Bool) (made : Exports)
     (first second third fourth fifth : List ℕ) → begun_typed_at config bytes ≡ Ok (typed, first) → imported_at distinct config typed first ≡ Ok (imported, second) → section_flag_at (length imported.groups) second ≡ (flag, third)
     → defined_at config imported third ≡ Ok (defined, fourth) → exported_at config defined fourth ≡ Ok (whole, fifth) → made ≡ exports_of config whole
-    → GivesOrLacks own (Err e) (in_full (behind_exports_at config whole.types.types (imported_spaces (flattened whole.groups)) whole.spaces made fifth)) → IsErrAnd result (λ y. y ≡ e) → GivesOrLacks view result (module_at distinct config bytes)
+    → Returns is_lack own (Err e) (in_full (behind_exports_at config whole.types.types (imported_spaces (flattened whole.groups)) whole.spaces made fifth)) → IsErrAnd result (λ y. y ≡ e) → Returns is_lack view result (module_at distinct config bytes)
 unfolding module_at
 module_refused view own (Ok x) e distinct config bytes typed imported defined whole flag made first second third fourth fifth begins imports flags defines exports size refused passed = absurd passed
 module_refused view own (Err y) e distinct config bytes typed imported defined whole flag made first second third fourth fifth begins imports flags defines exports size refused passed =
     let behind_exports = λ (given : Exports). in_full (behind_exports_at config whole.types.types (imported_spaces (flattened whole.groups)) whole.spaces given fifth) in
-    let refused_own = subst (λ (given : Exports). GivesOrLacks own (Err e) (behind_exports given)) size refused in
-    subst (λ (one : Error). GivesOrLacks view (Err one) (module_at distinct config bytes)) (sym passed)
+    let refused_own = subst (λ (given : Exports). Returns is_lack own (Err e) (behind_exports given)) size refused in
+    subst (λ (one : Error). Returns is_lack view (Err one) (module_at distinct config bytes)) (sym passed)
     (lacks_so view own e (behind_exports (exports_of config whole)) (module_at distinct config bytes) (λ fails. rw (begins, imports, flags, defines, exports, fails) refl) refused_own)
 
 -- a whole state stays whole with contents

@@ -30,7 +30,8 @@ use Rattle.smith_spell.specs.Spelling.{SpellsMember, SpellsRest, SpellsSegments}
 use Rattle.smith_draw.specs.SpelledParts.{SpellsNoTag, SpellsFuncs, SpellsGlobal, SpellsNoStart}
 use Rattle.smith_spell.proofs.FamilyFitLemmas.{family_fits}
 use Rattle.wasm_smith.specs.Begun.{ModuleSoFar, begun_at, nothing_begun}
-use Rattle.wasm_smith.specs.Build.{GivesOrLacks, IsGiven, as_drawn, begun_size, begun_typed_at, defined_at, exported_at, exported_for, exports_of, functions_begun, imported_at, in_full, module_at, module_of, with_types_at}
+use Rattle.smith_bytes.specs.Steps.{Returns, is_lack, ◌>>=◌, section_flag_at}
+use Rattle.wasm_smith.specs.Build.{IsGiven, as_drawn, begun_size, begun_typed_at, defined_at, exported_at, exported_for, exports_of, functions_begun, imported_at, in_full, module_at, module_of, with_types_at}
 use Rattle.smith_defined.specs.Defined.{nothing_defined}
 use Rattle.smith_defined.specs.Definitions.{defined_in, definitions_at, scope_over, tables_at, memories_at, globals_at}
 use Rattle.wasm_smith.specs.DrawnContents.{segment_scope, all_segments_at, behind_exports_at}
@@ -44,7 +45,6 @@ use Rattle.smith_contents.specs.AllExports.{exports_at}
 use Rattle.smith_rules.specs.ExportedItems.{Export}
 use Rattle.smith_contents.specs.declared.exported.Exports.{Exports}
 use Rattle.smith_imports.specs.Importing.{imports_at}
-use Rattle.smith_bytes.specs.Steps.{◌>>=◌, section_flag_at}
 use Rattle.wasm_smith.specs.declared.build.contents.Contents.{Contents}
 use Rattle.smith_defined.specs.declared.definitions.Definitions.{Definitions}
 use Rattle.smith_defined.proofs.DefinedMemoryLemmas.{no_memory_read}
@@ -282,7 +282,7 @@ rest_reached distinct config groups funcs numbers passive piece rest after sanit
     rw read.1 (subst (λ (bytes : List ℕ). let all = behind_funcs_at config types funcs bytes in IfOk (ending_at config read.0 (with_entities groups all.0) all.1) (λ made. HasRest numbers passive made.0)) (sym parts) ending)
 
 -- a property of every module of these bytes, apart from interesting values, is one of the answer
-answered : (Holds : ModuleParts → Type 0) (distinct : Bool) (config : Config) (bytes left : List ℕ) (answer : Result ModuleParts Error) → ((m : ModuleParts) → Holds (as_drawn m) → Holds m) → GivesOrLacks (λ m. (as_drawn m, left)) answer (module_at distinct config bytes)
+answered : (Holds : ModuleParts → Type 0) (distinct : Bool) (config : Config) (bytes left : List ℕ) (answer : Result ModuleParts Error) → ((m : ModuleParts) → Holds (as_drawn m) → Holds m) → Returns is_lack (λ m. (as_drawn m, left)) answer (module_at distinct config bytes)
     → IfErr answer (λ e. e ≡ errors.Memory) → IfOk (module_at distinct config bytes) (λ drawn. Holds drawn.0) → MatchResult answer Holds (λ e. e ≡ errors.Memory)
 answered Holds distinct config bytes left (Ok m) keeps given memory held = keeps m (subst (λ (read : Result (ModuleParts × List ℕ) Error). IfOk read (λ drawn. Holds drawn.0)) given held)
 answered Holds distinct config bytes left (Err e) keeps given memory held = memory

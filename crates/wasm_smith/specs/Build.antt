@@ -1,7 +1,7 @@
 -- The module that the bytes produce, step by step, and the bytes that each step leaves: the
 -- definition for `exact` of `Module::new`. The properties of a module are stated separately, and do
 -- not depend on it.
-use Rattle.std.specs.Prelude.{◌≡◌, ℕ, ◌+◌, ◌-◌, Bool, true, ◌||◌, is_some, Option, Some, None, List, [], length, Result, Ok, Err, if◌then◌else◌}
+use Rattle.std.specs.Prelude.{ℕ, ◌+◌, ◌-◌, Bool, true, ◌||◌, is_some, Option, Some, None, List, [], length, Result, Ok, Err, if◌then◌else◌}
 use Rattle.smith_bytes.specs.declared.error.Error.{Error}
 use Rattle.smith_bytes.specs.declared.error.Error.TheVariants as errors
 use Rattle.smith_bytes.specs.declared.error.Why.{Why}
@@ -12,7 +12,7 @@ use Rattle.smith_config.specs.declared.shape.Shape.{Shape}
 use Rattle.smith_config.specs.Features.{features_of}
 use Rattle.smith_draw.specs.RecGroups.{types_at}
 use Rattle.smith_imports.specs.Importing.{imports_at}
-use Rattle.smith_bytes.specs.Steps.{◌>>=◌, section_flag_at}
+use Rattle.smith_bytes.specs.Steps.{section_flag_at, Returns, is_lack}
 use Rattle.smith_contents.specs.AllExports.{exports_at}
 use Rattle.smith_rules.specs.ExportedItems.{exported_size}
 use Rattle.smith_contents.specs.declared.exported.Exports.{Exports}
@@ -140,15 +140,7 @@ parts_of config drawn =
 abbrev pub as_drawn : ModuleParts → ModuleParts
 as_drawn m = record m { interesting_values32 = []; interesting_values64 = [] }
 
--- Drawing returns the result of `read`, with the bytes left, except if memory runs out or there is
--- nothing to choose from. Separate clauses state when these two may occur.
-abbrev pub GivesOrLacks : {X Y : Type 0} → (X → Y) → Result X Error → Result Y Error → Type 0
-GivesOrLacks view (Ok x) read = read ≡ Ok (view x)
-GivesOrLacks view (Err errors.Memory) read = Unit {0}
-GivesOrLacks view (Err errors.EmptyChoose) read = Unit {0}
-GivesOrLacks view (Err e) read = read ≡ Err e
-
 -- an answer is the module that a configuration and bytes produce, with the bytes left, or their
 -- refusal; this holds for a configuration for which a module can be drawn
 pub record IsGiven (distinct : Bool) (config : Config) (bytes : List ℕ) (answer : Result ModuleParts Error) (left : List ℕ) : Type 0 where
-  pub exact : MayGive config → GivesOrLacks (λ m. (as_drawn m, left)) answer (module_at distinct config bytes)
+  pub exact : MayGive config → Returns is_lack (λ m. (as_drawn m, left)) answer (module_at distinct config bytes)

@@ -10,7 +10,7 @@ ghost use Rattle.smith_types.specs.Imports.{imported_spaces};
 ghost use Rattle.smith_defined.specs.Defined.{drawn_beside, nothing_defined};
 ghost use Rattle.smith_rules.specs.Refusals.{AreShapesValid};
 ghost use Rattle.smith_defined.specs.Required.{MayRefuseRequired};
-ghost use Rattle.smith_defined.specs.RequiredExports.{Answers};
+ghost use Rattle.smith_bytes.specs.Steps.{Returns, is_memory};
 
 use crate::build::drawn::Drawn;
 use smith_bytes::{Error, Unstructured};
@@ -33,7 +33,7 @@ pub(crate) fn begin_with_module(
     requires sanitized { IsSanitized config.now }
     requires valid { IsShapeValid ModuleShape config.now shape.now }
     requires nothing { HasNothing drawn.old }
-    ensures exact { Answers (λ _. (begun_of drawn.new, u.new)) result (begun_by_module_at config.now shape.now u.old) }
+    ensures exact { Returns is_memory (λ _. (begun_of drawn.new, u.new)) result (begun_by_module_at config.now shape.now u.old) }
     ensures begun { OnOk result (IsBegunByModule config.now shape.now drawn.new) }
     ensures refusal { IfErr result (MayRefuseRequired config.now (drawn_beside config.now (shape_types shape.now) (imported_spaces (shape_imports shape.now)) nothing_defined) shape.now) }
     ensures left { KeepsPieces u.old u.new }
@@ -88,7 +88,7 @@ pub(crate) fn begin(
     requires sanitized { IsSanitized config.now }
     requires valid { AreShapesValid config.now }
     requires nothing { HasNothing drawn.old }
-    ensures exact { Answers (λ _. (begun_of drawn.new, u.new)) result (begun_at config.now u.old) }
+    ensures exact { Returns is_memory (λ _. (begun_of drawn.new, u.new)) result (begun_at config.now u.old) }
     ensures begun { OnOk result (IsBegun config.now u.old drawn.new) }
     ensures refusal { IfErr result (MayRefuseBegun config.now) }
     ensures left { KeepsPieces u.old u.new }

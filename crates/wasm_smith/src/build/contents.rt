@@ -6,14 +6,14 @@ ghost use Rattle.smith_types.specs.Floats.{HasNoFloat};
 ghost use Rattle.smith_types.specs.IndexSpaces.{spaces_in};
 ghost use Rattle.smith_config.specs.Faults.{Passes};
 ghost use Rattle.smith_config.specs.Sanitized.{IsSanitized};
-ghost use Rattle.wasm_smith.specs.Build.{GivesOrLacks, in_full};
+ghost use Rattle.smith_bytes.specs.Steps.{Returns, is_lack, ReturnsWhy};
+ghost use Rattle.wasm_smith.specs.Build.{in_full};
 ghost use Rattle.wasm_smith.specs.DrawnSteps.{AreExportsDrawn, drawn_next};
 ghost use Rattle.smith_defined.specs.Defined.{drawn_beside};
 ghost use Rattle.smith_rules.specs.Refusals.{AreShapesValid, MayRefuse};
 ghost use Rattle.wasm_smith.specs.Contents.{MayHoldContents, MayRefuseContents};
 ghost use Rattle.wasm_smith.specs.DrawnContents.{TellsImported, AreExportsMade, AreContents, HasGrantedContents, HasNoFloatContents, imported_in, behind_exports_at};
 ghost use Rattle.smith_imports.specs.Imported.{spaces_of};
-ghost use Rattle.smith_bytes.specs.Steps.{Gives};
 
 use crate::build::drawn::Drawn;
 use crate::build::section_flag::draw_section_flag;
@@ -82,7 +82,7 @@ pub(crate) fn draw_behind_exports(
     requires may { MayHoldContents config.now types.now (spaces_of imported.now) imported.now.type_size }
     requires told { TellsImported (imported_in imported.now) (spaces_of imported.now) definitions.now }
     requires made { AreExportsMade config.now types.now.types (spaces_of imported.now) imported.now.type_size made }
-    ensures exact { Gives (λ contents. (contents, u.new)) result (behind_exports_at config.now types.now.types (imported_in imported.now) (spaces_of imported.now) made u.old) }
+    ensures exact { ReturnsWhy (λ contents. (contents, u.new)) result (behind_exports_at config.now types.now.types (imported_in imported.now) (spaces_of imported.now) made u.old) }
     ensures kept { IfOk result (AreContents config.now types.now.types (imported_in imported.now) (spaces_of imported.now) imported.now.type_size) }
     ensures exports { IfOk result (λ contents. contents.exports ≡ made.exports) }
     ensures floats { config.now.allow_floats ≡ false → All HasNoFloat types.now.types → IfOk result HasNoFloatContents }
@@ -121,7 +121,7 @@ pub(crate) fn draw_contents(
     requires valid { AreShapesValid config.now }
     requires drawn { AreExportsDrawn config.now drawn.now }
     requires made { AreExportsMade config.now drawn.now.types.types (spaces_in drawn.now.imported.spaces) drawn.now.imported.type_size made }
-    ensures exact { GivesOrLacks (λ contents. (contents, u.new)) result (in_full (behind_exports_at config.now drawn.now.types.types (imported_in drawn.now.imported) (spaces_in drawn.now.imported.spaces) made u.old)) }
+    ensures exact { Returns is_lack (λ contents. (contents, u.new)) result (in_full (behind_exports_at config.now drawn.now.types.types (imported_in drawn.now.imported) (spaces_in drawn.now.imported.spaces) made u.old)) }
     ensures kept { IfOk result (AreContents config.now drawn.now.types.types (imported_in drawn.now.imported) (spaces_in drawn.now.imported.spaces) drawn.now.imported.type_size) }
     ensures exports { IfOk result (λ contents. contents.exports ≡ made.exports) }
     ensures floats { config.now.allow_floats ≡ false → All HasNoFloat drawn.now.types.types → IfOk result HasNoFloatContents }

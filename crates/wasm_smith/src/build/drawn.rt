@@ -6,7 +6,8 @@ ghost use Rattle.smith_config.specs.Faults.{Passes};
 ghost use Rattle.smith_config.specs.Sanitized.{IsSanitized};
 ghost use Rattle.wasm_smith.specs.Begun.{HasNothing};
 ghost use Rattle.smith_rules.specs.Bounds.{KeepsBounds, MeetsMinimums};
-ghost use Rattle.wasm_smith.specs.Build.{GivesOrLacks, parts_of, as_drawn, module_at};
+ghost use Rattle.smith_bytes.specs.Steps.{Returns, is_lack};
+ghost use Rattle.wasm_smith.specs.Build.{parts_of, as_drawn, module_at};
 ghost use Rattle.wasm_smith.specs.DrawnParts.{IsDrawnFor};
 ghost use Rattle.smith_rules.specs.InterestingValues.{HasInterestingValues};
 ghost use Rattle.smith_rules.specs.Module.{IsValid};
@@ -76,7 +77,7 @@ fn draw_parts(
     requires sanitized { IsSanitized config.now }
     requires valid { AreShapesValid config.now }
     requires nothing { HasNothing drawn.old }
-    ensures exact { GivesOrLacks (λ _. (as_drawn (parts_of config.now drawn.new), u.new)) result (module_at distinct config.now u.old) }
+    ensures exact { Returns is_lack (λ _. (as_drawn (parts_of config.now drawn.new), u.new)) result (module_at distinct config.now u.old) }
     ensures drawn { OnOk result (IsDrawnFor distinct config.now drawn.new) }
     ensures kept { OnOk result (KeepsShapes config.now u.old (parts_of config.now drawn.new)) }
     ensures refusal { IfErr result (MayRefuse config.now) }
@@ -110,7 +111,7 @@ pub(crate) fn draw(
     requires passes { Passes config.now }
     requires sanitized { IsSanitized config.now }
     requires valid { AreShapesValid config.now }
-    ensures exact { GivesOrLacks (λ drawn. (as_drawn (parts_of config.now drawn.value), u.new)) result (module_at distinct config.now u.old) }
+    ensures exact { Returns is_lack (λ drawn. (as_drawn (parts_of config.now drawn.value), u.new)) result (module_at distinct config.now u.old) }
     ensures valid { IfOk result (λ drawn. IsValid (parts_of config.now drawn.value)) }
     ensures bounds { IfOk result (λ drawn. KeepsBounds config.now (parts_of config.now drawn.value)) }
     ensures minimums { IfOk result (λ drawn. MeetsMinimums config.now (parts_of config.now drawn.value)) }

@@ -9,7 +9,8 @@ ghost use Rattle.smith_config.specs.InUse.{shapes_of};
 ghost use Rattle.smith_config.specs.Sanitized.{IsSanitized};
 ghost use Rattle.smith_config.specs.Shapes.{shape_spaces, shape_types};
 ghost use Rattle.wasm_smith.specs.Begun.{begun_of};
-ghost use Rattle.wasm_smith.specs.Build.{GivesOrLacks, exported_at, exports_of};
+ghost use Rattle.smith_bytes.specs.Steps.{Returns, is_lack};
+ghost use Rattle.wasm_smith.specs.Build.{exported_at, exports_of};
 ghost use Rattle.wasm_smith.specs.DrawnContents.{AreExportsMade};
 ghost use Rattle.wasm_smith.specs.DrawnSteps.{AreEntitiesDrawn, AreExportsDrawn, HasSameImports, IsBeyond};
 ghost use Rattle.smith_rules.specs.Refusals.{AreShapesValid, MayRefuse};
@@ -37,7 +38,7 @@ pub(crate) fn make_exports(
     requires sanitized { IsSanitized config.now }
     requires valid { AreShapesValid config.now }
     requires entities { AreEntitiesDrawn config.now drawn.old }
-    ensures exact { GivesOrLacks (λ made. (record (begun_of drawn.new) { exports = made.exports }, u.new)) result (exported_at config.now (begun_of drawn.old) u.old) }
+    ensures exact { Returns is_lack (λ made. (record (begun_of drawn.new) { exports = made.exports }, u.new)) result (exported_at config.now (begun_of drawn.old) u.old) }
     ensures size { IfOk result (λ made. made ≡ exports_of config.now (record (begun_of drawn.new) { exports = made.exports })) }
     ensures drawn { OnOk result (AreExportsDrawn config.now drawn.new) }
     ensures made { IfOk result (AreExportsMade config.now drawn.new.types.types (spaces_in drawn.new.imported.spaces) drawn.new.imported.type_size) }

@@ -5,7 +5,8 @@ ghost use Rattle.smith_bytes.specs.Source.{KeepsPieces};
 ghost use Rattle.smith_config.specs.Faults.{Passes};
 ghost use Rattle.smith_config.specs.Sanitized.{IsSanitized};
 ghost use Rattle.smith_rules.specs.Bounds.{KeepsBounds, MeetsMinimums};
-ghost use Rattle.wasm_smith.specs.Build.{GivesOrLacks, as_drawn, module_at};
+ghost use Rattle.smith_bytes.specs.Steps.{Returns, is_lack};
+ghost use Rattle.wasm_smith.specs.Build.{as_drawn, module_at};
 ghost use Rattle.smith_rules.specs.InterestingValues.{HasInterestingValues};
 ghost use Rattle.smith_rules.specs.Module.{IsValid};
 ghost use Rattle.smith_rules.specs.Promises.{KeepsPromises};
@@ -44,7 +45,7 @@ pub(crate) fn build(
     requires passes { Passes config }
     requires sanitized { IsSanitized config }
     requires valid { AreShapesValid config }
-    ensures exact { GivesOrLacks (λ m. (as_drawn m, u.new)) result (module_at distinct config u.old) }
+    ensures exact { Returns is_lack (λ m. (as_drawn m, u.new)) result (module_at distinct config u.old) }
     ensures config { IfOk result (λ m. m.config ≡ record config { available_imports = None }) }
     ensures valid { IfOk result IsValid }
     ensures bounds { IfOk result (KeepsBounds config) }

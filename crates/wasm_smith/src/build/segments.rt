@@ -6,7 +6,7 @@ ghost use Rattle.wasm_smith.specs.Contents.{MayHoldContents, MayRefuseContents};
 ghost use Rattle.wasm_smith.specs.DrawnContents.{TellsImported, AreSegmentsFit, HaveNoFloatItems, imported_in, all_segments_at};
 ghost use Rattle.smith_config.specs.Granted.{HasGroundedItems, HasGroundedElements};
 ghost use Rattle.smith_imports.specs.Imported.{spaces_of};
-ghost use Rattle.smith_bytes.specs.Steps.{Gives};
+ghost use Rattle.smith_bytes.specs.Steps.{ReturnsWhy};
 
 use crate::build::segment_spaces::segment_spaces;
 use smith_bytes::{Error, Unstructured};
@@ -50,7 +50,7 @@ pub(crate) fn draw_segments(
 ) -> Result<Segments, Error>
     requires may { MayHoldContents config.now types.now (spaces_of imported.now) imported.now.type_size }
     requires told { TellsImported (imported_in imported.now) (spaces_of imported.now) definitions.now }
-    ensures exact { Gives (λ segments. (segments, u.new)) result (all_segments_at config.now types.now.types (imported_in imported.now) (spaces_of imported.now) u.old) }
+    ensures exact { ReturnsWhy (λ segments. (segments, u.new)) result (all_segments_at config.now types.now.types (imported_in imported.now) (spaces_of imported.now) u.old) }
     ensures fit { IfOk result (AreSegmentsFit config.now types.now.types (imported_in imported.now) (spaces_of imported.now)) }
     ensures floats { All HasNoFloat types.now.types → IfOk result (λ segments. HaveNoFloatItems segments.elements) }
     ensures grounded { All (HasGroundedElements config.now (drawn_beside config.now types.now.types (spaces_of imported.now) definitions.now)) (spaces_of imported.now).tables
