@@ -67,7 +67,7 @@ chosen_offered types spaces left bytes of_kind after some chosen =
     let each = enabled_all P (candidate_rows types spaces left) (All-from_recursion (λ (r : ExportKind × Bool). IsTrue r.1 → P r.0) (candidate_rows types spaces left) rows) in
     subst (λ (drawn : ExportKind × List ℕ). P drawn.0) chosen (chosen_of P kind.Memory (offered_kinds types spaces left) bytes some each)
 
--- a place of 32 bits among candidates that is itself the candidate
+-- a place of 32 bits, where the candidate at each place is that place
 pub record IsOwnPlace (places : List ℕ) (place : ℕ) : Type 0 where
   pub few : place < 2 ^ 32
   pub same : place ≡ get_or places place 0
@@ -115,6 +115,6 @@ candidates_fit types spaces left kind.Tag = All-nil (IsCandidate types spaces le
 pub func_typed_at : (types : List SubType) (spaces : IndexSpaces) (index func : ℕ) → MayExport types spaces → slice_get spaces.funcs index ≡ Some func → func < length types
 func_typed_at types spaces index func may at = let (function, (t, is_at, is)) = func_valid_at types spaces index func may at in slice_get_within types func t is_at
 
--- the item that a look-up inside a list finds
+-- a look-up inside a list finds an item
 pub func_here : (funcs : List ℕ) (index func : ℕ) → index < length funcs → func ≡ get_or funcs index func → slice_get funcs index ≡ Some func
 func_here funcs index func inside is = slice_get-get_or funcs index func inside ∙ ap Some (sym is)

@@ -51,7 +51,7 @@ pub readable_tell : (context : Context) (wide : Bool) (globals : List ℕ) → (
 readable_tell context wide globals readable =
     All-weaker (Contains globals) (λ index. IsVisible context index (address_type wide)) (λ index inside. readable_tells context wide index ((readable index).0 inside)) globals (All-contains_itself globals)
 
--- and from those of both widths
+-- an offset may be read from the globals of both widths
 pub both_tell : (context : Context) (wide : Bool) (globals32 globals64 : List ℕ) → TellOffsets context false globals32 → TellOffsets context true globals64 → TellOffsets context wide (cond wide globals64 globals32)
 both_tell context true globals32 globals64 narrow broad = broad
 both_tell context false globals32 globals64 narrow broad = narrow
@@ -84,7 +84,8 @@ page_fits : (features : Features) (stated : Option ℕ) → IfSome stated (λ lo
 page_fits features None size = omega arith
 page_fits features (Some log2) size = elim size.0 [ inl bytes ↦ omega (arith, bytes) | inr pages ↦ omega (arith, pages) ]
 
--- and so has each memory that segments may be copied into
+-- each memory that segments may be copied into has pages of 64 KiB, or of the stated number of
+-- bytes
 pub target_pages : (features : Features) (memories : List MemoryType) (targets : List Indexed) → All (IsMemoryValid features) memories → All (StandsIn memories) targets → All HasPages targets
 target_pages features memories targets valid stand =
     All-weaker (StandsIn memories) HasPages (λ one at. page_fits features one.1.page_size_log2 (stands_in (IsMemoryValid features) memories one.0 one.1 at valid).page_size) targets stand

@@ -71,7 +71,7 @@ counting_done {memories = memories} {index = index} {drawn = drawn} {bytes = byt
 pub counting_begin : (memories : List MemoryType) (drawn : Indices) (bytes : List ℕ) → drawn ≡ record { end = 0; offered = [] } → IsCounting memories 0 drawn bytes bytes
 counting_begin memories drawn bytes none = rw none (record { end = refl; within = All-nil (λ one. one < length memories); so_far = refl; left = λ whole h. h })
 
--- memories exist whose indices are small enough
+-- memories exist if their indices are small enough
 pub indexed_stand : (memories : List MemoryType) (indices : List ℕ) → All (λ one. one < length memories) indices → All (StandsIn memories) (indexed memories indices)
 indexed_stand memories indices within =
     All-map (StandsIn memories) (λ index. (index, get_or memories index no_memory.1)) indices

@@ -1,4 +1,4 @@
--- The number of element segments: at least the minimum, and none if a piece says so.
+-- The number of element segments: at least the minimum, and none from a piece that spells none.
 use Rattle.std.proofs.Common.{◌≡◌, ℕ, zero, suc, ◌+◌, ◌≤◌, Bool, true, false, cond, List, [], ◌∷◌, ◌++◌, length, ltb, eqb, refl, arith, length-append}
 use Rattle.std.specs.Prelude.{◌==◌, Result, Ok, Err, IfOk, if◌then◌else◌}
 use Rattle.std.proofs.lemmas.Bool.{cond_both, eqb-true, ltb-false, lt-ltb}
@@ -20,7 +20,7 @@ use Rattle.smith_bytes.specs.Steps.{ReturnsWhy, ◌>>=◌}
 use Rattle.smith_contents.specs.declared.element_kinds.KindChoice.TheVariants.{Passive, Declared}
 use Rattle.smith_bytes.proofs.StepLemmas.{given_takes}
 
--- a property of the next step after every result of a step holds after the step
+-- a property that the next step has for every result of a step holds after both
 behind : {A B : Type 0} (P : B → Type 0) (first : Result A Why) (next : A → Result B Why) → ((x : A) → IfOk (next x) P) → IfOk (first >>= next) P
 behind P (Ok x) next each = each x
 behind P (Err why) next each = tt
@@ -51,7 +51,7 @@ elements_least config context tables bytes ordered =
     (λ none. cond_both (eqb config.min_element_segments 0) _ _ Given (λ asked. let zero_asked = eqb-true config.min_element_segments 0 asked in omega arith) (λ some. tt))
     (λ some. segments_least config context kinds.0 config.max_element_segments [] kinds.1 (omega arith))
 
--- a piece that says that there is no segment is read
+-- a piece that spells that there is no segment is read
 segments_none : (config : Config) (context : Context) (kinds : List KindChoice) (most : ℕ) (piece after : List ℕ) → config.min_element_segments ≡ 0 → SpellsNone most piece → element_segments_at config context kinds most [] (piece ++ after) ≡ Ok ([], after)
 unfolding element_segments_at
 segments_none config context kinds zero piece after none spelled = rw spelled refl
@@ -70,7 +70,7 @@ pub elements_none : (config : Config) (context : Context) (tables : List TableTy
 unfolding elements_at element_kinds_at table_kinds_at
 elements_none config context tables segments piece after none empty h = rw (empty, h.none) (none_by config context config.bulk_memory_enabled piece after none h.spelled)
 
--- and taken, if there is no table
+-- if there is no table, that piece is taken
 pub elements_taken : (config : Config) (context : Context) (tables : List TableType) (old new : List ℕ) (result : Result (List ElementSegment) Error) → config.min_element_segments ≡ 0 → tables ≡ [] → ReturnsWhy (λ segments. (segments, new)) result (elements_at config context tables old)
     → IfOk result (λ segments. Takes (SpellsEmpty (SpellsNone (if config.bulk_memory_enabled then config.max_element_segments else 0))) old segments new)
 elements_taken config context tables old new result none empty given =

@@ -43,7 +43,7 @@ expressions_fit config context ty most bytes after (Ok items) references within 
     record { valid = (references, typed); enough = inl (drawn_is (λ (made : List (List ConstInstr)). config.min_elements ≤ length made) _ enough drawn); floats = floats }
 expressions_fit config context ty most bytes after (Err e) references within drawn typed floats = tt
 
--- fewer items end within a limit if more do
+-- fewer items end within a limit if more items do
 fewer_inside : (offset : Offset) (count most least : ℕ) → count ≤ most → IsOffsetInside offset most least → IsOffsetInside offset count least
 fewer_inside (Const32 value) count most least few inside = omega (arith, few, inside)
 fewer_inside (Const64 value) count most least few inside = omega (arith, few, inside)

@@ -67,7 +67,7 @@ item_type_may config spaces (choice.Active index table) bytes may offered =
       enabled = matching_enabled config (standing_in config spaces) table.element_type bytes config.gc_enabled refl may.sanitized offered.valid.element_enabled;
     }
 
--- a wanted non-nullable reference that is not grounded is an element of a table
+-- a required non-nullable reference that is not grounded is an element of a table
 pub item_type_needed : (config : Config) (context : Context) (tables : List TableType) (kind : KindChoice) (bytes : List ℕ) → IsOrderly context.types → IsKindOffered config context.types tables kind → IsUngrounded config context (Ref (item_type_at config context kind bytes).0)
     → HasUngroundedElements config context tables
 unfolding item_type_at

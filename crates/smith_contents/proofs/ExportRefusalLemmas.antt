@@ -30,12 +30,12 @@ use Rattle.smith_contents.proofs.CandidateLemmas.{length_alike}
 use Rattle.smith_bytes.proofs.StepLemmas.{given_takes}
 use Rattle.smith_draw.proofs.FuncSizeLemmas.{small_at}
 
--- if nothing is enabled, the first is not, nor another
+-- if no item is enabled, neither the first nor a later one is
 off_by : {A : Type 0} (x : A) (b : Bool) (rest : List (A × Bool)) → length (enabled ((x, b) ∷ rest)) ≡ 0 → (b ≡ false) × (length (enabled rest) ≡ 0)
 off_by x true rest none = absurd (omega arith)
 off_by x false rest none = (refl, none)
 
--- if more than 42 is left, a kind without candidates has no item
+-- if more than 42 of the type size is left, a kind without candidates has no item
 none_of_kind : {A : Type 0} (left : ℕ) (xs : List A) → 42 < left → nat_lt 0 (length (places_from (λ x. nat_lt 2 left) 0 xs)) ≡ false → length xs ≡ 0
 none_of_kind left xs much none =
     let on : nat_lt 2 left ≡ true = lt-ltb 2 left (omega arith) in
@@ -109,7 +109,7 @@ pub no_export_read : (config : Config) (types : List SubType) (spaces : IndexSpa
 unfolding free_exports_at
 no_export_read config types spaces imports exports piece after none h = rw (no_exports_by config types spaces imports config.max_exports piece after none h.spelled, none, h.none) refl
 
--- a piece that says that there is no export is taken
+-- a piece that spells that there is no export is taken
 pub no_export_taken : (config : Config) (types : List SubType) (spaces : IndexSpaces) (imports : ℕ) (old new : List ℕ) (result : Result Exports Error) → config.min_exports ≡ 0 → ReturnsWhy (λ (made : Exports). (made.exports, new)) result (free_exports_at config types spaces imports old)
     → IfOk result (λ made. Takes (SpellsEmpty (SpellsNone config.max_exports)) old made.exports new)
 no_export_taken config types spaces imports old new result none given =
@@ -121,7 +121,7 @@ pub exports_all : (config : Config) (types : List SubType) (spaces : IndexSpaces
 unfolding exports_at
 exports_all config types spaces imports bytes on = ap (λ (all : Bool). if all then everything_at config types spaces imports bytes else free_exports_at config types spaces imports bytes) on
 
--- and otherwise exports are drawn freely
+-- exports are drawn freely unless the configuration exports everything
 pub exports_free : (config : Config) (types : List SubType) (spaces : IndexSpaces) (imports : ℕ) (bytes : List ℕ) → config.export_everything ≡ false → exports_at config types spaces imports bytes ≡ free_exports_at config types spaces imports bytes
 unfolding exports_at
 exports_free config types spaces imports bytes off = ap (λ (all : Bool). if all then everything_at config types spaces imports bytes else free_exports_at config types spaces imports bytes) off

@@ -40,7 +40,7 @@ count_all most (x ∷ numbers) all =
 not_le : (n k : ℕ) → k < n → nat_le n k ≡ false
 not_le n k less = elim (leb_tells n k) [ inl never ↦ absurd (omega (arith, never)) | inr (above, under) ↦ above ]
 
--- a greater number after them is not
+-- a greater number after these is not counted
 count_other : (n most : ℕ) (numbers : List ℕ) → most < n → count_up_to most (numbers ++ n ∷ []) ≡ count_up_to most numbers
 count_other n most [] above = rw (not_le n most above) refl
 count_other n most (x ∷ numbers) above = rw (count_other n most numbers above) refl

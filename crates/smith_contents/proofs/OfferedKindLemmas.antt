@@ -152,7 +152,7 @@ module _ (config : Config) (tables : List TableType) (indices : List ℕ) (kept 
       let alone = one_alone (begin_first indices && is_funcref (table_at tables 0).element_type) (choice.Active None (table_at tables 0)) choice.Passive (place - length (kept_kinds config)) (omega (arith, at, inside)) in
       ap (λ (one : TableType). choice.Active None one) same ∙ sym (found ∙ alone)
 
-  -- after these, tables by their indices
+  -- after the first table without its index, tables by their indices
   pub named_found : kept + unnamed ≤ place → place < length (kinds_over config tables indices)
       → choice.Active (Some (get_or indices (place - kept - unnamed) 0)) (table_at tables (get_or indices (place - kept - unnamed) 0)) ≡ get_or (kinds_over config tables indices) place choice.Passive
   named_found from inside =

@@ -20,7 +20,7 @@ use Rattle.smith_contents.specs.DataTargets.{TellOffsets}
 use Rattle.smith_contents.specs.OffsetGlobals.{is_address, tells_offset, telling_from}
 use Rattle.smith_contents.proofs.DataSegmentLemmas.{readable_tell}
 
--- only the address type itself is below it
+-- only the address type itself is a subtype of it
 address_below : (types : List SubType) (wide : Bool) (value : ValType) → is_address wide value ≡ is_val_below types value (address_type wide)
 address_below types true I32 = refl
 address_below types true I64 = refl

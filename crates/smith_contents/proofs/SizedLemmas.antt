@@ -24,6 +24,6 @@ few_inner (inners.Struct structure) few = omega arith
 pub small_sized : (types : List SubType) → All IsSmall types → All HasSizeIn32Bits types
 small_sized types small = All-weaker IsSmall HasSizeIn32Bits (λ t h. small_inner t.composite_type.inner h) types small
 
--- so are types with no more parameters and results than a shape may list
+-- types with no more parameters and results than a shape may list are such types
 pub few_sized : (types : List SubType) → All (HasFewValues most_listed) types → All HasSizeIn32Bits types
 few_sized types few = All-weaker (HasFewValues most_listed) HasSizeIn32Bits (λ t h. few_inner t.composite_type.inner h) types few

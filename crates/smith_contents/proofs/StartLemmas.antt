@@ -1,5 +1,5 @@
--- A drawn start function has no parameters and no results, and there is none if none is allowed or
--- a piece says so.
+-- A drawn start function has no parameters and no results, and there is none if none is allowed, or
+-- from a piece that spells none.
 use Rattle.std.proofs.Common.{◌≡◌, ◌∙◌, ℕ, Bool, true, false, ◌&&◌, cond, nat_lt, List, [], ◌++◌, length, Option, Some, None, refl, ap}
 use Rattle.std.specs.Prelude.{◌==◌, All, slice_get, option_to_list}
 use Rattle.std.specs.List.{list_any}

@@ -22,8 +22,8 @@ exports_of_items config types spaces imports (item ∷ items) exports bytes =
 unfoldable pub everything_at : Config → List SubType → IndexSpaces → ℕ → List ℕ → Result (List Export × List ℕ) Why
 everything_at config types spaces imports bytes = exports_of_items config types spaces imports (every_item spaces) [] bytes
 
--- the exports of a module, given the amount that its imports add to the type size: of every item if
--- the configuration says so, else drawn freely
+-- the exports of a module, for the amount that its imports add to the type size: of every item with
+-- `export_everything`, else drawn freely
 unfoldable pub exports_at : Config → List SubType → IndexSpaces → ℕ → List ℕ → Result (List Export × List ℕ) Why
 exports_at config types spaces imports bytes =
     if config.export_everything then everything_at config types spaces imports bytes

@@ -31,8 +31,7 @@ may_hold_data_at memory bytes =
 abbrev pub Indexed : Type 0
 Indexed = ℕ × MemoryType
 
--- the memories so far, followed by those that segments may be copied into of the memories from an
--- index on
+-- the memories so far, followed by the memories from an index on that segments may be copied into
 unfoldable pub counting_at : List Indexed → ℕ → List MemoryType → List ℕ → List Indexed × List ℕ
 counting_at so_far index [] bytes = (so_far, bytes)
 counting_at so_far index (memory ∷ memories) bytes =
@@ -98,7 +97,7 @@ placed_at no_traps globals memory init bytes =
     if place.0 == 0 then constant_placed_at no_traps memory init place.1
     else ((Global (slice_index globals (place.0 - 1)), init), place.1)
 
--- a memory without a page, for a choice from nothing
+-- a memory without a page, if there is no memory to choose from
 abbrev pub no_memory : Indexed
 no_memory = (0, record { minimum = 0; maximum = None; memory64 = false; shared = false; page_size_log2 = None })
 
@@ -111,7 +110,7 @@ active_at config targets init bytes =
     (record { kind = Active target.0.0 placed.0.0; init = placed.0.1 }, placed.1)
 
 -- whether a segment is passive: only with bulk memory, and then if no memory may be copied into or
--- a drawn bool says so
+-- a drawn bool is true
 unfoldable pub passive_at : Config → Targets → List ℕ → Bool × List ℕ
 passive_at config targets bytes =
     if config.bulk_memory_enabled then (if length targets.memories == 0 then (true, bytes) else bool_at bytes)

@@ -13,7 +13,7 @@ use Rattle.smith_draw.specs.Locals.{locals_at}
 unfoldable pub raw_bytes_at : List ℕ → Instructions × List ℕ
 raw_bytes_at bytes = let len = len_at bytes in (Arbitrary (take len.0 len.1), drop len.0 len.1)
 
--- whether a body is raw bytes: if bodies may be invalid, a drawn bool says so
+-- whether a body is raw bytes: a drawn bool if bodies may be invalid, else false
 unfoldable pub is_raw_at : Config → List ℕ → Bool × List ℕ
 is_raw_at config bytes = if config.allow_invalid_funcs then bool_at bytes else (false, bytes)
 

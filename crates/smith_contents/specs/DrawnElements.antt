@@ -34,7 +34,7 @@ use Rattle.smith_rules.specs.Held.{HasItems, expressions_of}
 use Rattle.smith_contents.specs.declared.element_kinds.KindChoice.{KindChoice}
 use Rattle.smith_contents.specs.declared.element_kinds.KindChoice.TheVariants as choice
 
--- a valid table that a segment may be copied into, if the segment names it in this way
+-- a valid table that a segment may be copied into, with its index, or without for the first table
 pub record IsTarget (config : Config) (types : List SubType) (tables : List TableType) (index : Option ℕ) (table : TableType) : Type 0 where
   pub valid : IsTableValid (features_of config) types table
   pub stands : slice_get tables (table_index index) ≡ Some table
@@ -82,7 +82,7 @@ pub record MayHoldItems (config : Config) (spaces : Spaces) (ty : RefType) : Typ
   pub valid : IsRefTypeValid (features_of config) (length spaces.types.now.types) ty
   pub enabled : IsElementEnabled (features_of config) ty
 
--- items of a type: valid, enough, and without a float constant if no type holds a float
+-- items of a type are valid and enough, and have no float constant if no type holds a float
 pub record AreItemsFit (config : Config) (context : Context) (ty : RefType) (items : Elements) : Type 0 where
   pub valid : AreItemsValid context ty items
   pub enough : HasItems config context.types context.funcs items

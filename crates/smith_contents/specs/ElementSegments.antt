@@ -54,7 +54,7 @@ is_offered_at table bytes =
     if nat_lt 0 table.minimum then (true, bytes)
     else (let chance = range_at 0 10 bytes in (chance.0 == 0, chance.1))
 
--- the first table is offered without its index if it is of functions
+-- the first table is offered without its index if its elements are functions
 abbrev pub with_unnamed : ℕ → TableType → List KindChoice → List KindChoice
 with_unnamed index table choices =
     if (index == 0) && is_funcref table.element_type then choices ++ choice.Active None table ∷ [] else choices
@@ -144,7 +144,7 @@ abbrev pub unshared_funcs : List SubType → List ℕ → List ℕ
 unshared_funcs types funcs = places_from (is_unshared_type types) 0 funcs
 
 -- whether items are listed as functions: always without reference types, else if they are of
--- functions and a drawn bool says so
+-- functions and a drawn bool is true
 unfoldable pub are_functions_at : Config → RefType → List ℕ → Bool × List ℕ
 are_functions_at config ty bytes =
     if not config.reference_types_enabled then (true, bytes)

@@ -45,7 +45,7 @@ pub record MayOffer (types : List SubType) (spaces : IndexSpaces) (most : ℕ) :
   pub items : MayExport types spaces
   pub within : All (IsFuncWithin types most) spaces.funcs
 
--- exports may be drawn, given the amount that the imports add to the type size: the minimums of
+-- exports may be drawn, for the amount that the imports add to the type size: the minimums of
 -- tables, memories and globals are met, and without shapes function types are small, and an import
 -- adds at most 42
 pub record MayExportFreely (config : Config) (types : List SubType) (spaces : IndexSpaces) (imports : ℕ) : Type 0 where
@@ -89,7 +89,7 @@ MayRefuseFree config e = (e ≡ errors.Memory) ⊎ ((e ≡ errors.IncorrectForma
 abbrev pub MayRefuseAll : Error → Type 0
 MayRefuseAll e = (e ≡ errors.Memory) ⊎ (e ≡ errors.IncorrectFormat TypeSize)
 
--- exports may be drawn, given the amount that the imports add to the type size, and no shape fixes
+-- exports may be drawn, for the amount that the imports add to the type size, and no shape fixes
 -- them
 pub record MayDrawExports (config : Config) (types : List SubType) (spaces : IndexSpaces) (imports : ℕ) : Type 0 where
   pub not_fixed : FixesExports config → ⊥

@@ -79,8 +79,8 @@ export_at types spaces left exports bytes =
     let index = chosen_at 0 (candidates types spaces left of_kind.0) of_kind.1 in
     ((name.0, of_kind.0, index.0), index.1)
 
--- at most `most` more exports after others, given the amount that the imports add to the type size:
--- without a draw while there are too few, and while there is a candidate
+-- at most `most` more exports after others, for the amount that the imports add to the type size:
+-- without a drawn bool while there are too few, and only while there is a candidate
 unfoldable pub exports_from : Config → List SubType → IndexSpaces → ℕ → ℕ → List Export → List ℕ → List Export × List ℕ
 exports_from config types spaces imports zero exports bytes = (exports, bytes)
 exports_from config types spaces imports (suc most) exports bytes =

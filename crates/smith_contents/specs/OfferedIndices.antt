@@ -18,8 +18,7 @@ abbrev pub first_offered : List ℕ → ℕ → List ℕ
 first_offered skipped zero = []
 first_offered skipped (suc count) = first_offered skipped count ++ (count + count_up_to count skipped) ∷ []
 
--- `count` indices are offered, and those left out are given by the number of offered ones below
--- each
+-- `count` indices are offered; those left out are recorded by the number of offered ones below each
 abbrev pub indices_beside : ℕ → List ℕ → Indices
 indices_beside count skipped = record { end = count + length skipped; offered = first_offered skipped count }
 

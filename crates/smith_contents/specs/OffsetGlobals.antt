@@ -15,11 +15,11 @@ is_address wide _ = false
 abbrev pub tells_offset : Bool → GlobalType → Bool
 tells_offset wide global = not global.mutable && is_address wide global.val_type
 
--- the indices, from a start on, of those of these globals that an offset may be read from
+-- the indices, from a start on, of the globals that an offset may be read from
 abbrev pub telling_from : Bool → ℕ → List GlobalType → List ℕ
 telling_from wide start globals = each_from (λ index (global : GlobalType). offered_if (tells_offset wide global) index) start globals
 
--- these globals, few enough for indices, are counted
+-- the number of these globals that an offset may be read from; all have indices of 32 bits
 pub record AreCounted (wide : Bool) (globals : List GlobalType) (count : ℕ) : Type 0 where
   pub counted : count ≡ length (telling_from wide 0 globals)
   pub within : count ≤ length globals

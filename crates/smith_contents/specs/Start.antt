@@ -11,8 +11,8 @@ use Rattle.smith_draw.specs.TypeUses.{places_from, is_start_type}
 abbrev pub start_funcs : List SubType → List ℕ → List ℕ
 start_funcs types funcs = places_from (is_start_type types) 0 funcs
 
--- whether one of a number of functions starts the module: if that is allowed and there is one, a
--- drawn bool says so
+-- whether one of a number of functions starts the module: a drawn bool if that is allowed and there
+-- is one, else false
 unfoldable pub start_wanted_at : Config → ℕ → List ℕ → Bool × List ℕ
 start_wanted_at config count bytes = if config.allow_start_export && nat_lt 0 count then bool_at bytes else (false, bytes)
 

@@ -17,7 +17,7 @@ use smith_draw::{KeptGrounds, Spaces, Standing, draw_locals};
 use smith_types::{Code, Instructions, Items};
 use std::alloc::Global;
 
-/// Draws a length, and takes that number of bytes as a raw body.
+/// Draws a length, then takes a raw body of that number of bytes.
 #[tactic(auto, unfolding(crate::specs::DrawnBodies::raw_bytes_at))]
 fn draw_raw_bytes(alloc: Global, u: &mut Unstructured<'_>) -> Result<Instructions, Error>
     ensures { Draws (raw_bytes_at u.old) result u.old u.new }

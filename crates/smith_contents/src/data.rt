@@ -250,7 +250,7 @@ fn draw_data(
 /// # Errors
 ///
 /// `Unmet(DataSegments)` if `config` requires segments, bulk memory is off, and no memory may be
-/// copied into. A memory with a minimum of 0 may be copied into only if a drawn number says so.
+/// copied into. Whether a memory with a minimum of 0 may be copied into depends on a drawn number.
 pub fn arbitrary_data(
     alloc: Global,
     config: &Config,

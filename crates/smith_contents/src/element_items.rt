@@ -87,8 +87,8 @@ fn is_unshared_type(types: &[SubType], index: u32) -> bool
     }
 }
 
-/// Offers the indices of those of `funcs` whose types are not shared. There are fewer than 2^32
-/// functions.
+/// Offers the indices of the functions of `funcs` whose types are not shared. There are fewer than
+/// 2^32 functions.
 fn offer_unshared(alloc: Global, types: &[SubType], funcs: &[u32]) -> Result<OfferedIndices, Error>
     requires few { length funcs.now < 2 ^ 32 }
     ensures exact { IfOk result (λ unshared. unshared.offered ≡ unshared_funcs types.now funcs.now) }

@@ -54,7 +54,7 @@ impl<'a> OffsetGlobals<'a> {
         }
     }
 
-    /// Returns the number of these globals.
+    /// Returns the number of globals that the offset may be read from.
     pub(crate) fn len(&self) -> usize
         ensures { result ≡ length self.now }
     {
@@ -69,7 +69,8 @@ impl<'a> OffsetGlobals<'a> {
         find_telling(self.globals, self.wide, place)
     }
 
-    /// Draws the index of one of these globals, of which there is at least one.
+    /// Draws the index of a global that the offset may be read from, of which there is at least
+    /// one.
     #[tactic(auto, unfolding(smith_draw::specs::Choices::chosen_at))]
     pub(crate) fn choose(&self, u: &mut Unstructured<'_>) -> u32
         requires { 0 < length self.now }
