@@ -30,7 +30,7 @@ use Rattle.smith_defined.proofs.DefinedTableLemmas.{initialised_at, tables_added
 use Rattle.smith_rules.proofs.InitialLemmas.{IsTableInitialised-grown}
 use Rattle.smith_defined.proofs.StandsBehindLemmas.{IsTablePlaced, defined_end, left_over, table_kept, global_kept}
 
--- the parts that initialisers refer to after functions are defined
+-- the types, functions and globals that initialisers refer to after functions are defined
 abbrev pub standing_more : List SubType → IndexSpaces → Definitions → IndexSpaces → InitialiserScope
 standing_more types before so_far later = scope_among types later.funcs (length before.funcs - so_far.num_funcs) (length before.globals - length so_far.globals) before.globals
 
@@ -59,7 +59,7 @@ stands_within stands = record {
   globals = omega (arith, defined_end stands.globals);
 }
 
--- an item of two lists is one of the first, or one of the second at its place there
+-- an item of two lists together is one of the first, or one of the second at its place there
 item_of : {A : Type 0} (xs ys : List A) (place : ℕ) (x : A) → slice_get (xs ++ ys) place ≡ Some x → (slice_get xs place ≡ Some x) ⊎ ((i : ℕ) × (place ≡ length xs + i) × (slice_get ys i ≡ Some x))
 item_of {A = A} [] ys place x at = let is : place ≡ length {A = A} [] + place = omega arith in inr (place, is, at)
 item_of (y ∷ xs) ys zero x at = inl at

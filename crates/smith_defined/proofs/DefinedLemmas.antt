@@ -1,4 +1,4 @@
--- Properties of items that are defined after imported ones, and the bytes they take, for every
+-- Properties of items that are defined after imported ones, and the bytes that they take, for every
 -- draw.
 use Rattle.std.proofs.Common.{◌≡◌, ℕ, zero, suc, ◌+◌, ◌-◌, ◌<◌, ◌≤◌, Bool, true, false, ◌&&◌, nat_lt, nat_le, max, ◌∷◌, List, [], ◌++◌, map, length, refl, arith, length-append, append_assoc, ap, lt-ltb, ◌∙◌}
 use Rattle.std.specs.Prelude.{All}

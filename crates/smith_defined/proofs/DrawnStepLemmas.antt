@@ -1,4 +1,4 @@
--- Facts that one step of drawing a module hands on to the next.
+-- Facts that one step of drawing a module provides for the next.
 use Rattle.std.proofs.Common.{inl, inr, ℕ, ◌-◌, ◌≤◌, max, List, [], length, refl, arith}
 use Rattle.std.specs.Prelude.{All}
 use Rattle.smith_bytes.specs.declared.error.Error.{Error}
@@ -22,7 +22,7 @@ use Rattle.smith_defined.specs.Definitions.{scope_among, scope_over}
 use Rattle.smith_defined.specs.declared.definitions.Definitions.{Definitions}
 use Rattle.smith_defined.proofs.ExtensionLemmas.{all_kept}
 
--- the parts that initialisers refer to are valid after functions are defined
+-- the types, functions and globals that initialisers refer to are valid after functions are defined
 pub may_initialise : (config : Config) (space : Space) (before : IndexSpaces) (so_far : Definitions) (funcs : List ℕ) → MayDefine config space before so_far → All (IsFuncTypeIndex space.types) funcs → length funcs ≤ max config.max_funcs (length before.funcs)
     → MayInitialise config space (scope_among space.types funcs (length before.funcs - so_far.num_funcs) (length before.globals - length so_far.globals) before.globals)
 may_initialise config space before so_far funcs may valid few =

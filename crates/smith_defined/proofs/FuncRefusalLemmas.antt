@@ -49,7 +49,7 @@ some_types config space (t ∷ types) sanitized off valid e some =
     let (end, h) = AreTypesValid-at (features_of config) space valid 0 t (ap (λ (l : List SubType). slice_get l 0) e) in
     some_turn (is_unshared_function t) (places_from is_unshared_function 1 types) (first_plain config t space.types end sanitized off h)
 
--- without garbage collection already the first type is that of an unshared function
+-- without garbage collection the first type is that of an unshared function
 pub func_types_some : (config : Config) (space : Space) → IsSanitized config → config.gc_enabled ≡ false → AreTypesValid (features_of config) space → 0 < length space.types → 0 < length (func_types space.types)
 func_types_some config space sanitized off valid some = some_types config space space.types sanitized off valid refl some
 
@@ -64,7 +64,7 @@ no_type_asked config space sanitized off valid le none =
       | inr some ↦ let more = func_types_some config space sanitized off valid some in absurd (omega arith)
     ]
 
--- functions are refused for lack of memory, or of a type that they may have
+-- functions are refused for lack of memory, or because no type is suitable
 pub funcs_refuse : {X : Type 0} (config : Config) (space : Space) (r : Result X Error) → IsSanitized config → AreTypesValid (features_of config) space → config.min_types ≤ length space.types
     → IfErr r (λ e. (e ≡ errors.Memory) ⊎ ((e ≡ errors.IncorrectFormat (Unmet counts.Funcs)) × (0 < config.min_funcs) × (length (func_types space.types) ≡ 0))) → IfErr r (MayRefuse config)
 funcs_refuse config space (Ok funcs) sanitized valid le h = tt

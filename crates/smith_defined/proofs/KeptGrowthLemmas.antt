@@ -91,6 +91,6 @@ module _ (old new : Context) (valid : AreValidOver old) (more : HasMore old new)
         ∙ ap (λ (xs : List ℕ). each_from (function_offers new offer.wanted) 0 xs) (seen_same offer.funcs_seen old.funcs new.funcs more.funcs kept.funcs_seen);
   }
 
-  -- what was kept is right
+  -- the kept globals and functions are right
   pub kept_grown : (offers : List KeptOffer) → All (IsKeptOffer old) offers → All (IsKeptOffer new) offers
   kept_grown offers all = All-weaker (IsKeptOffer old) (IsKeptOffer new) offer_grown offers all

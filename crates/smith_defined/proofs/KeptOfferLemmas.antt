@@ -62,7 +62,7 @@ module _ (config : Config) (space : Space) (spaces : IndexSpaces) (defined : Def
       } in
       kept_grown (scope_beside config space.types spaces defined allow) (scope_beside config space.types later fuller allow) sound grown offers
 
-  -- over the types that it adds
+  -- with the types that the export adds
   pub kept_over : (types : List SubType) (offers : List KeptOffer) → Extends space.types types
       → All (IsKeptOffer (scope_beside config space.types spaces defined allow)) offers → All (IsKeptOffer (scope_beside config types spaces defined allow)) offers
   kept_over types offers longer =

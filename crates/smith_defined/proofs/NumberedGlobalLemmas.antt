@@ -58,7 +58,7 @@ global_read config standing before made number piece after mutable h =
       constant_read scope config.const_expr_fuel config (I32Const number ∷ []) h.second after (mutable_not_read scope I32 mutable) refl constant,
     ) refl
 
--- globals and constants for these numbers follow those that were made
+-- globals and constants for these numbers follow those made before
 record AreRead (numbers : List ℤ) (made : List Global) (after : List ℕ) (grown : List Global × List ℕ) : Type 0 where
   more : List Global
   all : grown ≡ (made ++ more, after)

@@ -42,7 +42,7 @@ module _ (features : Features) (end other : ℕ) where
   value_moved V128 included plain h = h
   value_moved (Ref reference) included plain h = (h.0, reference_moved reference included plain h.1)
 
--- over the types and the entities of a shape that is plain, without what is left out
+-- the types and the entities of a plain shape, without the parts that are left out
 module _ (features : Features) (space : Space) (spaces : IndexSpaces) (plain : ArePlain space.types spaces) (included : IsNothingLeftOut space.types spaces) where
   pub table_over : (others : List SubType) (index : ℕ) (table : TableType) → slice_get spaces.tables index ≡ Some table → IsTableValid features space.types table → IsTableValid features others table
   table_over others index table at h =
@@ -68,7 +68,7 @@ module _ (features : Features) (space : Space) (spaces : IndexSpaces) (plain : A
         shared = λ shared. absurd (cc (sym shared ∙ alone));
       }
 
-  -- a type of it is valid after others
+  -- a type of a plain shape is valid after other types
   type_over : (others : List SubType) (end index : ℕ) (t : SubType) → slice_get space.types index ≡ Some t → AreTypesValid features space → IsTypeValid features others end t
   type_over others end index t at valid =
       let (last, h) = AreTypesValid-at features space valid index t at in
@@ -83,7 +83,7 @@ module _ (features : Features) (space : Space) (spaces : IndexSpaces) (plain : A
         shareable = λ shared. absurd (cc (sym shared ∙ alone));
       }
 
-  -- so types stay valid with it after them, in a group of its own
+  -- types stay valid with such a type after them, in a group of its own
   pub types_over_valid : (ours : Space) (index : ℕ) (t : SubType) → slice_get space.types index ≡ Some t → AreTypesValid features space → AreTypesValid features ours
       → AreTypesValid features (record { types = ours.types ++ t ∷ []; groups = ours.groups ++ next_group (ours.types ++ t ∷ []) ours.groups ∷ [] })
   types_over_valid ours index t at valid now =

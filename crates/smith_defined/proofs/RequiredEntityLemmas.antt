@@ -26,7 +26,7 @@ use Rattle.smith_bytes.specs.Steps.{Returns, is_memory}
 use Rattle.smith_defined.specs.RequiredExports.{scope_beside, made_of, with_table, with_global, defined_with_at}
 use Rattle.smith_defined.specs.declared.definitions.Definitions.{Definitions}
 
--- an answer is the one that is read, if its only other result is lack of memory
+-- the result of a step is the value that the draw defines, if lack of memory is its only refusal
 pub answered : {X Y : Type 0} (view : X → Y) (result : Result X Error) (read : Result Y Error) → IfErr result (λ e. e ≡ Memory) → IfOk result (λ x. read ≡ Ok (view x)) → Returns is_memory view result read
 answered view (Ok x) read memory exact = exact
 answered view (Err e) read memory exact = subst (λ (one : Error). Returns is_memory view (Err one) read) (sym memory) tt
@@ -35,7 +35,7 @@ refused_so : {X Y : Type 0} (view : X → Y) (config : Config) (context : Contex
 refused_so view config context wanted e read (inl memory) none = subst (λ (one : Error). Returns is_memory view (Err one) read) (sym memory) tt
 refused_so view config context wanted e read (inr (empty, lacking)) none = subst (λ (one : Error). Returns is_memory view (Err one) read) (sym empty) (none empty)
 
--- so is the refusal of an initialiser, if there is nothing to choose from
+-- an initialiser is refused as the draw defines, if there is nothing to choose from
 pub refused_initial : {X Y : Type 0} (view : X → Y) (result : Result X Error) (config : Config) (context : Context) (wanted : ValType) (e : Error) (read : Result Y Error) → IsErrAnd result (λ y. y ≡ e) → MayRefuseConstExpr config context wanted e
     → (e ≡ EmptyChoose → read ≡ Err EmptyChoose) → Returns is_memory view result read
 refused_initial view (Ok x) config context wanted e read passed refusal none = absurd passed
@@ -55,7 +55,7 @@ module _ (config : Config) (types : List SubType) (spaces : IndexSpaces) (define
         ap (made_of (with_table defined)) (ap (λ (one : Context). table_init_at config one table.element_type bytes) (sym same) ∙ drawn)
         ∙ ap (λ (l : List (Option (List ConstInstr))). Ok (record defined { tables = l }, after)) (sym longer)
 
-  -- so is a global, whose index is the next one
+  -- a global is defined with the drawn initialiser and the next index
   module _ (global : GlobalType) (same : context ≡ scope_beside config types spaces defined true) where
     pub global_lacking : const_expr_at config context global.val_type bytes ≡ None → defined_with_at config types spaces defined (entity.Global global) bytes ≡ Err EmptyChoose
     unfolding defined_with_at
@@ -90,7 +90,7 @@ global_refused config context global added e is (inl memory) = inl memory
 global_refused config context global added e is (inr (empty, inl lacks)) = inr (empty, inl (rw is (ungrounded_not_null config context global.val_type lacks)))
 global_refused config context global added e is (inr (empty, inr holds)) = inr (empty, inr holds)
 
--- the scope of an initialiser determines the context that it is drawn over
+-- the scope of an initialiser determines the context in which it is drawn
 pub refused_beside : (config : Config) (types : List SubType) (spaces : IndexSpaces) (defined : Definitions) (within : Spaces) (allow_defined : Bool) (wanted : ValType) (e : Error) → seen_by config within allow_defined ≡ scope_beside config types spaces defined allow_defined
     → MayRefuseConstExpr config (standing_in config within) wanted e → MayRefuseConstExpr config (drawn_beside config types spaces defined) wanted e
 refused_beside config types spaces defined within allow_defined wanted e same h = subst (λ (context : Context). MayRefuseConstExpr config (without_globals context) wanted e) same h

@@ -87,7 +87,7 @@ pub refused_by : {X Y A B : Type 0} (of_part : X → A) (of_whole : Y → B) (e 
 refused_by of_part of_whole e part whole (Ok y) given passes h = absurd h
 refused_by {X = X} of_part of_whole e part whole (Err own) given passes h = refused_part of_part of_whole own part whole (subst (λ (one : Error). Returns is_memory of_part (Err one) part) (sym h) given) passes
 
--- the exports before a place are made, and making the rest completes the whole
+-- the exports before a place are made, and making the others completes the whole
 pub record AreRequiring (own_types : Bool) (config : Config) (shape : Shape) (old_types : Space) (old : IndexSpaces) (old_defined : Definitions) (place : ℕ) (types : Space) (spaces : IndexSpaces) (defined : Definitions) (exports : List Export) (start bytes : List ℕ) : Type 0 where
   pub so_far : required_from own_types config shape (drop place shape.exports) (standing_with types spaces defined exports) bytes ≡ required_at own_types config shape old_types old old_defined start
   pub same : AllZip (IsSameExport (IsKeptType own_types types.types (shape_types shape)) spaces (shape_spaces shape)) exports (take place shape.exports)

@@ -65,7 +65,8 @@ pub record MayInitialise (config : Config) (space : Space) (standing : Initialis
 abbrev pub drawn_over : Config → InitialiserScope → Context
 drawn_over config standing = without_globals (table_scope config standing)
 
--- the same with entities; the functions that are not defined are imported
+-- the context of drawn entities over these types and index spaces; the functions that are not
+-- defined are imported
 abbrev pub drawn_beside : Config → List SubType → IndexSpaces → Definitions → Context
 drawn_beside config types spaces defined = record {
   features = features_of config;
@@ -134,8 +135,7 @@ MayRefuseDefined config context e = MayRefuse config e ⊎ MayRefuseDrawn config
 abbrev pub scope_in : List SubType → IndexSpaces → IndexSpaces → InitialiserScope
 scope_in types imported spaces = scope_over types spaces.funcs (length imported.funcs) imported.globals
 
--- the parts of a module after these imports are valid: types, entities, and initialisers, each at
--- its place
+-- the types, the entities that follow these imports, and each initialiser at its place are valid
 pub record StandsBehind (config : Config) (imported : IndexSpaces) (space : Space) (spaces : IndexSpaces) (defined : Definitions) : Type 0 where
   pub types : AreTypesValid (features_of config) space
   pub entities : AreEntitiesValid (features_of config) space.types spaces

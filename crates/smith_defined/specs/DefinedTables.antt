@@ -22,7 +22,7 @@ pub record IsTableFit (config : Config) (standing : InitialiserScope) (one : Tab
   pub initialised : IsTableInitialised (table_scope config standing) one.0 one.1
   pub floats : All HasNoFloat standing.types → All (All GivesNoFloat) (initial_of one.1)
 
--- the tables before are followed by those that were drawn, each with its initialiser, if it has one
+-- the drawn tables follow the tables before, each with its initialiser, if any
 pub record AreTablesDrawn (config : Config) (standing : InitialiserScope) (before space : List TableType) (old initials : List (Option (List ConstInstr))) : Type 0 where
   pub drawn : List Table
   pub tables : space ≡ before ++ map (λ (one : Table). one.0) drawn

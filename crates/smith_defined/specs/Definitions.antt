@@ -1,5 +1,5 @@
--- The items of each kind that are defined after those before, and the bytes they take. Rules of
--- this project.
+-- The items of each kind that are defined after the items before, and the bytes that they take.
+-- Rules of this project.
 use Rattle.std.specs.Prelude.{ℕ, ◌+◌, ◌-◌, ◌&&◌, ◌==◌, nat_lt, nat_le, Option, Some, List, [], ◌++◌, map, take, length, Result, Ok, Err, if◌then◌else◌, unwrap_or}
 use Rattle.smith_bytes.specs.declared.error.Count.{Count}
 use Rattle.smith_bytes.specs.declared.error.Count.TheVariants as counts
@@ -28,7 +28,7 @@ use Rattle.smith_defined.specs.declared.definitions.Definitions.{Definitions}
 use Rattle.smith_draw.specs.declared.type_use.TypeUse.TheVariants as uses
 
 -- the items of a kind that are defined after `before` items: they are drawn one after another until
--- the minimum is met, then while a drawn bool says so; if there were items before and the maximum
+-- the minimum is met, then while a drawn bool is true; if there were items before and the maximum
 -- is above 0, that bool is drawn once more at the maximum
 unfoldable pub items_defined_at : {A : Type 0} → (List A → List ℕ → A × List ℕ) → ℕ → ℕ → ℕ → List ℕ → List A × List ℕ
 items_defined_at draw least most before bytes =
@@ -39,8 +39,8 @@ items_defined_at draw least most before bytes =
 abbrev pub behind : {A : Type 0} → List A → List A × List ℕ → List A × List ℕ
 behind before drawn = (before ++ drawn.0, drawn.1)
 
--- tags or functions after those before, each given by the index of its type, which is drawn from
--- these; if there is none, none is defined, and too few are refused
+-- tags or functions after those before, each as the index of its type, which is drawn from these
+-- indices; without an index none is defined, and too few are refused
 unfoldable pub type_indices_at : Count → List ℕ → ℕ → ℕ → List ℕ → List ℕ → Result (List ℕ × List ℕ) Why
 type_indices_at count choices least most before bytes =
     if length choices == 0 then (if nat_lt (length before) least then Err (Unmet count) else Ok (before, bytes))
@@ -97,11 +97,11 @@ abbrev pub global_scope : Config → InitialiserScope → List GlobalType → Co
 global_scope config standing globals =
     context_at config standing globals (if config.gc_enabled then length globals else length standing.imported_globals)
 
--- a table that is defined, and its initialiser, if it has one
+-- a defined table, and its initialiser, if any
 abbrev pub Table : Type 0
 Table = TableType × Option (List ConstInstr)
 
--- if there is nothing to choose from for its initialiser, it has one that is no expression
+-- if no expression can be chosen for its initialiser, the initialiser has no instruction
 unfoldable pub table_at : Config → InitialiserScope → List ℕ → Table × List ℕ
 table_at config standing bytes =
     let table = table_type_at config (without_globals (table_scope config standing)) bytes in
@@ -114,7 +114,7 @@ tables_at config standing before initials bytes =
     let drawn = items_defined_at (λ _. table_at config standing) config.min_tables config.max_tables (length before) bytes in
     ((before ++ map (λ (one : Table). one.0) drawn.0, initials ++ map (λ (one : Table). one.1) drawn.0), drawn.1)
 
--- a global that is defined, its index and its initialiser
+-- a defined global, its index and its initialiser
 abbrev pub Global : Type 0
 Global = GlobalType × (ℕ × List ConstInstr)
 
@@ -129,7 +129,7 @@ initialised_at config context bytes =
     let initial = unwrap_or (const_expr_at config context global.0.val_type global.1) ([], global.1) in
     ((global.0, (length context.globals, initial.0)), initial.1)
 
--- a global after those that are defined so far
+-- a global after those defined so far
 unfoldable pub global_at : Config → InitialiserScope → List GlobalType → List Global → List ℕ → Global × List ℕ
 global_at config standing before defined = initialised_at config (global_scope config standing (globals_of before defined))
 

@@ -85,7 +85,7 @@ defined_with_at config types spaces defined (entity.Table table) bytes =
 defined_with_at config types spaces defined (entity.Global global) bytes =
     made_of (with_global defined (length spaces.globals)) (const_expr_at config (scope_beside config types spaces defined true) global.val_type bytes)
 
--- an answer is passed on, unless there is a reason to refuse
+-- the result of a step, or the refusal for this reason, if any
 abbrev pub unless : {A : Type 0} → Option Why → Result A Error → Result A Error
 unless None answer = answer
 unless (Some why) answer = Err (errors.IncorrectFormat why)
@@ -146,7 +146,7 @@ export_required_at own_types config shape one now bytes (Some theirs) =
     then_with (λ (more : IndexSpaces × Definitions). standing_with types more.0 more.1 (now.exports ++ (one.0, one.1, next_index now.spaces one.1) ∷ []))
     (entity_required_at config types.types now.spaces now.defined (entity_over own_types now.types theirs) bytes)
 
--- the continuation after an answer
+-- the rest of the draws, after the result of a step
 abbrev pub and_then : {A B : Type 0} → (A → List ℕ → Result B Error) → Result (A × List ℕ) Error → Result B Error
 and_then f (Ok drawn) = f drawn.0 drawn.1
 and_then f (Err e) = Err e

@@ -35,8 +35,8 @@ pub(crate) fn next_index(spaces: &IndexSpaces, kind: ExportKind) -> usize
     }
 }
 
-/// Returns the reason why the entity `added` may not follow those of `spaces`, if there is one: a
-/// second memory, or a second table, without its feature.
+/// Returns the reason why the entity `added` may not follow those of `spaces`, if any: a second
+/// memory, or a second table, without its feature.
 fn several(config: &Config, spaces: &IndexSpaces, added: &EntityType) -> Option<Why>
     ensures { result ≡ several config.now (spaces_in spaces.now) added.now }
 {
@@ -67,7 +67,7 @@ fn scope<'a>(types: &'a TypeSpace, spaces: &'a IndexSpaces, definitions: &Defini
     )
 }
 
-/// Draws the initialiser of `table`, or none, and adds it to `definitions`.
+/// Draws the initialiser of `table`, or none. Adds it to `definitions`.
 fn define_table(
     alloc: Global,
     config: &Config,
@@ -92,7 +92,7 @@ fn define_table(
     definitions.tables.push(initial)
 }
 
-/// Draws the initialiser of `global`, which follows the globals of `spaces`, and adds it to
+/// Draws the initialiser of `global`, which follows the globals of `spaces`. Adds it to
 /// `definitions`.
 fn define_global(
     alloc: Global,
@@ -119,7 +119,7 @@ fn define_global(
     definitions.globals.push((index, initial))
 }
 
-/// Counts the entity `added` in `definitions`, a table or a global with its initialiser.
+/// Counts the entity `added` in `definitions`. For a table or a global, adds its initialiser.
 #[tactic(auto, unfolding(crate::specs::RequiredExports::defined_with_at))]
 fn define_initial(
     alloc: Global,

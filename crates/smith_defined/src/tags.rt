@@ -17,8 +17,8 @@ use smith_draw::{TypeUse, list_types};
 use smith_types::{Items, SubType, TypeSpace};
 use std::alloc::Global;
 
-/// Lists the indices of the types that tags may have. Does not examine `types` if `config` has no
-/// exceptions, and returns none.
+/// Lists the indices of the types that tags may have. Returns none, without reading `types`, if
+/// `config` has no exceptions.
 fn tag_types(alloc: Global, config: &Config, types: &[SubType]) -> Result<Items<u32>, Error>
     requires few { length types.now < 2 ^ 32 }
     ensures exact { IfOk result (λ indices. indices ≡ tag_types config.now types.now) }

@@ -10,8 +10,7 @@ use smith_bytes::{Count, Error, Unstructured, Why, goes_on};
 use smith_draw::choose;
 use smith_types::Items;
 
-/// Adds items to the end of `items`, each given by the index of its type, which is one of
-/// `choices`.
+/// Adds items to the end of `items`, each as the index of its type, which is one of `choices`.
 fn choose_types(
     choices: &[u32],
     least: usize,
@@ -34,8 +33,8 @@ fn choose_types(
     Ok(())
 }
 
-/// Adds items to the end of `items`, each given by the index of its type, which is one of
-/// `choices`. Without `choices` no item is added, and fewer than `least` items are refused.
+/// Adds items to the end of `items`, each as the index of its type, which is one of `choices`. If
+/// `choices` is empty, adds no item, and refuses if `least` items are required.
 #[tactic(auto, unfolding(crate::specs::Definitions::type_indices_at))]
 pub(crate) fn define_typed(
     count: Count,
