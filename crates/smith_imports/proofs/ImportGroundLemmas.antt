@@ -1,4 +1,4 @@
--- What is kept of imported functions, as entities are imported.
+-- The kept heap types that imported functions ground, as entities are imported.
 use Rattle.std.proofs.Common.{◌≡◌, ℕ, ◌+◌, false, List, [], ◌∷◌, ◌++◌, length, refl, sym, ◌∙◌, arith}
 use Rattle.std.proofs.lemmas.List.{length-append}
 use Rattle.smith_types.specs.FuncGrounds.{IsFunctionAdded}

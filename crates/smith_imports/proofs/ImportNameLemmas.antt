@@ -1,5 +1,5 @@
--- A pair of names that is made new: its name grows at each iteration, and is new once it is longer
--- than each existing name.
+-- Making a pair of names new: the name grows at each iteration, and is new once it is longer than
+-- each existing name.
 use Rattle.std.proofs.Common.{◌≡◌, ℕ, suc, ◌+◌, ◌≤◌, ◌<◌, Bool, true, false, List, [], ◌∷◌, ◌++◌, length, max, refl, sym, ap, ◌||◌, ◌&&◌, ◌∙◌, arith, below_more, string_bytes, length-append}
 use Rattle.std.specs.Prelude.{not, if◌then◌else◌}
 use Rattle.std.specs.Str.{bytes_eq}
@@ -80,7 +80,7 @@ taken_short : (from name : List ℕ) (imports : List Import) → is_taken import
 taken_short from name [] there = absurd cc
 taken_short from name (one ∷ imports) there = short_name_by from name one imports (bytes_eq from one.«module») (bytes_eq name one.name) refl there (taken_short from name imports)
 
--- the name of an import that is made new is the one of the definition
+-- the name that is made new for an import is that of the definition
 pub name_made : (imports : List Import) (from text name : List ℕ) (taken : List ℕ → Bool) (count : ℕ) → ((other : List ℕ) → taken other ≡ is_taken imports from other) → count ≡ length imports → IsNewName taken (decimal count) text name
     → new_name (is_taken imports from) (decimal (length imports)) (longest_name imports + 1) text ≡ name
 name_made imports from text name taken count same size made =

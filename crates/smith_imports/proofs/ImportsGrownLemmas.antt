@@ -68,7 +68,7 @@ entities_more features types a b old new = record {
   globals = All-append (IsGlobalValid features types) a.globals b.globals old.globals new.globals;
 }
 
--- one more, if there is room
+-- one more entity, if there is room
 pushed : {A : Type 0} (xs : List A) (x : A) (most : ℕ) → ltb (length xs) most ≡ true → length (xs ++ x ∷ []) ≤ most
 pushed xs x most room = let lt = ltb-true (length xs) most room in omega (arith, length-append xs (x ∷ []))
 
@@ -215,7 +215,7 @@ ready_more config types spaces (Single imported) name one ready = absurd ready.c
 ready_more config types spaces (Compact1 from items) name one ready = record { fit = tt; enabled = ready.enabled; compact = tt }
 ready_more config types spaces (Compact2 from entity_type names) name one ready = record { fit = fit_later config types spaces entity_type one ready.fit; enabled = ready.enabled; compact = tt }
 
--- there are no more of a kind than imports
+-- there are no more entities of a kind than imports
 few_of_kind : {A : Type 0} (of_kind : EntityType → List A) → ((one : EntityType) → length (of_kind one) ≤ 1) → (imports : List Import) → length (imported of_kind imports) ≤ length imports
 few_of_kind of_kind few [] = omega arith
 few_of_kind of_kind few (one ∷ imports) = omega (arith, few one.entity_type, few_of_kind of_kind few imports, length-append (of_kind one.entity_type) (imported of_kind imports))

@@ -33,7 +33,8 @@ picked_at config types taken (one ∷ more) bytes =
     let pick = bool_at bytes in
     picked_at config types (if pick.0 && is_fitting config types taken one then taken ++ one ∷ [] else taken) more pick.1
 
--- whether an import may be added to a group: it has the module and, if there is one, the type of it
+-- whether an import may be added to a compact group: it has the module of the group and, if the
+-- group has one type, that type
 abbrev pub may_join : Imports → Import → Bool
 may_join (Single imported) next = false
 may_join (Compact1 from items) next = bytes_eq from next.«module»

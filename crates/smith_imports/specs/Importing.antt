@@ -33,8 +33,8 @@ with_import (Single imported) name added = Single imported
 with_import (Compact1 from items) name added = Compact1 from (items ++ record { name = name; entity_type = added } ∷ [])
 with_import (Compact2 from entity_type names) name added = Compact2 from entity_type (names ++ name ∷ [])
 
--- the entity that a compact group imports next: the same again if all have one type, else a drawn
--- one
+-- the entity that a compact group imports next: the same entity again if the group has one type,
+-- else a drawn one
 abbrev pub next_entity_at : Config → List SubType → IndexSpaces → ℕ → Imports → List ℕ → Option EntityType × List ℕ
 next_entity_at config types spaces size (Compact2 from entity_type names) bytes = (again config types spaces size entity_type, bytes)
 next_entity_at config types spaces size _ bytes = entity_at config types spaces size bytes
@@ -56,7 +56,7 @@ fill_at config types distinct before (suc most) group bytes =
 abbrev pub with_filled : List Imports → Imports → List Imports
 with_filled made group = if length (imports_of group) == 0 then made else made ++ group ∷ []
 
--- whether more imports may follow, the groups, and the bytes, after a compact group was filled
+-- whether more imports may follow, the groups, and the bytes, after a compact group is filled
 unfoldable pub filled_at : Config → List SubType → Bool → List Imports → Imports → List ℕ → Bool × (List Imports × List ℕ)
 filled_at config types distinct made group bytes =
     let drawn = fill_at config types distinct (flattened made) (config.max_imports - length (flattened made)) group bytes in

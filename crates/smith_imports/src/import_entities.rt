@@ -31,7 +31,7 @@ pub(crate) fn kind_of(added: &EntityType) -> ExportKind
 }
 
 /// Returns the context in which the entity after `imported` is drawn: `types` and the functions
-/// imported so far. `grounds` holds what these functions ground.
+/// imported so far. `grounds` holds the heap types that these functions ground.
 fn standing_behind<'a>(
     config: &'a Config,
     types: &'a TypeSpace,
@@ -50,7 +50,7 @@ fn standing_behind<'a>(
     grounds.standing(config, &Spaces { types, entities })
 }
 
-/// Draws an entity of the kind `kind`, to import after `imported`. `kind` may be imported over
+/// Draws an entity of the kind `kind`, for an import after `imported`. `kind` may be imported over
 /// `types`.
 #[tactic(auto, unfolding(crate::specs::ImportedEntities::entity_of_kind_at))]
 fn draw_entity_of_kind(
@@ -109,8 +109,8 @@ fn if_fits(
     }
 }
 
-/// Draws the entity to import after `imported`, of a kind with room. Returns none if no kind has
-/// room or the drawn entity is too large.
+/// Draws an entity of a kind with room, for an import after `imported`. Returns none if no kind has
+/// room, or if the drawn entity is too large.
 #[tactic(auto, unfolding(crate::specs::ImportedEntities::entity_at))]
 pub(crate) fn draw_entity(
     config: &Config,

@@ -13,7 +13,7 @@ use std::collections::HashSet;
 use std::fmt::Write;
 
 /// Makes a pair of `from` and a name that is not in `pairs`. The name is `text`, followed by the
-/// decimal number of `pairs` as often as needed.
+/// decimal number of `pairs`, repeated as often as needed.
 fn new_pair(
     pairs: &HashSet<(String, String)>,
     from: String,

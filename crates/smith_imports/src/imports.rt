@@ -327,7 +327,8 @@ fn add_all_groups(
     add_groups(alloc, config, distinct, &types, imported, &mut grounds, u)
 }
 
-/// Draws imports into `imported`, which is empty, and refuses fewer than `config` requires.
+/// Draws imports into `imported`, which is empty. Refuses if there are fewer than `config`
+/// requires.
 #[tactic(auto, unfolding(crate::specs::Importing::imports_at))]
 fn draw_imports(
     alloc: Global,
