@@ -66,7 +66,7 @@ in_order numbers sorted made moved rising once = record {
   adds_none = λ n inside. Contains-permutation sorted numbers n (IsPermutation-sym numbers sorted moved) (Contains-from_dedup eqb sorted n (rw once at inside));
 }
 
--- put in order, and each once
+-- numbers after sorting, each once
 pub all_in_order : (P : ℕ → Type 0) (numbers made : List ℕ) → AreExactly P numbers → IsSortedSet numbers made → AreAll P made
 all_in_order P numbers made exactly order = record {
   ascending = order.ascending;
@@ -100,7 +100,7 @@ narrow_reason tables memories n h = elim (wide_reason tables memories (h.high * 
   | inr limit ↦ inr (h.fits, (h.high, limit))
 ]
 
--- those of 32 bits
+-- interesting values of 32 bits, from those of 64 bits
 pub all_narrow : (tables : List TableType) (memories : List MemoryType) (constants near made : List ℕ) → AreExactly (Narrow IsConstantValue) constants
     → AreExactly (Wide (IsNearLimit tables memories)) near → IsSortedSet (constants ++ map low_half near) made → AreAll (IsInteresting32 tables memories) made
 all_narrow tables memories constants near made always limits order =
@@ -134,7 +134,7 @@ adds_none {Holds = Holds} {old = old} same never = record {
   exactly = record { each = All-nil (Wide Holds); whole = λ n h. absurd (never n h) };
 }
 
--- some are added, and then others
+-- some numbers are added, then others
 adds_both : (P Q R : ℕ → Type 0) {old middle new : List ℕ} → ((n : ℕ) → P n → R n) → ((n : ℕ) → Q n → R n) → ((n : ℕ) → R n → P n ⊎ Q n)
     → AddsNumbers P old middle → AddsNumbers Q middle new → AddsNumbers R old new
 adds_both P Q R {old = old} first second either one other = record {
@@ -150,7 +150,8 @@ adds_both P Q R {old = old} first second either one other = record {
 pub adds_either : (P Q : ℕ → Type 0) {old middle new : List ℕ} → AddsNumbers P old middle → AddsNumbers Q middle new → AddsNumbers (λ n. P n ⊎ Q n) old new
 adds_either P Q one other = adds_both P Q (λ n. P n ⊎ Q n) (λ n h. inl h) (λ n h. inr h) (λ n h. h) one other
 
--- near no item there is no number, and one more item
+-- no number is near an item of the empty list; a number near a list with one more item is near that
+-- item or the list
 pub adds_nothing : {X : Type 0} (R : X → ℕ → Type 0) (old : List ℕ) → AddsNumbers (λ n. Any (λ x. R x n) []) old old
 adds_nothing R old = adds_none refl (λ n h. omega (arith, h.1.2))
 

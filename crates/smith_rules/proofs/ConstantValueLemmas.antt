@@ -20,11 +20,11 @@ has_contains numbers n found =
     let (k, m, inside, at, same) = Any-from_list_any (λ m. nat_eq m n) numbers found in
     (k, inside, subst (λ x. slice_index_or numbers k x ≡ x) (eqb-true m n same) at)
 
--- each item that is found in another list is in it
+-- each item of a list is found in another list
 pub members : (xs ys : List ℕ) → list_all (has ys) xs ≡ true → (n : ℕ) → Contains xs n → Contains ys n
 members xs ys all n inside = has_contains ys n (All-contains (λ x. has ys x ≡ true) xs n (AllPass-from_list_all (has ys) xs all) inside)
 
--- a list of the same numbers
+-- another list of the same numbers
 pub same_members : {P : ℕ → Type 0} (xs ys : List ℕ) → AreExactly P xs → list_all (has ys) xs ≡ true → list_all (has xs) ys ≡ true → AreExactly P ys
 same_members {P = P} xs ys exactly there back = record {
   each = All-weaker (Contains ys) P (λ n inside. All-contains P xs n exactly.each (members ys xs back n inside)) ys (All-contains_itself ys);
@@ -55,7 +55,7 @@ below p most all i small =
     let place : slice_index_or (range_with_len 0 most) i 0 ≡ i = get_or-range_with_len 0 most i 0 small ∙ omega arith in
     sym (ap p place) ∙ at
 
--- numbers each of which is below the next, by a test of each
+-- each number is below the next, by a test of each
 pub rises : (xs : List ℕ) → list_all (λ k. nat_lt (get_or xs k 0) (get_or xs (k + 1) 0)) (range_with_len 0 (length xs - 1)) ≡ true → IsStrictlyIncreasing xs
 rises xs all k within = ltb-true (get_or xs k 0) (get_or xs (k + 1) 0) (below (λ i. nat_lt (get_or xs i 0) (get_or xs (i + 1) 0)) (length xs - 1) all k (omega arith))
 
@@ -97,7 +97,7 @@ near_edges n i (inr (inl e)) = (1, omega arith, omega (arith, e))
 near_edges n i (inr (inr (inl e))) = (2, omega arith, omega (arith, e))
 near_edges n i (inr (inr (inr e))) = (3, omega arith, omega (arith, e))
 
--- each is in the list
+-- each number is in the list
 listed : (n : ℕ) → IsConstantValue n → Contains constants n
 listed n (inl (i, small, edge)) = members (edges i) constants (below (λ k. list_all (has constants) (edges k)) 64 refl i small) n (near_edges n i edge)
 listed n (inr (inl (k, byte, inside, at, pattern))) =

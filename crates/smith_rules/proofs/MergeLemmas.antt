@@ -1,4 +1,4 @@
--- Numbers that are put one by one into a list in ascending order.
+-- Numbers that are inserted one by one into a list in ascending order.
 use Rattle.std.proofs.Common.{arith, ◌≡◌, ◌⊎◌, inl, inr, ℕ, zero, suc, ◌+◌, ◌-◌, ◌<◌, ◌≤◌, List, [], ◌∷◌, ◌++◌, length, get_or, refl, sym, subst, ap, ◌∙◌}
 use Rattle.std.specs.Prelude.{take, drop, Ok, Err}
 use Rattle.std.specs.List.{All, AllPairs, Contains}
@@ -250,7 +250,7 @@ merging_goes_on constants near k made rest new left near_rises inside merging pu
       ]
     ]
 
--- nothing is left to put
+-- no number is left to insert
 pub merging_ends : (constants near : List ℕ) (k : ℕ) (made rest : List ℕ) → length near ≤ k → IsMerging constants near k made rest
     → IsSortedSet (constants ++ near) (made ++ rest)
 merging_ends constants near k made rest ended merging = record {
@@ -259,7 +259,7 @@ merging_ends constants near k made rest ended merging = record {
   adds_none = λ n there. subst (λ xs. Contains (constants ++ xs) n) (take_all k near ended) (merging.adds_none n there);
 }
 
--- numbers in order, and then in order with others
+-- numbers in ascending order, then merged with others
 pub order_after : (others numbers ordered made : List ℕ) → IsSortedSet numbers ordered → IsSortedSet (others ++ ordered) made → IsSortedSet (others ++ numbers) made
 order_after others numbers ordered made first second = record {
   ascending = second.ascending;

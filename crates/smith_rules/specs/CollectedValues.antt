@@ -1,5 +1,5 @@
--- Interesting values as they are collected: in any order, some maybe more than once. Rules of this
--- project.
+-- Interesting values while they are collected: in any order, and possibly more than once. Rules of
+-- this project.
 use Rattle.std.specs.Prelude.{◌≡◌, ◌⊎◌, ℕ, ◌+◌, ◌*◌, ◌^◌, ◌<◌, ◌≤◌, List, [], ◌∷◌, ◌++◌, length, get_or}
 use Rattle.std.specs.List.{All, Any, Contains}
 use Rattle.std.specs.List.Sorted.{IsStrictlyIncreasing}
@@ -64,7 +64,8 @@ pub record IsPlaceOf (numbers : List ℕ) (number before after : ℕ) : Type 0 w
   pub same : (k : ℕ) → before ≤ k → k < after → get_or numbers k 0 ≡ number
   pub above : (k : ℕ) → after ≤ k → k < length numbers → number < get_or numbers k 0
 
--- a number is added to `made`, after those of the rest that are below it; those above it are left
+-- a number is added to `made`, after the numbers of the rest that are below it; those above it
+-- remain
 pub record IsInserted (made rest : List ℕ) (number : ℕ) (new left : List ℕ) : Type 0 where
   pub front : List ℕ
   pub same : List ℕ

@@ -55,7 +55,8 @@ pub record HoldsGranted (config : Config) (m : ModuleParts) : Type 0 where
   pub values : All (IsGranted config (module_context m)) (values_in m.types (module_spaces m))
   pub elements : All (λ (segment : ElementSegment). IsGranted config (module_context m) (Ref segment.ty)) m.elems
 
--- and so are the references that are types of locals
+-- the references that are types of locals are nullable, or `non_nullable_enabled` is on and they
+-- are grounded
 abbrev pub HasGrantedLocals : Config → ModuleParts → Type 0
 HasGrantedLocals config m = All (IsGranted config (module_context m)) (flat_map (λ (body : Code). body.locals) m.code)
 
@@ -73,7 +74,7 @@ pub record IsInside (m : ModuleParts) : Type 0 where
   pub elements : All (IsElementInside m.tables) m.elems
   pub data_segments : All (IsDataInside m.memories) m.segments
 
--- the types section is written if there are types, the imports section if there are imports
+-- the type section is written if there are types, the import section if there are imports
 pub record WritesSections (m : ModuleParts) : Type 0 where
   pub types : 0 < length m.types → IsTrue m.encodes_types
   pub imports : 0 < length m.imports → IsTrue m.encodes_imports

@@ -100,7 +100,7 @@ MayRefuse config errors.Memory = Unit {0}
 abbrev pub AreShapesValid : Config → Type 0
 AreShapesValid config = (for_use : Which) → IfSome (shape_for config for_use) (λ shape. IsShapeValid for_use config shape)
 
--- a module can be produced at all: the configuration and its shapes pass their checks
+-- a module can be produced: the configuration and its shapes pass their checks
 pub record MayGive (config : Config) : Type 0 where
   pub passes : Passes config
   pub shapes_valid : AreShapesValid config

@@ -1,5 +1,5 @@
-//! What a module is, when it is valid, what it keeps of a configuration and its shapes, why it may be
-//! refused, and its interesting values.
+//! Definitions of a module: its parts and validity, its properties from a configuration and its
+//! shapes, and the conditions of each refusal. Collects the interesting values of a module.
 #![tactic(auto)]
 
 mod interesting_values;

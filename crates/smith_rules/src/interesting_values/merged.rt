@@ -8,7 +8,8 @@ use smith_bytes::Error;
 use smith_types::Items;
 use std::alloc::Global;
 
-// Returns the range of `numbers` that holds `number`: empty, at its place, if it is not among them.
+// Returns the range of `numbers` that holds `number`. If `number` is absent, the range is empty, at
+// the place where it would be.
 fn place64(numbers: &[u64], number: u64) -> (usize, usize)
     requires { IsStrictlyIncreasing numbers.now }
     ensures { IsPlaceOf numbers.now number result.0 result.1 }
@@ -19,7 +20,8 @@ fn place64(numbers: &[u64], number: u64) -> (usize, usize)
     }
 }
 
-// Adds to `made` those of `rest` that are below `number`, then `number`. Returns those above it.
+// Adds the numbers of `rest` below `number` to `made`, then `number`. Returns the numbers of `rest`
+// above it.
 fn put64<'a>(made: &mut Vec<u64>, rest: &'a [u64], number: u64) -> Result<&'a [u64], Error>
     requires { IsStrictlyIncreasing rest.now }
     ensures put { IfOk result (λ left. IsInserted made.old.items rest.now number made.new.items left.now) }
@@ -31,7 +33,7 @@ fn put64<'a>(made: &mut Vec<u64>, rest: &'a [u64], number: u64) -> Result<&'a [u
     Ok(&rest[after..])
 }
 
-/// Merges `constants` and `near`, which are in ascending order, each once.
+/// Merges `constants` and `near`. Each list is in ascending order and has each number once.
 pub(super) fn merged64(alloc: Global, constants: &[u64], near: &[u64]) -> Result<Items<u64>, Error>
     requires constants { IsStrictlyIncreasing constants.now }
     requires near { IsStrictlyIncreasing near.now }
@@ -47,7 +49,8 @@ pub(super) fn merged64(alloc: Global, constants: &[u64], near: &[u64]) -> Result
     Ok(Items::from_vec(made))
 }
 
-// Returns the range of `numbers` that holds `number`: empty, at its place, if it is not among them.
+// Returns the range of `numbers` that holds `number`. If `number` is absent, the range is empty, at
+// the place where it would be.
 fn place32(numbers: &[u32], number: u32) -> (usize, usize)
     requires { IsStrictlyIncreasing numbers.now }
     ensures { IsPlaceOf numbers.now number result.0 result.1 }
@@ -58,7 +61,8 @@ fn place32(numbers: &[u32], number: u32) -> (usize, usize)
     }
 }
 
-// Adds to `made` those of `rest` that are below `number`, then `number`. Returns those above it.
+// Adds the numbers of `rest` below `number` to `made`, then `number`. Returns the numbers of `rest`
+// above it.
 fn put32<'a>(made: &mut Vec<u32>, rest: &'a [u32], number: u32) -> Result<&'a [u32], Error>
     requires { IsStrictlyIncreasing rest.now }
     ensures put { IfOk result (λ left. IsInserted made.old.items rest.now number made.new.items left.now) }
@@ -70,7 +74,7 @@ fn put32<'a>(made: &mut Vec<u32>, rest: &'a [u32], number: u32) -> Result<&'a [u
     Ok(&rest[after..])
 }
 
-/// Merges `constants` and `near`, which are in ascending order, each once.
+/// Merges `constants` and `near`. Each list is in ascending order and has each number once.
 pub(super) fn merged32(alloc: Global, constants: &[u32], near: &[u32]) -> Result<Items<u32>, Error>
     requires constants { IsStrictlyIncreasing constants.now }
     requires near { IsStrictlyIncreasing near.now }

@@ -37,7 +37,8 @@ fn in_order32(mut narrow: Vec<u32>) -> Result<Vec<u32>, Error>
     Ok(narrow)
 }
 
-// Lists the values of 64 bits of a module that has the numbers `near` near its limits.
+// Lists the values of 64 bits of a module: those of every module, and `near`, the values near its
+// limits.
 fn wide_values(alloc: Global, near: &[u64]) -> Result<Items<u64>, Error>
     ensures those { (tables : List Table) (memories : List Memory) → AreExactly (Wide (IsNearLimit tables memories)) near.now
         → IfOk result (AreAll (IsInteresting64 tables memories)) }
@@ -47,7 +48,8 @@ fn wide_values(alloc: Global, near: &[u64]) -> Result<Items<u64>, Error>
     merged64(alloc, wide_constants(), &numbers)
 }
 
-// Lists the values of 32 bits of such a module: the low halves of those of 64 bits.
+// Lists the values of 32 bits of a module: the low halves of its values of 64 bits. `near` holds
+// the values near its limits.
 fn narrow_values(alloc: Global, near: &[u64]) -> Result<Items<u32>, Error>
     ensures those { (tables : List Table) (memories : List Memory) → AreExactly (Wide (IsNearLimit tables memories)) near.now
         → IfOk result (AreAll (IsInteresting32 tables memories)) }
