@@ -1,4 +1,4 @@
--- What the examples of references that may not be null have in common.
+-- Lemmas for the examples of non-nullable references.
 use Rattle.std.proofs.Common.{ℕ, zero, suc, List, [], ◌∷◌, length, refl, ap, ◌∙◌, inl, inr}
 use Rattle.std.proofs.lemmas.Option.{same_Some}
 use Rattle.smith_types.specs.declared.value_type.AbstractHeapType.TheVariants as heap
@@ -15,7 +15,7 @@ use Rattle.smith_config.specs.ExampleMembers.{final, taking}
 use Rattle.smith_rules.specs.Module.{ModuleParts, module_features, module_imports}
 use Rattle.smith_rules_examples.specs.ExampleReferences.{with_references}
 
--- a reference to anything
+-- a non-nullable reference to anything
 abbrev pub to_any : ValType
 to_any = Ref (not_null (plain heap.Any))
 
@@ -31,7 +31,7 @@ over features types globals imported_funcs imported_globals = record {
   visible = 0;
 }
 
--- a function type that takes it
+-- a function type with such a parameter
 abbrev taken : List SubType
 taken = final (taking to_any) ∷ []
 
@@ -42,7 +42,7 @@ module _ (features : Features) (globals : List GlobalType) (imported_funcs impor
       cc at
   nothing_grounds (inr (function, index, at, below)) = cc at
 
-  -- it is not granted where there is no type, nor beside a function type that takes it
+  -- the reference is not granted without types, nor with such a function type
   any_ungranted : ¬ IsGranted with_references (over features [] globals imported_funcs imported_globals) to_any
   any_ungranted granted = granted (refl, λ on. nothing_grounds)
 

@@ -1,4 +1,4 @@
--- Numbers that are at no edge of a power of two, and are in no list.
+-- Numbers that are neither near a power of two nor in a list.
 use Rattle.std.proofs.Common.{◌≡◌, ◌⊎◌, inl, inr, ℕ, zero, suc, ◌+◌, ◌*◌, ◌^◌, ◌<◌, true, false, List, refl, subst, sym, ◌∙◌, arith}
 use Rattle.std.specs.Prelude.{nat_eq}
 use Rattle.std.specs.List.{All, Any, Contains, list_any}
@@ -12,7 +12,7 @@ power_kind zero = inl refl
 power_kind (suc zero) = inr (inl refl)
 power_kind (suc (suc i)) = inr (inr (2 ^ i, omega arith))
 
--- a number that leaves 1 when it is divided by 4 is at the edge of 1 and of -3 alone
+-- a number with the remainder 1 by 4, above 1 and below 2^63, is not near a power of two
 pub not_near_power : (n q : ℕ) → n ≡ 4 * q + 1 → 1 < n → n < 2 ^ 63 → IsNearPower n → ⊥
 not_near_power n q is low high (i, fits, edge) =
     elim (power_kind i) [
@@ -36,18 +36,18 @@ not_near_power n q is low high (i, fits, edge) =
       ]
     ]
 
--- a list does not hold what a search does not find
+-- a number that a search does not find is not in the list
 pub not_in : (n : ℕ) (numbers : List ℕ) → nat_eq n n ≡ true → list_any (λ other. nat_eq other n) numbers ≡ false → Contains numbers n → ⊥
 not_in n numbers itself none (k, inside, at) =
     let found = list_any-from_Any (λ other. nat_eq other n) numbers (k, n, inside, at, itself) in
     let never : true ≡ false = sym found ∙ none in
     cc never
 
--- none of which this holds, where it holds of none
+-- if no item has a property, none is found with it
 pub none_of : {A : Type 0} (P : A → Type 0) (items : List A) → All (λ item. P item → ⊥) items → Any P items → ⊥
 none_of P items none (k, item, inside, at, holds) = none k item inside (subst P (sym at) holds)
 
--- such a number is not interesting where no edge of a floating-point number and no limit is near
+-- such a number is not interesting unless it is an edge of floating-point numbers or near a limit
 pub not_interesting : (n q : ℕ) (tables : List TableType) (memories : List MemoryType) → n ≡ 4 * q + 1 → 1 < n → n < 2 ^ 56 → nat_eq n n ≡ true
     → list_any (λ other. nat_eq other n) (float_edges 11 52) ≡ false → list_any (λ other. nat_eq other n) (float_edges 8 23) ≡ false
     → All (λ table. IsNearTable n table → ⊥) tables → All (λ memory. IsNearMemory n memory → ⊥) memories → IsInteresting64 tables memories n → ⊥

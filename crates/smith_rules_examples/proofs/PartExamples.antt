@@ -1,4 +1,4 @@
--- What the examples of modules have in common.
+-- Lemmas for the examples of modules.
 use Rattle.std.proofs.Common.{rules, ◌≡◌, ℕ, ◌+◌, ◌<◌, ◌≤◌, true, false, List, [], ◌∷◌, ◌++◌, Some, None, refl, sym, subst, ◌∙◌}
 use Rattle.std.specs.Prelude.{slice_get, IsTrue}
 use Rattle.std.specs.List.{All}
@@ -25,13 +25,13 @@ use Rattle.smith_rules.specs.Module.{ModuleParts, IsValid, IsGlobalDefined}
 use Rattle.smith_rules_examples.specs.ExampleModules.{group_of, one_function}
 use Rattle.smith_rules_examples.specs.ExampleParts.{no_function}
 
--- an expression of one instruction that takes nothing
+-- an expression of one instruction without operands
 pub alone : (context : Context) (instruction : ConstInstr) (result wanted : ValType)
     → HasType context instruction [] result → IsValBelow context.types result wanted → IsInstrEnabled context.features context.imported_globals instruction → IsConstExpr context wanted (instruction ∷ [])
 alone context instruction result wanted typed below enabled = one_instruction context instruction result wanted typed below
     (All-cons (IsInstrEnabled context.features context.imported_globals) instruction [] enabled (All-nil (IsInstrEnabled context.features context.imported_globals)))
 
--- one instruction alone gives what it pushes
+-- the value of one instruction alone is the value that it pushes
 pub pushed_alone : (context : Context) (instruction : ConstInstr) (result wanted : ValType)
     → ((operands : List ValType) (pushed : ValType) → HasType context instruction operands pushed → pushed ≡ result) → IsConstExpr context wanted (instruction ∷ []) → IsValBelow context.types result wanted
 pushed_alone context instruction result wanted pushes expression =
@@ -43,11 +43,11 @@ pushed_alone context instruction result wanted pushes expression =
     on_top [] taken result value first whole = cc
     on_top (below ∷ rest) taken result value first whole = cc
 
--- the reference to no function
+-- a null reference to a function
 pub no_function_given : (context : Context) → IsTrue context.features.reference_types → IsConstExpr context (Ref funcref) no_function
 no_function_given context references = alone context _ (Ref funcref) (Ref funcref) ((tt, λ never. cc), refl, refl) (IsRefBelow-refl context.types funcref) references
 
--- a group of types that are valid where they stand
+-- a group of types, each valid at its place
 pub group_valid : (features : Features) (types : List SubType) (group : Range ℕ)
     → EachFrom (λ place t. group.start ≤ place → place < group.end → IsTypeValid features types group.end t) 0 types → (features.gc ≡ false → group.end ≡ group.start + 1) → IsGroupValid features types group
 group_valid features types group each single = record {
@@ -55,7 +55,7 @@ group_valid features types group each single = record {
   single = single;
 }
 
--- a function type that takes and gives nothing
+-- a function type without parameters and results
 pub function_valid : (features : Features) (types : List SubType) (end : ℕ) → IsTypeValid features types end (a_type plain_function true None)
 function_valid features types end = record { enabled = search rules; values = All-nil (IsValTypeValid features end); declared = λ s up. cc; shareable = λ never. cc }
 
@@ -70,7 +70,7 @@ type_alone features inner valid =
       groups = All-cons (IsGroupValid features types) (group_of 0 1) [] (group_valid features types (group_of 0 1) ((λ from below. valid), tt) (λ _. refl)) (All-nil (IsGroupValid features types));
     }
 
--- the function type that takes and gives nothing alone, and a function of it
+-- a function type without parameters and results alone, and a function of it
 pub function_types : (features : Features) → AreTypesValid features (record { types = a_type plain_function true None ∷ []; groups = group_of 0 1 ∷ [] })
 function_types features = type_alone features plain_function (function_valid features _ 1)
 
@@ -80,7 +80,7 @@ function_at = (a_type plain_function true None, refl, refl)
 pub functions_valid : All (IsFuncTypeIndex (a_type plain_function true None ∷ [])) (0 ∷ [])
 functions_valid = All-cons (IsFuncTypeIndex (a_type plain_function true None ∷ [])) 0 [] (record { params = []; results = [] }, function_at) (All-nil (IsFuncTypeIndex (a_type plain_function true None ∷ [])))
 
--- the function type that takes a number alone, and a function of it
+-- a function type with a parameter that is a number alone, and a function of it
 pub taking_types : (features : Features) → AreTypesValid features (record { types = a_type taking_a_number true None ∷ []; groups = group_of 0 1 ∷ [] })
 taking_types features = type_alone features taking_a_number
     (record { enabled = search rules; values = All-cons (IsValTypeValid features 1) I32 [] tt (All-nil (IsValTypeValid features 1)); declared = λ s up. cc; shareable = λ never. cc })
@@ -89,7 +89,7 @@ pub taking_functions : All (IsFuncTypeIndex (a_type taking_a_number true None �
 taking_functions = All-cons (IsFuncTypeIndex (a_type taking_a_number true None ∷ [])) 0 []
     (record { params = I32 ∷ []; results = [] }, (a_type taking_a_number true None, refl, refl)) (All-nil (IsFuncTypeIndex (a_type taking_a_number true None ∷ [])))
 
--- an array type that is not final, and one below it
+-- an array type that is not final, and a subtype of it
 pub array_valid : (features : Features) (types : List SubType) (end : ℕ) → IsTrue features.gc → IsTypeValid features types end (a_type bytes_array false None)
 array_valid features types end gc =
     record { enabled = record { inner = gc; not_final = λ _. gc; supertype = λ _. gc; shared = λ never. cc }; values = All-nil (IsValTypeValid features end); declared = λ s up. cc; shareable = λ never. cc }
@@ -106,11 +106,11 @@ array_below features types end gc =
       shareable = λ never. cc;
     }
 
--- a visible global that holds a number gives it
+-- the value of a visible global of a number
 pub first_read : (context : Context) → IsVisible context 0 I32 → IsInstrEnabled context.features context.imported_globals (GlobalGet 0) → IsConstExpr context I32 (GlobalGet 0 ∷ [])
 first_read context visible enabled = alone context (GlobalGet 0) I32 I32 (refl, visible) tt enabled
 
--- the globals of a module, given one by one
+-- the globals of a module, one by one
 pub globals_defined : (m : ModuleParts) → EachFrom (λ place (one : ℕ × List ConstInstr). IsGlobalDefined m place one.0 one.1) 0 m.defined_globals
     → (place index : ℕ) (initial : List ConstInstr) → slice_get m.defined_globals place ≡ Some (index, initial) → IsGlobalDefined m place index initial
 globals_defined m each place index initial at = each_place (λ place (one : ℕ × List ConstInstr). IsGlobalDefined m place one.0 one.1) m.defined_globals each place (index, initial) at

@@ -1,4 +1,4 @@
--- What the examples of promises have in common.
+-- Lemmas for the examples of promises.
 use Rattle.std.proofs.Common.{arith, ◌≡◌, ◌≤◌, [], ◌∷◌, None, pos, refl, sym, subst}
 use Rattle.std.proofs.lemmas.Option.{same_Some}
 use Rattle.std.proofs.lemmas.List.Elements.{All-head}

@@ -1,4 +1,4 @@
--- What examples of refused modules have in common.
+-- Lemmas for the examples of refused modules.
 use Rattle.std.proofs.Common.{arith, ◌≡◌, false, [], ◌∷◌, None, refl, sym, subst}
 use Rattle.std.specs.Prelude.{codes, IsTrue}
 use Rattle.std.specs.List.{All}

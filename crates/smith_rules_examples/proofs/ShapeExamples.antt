@@ -1,4 +1,4 @@
--- What the examples of shapes have in common.
+-- Lemmas for the examples of shapes.
 use Rattle.std.proofs.Common.{rules, ◌≡◌, ℕ, List, [], ◌∷◌, Some, None, true, false, refl}
 use Rattle.std.specs.Prelude.{codes, slice_get}
 use Rattle.smith_types.specs.Exports.{IsEntityAt}
@@ -30,7 +30,7 @@ no_exports_fixed = search rules
 pub no_imports_fixed : FixesImports default_config → ⊥
 no_imports_fixed = search rules
 
--- an export of a shape is kept where what is exported has the same type
+-- an export of a shape is kept if the exported item has the same type
 pub export_kept : (shape : Shape) (m : ModuleParts) (name : List ℕ) (of_kind : ExportKind) (index other : ℕ) (mine yours : EntityType)
     → IsEntityAt (module_spaces m) of_kind index mine → IsEntityAt (shape_spaces shape) of_kind other yours → IsSameType m.types (shape_types shape) mine yours
     → IsSameExport (IsSameType m.types (shape_types shape)) (module_spaces m) (shape_spaces shape) (name, of_kind, index) (name, of_kind, other)

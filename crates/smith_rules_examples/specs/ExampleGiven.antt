@@ -1,4 +1,5 @@
--- Modules that stated inputs give: each list is one that is wanted of a generator.
+-- Modules of the examples, for stated inputs: each list has a module that a generator should
+-- produce.
 use Rattle.std.specs.Prelude.{ℕ, Bool, true, false, pos, negsuc, List, [], ◌∷◌, Some, None, codes, replicate}
 use Rattle.smith_types.specs.Flags.{funcref}
 use Rattle.smith_types.specs.ExampleTypes.{anyref, variable}
@@ -34,14 +35,14 @@ array_and_struct_apart = types_apart (final bytes_array) (final (struct_of 0))
 abbrev pub references_array : ModuleParts
 references_array = types_together (final (Array (record { 0 = variable (Val anyref) })) ∷ [])
 
--- nothing, where nothing may be, with both sections
+-- an empty module with both sections, for a configuration that allows nothing
 abbrev pub nothing_allowed : ModuleParts
 nothing_allowed = record (empty_module (record nothing_may_be { max_type_size = 0; max_memory32_bytes = 0; max_memory64_bytes = 0; max_table_elements = 0; const_expr_fuel = 0 })) {
   encodes_types = true;
   encodes_imports = true;
 }
 
--- a function that takes a number, without garbage collection
+-- a function with a parameter that is a number, without garbage collection
 abbrev pub without_gc : ModuleParts
 without_gc = record (empty_module one_of_each_without_gc) {
   types = final taking_a_number ∷ [];
@@ -60,7 +61,7 @@ raw_bytes = record { locals = []; instructions = Arbitrary (7 ∷ 8 ∷ []) }
 abbrev pub raw_body : ModuleParts
 raw_body = record without_gc { config = record one_of_each_without_gc { allow_invalid_funcs = true }; code = raw_bytes ∷ [] }
 
--- that function beside a global that counts fuel, and beside two of them
+-- the same function, with one global that counts fuel, and with two
 abbrev pub counting_once : ModuleParts
 counting_once = record without_gc { globals = global I32 true ∷ []; defined_globals = (0, I32Const (negsuc 0) ∷ []) ∷ []; fuel_globals = 0 ∷ [] }
 
@@ -71,15 +72,15 @@ counting_fuel = record without_gc {
   fuel_globals = 0 ∷ 1 ∷ [];
 }
 
--- a global that counts fuel behind two imported numbers
+-- a global that counts fuel, after two imported numbers
 abbrev pub counting_behind : ModuleParts
 counting_behind = record two_imports { globals = number ∷ number ∷ global I32 true ∷ []; defined_globals = (2, I32Const (pos 5) ∷ []) ∷ []; fuel_globals = 2 ∷ [] }
 
--- an import of a number by this name
+-- an import of a number with this name
 abbrev pub number_named : List ℕ → Imports
 number_named name = Single (import_named name (entity.Global number))
 
--- two imports of numbers, the second by this name
+-- two imports of numbers, the second with this name
 abbrev pub two_singles : List ℕ → ModuleParts
 two_singles name = record (empty_module (record default_config { min_imports = 2; max_imports = 2 })) {
   imports = number_named [] ∷ number_named name ∷ [];
@@ -89,7 +90,7 @@ two_singles name = record (empty_module (record default_config { min_imports = 2
   type_size = 4;
 }
 
--- three imports of memories, one by one
+-- three imports of memories, each in a group of its own
 abbrev pub memories_one_by_one : ModuleParts
 memories_one_by_one =
     let imported = λ (name : List ℕ). Single (import_named name (entity.Memory (memory 1 None))) in
@@ -100,19 +101,19 @@ memories_one_by_one =
       encodes_imports = true;
     }
 
--- a table of a number of references without an initialiser
+-- a table of this number of references, without an initialiser
 abbrev pub null_table : ℕ → ModuleParts
 null_table elements = record (empty_module (record default_config { min_tables = 1 })) { tables = table funcref elements None ∷ []; defined_tables = None ∷ [] }
 
--- this memory alone
+-- a module with this memory only
 abbrev pub memory_alone : Config → MemoryType → ModuleParts
 memory_alone config one = record (empty_module config) { memories = one ∷ []; num_defined_memories = 1 }
 
--- a memory of all addresses of 32 bits
+-- a memory with all addresses of 32 bits
 abbrev pub full_memory : ModuleParts
 full_memory = memory_alone (record default_config { min_memories = 1 }) (memory 65536 (Some 65536))
 
--- a memory of a page where no byte is configured, with `disallow_traps`
+-- a memory of one page, though the configuration allows no byte, with `disallow_traps`
 abbrev pub forced_page : ModuleParts
 forced_page = memory_alone (record default_config { disallow_traps = true; max_memory32_bytes = 0; min_memories = 1 }) (shared_memory 1)
 
@@ -122,13 +123,13 @@ last_byte = record (last_bytes 65536 (42 ∷ [])) {
   config = record default_config { disallow_traps = true; bulk_memory_enabled = false; min_memories = 1; min_data_segments = 1; max_data_segments = 1 };
 }
 
--- a segment of sixty references to no function
+-- a segment of sixty null references
 abbrev pub sixty_elements : ModuleParts
 sixty_elements = record (empty_module (record default_config { min_element_segments = 1; min_elements = 60 })) {
   elems = passive_elements (Expressions (replicate 60 no_function)) ∷ [];
 }
 
--- a number that is exported
+-- an exported global of a number
 abbrev pub exported_number : ModuleParts
 exported_number = record (empty_module (record default_config { min_globals = 1 })) {
   globals = number ∷ [];
@@ -137,7 +138,8 @@ exported_number = record (empty_module (record default_config { min_globals = 1 
   type_size = 2;
 }
 
--- three numbers, of which the second and the third begin so, with garbage collection or without
+-- three globals of numbers, the second and the third with this initialiser, with garbage collection
+-- or without
 abbrev pub three_numbers : Bool → ConstInstr → ModuleParts
 three_numbers gc later = record (empty_module (record default_config { gc_enabled = gc; min_globals = 3; max_globals = 3 })) {
   globals = number ∷ number ∷ number ∷ [];

@@ -1,4 +1,4 @@
--- Modules that the examples speak of.
+-- Modules of the examples.
 use Rattle.std.specs.Prelude.{ℕ, Bool, true, false, pos, negsuc, List, [], ◌∷◌, Some, None, codes, length}
 use Rattle.smith_types.specs.Flags.{funcref}
 pub use Rattle.smith_types.specs.ExampleTypes.{range as group_of}
@@ -28,7 +28,7 @@ use Rattle.smith_config.specs.ExampleMembers.{a_type, bytes_array, plain_functio
 use Rattle.smith_rules.specs.Module.{ModuleParts}
 use Rattle.smith_rules_examples.specs.ExampleParts.{memory, shared_memory, table, global, number, import_named, no_function, passive_elements, into_a_table, active_data, trapping}
 
--- a module without anything
+-- an empty module
 abbrev pub empty_module : Config → ModuleParts
 empty_module configuration = record {
   config = configuration;
@@ -59,7 +59,7 @@ empty_module configuration = record {
   interesting_values64 = [];
 }
 
--- an array type and one below it, in one group
+-- an array type and a subtype of it, in one group
 abbrev pub arrays : ModuleParts
 arrays = record (empty_module default_config) {
   types = a_type bytes_array false None ∷ a_type bytes_array false (Some 0) ∷ [];
@@ -67,7 +67,7 @@ arrays = record (empty_module default_config) {
   encodes_types = true;
 }
 
--- a function of a type that takes and gives nothing
+-- a function without parameters and results
 abbrev pub one_function : ModuleParts
 one_function = record (empty_module default_config) {
   types = a_type plain_function true None ∷ [];
@@ -82,7 +82,7 @@ one_function = record (empty_module default_config) {
 abbrev pub empty_group : ModuleParts
 empty_group = record (empty_module default_config) { groups = group_of 0 0 ∷ [] }
 
--- two array types below a first one, in two groups
+-- an array type and two subtypes of it, in two groups
 abbrev pub three_arrays : ModuleParts
 three_arrays = record (empty_module (record default_config { min_types = 3; max_types = 3 })) {
   types = a_type bytes_array false None ∷ a_type bytes_array false (Some 0) ∷ a_type bytes_array false (Some 0) ∷ [];
@@ -90,14 +90,14 @@ three_arrays = record (empty_module (record default_config { min_types = 3; max_
   encodes_types = true;
 }
 
--- a table of references to no function
+-- a table that begins with null references
 abbrev pub one_table : ModuleParts
 one_table = record (empty_module (record default_config { disallow_traps = true; max_table_elements = 0; min_tables = 1 })) {
   tables = table funcref 1 None ∷ [];
   defined_tables = Some no_function ∷ [];
 }
 
--- a segment of two references to no function
+-- a segment of two null references
 abbrev pub two_elements : ModuleParts
 two_elements = record (empty_module default_config) { elems = passive_elements (Expressions (no_function ∷ no_function ∷ [])) ∷ [] }
 
@@ -157,19 +157,19 @@ one_tag = record one_function {
   type_size = 2;
 }
 
--- a number that may be changed
+-- a mutable global of a number
 abbrev pub one_number : ModuleParts
 one_number = record (empty_module default_config) { globals = global I32 true ∷ []; defined_globals = (0, I32Const (pos 7) ∷ []) ∷ [] }
 
--- a float that may be changed
+-- a mutable global of a float
 abbrev pub a_float : ModuleParts
 a_float = record (empty_module default_config) { globals = global F32 true ∷ []; defined_globals = (0, F32Const 0 ∷ []) ∷ [] }
 
--- bytes that are copied nowhere
+-- a passive data segment
 abbrev pub passive_bytes : ModuleParts
 passive_bytes = record (empty_module default_config) { segments = record { kind = data_kind.Passive; init = 42 ∷ [] } ∷ [] }
 
--- a table that begins with the reference in a global, which is imported, or defined
+-- a table that begins with the reference of a global, which is imported, or defined
 abbrev pub table_from_import : ModuleParts
 table_from_import = record (empty_module default_config) {
   imports = Single (import_named [] (entity.Global (global (Ref funcref) false))) ∷ [];
@@ -189,7 +189,7 @@ table_from_definition = record (empty_module default_config) {
   defined_globals = (0, no_function) ∷ [];
 }
 
--- a table of references to functions behind an imported one of others
+-- a table of references to functions, after an imported table of other references
 abbrev pub table_behind : List ConstInstr → ModuleParts
 table_behind initial = record (empty_module default_config) {
   imports = Single (import_named [] (entity.Table (table (nullable (plain heap.Extern)) 1 None))) ∷ [];
@@ -200,7 +200,7 @@ table_behind initial = record (empty_module default_config) {
   type_size = 2;
 }
 
--- a table that begins with the reference to no function, without garbage collection
+-- a table that begins with a null reference, without garbage collection
 abbrev pub table_without_gc : ModuleParts
 table_without_gc = record one_table { config = record default_config { gc_enabled = false } }
 
@@ -216,11 +216,11 @@ types_apart one other = record (empty_module default_config) { types = one ∷ o
 abbrev pub referring_to : ℕ → CompositeInnerType
 referring_to index = Struct (record { fields = constant (Val (Ref (nullable (Concrete index)))) ∷ [] })
 
--- two memories where there may be two
+-- two memories, where the configuration allows this number
 abbrev pub two_memories : ℕ → ModuleParts
 two_memories most = record (empty_module (record default_config { max_memories = most })) { memories = memory 1 None ∷ memory 1 None ∷ []; num_defined_memories = 2 }
 
--- a function that is exported by these two names
+-- a function that is exported with these two names
 abbrev pub exported_twice : List ℕ → List ℕ → ModuleParts
 exported_twice one other = record one_function { exports = (one, kind.Func, 0) ∷ (other, kind.Func, 0) ∷ []; type_size = 4 }
 
@@ -228,14 +228,14 @@ exported_twice one other = record one_function { exports = (one, kind.Func, 0) �
 abbrev pub bodiless : ModuleParts
 bodiless = record one_function { code = [] }
 
--- two numbers that are defined in another order than that of their indices
+-- two globals of numbers, not defined in the order of their indices
 abbrev pub out_of_order : ModuleParts
 out_of_order = record (empty_module default_config) {
   globals = number ∷ number ∷ [];
   defined_globals = (1, I32Const (pos 1) ∷ []) ∷ (0, I32Const (pos 0) ∷ []) ∷ [];
 }
 
--- every function of two is exported
+-- two functions, both exported
 abbrev pub two_exports : ModuleParts
 two_exports = record one_function {
   config = record default_config { export_everything = true; max_type_size = 4 };
@@ -246,7 +246,7 @@ two_exports = record one_function {
   type_size = 4;
 }
 
--- two imports of these names
+-- two imports with these names
 abbrev pub named_imports : List ℕ → List ℕ → ModuleParts
 named_imports one other = record two_imports { imports = Compact2 [] (entity.Global number) (one ∷ other ∷ []) ∷ [] }
 
@@ -254,11 +254,11 @@ named_imports one other = record two_imports { imports = Compact2 [] (entity.Glo
 abbrev pub last_bytes : ℕ → List ℕ → ModuleParts
 last_bytes pages bytes = record (empty_module default_config) { memories = memory pages None ∷ []; num_defined_memories = 1; segments = active_data (negsuc 0) bytes ∷ [] }
 
--- a segment of these references, where a number of them is asked for, beside a function
+-- a function, and a segment of these references, where the configuration requires this number
 abbrev pub elements_asked_for : ℕ → Elements → ModuleParts
 elements_asked_for least items = record one_function { config = record default_config { min_elements = least }; elems = passive_elements items ∷ [] }
 
--- one of each kind, all of them exported
+-- an item of each kind, all exported
 abbrev pub one_of_each : ModuleParts
 one_of_each = record (empty_module (record default_config { max_memories = 2 })) {
   types = foo_type ∷ quux_type ∷ [];
@@ -278,7 +278,7 @@ one_of_each = record (empty_module (record default_config { max_memories = 2 }))
   encodes_types = true;
 }
 
--- a function in a table from here on, which starts the module too
+-- a segment that copies a function into a table at this offset; the function also starts the module
 abbrev pub filled_table : Offset → ModuleParts
 filled_table offset = record one_function {
   tables = table funcref 1 None ∷ [];
@@ -287,11 +287,11 @@ filled_table offset = record one_function {
   elems = into_a_table offset ∷ [];
 }
 
--- the same from where a number says, with garbage collection or without
+-- the same, at the offset of a global, with garbage collection or without
 abbrev pub table_from_a_number : Bool → ModuleParts
 table_from_a_number gc = record (filled_table (Global 0)) { config = record default_config { gc_enabled = gc }; globals = number ∷ []; defined_globals = (0, I32Const (pos 0) ∷ []) ∷ [] }
 
--- a memory that is imported, and these ones
+-- an imported memory, and an index space of these memories
 abbrev pub memories_behind : List MemoryType → ModuleParts
 memories_behind memories = record (empty_module (record default_config { max_memories = 2 })) {
   imports = Single (import_named [] (entity.Memory (memory 1 None))) ∷ [];
@@ -302,19 +302,19 @@ memories_behind memories = record (empty_module (record default_config { max_mem
   type_size = 2;
 }
 
--- a global that counts fuel and is imported
+-- an imported global that counts fuel
 abbrev pub imported_counter : ModuleParts
 imported_counter = record one_import { imports = Single (import_named [] (entity.Global (global I32 true))) ∷ []; globals = global I32 true ∷ []; fuel_globals = 0 ∷ [] }
 
--- a table of references that may not be null, without an initialiser
+-- a table of non-nullable references, without an initialiser
 abbrev pub null_of_no_null : ModuleParts
 null_of_no_null = record (empty_module default_config) { tables = table (not_null (plain heap.Func)) 1 None ∷ []; defined_tables = None ∷ [] }
 
--- exports of one of each kind, kind by kind
+-- an export of an item of each kind, in the order of kinds
 abbrev pub all_of_each : List (List ℕ × ExportKind × ℕ)
 all_of_each = ([], kind.Func, 0) ∷ (codes "1", kind.Table, 0) ∷ (codes "2", kind.Memory, 0) ∷ (codes "3", kind.Global, 0) ∷ (codes "4", kind.Tag, 0) ∷ []
 
--- a module of a global of the number 7, and bytes that are copied nowhere
+-- a global of the number 7, and a passive data segment
 abbrev pub number_and_bytes : ModuleParts
 number_and_bytes = record (empty_module default_config) {
   globals = global I32 true ∷ [];

@@ -1,4 +1,4 @@
--- Parts of modules that the examples speak of.
+-- Parts of modules of the examples.
 use Rattle.std.specs.Prelude.{ℕ, Bool, true, false, ℤ, List, [], ◌∷◌, Some, None}
 use Rattle.smith_types.specs.Flags.{funcref}
 pub use Rattle.smith_types.specs.ExampleEntities.{memory, table}
@@ -35,23 +35,23 @@ global ty mutable = record { val_type = ty; mutable = mutable; shared = false }
 abbrev pub number : GlobalType
 number = global I32 false
 
--- an import of this name from the module without a name
+-- an import with this name, from the module with the empty name
 abbrev pub import_named : List ℕ → EntityType → Import
 import_named name ty = record { «module» = []; name = name; entity_type = ty }
 
--- the reference to no function
+-- a null reference to a function
 abbrev pub no_function : List ConstInstr
 no_function = RefNull (plain heap.Func) ∷ []
 
--- references to functions that are copied nowhere
+-- a passive segment of references to functions
 abbrev pub passive_elements : Elements → ElementSegment
 passive_elements items = record { kind = element.Passive; ty = funcref; items = items }
 
--- the first function, which is copied into the first table from here on
+-- a segment that copies the first function into the first table at this offset
 abbrev pub into_a_table : Offset → ElementSegment
 into_a_table offset = record { kind = element.Active None offset; ty = funcref; items = Functions (0 ∷ []) }
 
--- bytes that are copied into the first memory from here on
+-- a segment that copies bytes into the first memory at this offset
 abbrev pub active_data : ℤ → List ℕ → DataSegment
 active_data offset bytes = record { kind = data_kind.Active 0 (Const32 offset); init = bytes }
 

@@ -1,4 +1,5 @@
--- Modules whose globals begin with what is imported, or hold references that may not be null, of which the examples speak.
+-- Modules of the examples whose globals begin with an imported item, or hold non-nullable
+-- references.
 use Rattle.std.specs.Prelude.{ℕ, true, false, List, [], ◌∷◌}
 use Rattle.smith_types.specs.declared.value_type.HeapType.{HeapType}
 use Rattle.smith_types.specs.declared.value_type.ValType.TheVariants.{Ref}
@@ -13,7 +14,7 @@ use Rattle.smith_rules.specs.Module.{ModuleParts}
 use Rattle.smith_rules_examples.specs.ExampleModules.{empty_module, one_function, one_import}
 use Rattle.smith_rules_examples.specs.ExampleParts.{global, number, import_named}
 
--- a number that begins as an imported one, without garbage collection
+-- a global that begins with the value of an imported one, without garbage collection
 abbrev pub imported_read : ModuleParts
 imported_read = record one_import {
   config = record default_config { gc_enabled = false };
@@ -35,10 +36,10 @@ refers_to_function heap_type function = record one_function {
   type_size = 2;
 }
 
--- references that may not be null are drawn
+-- a configuration that allows non-nullable references
 abbrev pub with_references : Config
 with_references = record default_config { non_nullable_enabled = true }
 
--- a global for a reference that may not be null, beside these types
+-- these types, and a global of a non-nullable reference
 abbrev pub holding_reference : List SubType → HeapType → ModuleParts
 holding_reference types heap_type = record (empty_module default_config) { types = types; globals = global (Ref (not_null heap_type)) false ∷ [] }

@@ -1,4 +1,4 @@
--- Shapes that the examples speak of, and modules that have them or not.
+-- Shapes of the examples, and modules that keep them or not.
 use Rattle.std.specs.Prelude.{ℕ, true, false, List, [], ◌∷◌, Some, None, codes, map}
 use Rattle.smith_types.specs.Flags.{funcref}
 use Rattle.smith_types.specs.ExampleTypes.{plain, nullable, not_null}
@@ -37,7 +37,7 @@ imported_memories = record empty_shape {
       ∷ Compact2 [] (entity.Memory (memory 1 None)) [] ∷ [];
 }
 
--- these memories, and one that is exported
+-- these memories, and an exported one
 abbrev pub memories_in_and_out : Shape
 memories_in_and_out = record imported_memories { memories = memory 1 None ∷ []; exports = (codes "d", kind.Memory, 3) ∷ [] }
 
@@ -45,7 +45,7 @@ memories_in_and_out = record imported_memories { memories = memory 1 None ∷ []
 abbrev pub memory_named : List ℕ → Import
 memory_named name = record { «module» = []; name = name; entity_type = entity.Memory (memory 1 None) }
 
--- a function that takes a number, and a memory
+-- imports of a function with a parameter that is a number, and of a memory
 abbrev pub ping : Import
 ping = record { «module» = codes "env"; name = codes "ping"; entity_type = entity.Func 0 }
 
@@ -55,7 +55,7 @@ shared_bytes = record { «module» = codes "env"; name = codes "memory"; entity_
 abbrev pub environment : Shape
 environment = record empty_shape { groups = alone taking_a_number ∷ []; imports = Single ping ∷ Single shared_bytes ∷ [] }
 
--- a module that imports both, and one that imports the first
+-- a module that imports both, and one that imports only the first
 abbrev pub with_environment : ModuleParts
 with_environment = record (empty_module default_config) {
   types = final taking_a_number ∷ [];
@@ -72,11 +72,11 @@ with_environment = record (empty_module default_config) {
 abbrev pub with_ping : ModuleParts
 with_ping = record with_environment { imports = Single ping ∷ []; num_imports = 1; memories = []; type_size = 2 }
 
--- a global and a memory that are exported
+-- an exported global and an exported memory
 abbrev pub exporting : Shape
 exporting = record empty_shape { memories = memory 1 (Some 10) ∷ []; globals = global F32 false ∷ []; exports = (codes "bar", kind.Global, 0) ∷ (codes "baz", kind.Memory, 0) ∷ [] }
 
--- a function, a global, a memory, a table and a tag that are exported
+-- an exported function, global, memory, table and tag
 abbrev pub five_exports : Shape
 five_exports = record empty_shape {
   groups = (foo_type ∷ []) ∷ (quux_type ∷ []) ∷ [];
@@ -98,7 +98,7 @@ imported_kinds =
 abbrev pub five_imports : Shape
 five_imports = record empty_shape { groups = alone taking_a_number ∷ []; imports = map Single imported_kinds }
 
--- a function of the first of two equal types that is exported
+-- an exported function of the first of two equal types
 abbrev pub equal_types : Shape
 equal_types = record empty_shape { groups = (foo_type ∷ []) ∷ (foo_type ∷ []) ∷ []; funcs = 0 ∷ []; exports = (codes "f", kind.Func, 0) ∷ [] }
 
@@ -128,19 +128,19 @@ in_one_group = record with_environment {
   imports = Compact1 (codes "env") (record { name = codes "ping"; entity_type = entity.Func 0 } ∷ record { name = codes "memory"; entity_type = entity.Memory (memory 1 None) } ∷ []) ∷ [];
 }
 
--- a module with these entities and with such exports
+-- a module with these entities, and with these exports
 abbrev pub exported : List (List ℕ × ExportKind × ℕ) → ModuleParts
 exported exports = record (empty_module default_config) { memories = memory 1 (Some 10) ∷ []; num_defined_memories = 1; globals = global F32 false ∷ []; exports = exports }
 
--- a global of references that may not be null
+-- a global of a non-nullable reference
 abbrev pub non_nullable : Shape
 non_nullable = record empty_shape { globals = global (Ref (not_null (plain heap.Extern))) false ∷ []; exports = (codes "g", kind.Global, 0) ∷ [] }
 
--- a function type that takes such a reference
+-- a function type with a parameter that is a non-nullable reference
 abbrev pub taking_non_nullable : Shape
 taking_non_nullable = record empty_shape { groups = alone (taking (Ref (not_null (plain heap.Extern)))) ∷ [] }
 
--- a table that is exported, and a memory that is exported by one name twice
+-- an exported table, and a memory that is exported twice with one name
 abbrev pub table_exported : Shape
 table_exported = record empty_shape { tables = table funcref 1 None ∷ []; exports = (codes "t", kind.Table, 0) ∷ [] }
 
@@ -151,10 +151,10 @@ twice_exported = record empty_shape { memories = memory 1 None ∷ []; exports =
 abbrev pub memory_available : Shape
 memory_available = record empty_shape { imports = Single shared_bytes ∷ [] }
 
--- two imports are asked for, of whatever kind
+-- a configuration that requires two imports of any kind
 abbrev pub room_for_two : Config
 room_for_two = record default_config { min_imports = 2; max_memories = 2; max_tables = 2 }
 
--- a global of references to a type that is not there
+-- a global of references to a type that does not exist
 abbrev pub untyped : Shape
 untyped = record empty_shape { globals = global (Ref (nullable (Concrete 0))) false ∷ [] }

@@ -12,7 +12,7 @@ use Rattle.smith_rules_examples.specs.ExampleParts.{memory, shared_memory, table
 use Rattle.smith_rules_examples.specs.ExampleShapes.{for_module, for_exports, empty_shape, exporting}
 use Rattle.smith_rules_examples.proofs.bounds.limits.Goals as goal
 
--- what is kept of a memory and of a table where no shape is given
+-- the bounds of a memory and of a table without shapes
 abbrev IsMemoryKept : Config → MemoryType → Type 0
 IsMemoryKept config one = Contains [] one ⊎ IsMemoryWithin config one
 
@@ -28,7 +28,7 @@ not_forced = search arith
 memory_without_maximum : IsMemoryKept (record default_config { max_memories = 2; memory_max_size_required = true }) (memory 1 None) → ⊥
 memory_without_maximum = search arith
 
--- no byte beside shapes of which the exports are not used
+-- no byte is allowed; of the shapes, that for exports is not used
 abbrev no_bytes : Config
 no_bytes = for_module empty_shape (for_exports exporting (record default_config { max_memory32_bytes = 0 }))
 

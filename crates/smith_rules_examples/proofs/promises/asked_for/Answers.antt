@@ -29,7 +29,7 @@ returns-clause-one_name_twice_beside_exports_of_a_shape c = λ kept. not_distinc
 pub returns-clause-a_trap : goal.returns-clause-a_trap
 returns-clause-a_trap c = λ kept. past_the_table (record { elements = (kept.inside refl).elements; data_segments = (kept.inside refl).data_segments })
 
--- no shape that is used holds a reference that may not be null
+-- no shape in use holds a non-nullable reference
 none_given : HoldsNonNullable with_references → ⊥
 none_given (which.AvailableImports, holds) = absurd holds
 none_given (which.Exports, holds) = absurd holds
