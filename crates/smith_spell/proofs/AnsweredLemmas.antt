@@ -1,4 +1,4 @@
--- When lists cannot be spelled, and the answer for other lists.
+-- The lists that cannot be spelled, and the result for other lists.
 use Rattle.std.proofs.Common.{◌≡◌, ℕ, List, [], length}
 use Rattle.std.specs.Prelude.{◌≤◌, Option, Some, None, Result, Ok, Err, IfOk, IfErr, OnErr, MatchOption}
 use Rattle.smith_bytes.specs.declared.error.Error.{Error}
@@ -12,16 +12,16 @@ use Rattle.smith_spell.specs.Spelling.{SpellsMember}
 use Rattle.smith_spell.specs.SpellAnswers.{IsSpellable, AnswersSpelling}
 use Rattle.smith_spell.specs.Decided.{AsksForNothing}
 
--- if the configuration imposes a minimum, a shape or export-everything
+-- a list cannot be spelled if the configuration imposes a minimum, a shape or export-everything
 pub asked_in_vain : (config : Config) (groups : List (List SubType)) (funcs : List ℕ) → (AsksForNothing config → ⊥) → IsSpellable config groups funcs → ⊥
 asked_in_vain config groups funcs more h = more (record { no_minimums = h.no_minimums; no_shapes = h.no_shapes; not_everything = h.not_everything })
 
--- a fact about every answer is a fact about a refusal
+-- a fact about every result is a fact about a refusal
 pub on_refusal : {A E : Type 0} (Fact : Type 0) (answer : Result A E) → Fact → OnErr answer Fact
 on_refusal Fact (Ok _) h = tt
 on_refusal Fact (Err _) h = h
 
--- the answer if the configuration passes and imposes none of these
+-- the result if the configuration passes and imposes none of these
 pub answered : (config : Config) (groups : List (List SubType)) (funcs : List ℕ) → AsksForNothing (sanitized config) → Passes (sanitized config) → (answer : Result (Option (List ℕ)) Error)
     → IfOk answer (λ found. MatchOption found (¬ IsInFamily (sanitized config) groups funcs) (λ bytes. IsInFamily (sanitized config) groups funcs × SpellsMember (sanitized config) groups funcs bytes))
     → IfErr answer (λ e. e ≡ Memory) → OnErr answer (IsInFamily (sanitized config) groups [] × (length funcs ≤ (sanitized config).max_funcs)) → AnswersSpelling config groups funcs answer

@@ -35,7 +35,7 @@ each_zero config none = All-map (λ (minimum : ℕ). minimum ≡ 0) (minimum_of 
 same_minimum : (config : Config) (count : Count) → minimum_of (sanitized config) count ≡ minimum_of config count
 same_minimum config count = search rules
 
--- it adds no shape, and never removes the only one
+-- sanitising adds no shape, and never removes the only one
 pub asked_once_sanitised : (config : Config) → AsksForNothing config → AsksForNothing (sanitized config)
 asked_once_sanitised config h =
     let alone = h.no_shapes.module_shape in

@@ -6,7 +6,7 @@ use Rattle.smith_bytes.specs.Draws.{big_endian, digit_count, digit_count_within}
 use Rattle.smith_bytes.specs.Spelling.{SpellsNumber, SpellsRefusal}
 use Rattle.smith_spell.specs.Written.{SpellsDigits, Writes}
 
--- counting one digit more changes nothing if there are no more
+-- counting one more digit changes nothing if there is no further digit
 enough_digits : (n d : ℕ) → d < 256 ^ n → digit_count_within n d ≡ digit_count_within (suc n) d
 enough_digits zero zero few = refl
 enough_digits zero (suc d) few = absurd (omega arith)
@@ -15,7 +15,7 @@ enough_digits (suc n) (suc d) few =
     let top : 256 ^ suc n ≡ 256 * 256 ^ n = rw pow-succ' refl in
     omega (arith, enough_digits n (suc d / 256) (omega arith))
 
--- one digit more than the number without its last one
+-- one digit more than those of the number without its last digit
 digit_count_more : (d : ℕ) → 0 < d → d < 2 ^ 64 → digit_count d ≡ 1 + digit_count (d / 256)
 unfolding digit_count
 digit_count_more zero some few = absurd (omega arith)
@@ -46,7 +46,7 @@ number_of_digits number most piece within h =
     let same : big_endian piece % (most + 1) ≡ number = rw h.read (mod-eq_of_lt {n = number} {m = most + 1} (omega arith)) in
     record { digits = rw all h.digits; read = rw all (omega (arith, same)) }
 
--- the second of some chances
+-- the digits of the second of some chances
 pub refusal_of_digits : (chances : ℕ) (piece : List ℕ) → 1 < chances → SpellsDigits 1 (chances - 1) piece → SpellsRefusal chances piece
 refusal_of_digits chances piece several h = record {
   drawn = 2;

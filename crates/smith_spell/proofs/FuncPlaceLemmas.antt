@@ -12,7 +12,7 @@ use Rattle.smith_draw.specs.declared.type_use.TypeUse.TheVariants.{DefinedFunc}
 use Rattle.smith_draw.specs.SpelledParts.{SpellsFuncs}
 use Rattle.smith_spell.specs.Written.{ArePlaces}
 
--- for each item, how many items before it pass a test, plus n
+-- for each item, the number of items before it that pass a test, plus n
 abbrev pub counts_from : {A : Type 0} → (A → Bool) → ℕ → List A → List ℕ
 counts_from test n [] = []
 counts_from test n (x ∷ xs) = n ∷ counts_from test (if test x then n + 1 else n) xs

@@ -31,7 +31,7 @@ known_alone inner = record { counted = refl; grounds = refl; roots = All-from_re
 pub grounds_itself : (inner : CompositeInnerType) (descriptors : Bool) → IsTrue (is_ground (final inner)) ↔ IsGroundedByStructs (alone inner) descriptors (Concrete 0)
 grounds_itself inner descriptors = concrete_known (alone inner) (known_of inner) descriptors 0 (Concrete 0) _ (known_alone inner) refl (omega arith) (λ t at. ap is_ground (same_Some _ t at))
 
--- and abstract heap types above it
+-- such a type grounds the abstract heap types above it
 pub grounds_above : (inner : CompositeInnerType) (descriptors : Bool) (ty : AbstractHeapType) → IsTrue (list_any (is_ground_of false) (alone inner) && is_abstract_below Struct ty) ↔ IsGroundedByStructs (alone inner) descriptors (plain ty)
 unfolding known_of
 grounds_above inner descriptors ty = abstract_known (alone inner) (known_of inner) descriptors false ty (plain ty) _ (known_alone inner) refl refl refl

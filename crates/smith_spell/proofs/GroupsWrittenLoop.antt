@@ -19,7 +19,7 @@ use Rattle.smith_spell.specs.Written.{Writes, IsSummary, OverSome, AreMembers}
 use Rattle.smith_spell.proofs.WrittenLemmas.{joined_written}
 use Rattle.smith_spell.proofs.WritingLoop.{Leads, leads_over, leads_as}
 
--- its size, then its types
+-- a group is its size, then its types
 pub group_written : (config : Config) (types : List SubType) (before : Before) (stands : Bool) (group : List SubType) {old between new : List ℕ} → IsSummary types before
     → Writes (SpellsSize config.gc_enabled config stands (config.max_types - before.count) (length group)) old between → Writes (SpellsSubTypes config types (before.count + length group) group) between new
     → Writes (SpellsGroup config types stands group) old new
@@ -66,7 +66,7 @@ pub summary_turn : (groups : List (List SubType)) (i : ℕ) (group d : List SubT
     → IsSummary (space_of (take (i + 1) groups)).types after
 summary_turn groups i group d after inside read h = subst (λ (types : List SubType). IsSummary types after) (types_turn groups i group d inside read) h
 
--- one group more
+-- one more group is written
 pub leads_groups : (config : Config) (groups : List (List SubType)) (i : ℕ) (stands : Bool) (group d : List SubType) {Whole : List ℕ → Type 0} {start now asked later : List ℕ} → i < length groups → group ≡ get_or groups i d
     → Leads (SpellsGroups config (space_of (take i groups)).types stands (drop i groups)) Whole start now → Writes (SpellsBool true) now asked
     → Writes (SpellsGroup config (space_of (take i groups)).types stands group) asked later → Leads (SpellsGroups config (space_of (take (i + 1) groups)).types true (drop (i + 1) groups)) Whole start later
@@ -76,7 +76,7 @@ leads_groups config groups i stands group d inside read so_far go one =
     let behind = types_turn groups i group d inside read in
     leads_over (leads_over (leads_as (λ piece h. rw (next, behind) h) so_far) go) one
 
--- no group more
+-- no group is left
 pub groups_written : (config : Config) (groups : List (List SubType)) (i : ℕ) (stands : Bool) (before : Before) {Whole : List ℕ → Type 0} {start now later : List ℕ} → length groups ≤ i → IsSummary (space_of (take i groups)).types before
     → Leads (SpellsGroups config (space_of (take i groups)).types stands (drop i groups)) Whole start now → Writes (Where (nat_lt before.count config.max_types) (SpellsBool false)) now later → Writes Whole start later
 unfolding SpellsGroups

@@ -53,7 +53,7 @@ holder_in_family = record {
   each_func = search rules;
 }
 
--- empty lists can be spelled, and so can these
+-- empty lists can be spelled, and lists of one function type and a function
 pub nothing_spellable : IsSpellable default_config [] []
 nothing_spellable = search rules
 

@@ -1,4 +1,4 @@
--- Pieces of bytes joined to a spelling, and what a spelling says of its first byte.
+-- Pieces of bytes that form a spelling, and the first byte of a spelling.
 use Rattle.std.proofs.Common.{arith, ◌≡◌, ℕ, suc, ◌+◌, ◌-◌, ◌%◌, ◌<◌, Bool, true, false, List, [], ◌∷◌, ◌++◌, length, refl, ap, sym, ◌∙◌, subst, append_assoc}
 use Rattle.std.specs.Prelude.{ℤ, Some, slice_get, if◌then◌else◌}
 use Rattle.std.specs.Int.{cast_signed, w32}
@@ -42,17 +42,17 @@ zero_even h = let same : 0 ≡ h.byte = cc h.whole in let never : 0 ≡ 1 = ap (
 pub any_byte : (byte : ℕ) → SpellsAnyByte (byte ∷ [])
 any_byte byte = record { byte = byte; whole = refl }
 
--- that no group is cloned
+-- the byte that spells that no group is cloned
 pub no_clone : SpellsRefusal 255 (1 ∷ [])
 unfolding digit_count
 no_clone = record { drawn = 2; later = omega arith; number = record { digits = refl; read = refl } }
 
--- that no supertype is chosen
+-- the byte that spells that no supertype is chosen
 pub no_supertype : SpellsRefusal 32 (1 ∷ [])
 unfolding digit_count
 no_supertype = record { drawn = 2; later = omega arith; number = record { digits = refl; read = refl } }
 
--- that a type is not shared
+-- the byte that spells that a type is not shared
 pub not_shared : SpellsRefusal 4 (1 ∷ [])
 unfolding digit_count
 not_shared = record { drawn = 2; later = omega arith; number = record { digits = refl; read = refl } }
@@ -75,7 +75,7 @@ one_function_spelled next size final kind no_param no_result no_group no_import 
     (joined (no_import ∷ []) (flag ∷ no_tag ∷ more ∷ no_more ∷ []) (even no_import h)
     (joined (flag ∷ []) (no_tag ∷ more ∷ no_more ∷ []) (any_byte flag) (joined (no_tag ∷ []) (more ∷ no_more ∷ []) (even no_tag i) funcs)))
 
--- pieces in another order of brackets
+-- three joined pieces, grouped the other way
 pub regrouped : {First Second Third : List ℕ → Type 0} {piece : List ℕ} → Joined (Joined First Second) Third piece → Joined First (Joined Second Third) piece
 regrouped {piece = piece} outer =
     let inner = outer.is_first in
@@ -204,7 +204,7 @@ place_alone both = without_nothing (first_weaker (λ part h. empty part h.number
 pub opened : {First Second : List ℕ → Type 0} {piece : List ℕ} (One Other : List ℕ → Type 0) → Joined First Second piece → ((part : List ℕ) → First part → Joined One Other part) → Joined One (Joined Other Second) piece
 opened One Other both as_two = regrouped (first_weaker as_two both)
 
--- what follows a concrete heap type, if there is one type
+-- the rest after a concrete heap type, if there is one type
 pub after_reference : (on nullable : Bool) (rest : List ℕ) → SpellsRefType (record default_config { non_nullable_enabled = on }) 1 (record { nullable = nullable; heap_type = Concrete 0 }) (1 ∷ rest) → SpellsNullable on nullable rest
 unfolding digit_count
 after_reference on nullable rest h = number_alone {value = 0} {lo = 0} {hi = 0} refl (bool_first (opened (SpellsBool true) (SpellsNumber 0 0 0) h.form (λ part stands. stands.1))).1

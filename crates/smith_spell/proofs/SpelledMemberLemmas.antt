@@ -1,5 +1,4 @@
--- What a spelling of types and functions says of its bytes: the groups that are drawn from them,
--- and the bytes left after these.
+-- The groups that are drawn from bytes that spell types and functions, and the bytes left.
 use Rattle.std.proofs.Common.{◌≡◌, ℕ, ◌+◌, ◌*◌, ◌^◌, Bool, true, false, List, [], length, refl, ap, sym, subst, ◌∙◌}
 use Rattle.std.specs.Prelude.{fold, if◌then◌else◌}
 use Rattle.std.proofs.Math.Dec.{T, eqb, eqb_refl}
@@ -44,7 +43,7 @@ member_read config groups funcs bytes left space sanitized least fit drawn h =
     let behind : left ≡ h.second = ap (λ pair. pair.1) same in
     (ap (λ pair. pair.0) same, subst (SpellsBehindGroups config (space_of groups).types funcs) (sym behind) h.is_second)
 
--- a number that tells heap types apart, as far as the examples need it
+-- a number that distinguishes the heap types of the examples
 abbrev heap_number : HeapType → ℕ
 heap_number (Abstract shared ty) = 0
 heap_number (Exact index) = 1

@@ -28,7 +28,7 @@ declared_written config types before limit t gc member summary refusal final uns
 next_before : (others types : List SubType) (i : ℕ) (t d : SubType) → i < length types → t ≡ get_or types i d → (others ++ take i types) ++ t ∷ [] ≡ others ++ take (i + 1) types
 next_before others types i t d inside read = rw (read, add-one, take-suc types i d inside) (append_assoc others (take i types) (get_or types i d ∷ []))
 
--- one type more
+-- one more type is written
 pub leads_sub_types : (config : Config) (others : List SubType) (limit i : ℕ) (types : List SubType) (t d : SubType) {Whole : List ℕ → Type 0} {start now later : List ℕ} → i < length types → t ≡ get_or types i d
     → Leads (SpellsSubTypes config (others ++ take i types) limit (drop i types)) Whole start now → Writes (SpellsSubType config (others ++ take i types) limit t) now later
     → Leads (SpellsSubTypes config (others ++ take (i + 1) types) limit (drop (i + 1) types)) Whole start later
@@ -42,7 +42,7 @@ leads_sub_types config others limit i types t d inside read so_far one =
 pub summary_more : (others types : List SubType) (i : ℕ) (t d : SubType) (after : Before) → i < length types → t ≡ get_or types i d → IsSummary ((others ++ take i types) ++ t ∷ []) after → IsSummary (others ++ take (i + 1) types) after
 summary_more others types i t d after inside read h = rw (← next_before others types i t d inside read) h
 
--- no type more
+-- no type is left
 pub sub_types_written : (config : Config) (others : List SubType) (limit i : ℕ) (types : List SubType) {Whole : List ℕ → Type 0} {start now : List ℕ} → length types ≤ i
     → Leads (SpellsSubTypes config (others ++ take i types) limit (drop i types)) Whole start now → Writes Whole start now
 unfolding SpellsSubTypes

@@ -10,7 +10,7 @@ use Rattle.smith_spell.proofs.WrittenLemmas.{nothing_written, joined_written, wr
 pub record Leads (More Whole : List ℕ → Type 0) (start now : List ℕ) : Type 0 where
   pub to : (final : List ℕ) → Writes More now final → Writes Whole start final
 
--- over one piece
+-- one piece is written
 pub leads_over : {One More Whole : List ℕ → Type 0} {start now later : List ℕ} → Leads (Joined One More) Whole start now → Writes One now later → Leads More Whole start later
 leads_over so_far one = record { to = λ final rest. so_far.to final (joined_written one rest) }
 

@@ -19,7 +19,7 @@ joined_written {old = old} {between = between} {new = new} one other = record {
   whole = other.whole ∙ ap (λ (bytes : List ℕ). bytes ++ other.piece) one.whole ∙ append_assoc old one.piece other.piece;
 }
 
--- a piece that also spells something else
+-- a piece with one property that implies another
 pub written_as : {Spells Other : List ℕ → Type 0} {old new : List ℕ} → ((piece : List ℕ) → Spells piece → Other piece) → Writes Spells old new → Writes Other old new
 written_as weaker one = record { piece = one.piece; spelled = weaker one.piece one.spelled; whole = one.whole }
 

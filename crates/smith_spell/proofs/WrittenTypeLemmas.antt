@@ -30,12 +30,12 @@ place_within items place item stands = omega (arith, slice_get_within items plac
 pub place_written : {A : Type 0} {items : List A} {item : A} {old new : List ℕ} (place : ℕ) → slice_get items place ≡ Some item → Writes (SpellsNumber place 0 (length items - 1)) old new → Writes (SpellsPlace items item) old new
 place_written place stands = written_as (λ piece number. record { place = place; stands = stands; number = number })
 
--- a reference: its heap type, then whether it is non-nullable
+-- a reference type: its heap type, then whether it is non-nullable
 pub ref_type_written : (config : Config) (limit : ℕ) (reference : RefType) {old between new : List ℕ} → IsTrue config.reference_types_enabled → Writes (SpellsHeapType config limit reference.heap_type) old between
     → Writes (SpellsNullable config.non_nullable_enabled reference.nullable) between new → Writes (SpellsRefType config limit reference) old new
 ref_type_written config limit reference on heap_type nullable = written_as (λ piece form. record { enabled = on; form = form }) (joined_written heap_type nullable)
 
--- its class, then the reference
+-- a value type that is a reference: its class, then the reference type
 pub reference_written : (config : Config) (limit : ℕ) (reference : RefType) {old between new : List ℕ} → Writes (SpellsPlace (enabled (value_classes config)) (class_of (vals.Ref reference))) old between → Writes (SpellsRefType config limit reference) between new
     → Writes (SpellsValType config limit (vals.Ref reference)) old new
 unfolding SpellsValType

@@ -1,5 +1,4 @@
--- Wholes as the parts that decisions test. Proofs turn each into the rule of the family that it is
--- equal to.
+-- Wholes as the parts that decisions test. Proofs turn each into the equal rule of the family.
 use Rattle.std.specs.Prelude.{◌≡◌, ◌<◌, ◌≤◌, false, IsTrue, List, [], ◌∷◌, ◌++◌, length, All}
 use Rattle.std.specs.List.{list_any}
 use Rattle.smith_types.specs.Grounds.{is_ground_of}
@@ -20,7 +19,7 @@ pub record AsksForNothing (config : Config) : Type 0 where
   pub no_shapes : HasNoShapes config
   pub not_everything : config.export_everything ≡ false
 
--- an abstract heap type that is drawn under the configuration
+-- an abstract heap type that may be drawn for the configuration
 abbrev pub IsOffered : Config → AbstractHeapType → Type 0
 IsOffered config Func = Unit {0}
 IsOffered config Extern = Unit {0}

@@ -1,4 +1,4 @@
--- The answers of `spell`: bytes from which a module with these types and functions is drawn,
+-- The results of `spell`: bytes from which a module with these types and functions is drawn,
 -- whatever follows them. Rules of this project.
 use Rattle.std.specs.Prelude.{◌≡◌, ℕ, ◌≤◌, false, List, [], length, Option, Some, None, Result, Ok, Err}
 use Rattle.smith_bytes.specs.declared.error.Error.{Error}
@@ -21,14 +21,14 @@ pub record IsSpellable (config : Config) (groups : List (List SubType)) (funcs :
   pub not_everything : config.export_everything ≡ false
   pub member : IsInFamily config groups funcs
 
--- lack of memory, for lists that are possible as far as can be told without memory: the groups can
--- be spelled with no function, and there are no more functions than the configuration allows
+-- lack of memory, which is reported only if the groups can be spelled with no function, and there
+-- are no more functions than the configuration allows
 pub record IsSpellingRefused (config : Config) (groups : List (List SubType)) (funcs : List ℕ) (error : Error) : Type 0 where
   pub memory : error ≡ Memory
   pub groups_alone : IsSpellable config groups []
   pub few_funcs : length funcs ≤ config.max_funcs
 
--- the answer: bytes that spell the lists, none exactly if they cannot be spelled, or lack of memory
+-- the result: bytes that spell the lists, none exactly if they cannot be spelled, or lack of memory
 abbrev pub AnswersSpelling : Config → List (List SubType) → List ℕ → Result (Option (List ℕ)) Error → Type 0
 AnswersSpelling config groups funcs (Ok (Some bytes)) = IsSpellable (sanitized config) groups funcs × SpellsMember (sanitized config) groups funcs bytes
 AnswersSpelling config groups funcs (Ok None) = IsSpellable (sanitized config) groups funcs → ⊥

@@ -1,6 +1,6 @@
 -- The bytes that spell a module's types and functions, and those of the rest of a module with only
--- globals and passive data. Rules of this project, for a sanitised configuration. One pair of lists
--- has many spellings.
+-- globals and passive data. Rules of this project, for a sanitised configuration. A pair of lists
+-- may have several spellings.
 use Rattle.std.specs.Prelude.{◌≡◌, ℕ, ◌≤◌, ◌==◌, false, if◌then◌else◌, ℤ, List, [], length}
 use Rattle.smith_bytes.specs.Spelling.{SpellsAnyByte, SpellsNone, Where, Joined, Listed}
 use Rattle.smith_types.specs.declared.composite_type.SubType.{SubType}
@@ -9,7 +9,7 @@ use Rattle.smith_config.specs.Shapes.{space_of}
 use Rattle.smith_draw.specs.Spelling.{SpellsGroups}
 use Rattle.smith_draw.specs.SpelledParts.{SpellsNoTag, SpellsFuncs, SpellsGlobal, SpellsBytes, SpellsNoStart}
 
--- types, no import, whether the imports section is written, no tag, functions
+-- types, no import, whether the import section is written, no tag, functions
 unfoldable pub SpellsMember : Config → List (List SubType) → List ℕ → List ℕ → Type 0
 SpellsMember config groups funcs =
     let types = (space_of groups).types in
@@ -29,8 +29,8 @@ pub record IsRest (config : Config) (numbers : List ℤ) (passive : List (List �
   pub few_segments : length passive ≤ config.max_data_segments
   pub bulk : config.bulk_memory_enabled ≡ false → passive ≡ []
 
--- no table, no memory, a global for each number, no export, whether the types section is written,
--- no start, segments
+-- no table, no memory, a global for each number, no export, whether the type section is written, no
+-- start, segments
 unfoldable pub SpellsRest : Config → List (List SubType) → List ℕ → List ℤ → List (List ℕ) → List ℕ → Type 0
 SpellsRest config groups funcs numbers passive =
     let types = (space_of groups).types in

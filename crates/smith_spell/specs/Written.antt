@@ -1,4 +1,4 @@
--- The bytes that a writing call adds.
+-- The bytes that a writer adds.
 use Rattle.std.specs.Prelude.{◌≡◌, ℕ, ◌<◌, ◌≤◌, List, ◌++◌, Some, length, take, slice_get, slice_index_or}
 use Rattle.std.specs.List.{list_any}
 use Rattle.smith_bytes.specs.Draws.{big_endian, digit_count}
@@ -25,7 +25,7 @@ pub record IsSummary (types : List SubType) (before : Before) : Type 0 where
   pub counted : before.count ≡ length types
   pub open_told : before.has_open ≡ list_any is_open types
 
--- this holds of some list of types that is no longer than the limit
+-- a property holds of some list of types that is no longer than the limit
 pub record OverSome (limit : ℕ) (Holds : List SubType → Type 0) : Type 0 where
   pub types : List SubType
   pub few : length types ≤ limit

@@ -40,7 +40,7 @@ pub(crate) fn member_space(
     Ok(Some(space))
 }
 
-/// Whether a member of the family may have the groups `groups`. Takes no memory.
+/// Whether the groups of a member of the family may be `groups`. Takes no memory.
 fn are_groups_in_family(config: &Config, groups: &[Items<SubType>]) -> bool
     ensures { IsTrue result ↔ AreGroupsInFamily config.now groups.now }
 {

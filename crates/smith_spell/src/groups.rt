@@ -13,8 +13,7 @@ use smith_config::Config;
 use smith_types::{Items, SubType};
 
 /// Writes the size `size` of a group, which is at most `room`. If `stands` is set, a group exists
-/// before it, and the size follows a piece that no group is cloned. Writes nothing without garbage
-/// collection.
+/// before it, and first writes that no group is cloned. Writes nothing without garbage collection.
 fn write_size(
     config: &Config,
     stands: bool,

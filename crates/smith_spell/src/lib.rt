@@ -1,5 +1,5 @@
-//! Lists of types and functions as bytes from which modules with these lists are drawn: which lists
-//! they are, which bytes spell them, and that types are drawn from the bytes that spell them.
+//! Spells lists of types and functions as bytes from which modules with these lists are drawn.
+//! Defines the family of lists that have such bytes, and the bytes that spell them.
 #![tactic(auto)]
 
 mod asked;
@@ -9,7 +9,7 @@ mod examples;
 mod family;
 mod funcs;
 mod groups;
-/// Laws: functions that do nothing, and whose clauses are the laws.
+/// Laws: functions without effect, whose clauses state properties.
 pub mod laws;
 mod member;
 mod member_type;

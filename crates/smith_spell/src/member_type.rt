@@ -117,7 +117,7 @@ fn is_member_reference(config: &Config, earlier: &Earlier<'_>, reference: RefTyp
         && is_member_nullability(config, earlier, reference)
 }
 
-// Whether `reference` is nullable, or `config` and `earlier` allow that it isn't.
+// Whether `reference` is nullable, or `config` and `earlier` allow a non-nullable one.
 fn is_member_nullability(config: &Config, earlier: &Earlier<'_>, reference: RefType) -> bool
     requires { IsMemberHeapType config.now earlier.now reference.heap_type }
     ensures { IsTrue result ↔ IsMemberNullability config.now earlier.now reference }

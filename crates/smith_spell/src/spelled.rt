@@ -47,9 +47,8 @@ fn spell_in_family(
     Ok(Some(spell_member(alloc, config, groups, space.types(), funcs)?))
 }
 
-/// Spells `groups` and `funcs`: returns bytes from which a module is drawn under `config` that has
-/// the types and groups of `groups`, and functions with the type indices `funcs`, whatever follows
-/// the bytes.
+/// Spells `groups` and `funcs`: returns bytes from which a module for `config` has the types and
+/// groups of `groups`, and functions with the type indices `funcs`, whatever follows the bytes.
 ///
 /// Returns none if no bytes are certain to produce such a module:
 ///

@@ -46,7 +46,7 @@ fn class_place(config: &Config, value: ValType) -> usize
     }
 }
 
-/// Returns the number of abstract heap types that are drawn under `config`.
+/// Returns the number of abstract heap types that may be drawn for `config`.
 fn count_abstract(config: &Config) -> usize
     ensures { result ≡ length (enabled (abstract_heap_types config.now)) }
 {
@@ -54,7 +54,7 @@ fn count_abstract(config: &Config) -> usize
     2 + usize::from(config.exceptions_enabled) + collected
 }
 
-/// Returns the place of `ty` among the abstract heap types that are drawn under `config`.
+/// Returns the place of `ty` among the abstract heap types that may be drawn for `config`.
 fn abstract_place(config: &Config, ty: AbstractHeapType) -> usize
     ensures { Contains (enabled (abstract_heap_types config.now)) ty → slice_get (enabled (abstract_heap_types config.now)) result ≡ Some ty }
 {

@@ -31,7 +31,7 @@ asked tables memories next class b h =
     let (class, fourth) = digit_first refl (opened (SpellsNumber 0 0 5) (Joined (SpellsUnshared default_config) Mutable) global (λ part is. global_parts default_config (pos 7) is)) in
     (table, (memory, (more, (class, without_nothing (opened (SpellsUnshared default_config) Mutable fourth (λ part is. is))))))
 
--- its number, and that nothing follows
+-- the number of a global, and that no global follows
 valued : {mutable choice p q r s last export flag element segment : ℕ} → Joined Mutable (Joined (SpellsBool false) (Behind [])) (mutable ∷ choice ∷ p ∷ q ∷ r ∷ s ∷ last ∷ export ∷ flag ∷ element ∷ segment ∷ [])
     → (mutable % 2 ≡ 1) × ((0 ≡ 0 + big_endian (choice ∷ []) % (1 - 0 + 1)) × ((pos 7 ≡ cast_signed w32 (little_endian (p ∷ q ∷ r ∷ s ∷ [])))
     × ((last % 2 ≡ 0) × ((export % 2 ≡ 0) × ((element % 2 ≡ 0) × SpellsBool false (segment ∷ []))))))
@@ -48,7 +48,7 @@ valued h =
 pub returns-clause-a_number : goal.returns-clause-a_number
 returns-clause-a_number c = ((λ h. cc (asked _ _ _ _ _ h).0), ((λ h. cc (asked _ _ _ _ _ h).1.0), ((λ h. cc (asked _ _ _ _ _ h).1.1.0), ((λ h. cc (asked _ _ _ _ _ h).1.1.1.0), ((λ h. cc (valued (asked _ _ _ _ _ h).1.1.1.1).0), ((λ h. cc (valued (asked _ _ _ _ _ h).1.1.1.1).1.0), ((λ h. cc (valued (asked _ _ _ _ _ h).1.1.1.1).1.1.0), ((λ h. cc (valued (asked _ _ _ _ _ h).1.1.1.1).1.1.0), ((λ h. cc (valued (asked _ _ _ _ _ h).1.1.1.1).1.1.0), ((λ h. cc (valued (asked _ _ _ _ _ h).1.1.1.1).1.1.0), ((λ h. cc (valued (asked _ _ _ _ _ h).1.1.1.1).1.1.1.0), ((λ h. cc (valued (asked _ _ _ _ _ h).1.1.1.1).1.1.1.1.0), ((λ h. cc (valued (asked _ _ _ _ _ h).1.1.1.1).1.1.1.1.1.0), ((λ h. one_odd (valued (asked _ _ _ _ _ h).1.1.1.1).1.1.1.1.1.1), tt))))))))))))))
 
--- what a spelling of one byte list says, up to the bool that announces it
+-- the bytes of a spelling of one byte list, up to the bool before the list
 empty_up_to : (tables memories more export flag element next : ℕ) (b : List ℕ) → SpellsRest default_config [] [] [] ((42 ∷ []) ∷ []) (tables ∷ memories ∷ more ∷ export ∷ flag ∷ element ∷ next ∷ b)
     → (tables % 2 ≡ 0) × ((memories % 2 ≡ 0) × ((more % 2 ≡ 0) × ((export % 2 ≡ 0) × ((element % 2 ≡ 0) × ((next % 2 ≡ 1) × Joined (SpellsBytes (42 ∷ [])) (SpellsBool false) b)))))
 unfolding SpellsRest Listed
@@ -61,7 +61,7 @@ empty_up_to tables memories more export flag element next b h =
     let (asked, sixth) = bool_first fifth in
     (table, (memory, (global, (none, (segment, (asked, sixth))))))
 
--- and after it
+-- the bytes of that spelling after the bool
 one_byte : (next byte last segment : ℕ) → Joined (SpellsBytes (42 ∷ [])) (SpellsBool false) (next ∷ byte ∷ last ∷ segment ∷ [])
     → (next % 2 ≡ 1) × ((byte ≡ 42) × ((last % 2 ≡ 0) × SpellsBool false (segment ∷ [])))
 unfolding SpellsBytes
