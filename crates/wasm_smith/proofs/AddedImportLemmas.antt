@@ -116,7 +116,7 @@ module _ (config : Config) (drawn : Drawn) (passes : Passes config) (sanitized :
           };
         }
 
-    -- and the imports follow the parts before
+    -- the imports follow the parts before
     pub imports_beyond : IsBeyond config (begun_of drawn) (begun_of (record drawn { imported = made }))
     imports_beyond = record {
       types = all_kept drawn.types.types;

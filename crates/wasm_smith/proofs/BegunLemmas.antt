@@ -1,5 +1,5 @@
--- The first parts of a module: imports of a shape are valid and within the bounds, and results of
--- answers.
+-- The first parts of a module: imports of a shape are valid and within the bounds, and the results
+-- of steps.
 use Rattle.std.proofs.Common.{◌≡◌, ◌⊎◌, ℕ, ◌+◌, ◌<◌, ◌≤◌, ◌^◌, Bool, true, false, List, [], ◌∷◌, ◌++◌, length, inl, inr, refl, sym, ap, subst, arith, lt-ltb, length-append, append-nil}
 use Rattle.std.specs.Prelude.{All, IsTrue, IfSome, Option, Some, None, Result, Err, IsErrAnd}
 use Rattle.std.specs.List.{Contains}

@@ -50,7 +50,7 @@ no_exports spaces = record {
   distinct = record { once = λ i j item one other. absurd cc };
 }
 
--- for a shape's types, tables and globals
+-- the references of a shape's types, tables and globals
 of_shape : (config : Config) (functions : Context) (shape : Shape) (types : Space) (spaces : IndexSpaces) → types ≡ space_of shape.groups → All (Contains (shape_spaces shape).tables) spaces.tables → All (Contains (shape_spaces shape).globals) spaces.globals
     → HoldsGrounded config (over functions (shape_types shape)) (shape_spaces shape) → HoldsGrounded config (over functions types.types) spaces
 of_shape config functions shape types spaces same tables globals h =
@@ -105,7 +105,7 @@ begun_by config bytes drawn (Some shape) available given also valid begun = by_m
 begun_by config bytes drawn None (Some shape) none given valid begun = by_imports config shape bytes drawn none given valid (subst (λ (one : Option Shape). IfSome one (λ each. IsBegunByImports config each bytes drawn)) given begun.by_imports)
 begun_by config bytes drawn None None none free valid begun = freely config drawn (begun.freely (none_fixes config none free))
 
--- types after those that a module begins with: the properties that drawing them keeps
+-- types after those that a module begins with: the properties that drawing these types preserves
 pub record AreTypesBehind (config : Config) (functions : Context) (old new : Space) : Type 0 where
   valid : AreTypesValid (features_of config) new
   longer : Extends old.types new.types
@@ -116,7 +116,8 @@ pub record AreTypesBehind (config : Config) (functions : Context) (old new : Spa
   grounded : ¬ HoldsUngroundedField config (over functions old.types) → ¬ HoldsUngroundedField config (over functions new.types)
   granted : AreTypesGranted config (over functions old.types) → AreTypesGranted config (over functions new.types)
 
--- grounded references stay grounded as types are added, and so are these
+-- grounded references stay grounded as types are added, and the references of the added types are
+-- grounded
 grounded_later : (config : Config) (functions : Context) (old new : Space) (spaces : IndexSpaces) → AreTypesBehind config functions old new → HoldsGrounded config (over functions old.types) spaces → HoldsGrounded config (over functions new.types) spaces
 grounded_later config functions old new spaces more h =
     let before = over functions old.types in
@@ -173,7 +174,7 @@ module _ {X : Type 0} (config : Config) (functions : Context) (old new : Space) 
       record { valid = valid; longer = longer; most = stays_within config.max_types (length old.types) (length new.types) most same; least = least; floats = floats; few_values = few_values; grounded = grounded; granted = granted }
   types_behind (Err e) valid longer most full least floats few_values grounded granted = tt
 
--- then more may be drawn over the first parts of a module
+-- after drawn types, more may be drawn over the first parts of a module
 pub drawn_behind : {X : Type 0} (config : Config) (bytes : List ℕ) (drawn : Drawn) (types : Space) (result : Result X Error) → AreShapesValid config → IsBegun config bytes drawn → OnOk result (AreTypesBehind config (drawn_next config drawn) drawn.types types)
     → OnOk result (AreTypesDrawn config (record drawn { types = types }))
 drawn_behind config bytes drawn types (Ok made) valid begun more = types_drawn config bytes drawn types valid begun more

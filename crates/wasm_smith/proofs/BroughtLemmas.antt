@@ -69,7 +69,7 @@ few_given : (Holds : Shape → Type 0) (of_shape : Shape → ℕ) (most : ℕ) �
 few_given Holds of_shape most few (Some shape) h = few shape h
 few_given Holds of_shape most few None h = omega arith
 
--- with a module shape no other adds any
+-- with a module shape no other shape adds an item
 few_in_use : (config : Config) (count : Count) (available exports shaped : Option Shape) → let used = in_use (record { available_imports = available; exports = exports; module_shape = shaped }) in
     IfSome used.module_shape (IsShapeValid which.ModuleShape config) → IfSome used.available_imports (IsShapeValid which.AvailableImports config)
     → where_given (items_of_module_shape count) used.module_shape + where_given (items_of_available_imports count) used.available_imports ≤ 2 ^ 30
@@ -80,6 +80,6 @@ few_in_use config count available exports None own offered = let few = few_given
 pub few_brought : (config : Config) → AreShapesValid config → (count : Count) → items_of_shapes config count ≤ 2 ^ 30
 few_brought config valid count = few_in_use config count config.available_imports config.exports config.module_shape (valid which.ModuleShape) (valid which.AvailableImports)
 
--- and add few to it
+-- shapes add few items to a maximum
 pub few_added : (config : Config) → AreShapesValid config → (count : Count) → items_of_export_shape config count ≤ 2 ^ 29
 few_added config valid count = few_given (IsShapeValid which.Exports config) (items_of_exports count) (2 ^ 29) (λ shape short. few_exported count shape short.short) (shape_for config which.Exports) (valid which.Exports)

@@ -34,7 +34,7 @@ page_small features (Some log2) (inl byte, on) = omega (arith, byte)
 page_small features (Some log2) (inr whole, on) = omega (arith, whole)
 
 module _ {config : Config} {space : Space} {spaces : IndexSpaces} {imports_size : ℕ} (may : MayHoldContents config space spaces imports_size) where
-  -- as interesting values require
+  -- the pages of memories are small, as interesting values require
   pub pages_small : All (λ (memory : MemoryType). page_log2 memory.page_size_log2 ≤ 16) spaces.memories
   pages_small = All-weaker (IsMemoryValid (features_of config)) (λ (memory : MemoryType). page_log2 memory.page_size_log2 ≤ 16) (λ memory valid. page_small (features_of config) memory.page_size_log2 valid.page_size) spaces.memories may.entities.memories
 
@@ -77,7 +77,7 @@ module _ {config : Config} {space : Space} {spaces : IndexSpaces} {imports_size 
       few_tables = rw seen.tables may.few.tables;
     }
 
-    -- as data segments require
+    -- memories are valid and few, as data segments require
     pub memories_valid : All (IsMemoryValid (features_of config)) over.entities.memories.now
     memories_valid = rw seen.memories may.entities.memories
 

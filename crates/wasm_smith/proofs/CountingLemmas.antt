@@ -166,7 +166,7 @@ module _ (fuel : ℕ) (old : ModuleParts) (valid : IsValid old) where
 pub adds_valid : (fuel index : ℕ) (old new : ModuleParts) → AddsFuel fuel index old new → IsValid old → IsValid new
 adds_valid fuel index old after adds valid = subst IsValid (sym adds.added) (subst (λ n. IsValid (counted fuel n old)) (sym adds.last) (counted_valid fuel old valid))
 
--- a valid module stays valid, whatever the answer
+-- a valid module stays valid, whatever the result
 pub answered_valid : (fuel : ℕ) (old new : ModuleParts) (result : Result ℕ Error) → AnswersFuel fuel old new result → IsValid old → IsValid new
 answered_valid fuel old after (Ok index) (no_bytes, adds) valid = adds_valid fuel index old after adds valid
 answered_valid fuel old after (Err error) (reason, kept) valid = subst IsValid (sym kept) valid

@@ -82,7 +82,7 @@ grounded_later config drawn spaces defined now made old =
       globals = all_behind (HasGroundedValue config later) (globals_later config before later was drawn.imported.spaces.globals old.globals) made.grounded_globals;
     }
 
--- the state after they are defined
+-- the state after entities are defined
 pub entities_drawn : {X : Type 0} (r : Result X Error) (config : Config) (drawn : Drawn) (spaces : Held) (defined : Definitions) → AreImportsDrawn config drawn
     → OnOk r (AreDefinedMore config drawn.types (spaces_in drawn.imported.spaces) drawn.definitions (spaces_in spaces) defined)
     → (config.allow_floats ≡ false → All HasNoFloat drawn.types.types → HaveNoFloats (spaces_in drawn.imported.spaces) drawn.definitions → OnOk r (HaveNoFloats (spaces_in spaces) defined))

@@ -26,7 +26,7 @@ same_export_grown IsSame ours longer theirs one other grown h = record {
   same = h.same;
 }
 
--- and so do all of them
+-- all exports that are the same as others stay the same
 pub same_exports_grown : (IsSame : EntityType → EntityType → Type 0) (ours longer theirs : IndexSpaces) (exports others : List Export) → AreSpacesGrown ours longer → AllZip (IsSameExport IsSame ours theirs) exports others
     → AllZip (IsSameExport IsSame longer theirs) exports others
 same_exports_grown IsSame ours longer theirs exports others grown h = AllZip-weaker (IsSameExport IsSame ours theirs) (IsSameExport IsSame longer theirs) (λ one other same. same_export_grown IsSame ours longer theirs one other grown same) exports others h

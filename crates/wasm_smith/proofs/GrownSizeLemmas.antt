@@ -1,5 +1,5 @@
--- The sizes of imports stay the same as types are added after the existing ones, and so does the
--- state over them.
+-- The sizes of imports, and the properties of the state, stay the same as types are added after the
+-- existing ones.
 use Rattle.std.proofs.Common.{◌≡◌, ◌∙◌, ℕ, zero, suc, ◌+◌, ◌<◌, ◌≤◌, max, List, [], ◌∷◌, ◌++◌, length, refl, sym, ap, arith}
 use Rattle.std.specs.Prelude.{All, Option, option_map, slice_get, sum_by, unwrap_or, is_some, if◌then◌else◌}
 use Rattle.std.proofs.lemmas.List.Elements.{All-head}
@@ -59,7 +59,7 @@ sizes_grown count types more (one ∷ imports) longer valid =
     let old = sum_by-cons (λ (each : Import). count (size_in types each.entity_type)) one imports in
     omega (arith, here, rest, new, old)
 
--- the amount that imports add to the type size stays
+-- the amount that imports add to the type size stays the same
 pub imports_grown : (config : Config) (types more : List SubType) (imports : List Import) → Extends types more → All (IsFuncTypeIndex types) (imported func_of imports) → size_of_imports config more imports ≡ size_of_imports config types imports
 imports_grown config types more imports longer valid =
     let plain = sizes_grown (λ n. n) types more imports longer valid in

@@ -123,7 +123,7 @@ shown_by config bytes drawn None (Some shape) none given kept exports =
     }
 shown_by config bytes drawn None None none free kept exports = record { module_shape = rw none tt; available_imports = rw (none, free) tt; exports = exports }
 
--- these are the exports of a shape for exports
+-- the exports of a module are those of the shape for exports
 abbrev AreExportsKept : Config → Drawn → List Export → Type 0
 AreExportsKept config drawn exports =
     IfSome (shapes_of config).exports (λ shape. AllZip (IsSameExport (IsSameType drawn.types.types (shape_types shape)) (spaces_in drawn.imported.spaces) (shape_spaces shape)) exports shape.exports)

@@ -115,7 +115,7 @@ module _ (config : Config) (context : Context) (for_use : Which) (shape : Shape)
   pub shape_grounded : HoldsGrounded config (over context (shape_types shape)) (shape_spaces shape)
   shape_grounded = grounded_values config (shape_types shape) (shape_spaces shape) none_held context
 
-  -- nor does it over any types
+  -- the shape holds no such reference over any types
   pub shape_granted : AreValuesGranted config context (shape_types shape) (shape_spaces shape)
   shape_granted = granted_values config (shape_types shape) (shape_spaces shape) none_held context
 

@@ -1,5 +1,5 @@
 -- The state after the exports of a module are made: those of a module shape, those of a shape for
--- exports, or free ones.
+-- exports, or drawn ones.
 use Rattle.std.proofs.Common.{◌≡◌, ◌∙◌, ◌⊎◌, ℕ, ◌+◌, ◌<◌, ◌≤◌, ◌^◌, ◌||◌, false, true, List, [], length, inl, inr, refl, subst, sym, ap, arith}
 use Rattle.std.specs.Prelude.{All, IfOk, IfSome, IsSome, IsTrue, Option, Some, None, Result, Ok, Err, is_some, if◌then◌else◌}
 use Rattle.std.proofs.lemmas.List.Elements.{All-contains}
@@ -122,7 +122,7 @@ module _ (config : Config) (shape : Shape) (drawn : Drawn) (passes : Passes conf
     room = record { tags = room_for counts.Tags tt; funcs = room_for counts.Funcs tt; tables = room_for counts.Tables tt; memories = room_for counts.Memories tt; globals = room_for counts.Globals tt };
   }
 
-  -- and their types after the existing ones
+  -- the types of these exports are added after the existing types
   pub types_room : length drawn.types.types + length shape.exports < 2 ^ 32
   types_room = omega (arith, now.most_types, passes.few counts.Types, few_brought config valid counts.Types, one.short.exports)
 

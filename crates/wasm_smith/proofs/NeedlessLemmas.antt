@@ -77,6 +77,6 @@ memory_wanted config for_use (errors.IncorrectFormat why) (Some shape) valid ref
 memory_wanted config for_use errors.EmptyChoose (Some shape) valid refused = absurd refused
 memory_wanted config for_use errors.NotEnoughData (Some shape) valid refused = absurd refused
 
--- and it is lack of memory if all shapes pass
+-- the refusal is lack of memory if all shapes pass
 pub first_faulty_memory : (config : Config) (e : Error) → AreShapesValid config → IsFirstFaulty config e → e ≡ errors.Memory
 first_faulty_memory config e valid h = memory_wanted config h.for_use e (shape_for config h.for_use) (valid h.for_use) h.refused

@@ -17,7 +17,7 @@ none_for config which.ModuleShape none = ap (λ (used : Shapes). used.module_sha
 none_for config which.AvailableImports none = ap (λ (used : Shapes). used.available_imports) (none_in_use config none)
 none_for config which.Exports none = ap (λ (used : Shapes). used.exports) (none_in_use config none)
 
--- so those that are used are accepted
+-- every shape in use is accepted
 pub no_shapes_valid : (config : Config) → HasNoShapes config → AreShapesValid config
 no_shapes_valid config none for_use = rw (none_for config for_use none) tt
 

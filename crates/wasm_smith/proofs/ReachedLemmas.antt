@@ -110,7 +110,7 @@ types_alone : (config : Config) (bytes : List ℕ) → HasNoShapes config → be
 unfolding begun_typed_at begun_at
 types_alone config bytes none = rw (none.module_shape, none.available_imports) refl
 
--- and neither imports nor exports are fixed
+-- without shapes neither imports nor exports are fixed
 freely_imported : (distinct : Bool) (config : Config) (begun : ModuleSoFar) (bytes : List ℕ) → HasNoShapes config
     → imported_at distinct config begun bytes ≡ then_with (λ groups. record begun { groups = groups; spaces = imported_spaces (flattened groups) }) (in_full (imports_at config begun.types.types distinct bytes))
 unfolding imported_at
@@ -148,7 +148,7 @@ member_read distinct config groups funcs piece after sanitized none least member
       ) refl,
     )
 
--- whatever follows, these are the types and functions of the module
+-- these are the types and functions of the module, whatever bytes follow
 whole_ended : (config : Config) (groups : List (List SubType)) (begun : ModuleSoFar) (flag : Bool) (contents : Result (Contents × List ℕ) Why) → begun.types ≡ space_of groups
     → IfOk {T = ModuleParts × List ℕ} (in_full contents >>= λ (made : Contents × List ℕ). Ok (module_of config begun made.0 flag, made.1)) (λ drawn. HasMember groups begun.spaces.funcs drawn.0)
 whole_ended config groups begun flag (Ok made) same = record { types = ap (λ (space : Space). space.types) same; groups_are = ap (λ (space : Space). space.groups) same; funcs_are = refl }
@@ -233,7 +233,7 @@ entities_read config types funcs numbers tables memories globals after least no_
       left = ap (λ (read : Listing × List ℕ). read.1) numbered;
     })
 
--- without shapes, there is no export if the bytes say so
+-- without shapes, there is no export if the bytes spell none
 no_export_made : (config : Config) (begun : ModuleSoFar) (piece after : List ℕ) → HasNoShapes config → HasNoMinimums config → config.export_everything ≡ false → SpellsNone config.max_exports piece
     → exported_at config begun (piece ++ after) ≡ Ok (record begun { exports = [] }, after)
 no_export_made config begun piece after none least some h =
@@ -281,7 +281,7 @@ rest_reached distinct config groups funcs numbers passive piece rest after sanit
     let ending : IfOk (ending_at config read.0 begun drawn.1) (λ made. HasRest numbers passive made.0) = rw (numbered.left, made) ended in
     rw read.1 (subst (λ (bytes : List ℕ). let all = behind_funcs_at config types funcs bytes in IfOk (ending_at config read.0 (with_entities groups all.0) all.1) (λ made. HasRest numbers passive made.0)) (sym parts) ending)
 
--- a property of every module of these bytes, apart from interesting values, is one of the answer
+-- a property of every module of these bytes, apart from interesting values, is one of the result
 answered : (Holds : ModuleParts → Type 0) (distinct : Bool) (config : Config) (bytes left : List ℕ) (answer : Result ModuleParts Error) → ((m : ModuleParts) → Holds (as_drawn m) → Holds m) → Returns is_lack (λ m. (as_drawn m, left)) answer (module_at distinct config bytes)
     → IfErr answer (λ e. e ≡ errors.Memory) → IfOk (module_at distinct config bytes) (λ drawn. Holds drawn.0) → MatchResult answer Holds (λ e. e ≡ errors.Memory)
 answered Holds distinct config bytes left (Ok m) keeps given memory held = keeps m (subst (λ (read : Result (ModuleParts × List ℕ) Error). IfOk read (λ drawn. Holds drawn.0)) given held)

@@ -19,7 +19,7 @@ use Rattle.smith_imports.specs.Imported.{MayRefuseImports}
 use Rattle.wasm_smith.specs.DrawnSteps.{HoldsGrounded}
 use Rattle.smith_rules.specs.Refusals.{HasShape, HoldsNonNullable, MayLackExports, MayRefuse}
 
--- a configuration has no shapes, or one that is used
+-- a configuration has no shapes, or a shape that is used
 shapes_by : (config : Config) (of_module available exports : Option Shape) → config.module_shape ≡ of_module → config.available_imports ≡ available → config.exports ≡ exports → HasNoShapes config ⊎ HasShape config
 shapes_by config (Some shape) available exports of_module free fixed = inr (which.ModuleShape, rw of_module refl)
 shapes_by config None (Some shape) exports of_module free fixed = inr (which.AvailableImports, rw (of_module, free) refl)
@@ -71,7 +71,7 @@ lacks_so config context spaces grounded lack = elim (holds_or_not config) [
   | inr none ↦ let all = grounded none in elim lack [ inl field ↦ absurd (all.fields field) | inr table ↦ absurd (none_lacks config context spaces.tables all.elements table) ]
 ]
 
--- without a shape for them, imports are refused only as a module may be
+-- if no shape fixes them, imports are refused only as a module may be
 pub imports_refuse : (config : Config) (e : Error) → (FixesImports config → ⊥) → MayRefuseImports config e → MayRefuse config e
 imports_refuse config e free (inl memory) = subst (MayRefuse config) (sym memory) tt
 imports_refuse config e free (inr (unmet, some, lacks)) = subst (MayRefuse config) (sym unmet) (free, (some, lacks))

@@ -1,4 +1,4 @@
--- The scope of segments, after everything is imported and defined.
+-- The scope of segments, after all imports and definitions.
 use Rattle.std.proofs.Common.{◌≡◌, ℕ, Bool, true, false, ◌&&◌, cond, length, refl}
 use Rattle.smith_types.specs.Imports.{IndexSpaces}
 use Rattle.smith_types.specs.Space.{Space}
@@ -8,7 +8,7 @@ use Rattle.smith_draw.specs.declared.spaces.Spaces.{Spaces}
 use Rattle.wasm_smith.specs.Contents.{AreSpacesOver}
 use Rattle.wasm_smith.specs.DrawnContents.{segment_scope}
 
--- with defined globals visible, all are visible if there is garbage collection
+-- if defined globals may be visible, garbage collection decides whether they are
 seen_end : (on : Bool) (all imported : ℕ) → cond (on && true) all imported ≡ cond on all imported
 seen_end true all imported = refl
 seen_end false all imported = refl

@@ -1,5 +1,5 @@
--- Existing types stay as types are drawn after them, and if there are as many as allowed, none is
--- drawn.
+-- Existing types are unchanged when types are drawn after them; if there are as many types as
+-- allowed, none is drawn.
 use Rattle.std.proofs.Common.{◌≡◌, ℕ, zero, suc, ◌+◌, ◌≤◌, Bool, true, false, nat_lt, List, [], ◌∷◌, ◌++◌, length, refl, arith}
 use Rattle.std.proofs.lemmas.Bool.{ltb-true}
 use Rattle.smith_bytes.specs.Growth.{goes_at, grow_at}
@@ -25,7 +25,7 @@ grow_extends {A = A} draw least (suc most) made bytes =
     cond_both (λ (r : List A × List ℕ). Extends made r.0) go.0 (grow_at draw least most (made ++ x.0 ∷ []) x.1) (made, go.1)
     (extends_both (one_more made x.0) (grow_extends draw least most (made ++ x.0 ∷ []) x.1)) (all_kept made)
 
--- a space has the types and the groups of another, and maybe more after them
+-- a space begins with the types and the groups of another
 pub record IsBehind (old new : Space) : Type 0 where
   pub types : Extends old.types new.types
   pub groups : Extends old.groups new.groups
@@ -61,7 +61,7 @@ rec_group_behind config functions allow_empty space bytes =
     (behind_both (clone_behind config allow_empty space wanted.1) (new_group_behind config functions allow_empty clone.1.0 clone.1.1)))
     (new_group_behind config functions allow_empty space wanted.1)
 
--- existing types and groups stay
+-- existing types and groups are unchanged
 pub types_behind : (config : Config) (functions : Context) (space : Space) (bytes : List ℕ) → IsBehind space (types_at config functions space bytes).0
 unfolding types_at
 types_behind config functions space bytes =

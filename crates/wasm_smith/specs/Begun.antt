@@ -60,21 +60,22 @@ pub record HasNothing (drawn : Drawn) : Type 0 where
   pub begun : begun_of drawn ≡ nothing_begun
   pub imports : HasNoImports drawn.imported
 
--- from a module shape: its types and its imports, and its exports, each of an entity that is
--- defined for it
+-- the state from a module shape: its types and its imports, and its exports, each of an entity that
+-- is defined for it
 unfoldable pub begun_by_module_at : Config → Shape → List ℕ → Result (ModuleSoFar × List ℕ) Error
 begun_by_module_at config shape bytes =
     then_with
     (λ (made : Required). record { types = made.types; groups = kept_groups config shape; spaces = made.spaces; defined = made.defined; exports = made.exports })
     (required_at false config shape (space_of shape.groups) (imported_spaces (shape_imports shape)) nothing_defined bytes)
 
--- from available imports: the types of their shape, and those imports that the bytes take
+-- the state from available imports: the types of their shape, and those imports that the bytes take
 unfoldable pub begun_by_imports_at : Config → Shape → List ℕ → ModuleSoFar × List ℕ
 begun_by_imports_at config shape bytes =
     let taken = available_at config shape bytes in
     (record { types = space_of shape.groups; groups = taken.0; spaces = imported_spaces (flattened taken.0); defined = nothing_defined; exports = [] }, taken.1)
 
--- from the shapes that are used: a module shape, else available imports, else nothing
+-- the state from the shapes that are used: a module shape, else available imports, else the empty
+-- state
 abbrev pub begun_for : Config → Option Shape → Option Shape → List ℕ → Result (ModuleSoFar × List ℕ) Error
 begun_for config (Some shape) available bytes = begun_by_module_at config shape bytes
 begun_for config None (Some shape) bytes = Ok (begun_by_imports_at config shape bytes)
@@ -162,7 +163,8 @@ pub record StandsSoFar (config : Config) (drawn : Drawn) : Type 0 where
   pub type_size : drawn.imported.type_size ≡ size_of_imports config drawn.types.types (flattened drawn.imported.groups)
   pub within : drawn.imported.type_size ≤ config.max_type_size
 
--- the parts of a module after a shape's exports are made too: the same, with the entities of these
+-- the parts of a module after the exports of a shape are made: the same properties, with the
+-- entities that are defined for the exports
 pub record StandsWhole (config : Config) (drawn : Drawn) : Type 0 where
   pub groups : All (IsImportsValid (features_of config)) drawn.imported.groups
   pub count : drawn.imported.count ≡ length (flattened drawn.imported.groups)

@@ -38,7 +38,7 @@ functions_begun config begun = functions_over config begun.spaces.funcs (length 
 abbrev pub with_types_at : Config → ModuleSoFar → List ℕ → ModuleSoFar × List ℕ
 with_types_at config begun bytes = let types = types_at config (functions_begun config begun) begun.types bytes in (record begun { types = types.0 }, types.1)
 
--- the result of a step that may be out of shape, as an answer
+-- the result of a step, with a refusal for the wrong format as an error
 abbrev pub in_full : {A : Type 0} → Result A Why → Result A Error
 in_full (Ok drawn) = Ok drawn
 in_full (Err why) = Err (errors.IncorrectFormat why)
@@ -58,8 +58,8 @@ defined_at config begun bytes =
 abbrev pub begun_size : Config → ModuleSoFar → ℕ
 begun_size config begun = size_of_imports config begun.types.types (flattened begun.groups)
 
--- the state with exports: those of a module shape are made already; those of a shape for exports
--- are each of an entity that is defined for it; else they are drawn
+-- the state with exports: those of a module shape exist already; those of a shape for exports are
+-- each of an entity that is defined for it; else they are drawn
 abbrev pub exported_for : Config → Option Shape → Option Shape → ModuleSoFar → List ℕ → Result (ModuleSoFar × List ℕ) Error
 exported_for config (Some shape) exports begun bytes = Ok (begun, bytes)
 exported_for config None (Some shape) begun bytes =
@@ -69,7 +69,7 @@ exported_for config None None begun bytes = then_with (λ exports. record begun 
 unfoldable pub exported_at : Config → ModuleSoFar → List ℕ → Result (ModuleSoFar × List ℕ) Error
 exported_at config begun bytes = exported_for config config.module_shape config.exports begun bytes
 
--- the exports, and the type size of a module that has them: those that a shape fixes add nothing to
+-- the exports, and the type size of a module with them: exports that a shape fixes add nothing to
 -- it
 abbrev pub exports_of : Config → ModuleSoFar → Exports
 exports_of config begun = record {
@@ -77,8 +77,8 @@ exports_of config begun = record {
   type_size = begun_size config begun + (if is_some config.module_shape || is_some config.exports then 0 else exported_size begun.types.types begun.spaces begun.exports);
 }
 
--- the module of a state and the contents drawn after it, and whether a section of imports is
--- written; it shows no available imports, and its interesting values are not drawn
+-- the module of a state, the contents drawn after it, and whether an import section is written; its
+-- configuration has no available imports, and its interesting values are not drawn
 abbrev pub module_of : Config → ModuleSoFar → Contents → Bool → ModuleParts
 module_of config begun contents encodes_imports = record {
   config = record config { available_imports = None };
@@ -140,7 +140,7 @@ parts_of config drawn =
 abbrev pub as_drawn : ModuleParts → ModuleParts
 as_drawn m = record m { interesting_values32 = []; interesting_values64 = [] }
 
--- an answer is the module that a configuration and bytes produce, with the bytes left, or their
--- refusal; this holds for a configuration for which a module can be drawn
+-- the result is the module that a configuration and bytes produce, with the bytes left, or their
+-- refusal, if a module can be drawn for the configuration
 pub record IsGiven (distinct : Bool) (config : Config) (bytes : List ℕ) (answer : Result ModuleParts Error) (left : List ℕ) : Type 0 where
   pub exact : MayGive config → Returns is_lack (λ m. (as_drawn m, left)) answer (module_at distinct config bytes)

@@ -20,9 +20,9 @@ use Rattle.smith_contents.specs.DrawnElements.{MayLackItem}
 use Rattle.smith_contents.specs.Exported.{IsIndexed, HasSizeIn32Bits}
 use Rattle.smith_rules.specs.Refusals.{MayRefuse}
 
--- contents may be drawn over these index spaces, if the imports add a number to the type size: all
--- is valid, sizes and indices have 32 bits, and the minimums of tables, memories and globals are
--- met; without shapes function types are small, and an import adds at most 42
+-- contents may be drawn over these index spaces, for the amount that the imports add to the type
+-- size: all parts are valid, sizes and indices have 32 bits, and the minimums of tables, memories
+-- and globals are met; without shapes function types are small, and an import adds at most 42
 pub record MayHoldContents (config : Config) (space : Space) (spaces : IndexSpaces) (imports_size : ℕ) : Type 0 where
   pub passes : Passes config
   pub sanitized : IsSanitized config

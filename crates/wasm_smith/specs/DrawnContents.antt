@@ -54,7 +54,7 @@ all_segments_at config types imported spaces bytes = do
   Ok (record { elements = elements.0; data_segments = data_segments.0 }, data_segments.1)
 
 -- the contents that the bytes produce after exports, over types and index spaces that begin with
--- imports: whether a section of types is written, a start function, segments and bodies
+-- imports: whether a type section is written, a start function, segments and bodies
 unfoldable pub behind_exports_at : Config → List SubType → IndexSpaces → IndexSpaces → Exports → List ℕ → Result (Contents × List ℕ) Why
 behind_exports_at config types imported spaces made bytes = do
   let type_flag = section_flag_at (length types) bytes
@@ -74,7 +74,7 @@ behind_exports_at config types imported spaces made bytes = do
   )
 
 -- exports are valid, and within the type size together with the imports; unless a shape fixes them,
--- they are as the configuration requires; if a shape does, they add nothing
+-- they are as the configuration requires; exports that a shape fixes add nothing
 pub record AreExportsMade (config : Config) (types : List SubType) (spaces : IndexSpaces) (imports_size : ℕ) (made : Exports) : Type 0 where
   pub valid : AreExportsValid spaces made.exports
   pub most : (FixesExports config → ⊥) → config.export_everything ≡ false → length made.exports ≤ config.max_exports
@@ -85,7 +85,7 @@ pub record AreExportsMade (config : Config) (types : List SubType) (spaces : Ind
   pub within : made.type_size ≤ config.max_type_size
 
 -- segments are valid, within the minimums and maximums, and with `disallow_traps` the items and
--- bytes they copy fit
+-- bytes that they copy fit
 pub record AreSegmentsFit (config : Config) (types : List SubType) (imported spaces : IndexSpaces) (segments : Segments) : Type 0 where
   pub elements : All (IsElementValid (segment_scope config types imported spaces) spaces.tables) segments.elements
   pub most_elements : length segments.elements ≤ config.max_element_segments
@@ -98,8 +98,8 @@ pub record AreSegmentsFit (config : Config) (types : List SubType) (imported spa
   pub least_data : config.min_data_segments ≤ length segments.data_segments
   pub data_inside : IsTrue config.disallow_traps → All (IsDataInside spaces.memories) segments.data_segments
 
--- exports, a section of types if there are types, a valid start function if one is allowed,
--- segments, and a body for each function that is defined
+-- exports, a type section if there are types, a valid start function if one is allowed, segments,
+-- and a body for each defined function
 pub record AreContents (config : Config) (types : List SubType) (imported spaces : IndexSpaces) (imports_size : ℕ) (contents : Contents) : Type 0 where
   pub exports : AreExportsMade config types spaces imports_size (record { exports = contents.exports; type_size = contents.type_size })
   pub encodes_types : 0 < length types → IsTrue contents.encodes_types

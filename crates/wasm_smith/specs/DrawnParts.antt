@@ -15,7 +15,7 @@ use Rattle.smith_rules.specs.Refusals.{HoldsNonNullable}
 use Rattle.smith_rules.specs.InterestingValues.{AreAll, IsInteresting32, IsInteresting64}
 use Rattle.wasm_smith.specs.declared.build.drawn.Drawn.{Drawn}
 
--- no part that is drawn holds a float
+-- no drawn part holds a float
 pub record HasNoFloatParts (drawn : Drawn) : Type 0 where
   pub types : All HasNoFloat drawn.types.types
   pub defined : HaveNoFloats (spaces_in drawn.imported.spaces) drawn.definitions

@@ -58,7 +58,7 @@ pub record MayGoOn (config : Config) (drawn : Drawn) : Type 0 where
   pub exports : AreExportsValid (spaces_in drawn.imported.spaces) drawn.contents.exports
   pub least_types : config.min_types ≤ length drawn.types.types
 
--- there are types, and nothing else
+-- only types exist
 pub record HasTypesAlone (drawn : Drawn) : Type 0 where
   pub imports : HasNoImports drawn.imported
   pub nothing : drawn.definitions ≡ nothing_defined

@@ -28,7 +28,7 @@ abbrev pub IsFaulted : Config → Error → Type 0
 IsFaulted config (errors.Config fault) = IsFirstFault config fault
 IsFaulted config _ = ⊥
 
--- the answer for a configuration of the caller and the bytes of the source, with the bytes left
+-- the result for a configuration of the caller and the bytes of the source, with the bytes left
 pub record IsGenerated (distinct : Bool) (given : Config) (bytes : List ℕ) (answer : Result ModuleParts Error) (left : List ℕ) : Type 0 where
   -- the module: the one that the configuration and the bytes produce
   pub exact : IsGiven distinct (sanitized given) bytes answer left
@@ -46,7 +46,7 @@ pub record IsGenerated (distinct : Bool) (given : Config) (bytes : List ℕ) (an
   pub shape_fault : Passes (sanitized given) → (AreShapesValid (sanitized given) → ⊥) → IsErrAnd answer (IsFirstFaulty (sanitized given))
   pub refusals : IfErr answer (MayRefuse (sanitized given))
   pub needless : AsksNothingImpossible (sanitized given) → IfErr answer (λ e. e ≡ errors.Memory)
-  -- lists that are reached, by whatever bytes spell them
+  -- reachable lists, from any bytes that spell them
   pub reach : ReachesMembers (sanitized given) bytes answer
   pub rest : ReachesRests (sanitized given) bytes answer
   -- the rest of the source

@@ -1,5 +1,5 @@
--- Modules with given types and functions, and apart from them only globals and passive data. Rules
--- of this project.
+-- Modules with certain types and functions, and apart from them only globals and passive data.
+-- Rules of this project.
 use Rattle.std.specs.Prelude.{◌≡◌, ℕ, ℤ, List, [], ◌∷◌, None, map}
 use Rattle.smith_types.specs.declared.composite_type.SubType.{SubType}
 use Rattle.smith_types.specs.declared.const_instr.ConstInstr.{ConstInstr}

@@ -1,5 +1,5 @@
--- The modules that are reached: their types and functions, and the rest that may follow, are
--- spelled at the start of the source. Rules of this project, for a sanitised configuration.
+-- The modules that bytes can reach: the source begins with a spelling of their types and functions,
+-- and of the rest that may follow. Rules of this project, for a sanitised configuration.
 use Rattle.std.specs.Prelude.{◌≡◌, ℕ, ℤ, List, ◌++◌, Result, MatchResult}
 use Rattle.smith_bytes.specs.declared.error.Error.{Error}
 use Rattle.smith_bytes.specs.declared.error.Error.TheVariants.{Memory}
@@ -10,7 +10,7 @@ use Rattle.smith_spell.specs.Spelling.{SpellsMember, SpellsRest, IsRest}
 use Rattle.wasm_smith.specs.Members.{HasMember, HasRest}
 use Rattle.smith_rules.specs.Module.{ModuleParts}
 
--- a source is bytes that spell these lists, which can be spelled, followed by this rest
+-- the source begins with bytes that spell these lists, which can be spelled; `behind` follows
 pub record BeginsWithMember (config : Config) (groups : List (List SubType)) (funcs bytes behind : List ℕ) : Type 0 where
   pub spellable : IsSpellable config groups funcs
   pub piece : List ℕ
@@ -31,7 +31,7 @@ abbrev pub ReachesMembers : Config → List ℕ → Result ModuleParts Error →
 ReachesMembers config bytes answer =
     (groups : List (List SubType)) (funcs behind : List ℕ) → BeginsWithMember config groups funcs bytes behind → MatchResult answer (HasMember groups funcs) (λ e. e ≡ Memory)
 
--- and it has the rest that follows them
+-- the module has the rest that follows these lists, unless memory runs out
 abbrev pub ReachesRests : Config → List ℕ → Result ModuleParts Error → Type 0
 ReachesRests config bytes answer =
     (groups : List (List SubType)) (funcs behind : List ℕ) (numbers : List ℤ) (passive : List (List ℕ)) → BeginsWithMember config groups funcs bytes behind

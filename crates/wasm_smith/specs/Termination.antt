@@ -36,8 +36,8 @@ MayAddNone m (errors.IncorrectFormat RawBody) = HasRawBody m
 MayAddNone m errors.Memory = HasRawBody m → ⊥
 MayAddNone m _ = ⊥
 
--- the answer: the index of the counter that was added, or the reason why none was, and then nothing
--- is new
+-- the result: the index of the added counter; or the reason why none was added, with the module
+-- unchanged
 abbrev pub AnswersFuel : ℕ → ModuleParts → ModuleParts → Result ℕ Error → Type 0
 AnswersFuel fuel old new (Ok index) = (HasRawBody old → ⊥) × AddsFuel fuel index old new
 AnswersFuel fuel old new (Err error) = MayAddNone old error × (new ≡ old)

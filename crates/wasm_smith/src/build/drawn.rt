@@ -32,7 +32,7 @@ use std::alloc::Global;
 pub(crate) struct Drawn {
     /// The types, in their recursive groups.
     pub(crate) types: TypeSpace,
-    /// The imports, and the complete index spaces, which the imports begin.
+    /// The imports, and the complete index spaces, in which imported items come first.
     pub(crate) imported: Imported,
     /// The definitions after the imports.
     pub(crate) definitions: Definitions,
@@ -47,7 +47,7 @@ pub(crate) struct Drawn {
 }
 
 impl Drawn {
-    /// Makes parts of which nothing is drawn. Takes no memory.
+    /// Makes empty parts. Takes no memory.
     pub(crate) fn none(alloc: Global) -> Self
         ensures { HasNothing result }
     {

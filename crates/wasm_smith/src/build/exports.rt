@@ -25,8 +25,8 @@ use smith_types::Items;
 use std::alloc::Global;
 use std::mem;
 
-/// Takes the exports of a module shape, which are made already, or makes those of a shape for
-/// exports, each of an entity that is defined for it, or draws exports.
+/// Returns the exports of a module shape, which exist already. Without a module shape, makes the
+/// exports of a shape for exports and defines an entity for each. Without either, draws exports.
 #[tactic(auto, unfolding(crate::specs::Build::exported_at))]
 pub(crate) fn make_exports(
     alloc: Global,

@@ -10,7 +10,7 @@ use smith_bytes::{Error, Which};
 use smith_config::{Config, Shape};
 use std::alloc::Global;
 
-/// Checks the shape `given`, if there is one, for the use `which`.
+/// Checks the shape `given`, if any, for the use `which`.
 fn check_given(
     alloc: Global,
     config: &Config,

@@ -46,7 +46,7 @@ module _ (distinct : Bool) (given : Config) (bytes : List ℕ) (sound : IsSaniti
         source = piece_same _;
       }
 
-  -- the refusal of a shape, passed on
+  -- the refusal of a shape is returned
   shape_refused : (answer : Result ModuleParts Error) (e : Error) → Passes (sanitized given) → IsFirstFaulty (sanitized given) e → IsErrAnd answer (λ other. other ≡ e) → IsGenerated distinct given bytes answer bytes
   shape_refused (Ok m) e passes first passed = absurd passed
   shape_refused (Err other) e passes first passed =
