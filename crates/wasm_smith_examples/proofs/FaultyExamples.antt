@@ -1,4 +1,4 @@
--- What the examples of shapes that are refused have in common.
+-- Lemmas for the examples of refused shapes.
 use Rattle.std.proofs.Common.{rules, arith, ◌≡◌, ◌<◌, refl, sym, subst}
 use Rattle.std.specs.Prelude.{IfSome, IsSomeAnd, Option, Some, None}
 use Rattle.smith_bytes.specs.declared.error.Error.TheVariants.{Shape as Misshapen}
@@ -18,7 +18,7 @@ use Rattle.wasm_smith.specs.CheckedShapes.{ComesBefore, IsFaultOf, IsFirstFaulty
 use Rattle.smith_rules.specs.Refusals.{shape_for}
 use Rattle.smith_rules_examples.specs.ExampleShapes.{untyped}
 
--- what is asked of the uses that come before
+-- a property of each use that comes before another
 pub before_module : (P : Which → Type 0) (other : Which) → ComesBefore other ModuleShape → P other
 before_module P ModuleShape before = absurd before
 before_module P AvailableImports before = absurd before
@@ -40,7 +40,7 @@ untyped_short = search rules
 pub untyped_wrong : AreTypesRight untyped → ⊥
 untyped_wrong right = let never : 0 < 0 = (right.values 0 (Ref (nullable (Concrete 0))) (omega arith)).1.heap_type.1 in omega (arith, never)
 
--- for whichever use, references to no type are a bad type
+-- for any use, a reference to a type that does not exist is a bad type
 pub untyped_refused : (for_use : Which) (config : Config) → IsRefused for_use config untyped (Misshapen for_use BadType)
 untyped_refused for_use config = (refl, first_bad_type for_use config untyped untyped_short untyped_wrong)
 
@@ -48,7 +48,7 @@ told_by : (config : Config) (for_use named : Which) (found : ShapeFault) (given 
 told_by config for_use named found (Some shape) refused = refused
 told_by config for_use named found None refused = absurd refused
 
--- a fault that is told is the first of the shape for its use, and those before are valid
+-- a reported fault is the first of the shape for its use, and the shapes before are valid
 pub fault_told : (config : Config) (named : Which) (found : ShapeFault) → IsFirstFaulty config (Misshapen named found)
     → IsSomeAnd (shape_for config named) (λ shape. IsFirstShapeFault named config shape found) × ((other : Which) → ComesBefore other named → IfSome (shape_for config other) (λ shape. IsShapeValid other config shape))
 fault_told config named found first =

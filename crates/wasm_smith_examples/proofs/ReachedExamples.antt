@@ -1,4 +1,4 @@
--- What the examples of sources that begin with spelled lists have in common.
+-- Lemmas for the examples of sources that begin with spelled lists.
 use Rattle.std.proofs.Common.{List, ℕ, [], ◌∷◌, ◌++◌, refl}
 use Rattle.smith_bytes.specs.Draws.{digit_count}
 use Rattle.smith_config.specs.Config.{default_config}

@@ -1,4 +1,4 @@
--- Types, configurations and what stands, of which the examples of definitions speak.
+-- Types, configurations and index spaces of the examples of definitions.
 use Rattle.std.specs.Prelude.{false, List, [], ◌∷◌, Some, None}
 use Rattle.smith_types.specs.ExampleTypes.{shared_type, plain_func}
 use Rattle.smith_types.specs.Flags.{funcref}
@@ -16,7 +16,7 @@ use Rattle.smith_rules_examples.specs.ExampleParts.{memory, table, number}
 abbrev pub several_types : List SubType
 several_types = final giving_two ∷ final bytes_array ∷ final plain_function ∷ final taking_a_number ∷ shared_type plain_func ∷ []
 
--- at most two of each kind, whose types take few bytes
+-- at most two of each kind, with types that take few bytes
 abbrev pub two_of_each : Config
 two_of_each = record default_config {
   max_tags = 2;
@@ -29,7 +29,7 @@ two_of_each = record default_config {
   extended_const_enabled = false;
 }
 
--- two of each kind
+-- at least two of each kind
 abbrev pub two_at_least_of_each : Config
 two_at_least_of_each = record two_of_each {
   min_tags = 2;
@@ -39,7 +39,7 @@ two_at_least_of_each = record two_of_each {
   min_globals = 2;
 }
 
--- exactly one of each kind, without garbage collection, and no type and no import
+-- exactly one of each kind, without garbage collection, types and imports
 abbrev pub one_of_each_kind : Config
 one_of_each_kind = record two_of_each {
   max_types = 0;
@@ -57,7 +57,7 @@ one_of_each_kind = record two_of_each {
   gc_enabled = false;
 }
 
--- one type, and one function, which is imported; no export, start function or segment
+-- one type, and one imported function; no export, start function or segment
 abbrev pub one_import_of_a_function : Config
 one_import_of_a_function = record default_config {
   min_types = 1;
@@ -77,11 +77,11 @@ one_import_of_a_function = record default_config {
   compact_imports_enabled = false;
 }
 
--- these globals, which are imported, and nothing else
+-- these imported globals, and nothing else
 abbrev pub beside_globals : List GlobalType → InitialiserScope
 beside_globals globals = scope_over [] [] 0 globals
 
--- three pages at most
+-- a memory of at most three pages
 abbrev pub up_to_three : MemoryType
 up_to_three = memory 0 (Some 3)
 
@@ -89,7 +89,7 @@ up_to_three = memory 0 (Some 3)
 abbrev pub no_imports : IndexSpaces
 no_imports = record { tags = []; funcs = []; tables = []; memories = []; globals = [] }
 
--- a tag, a function, whose type is shared, a table, a memory and a global
+-- a tag, a function of a shared type, a table, a memory and a global
 abbrev pub one_imported_of_each : IndexSpaces
 one_imported_of_each = record {
   tags = 2 ∷ [];

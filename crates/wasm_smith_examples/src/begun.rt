@@ -11,7 +11,7 @@ ghost use Rattle.smith_rules_examples.specs.ExampleParts.{memory};
 ghost use Rattle.smith_rules_examples.specs.ExampleModules.{three_memories};
 ghost use Rattle.smith_rules_examples.specs.ExampleShapes.{for_module, for_imports, imported_memories, memories_in_and_out, environment};
 
-// A module shape brings its imports without the empty groups, and a memory for its export.
+// A module shape adds its imports without the empty groups, and a memory for its export.
 #[tactic(auto, unfolding(wasm_smith::specs::Begun::begun_at, wasm_smith::specs::Begun::begun_by_module_at, smith_defined::specs::RequiredExports::required_from, smith_defined::specs::RequiredExports::entity_required_at, smith_defined::specs::RequiredExports::defined_with_at))]
 fn of_a_module_shape()
     ensures nothing { begun_at default_config (7 ∷ []) ≡ Ok (nothing_begun, 7 ∷ []) }
@@ -30,7 +30,7 @@ fn of_a_module_shape()
     ensures a_memory_too_many { begun_at (for_module memories_in_and_out (record default_config { max_memories = 1 })) [] ≡ Err (IncorrectFormat SeveralMemories) }
 {}
 
-// Available imports bring the types of their shape, even where none of them is picked.
+// Available imports add the types of their shape, even if no import is picked.
 #[tactic(auto, unfolding(wasm_smith::specs::Begun::begun_at, wasm_smith::specs::Begun::begun_by_imports_at, smith_imports::specs::AvailableImports::available_at, smith_imports::specs::AvailableImports::picked_at, smith_imports::specs::AvailableImports::grouped_at, smith_bytes::specs::Draws::bool_at))]
 fn of_available_imports()
     ensures none_picked { begun_at (for_imports environment default_config) (0 ∷ 0 ∷ 7 ∷ []) ≡ Ok (record nothing_begun { types = space_of environment.groups }, 7 ∷ []) }

@@ -1,5 +1,5 @@
-// What is drawn behind all definitions, what it is drawn over, and where an element segment is copied to. The clauses are proved;
-// nothing calls these functions.
+// The contents drawn after all definitions, their scope, and the offset of an element segment. The
+// clauses are proved; nothing calls these functions.
 
 ghost use Rattle.std.specs.Prelude.{[], ◌∷◌, true, pos, None, Some};
 ghost use Rattle.smith_bytes.specs.declared.error.Error.TheVariants.{EmptyChoose, Memory, NotEnoughData};

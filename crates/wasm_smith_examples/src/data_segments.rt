@@ -19,7 +19,7 @@ fn counting()
     ensures of_nothing { counting_at [] 0 (memory 0 None ∷ []) [] ≡ ((0, memory 0 None) ∷ [], []) }
 {}
 
-// The bytes of a segment, whether it is passive, its memory, its offset.
+// A data segment takes its bytes, whether it is passive, its memory and its offset, in this order.
 #[tactic(auto, unfolding(smith_contents::specs::DataSegments::data_at, smith_contents::specs::DataSegments::counting_at, smith_contents::specs::DataSegments::may_hold_data_at, smith_contents::specs::DataSegments::segments_at, smith_contents::specs::DataSegments::segment_at, smith_contents::specs::DataSegments::passive_at, smith_contents::specs::DataSegments::active_at, smith_contents::specs::DataSegments::placed_at, smith_contents::specs::DataSegments::constant_placed_at, smith_contents::specs::DataSegments::address_at, smith_draw::specs::Offsets::offset_at, smith_draw::specs::Limits::gradually_at, smith_draw::specs::Limits::gradual, smith_draw::specs::Limits::sixth_power, smith_draw::specs::Limits::scaled, smith_draw::specs::Choices::chosen_at, smith_bytes::specs::ByteLists::byte_list_at, smith_bytes::specs::Growth::grow_at, smith_bytes::specs::Draws::whole_at, smith_bytes::specs::Draws::bool_at, smith_bytes::specs::Draws::range_at, smith_bytes::specs::Draws::digit_count))]
 fn segments()
     ensures without_a_memory { data_at default_config (global_scope default_config (beside_globals []) []) [] (1 ∷ 1 ∷ 42 ∷ 0 ∷ 0 ∷ 9 ∷ [])

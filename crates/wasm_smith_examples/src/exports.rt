@@ -32,7 +32,7 @@ fn ends()
     ensures too_large_together { free_exports_at (record default_config { min_exports = 2; max_type_size = 4 }) [] (imported_spaces (import_named [] (entity.Global number) ∷ [])) 0 [] ≡ Err (Unmet counts.Exports) }
 {}
 
-// Of everything.
+// Exports of everything.
 fn every_export()
     ensures by_kind_and_index { exports_at (record default_config { export_everything = true }) (final plain_function ∷ []) (imported_spaces (import_named [] (entity.Global number) ∷ import_named [] (entity.Func 0) ∷ [])) 0
         (98 ∷ 98 ∷ 1 ∷ 1 ∷ []) ≡ Ok ((codes "b", Func, 0) ∷ (codes "b1", Global, 0) ∷ [], []) }

@@ -1,4 +1,4 @@
-// Which shape of a configuration is refused first, and for what.
+// The first shape of a configuration that is refused, and the reason.
 
 ghost use Rattle.smith_bytes.specs.declared.error.Error.TheVariants.{EmptyChoose, Memory, Shape as Misshapen};
 ghost use Rattle.smith_bytes.specs.declared.error.ShapeFault.TheVariants.{BadType, DuplicateExport};

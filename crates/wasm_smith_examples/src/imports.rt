@@ -45,7 +45,7 @@ fn offered_kinds()
     ensures no_second_memory { enabled (kind_rows default_config [] (imported_spaces (import_named [] (Memory (memory 0 None)) ∷ []))) ≡ kind.Global ∷ kind.Table ∷ [] }
 {}
 
-// A function that is imported grounds references of what is imported after it.
+// An imported function grounds the references of later imports.
 #[tactic(auto, unfolding(smith_imports::specs::ImportedEntities::entity_at, smith_imports::specs::ImportedEntities::kind_at, smith_imports::specs::ImportedEntities::entity_of_kind_at, smith_draw::specs::TypeUses::is_tag_type, smith_draw::specs::GlobalTypes::global_type_at, smith_draw::specs::ValueTypes::val_type_at, smith_draw::specs::ValueTypes::ref_type_at, smith_draw::specs::ValueTypes::granted_at, smith_draw::specs::ValueTypes::heap_type_at, smith_draw::specs::ValueTypes::type_index_at, smith_draw::specs::ValueTypes::abstract_heap_type_at, smith_draw::specs::ValueTypes::sharedness_at, smith_draw::specs::Choices::chosen_at, smith_draw::specs::Grounding::is_grounded, smith_draw::specs::Below::is_heap_below, smith_draw::specs::Offered::ancestors, smith_bytes::specs::Draws::bool_at, smith_bytes::specs::Draws::range_at, smith_bytes::specs::Draws::digit_count))]
 fn entities()
     ensures after_a_function { entity_at (record default_config { non_nullable_enabled = true }) (final plain_function ∷ []) (imported_spaces (import_named [] (Func 0) ∷ [])) 0 (2 ∷ 5 ∷ 1 ∷ 1 ∷ 0 ∷ 9 ∷ [])

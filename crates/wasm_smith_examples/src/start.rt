@@ -10,7 +10,7 @@ fn start_funcs()
     ensures of_no_type { start_funcs (final plain_function ∷ []) (1 ∷ []) ≡ [] }
 {}
 
-// Whether one of them starts the module, then which.
+// The bytes decide whether a function starts the module, then which.
 #[tactic(auto, unfolding(smith_contents::specs::Start::start_at, smith_contents::specs::Start::start_wanted_at, smith_draw::specs::Choices::chosen_at, smith_bytes::specs::Draws::bool_at, smith_bytes::specs::Draws::range_at, smith_bytes::specs::Draws::digit_count))]
 fn start()
     ensures none_to_choose { start_at default_config (final taking_a_number ∷ []) (0 ∷ []) (1 ∷ []) ≡ (None, 1 ∷ []) }
