@@ -18,14 +18,14 @@ seven_apart k h =
 pub bits_above : (j k n : ℕ) → 2 ^ j ≤ n → n < 2 ^ k → j < k
 bits_above j k n low high = elim (cases_lt j k) [ inl h ↦ h | inr h ↦ absurd (let below : 2 ^ k ≤ 2 ^ j = pow-le-pow_right (omega arith) h in omega arith) ]
 
--- what is left of a number has seven bits less
+-- the rest of a number has seven bits less
 pub bits_left : (k n : ℕ) → 128 ≤ n → n < 2 ^ k → (7 < k) × (n / 128 < 2 ^ (k - 7))
 bits_left k n low high =
     let more : 7 < k = bits_above 7 k n low high in
     let split : 2 ^ k ≡ 128 * 2 ^ (k - 7) = seven_apart k (omega arith) in
     (more, omega arith)
 
--- a piece has a byte
+-- a spelling has a byte
 unsigned_has : (bits n : ℕ) (piece : List ℕ) → IsUnsigned bits n piece → 1 ≤ length piece
 unfolding IsUnsigned
 unsigned_has bits n [] h = absurd h
@@ -42,7 +42,7 @@ unfolding IsUnsigned
 unsigned_front bits n [] low fits h = absurd h
 unsigned_front bits n (byte ∷ piece) low fits h = (n / 128, h, omega arith, omega arith, omega arith, (bits_left bits n low fits).0)
 
--- no shorter piece spells a number that goes on
+-- no shorter piece spells a number of more than one byte
 unsigned_least : (bits n : ℕ) (piece : List ℕ) → 128 ≤ n → ((other : List ℕ) → IsUnsigned (bits - 7) (n / 128) other → length piece ≤ length other) → (other : List ℕ) → IsUnsigned bits n other → suc (length piece) ≤ length other
 unfolding IsUnsigned
 unsigned_least bits n piece low least [] h = absurd h
@@ -83,7 +83,7 @@ negative_last bits n low fits = record {
   least = signed_has bits (negsuc n);
 }
 
--- an integer that goes on after a byte
+-- an integer that continues after a byte
 record GoesOn (bits : ℕ) (z m : ℤ) (byte : ℕ) : Type 0 where
   pub value : z +ℤ pos 128 ≡ pos 128 *ℤ m +ℤ pos byte
   pub high : 128 ≤ byte
@@ -124,7 +124,7 @@ signed_more {old = old} {between = between} {new = new} bits z m byte on pushed 
   whole = rest.whole ∙ ap (λ (bytes : List ℕ). bytes ++ rest.piece) pushed ∙ append_assoc old (byte ∷ []) rest.piece;
 }
 
--- what is left of an integer has seven bits less, its sign included
+-- the rest of an integer has seven bits less, its sign included
 pub signed_left : (bits n : ℕ) → 64 ≤ n → n < 2 ^ (bits - 1) → (7 < bits) × (n / 128 < 2 ^ ((bits - 7) - 1))
 signed_left bits n low high =
     let more : 6 < bits - 1 = bits_above 6 (bits - 1) n low high in

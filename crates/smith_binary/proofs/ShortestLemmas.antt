@@ -16,7 +16,7 @@ large_bytes : (most n : ℕ) → 128 ≤ n → shortest_bytes (suc most) n ≡ (
 unfolding shortest_bytes
 large_bytes most n large = rw (le-ltb n 128 large) refl
 
--- what is left of an integer takes a byte less
+-- the rest of an integer takes one byte less
 byte_less : (most n : ℕ) → n < 128 ^ suc (suc most) → n / 128 < 128 ^ suc most
 byte_less most n fits =
     let split : 128 ^ (1 + suc most) ≡ 128 ^ 1 * 128 ^ suc most = pow-add 128 1 (suc most) in
@@ -71,6 +71,6 @@ shortest_is most bits n piece fits room h =
       | inr longer ↦ absurd (let least : length piece ≤ length (shortest_bytes (suc most) n) = h.least _ (shortest_spelled most bits n fits room) in omega arith)
     ]
 
--- what is written in the shortest spelling is the shortest bytes
+-- the bytes of a shortest spelling are the shortest bytes
 pub shortest_written_is : {old new : List ℕ} (most bits n : ℕ) → n < 128 ^ suc most → n < 2 ^ bits → Writes (Shortest (IsUnsigned bits n)) old new → Writes (Is (shortest_bytes (suc most) n)) old new
 shortest_written_is most bits n fits room one = written_as (λ piece h. shortest_is most bits n piece fits room h) one

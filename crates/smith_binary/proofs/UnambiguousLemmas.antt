@@ -72,7 +72,7 @@ pub record SameTwo {A B : Type 0} (x y : A) (v w : B) (rest other : List ℕ) : 
   pub second : v ≡ w
   pub after : rest ≡ other
 
--- the first of two pieces, where it is unambiguous: the second comes after it
+-- the first of two pieces, if it is unambiguous: the second comes after it
 pub first_same : {A : Type 0} {P : A → List ℕ → Type 0} {Second Other : List ℕ → Type 0} {x y : A} {piece more : List ℕ} (rest other : List ℕ) → IsUnambiguous P
     → (h : Joined (P x) Second piece) → (k : Joined (P y) Other more) → piece ++ rest ≡ more ++ other → Same x y (h.second ++ rest) (k.second ++ other)
 first_same {x = x} {y = y} {piece = piece} {more = more} rest other P_one h k e =
@@ -96,7 +96,7 @@ each_same P P_one (x ∷ xs) (y ∷ ys) piece more rest other long h k e =
     let two = each_same P P_one xs ys h.second k.second rest other (omega arith) h.is_second k.is_second one.after in
     record { item = cc; after = two.after }
 
--- lists of what is unambiguous
+-- lists of items with unambiguous spellings
 pub list_is_unambiguous : {A : Type 0} {P : A → List ℕ → Type 0} → IsUnambiguous P → IsUnambiguous (IsList P)
 list_is_unambiguous {P = P} P_one = record {
   one = λ xs ys piece more rest other h k e.
@@ -118,7 +118,7 @@ same_front (x ∷ xs) (y ∷ ys) rest other long e =
     let heads : x ≡ y = same_head e in
     record { item = cc; after = two.after }
 
--- what is unambiguous with bytes after it is so as a whole
+-- a spelling that is unambiguous before other bytes is unambiguous as a whole
 pub unambiguous_whole : {A : Type 0} {P : A → List ℕ → Type 0} → IsUnambiguous P → IsUnambiguousWhole P
 unambiguous_whole P_one = record { one = λ x y piece h k. (P_one.one x y piece piece [] [] h k refl).item }
 

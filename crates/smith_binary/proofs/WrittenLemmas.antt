@@ -6,7 +6,7 @@ use Rattle.std.proofs.lemmas.Result.{on_ok_weaker}
 use Rattle.smith_binary.specs.Numbers.{IsUnsigned}
 use Rattle.smith_binary.specs.Pieces.{Is, IsByte, Joined, Each, IsList, IsName, IsSized, Shortest, Writes}
 
--- no byte, where none spells it
+-- no byte, if no byte spells the item
 pub nothing_written : {Spells : List ℕ → Type 0} {old : List ℕ} → Spells [] → Writes Spells old old
 nothing_written {old = old} spelled = record { piece = []; spelled = spelled; whole = sym (append-nil old) }
 
@@ -22,7 +22,7 @@ joined_written {old = old} one other = record {
   whole = other.whole ∙ ap (λ (bytes : List ℕ). bytes ++ other.piece) one.whole ∙ append_assoc old one.piece other.piece;
 }
 
--- a piece that spells something else too
+-- a piece with one property that implies another
 pub written_as : {Spells Other : List ℕ → Type 0} {old new : List ℕ} → ((piece : List ℕ) → Spells piece → Other piece) → Writes Spells old new → Writes Other old new
 written_as weaker one = record { piece = one.piece; spelled = weaker one.piece one.spelled; whole = one.whole }
 
@@ -38,11 +38,11 @@ shortest_written one = written_as (λ piece h. h.spelled) one
 pub sized_written : {old new : List ℕ} (content : List ℕ) → Writes (Joined (IsUnsigned 32 (length content)) (Is content)) old new → Writes (IsSized (Is content)) old new
 sized_written content one = written_as (λ piece h. record { content = content; is_content = refl; form = h }) one
 
--- to write more after the bytes so far is to write the whole after those at the start
+-- writing more after the bytes so far is writing the whole after those at the start
 pub record Leads (More Whole : List ℕ → Type 0) (start now : List ℕ) : Type 0 where
   pub to : (final : List ℕ) → Writes More now final → Writes Whole start final
 
--- one item more
+-- one more item
 pub leads_each : {A : Type 0} (Item : A → List ℕ → Type 0) {Whole : List ℕ → Type 0} {start now later : List ℕ} (i : ℕ) (xs : List A) (x d : A) → i < length xs → x ≡ get_or xs i d
     → Leads (Each Item (drop i xs)) Whole start now → Writes (Item x) now later → Leads (Each Item (drop (i + 1) xs)) Whole start later
 unfolding Each
@@ -50,7 +50,7 @@ leads_each Item i xs x d inside read so_far item =
     let next : drop i xs ≡ x ∷ drop (i + 1) xs = rw (read, add-one) (drop-cons xs i d inside) in
     record { to = λ final rest. so_far.to final (written_as (λ piece h. rw next h) (joined_written item rest)) }
 
--- no item more
+-- no item is left
 pub each_written : {A : Type 0} (Item : A → List ℕ → Type 0) {Whole : List ℕ → Type 0} {start now : List ℕ} (i : ℕ) (xs : List A) → length xs ≤ i → Leads (Each Item (drop i xs)) Whole start now → Writes Whole start now
 unfolding Each
 each_written Item i xs past so_far =
@@ -67,7 +67,7 @@ each_byte (byte ∷ bytes) = record { first = byte ∷ []; second = bytes; is_fi
 pub bytes_written : {old between new : List ℕ} (bytes : List ℕ) → Writes (IsUnsigned 32 (length bytes)) old between → Writes (Is bytes) between new → Writes (IsList IsByte bytes) old new
 bytes_written bytes count rest = joined_written count (written_as (λ piece h. subst (Each IsByte bytes) (sym h) (each_byte bytes)) rest)
 
--- certain bytes, then others
+-- these bytes, then others
 pub is_joined : {a b old between new : List ℕ} → Writes (Is a) old between → Writes (Is b) between new → Writes (Is (a ++ b)) old new
 is_joined {a = a} {b = b} one other =
     written_as (λ piece h. h.whole ∙ ap (λ (bytes : List ℕ). bytes ++ h.second) h.is_first ∙ ap (λ (bytes : List ℕ). a ++ bytes) h.is_second) (joined_written one other)
@@ -86,6 +86,6 @@ pub one_written : {A : Type 0} (Item : A → List ℕ → Type 0) (x : A) {old b
 unfolding Each
 one_written Item x count item = joined_written count (written_as (λ piece h. record { first = piece; second = []; is_first = h; is_second = refl; whole = sym (append-nil piece) }) item)
 
--- what is written first
+-- the bytes written after none
 pub written_whole : {Spells : List ℕ → Type 0} {new : List ℕ} → Writes Spells [] new → Spells new
 written_whole {Spells = Spells} one = subst Spells (sym one.whole) one.spelled

@@ -1,8 +1,8 @@
--- The reasons why bytes are not written.
+-- The errors of writers.
 use Rattle.smith_binary.specs.declared.error.EncodeError.{EncodeError}
 use Rattle.smith_binary.specs.declared.error.EncodeError.TheVariants.{Memory, TooLong}
 
--- want of memory; or something is too long, and then this holds
+-- lack of memory; or too long, if this holds
 abbrev pub IsFault : Type 0 → EncodeError → Type 0
 IsFault is_long Memory = Unit {0}
 IsFault is_long TooLong = is_long

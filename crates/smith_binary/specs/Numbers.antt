@@ -10,7 +10,7 @@ IsUnsigned bits n (byte ∷ []) = (n ≡ byte) × (byte < 2 ^ 7) × (byte < 2 ^ 
 IsUnsigned bits n (byte ∷ next ∷ piece) =
     (m : ℕ) × IsUnsigned (bits - 7) m (next ∷ piece) × (n + 2 ^ 7 ≡ 2 ^ 7 * m + byte) × (2 ^ 7 ≤ byte) × (byte < 2 ^ 8) × (7 < bits)
 
--- the bytes of an unsigned integer in LEB128, as few as there are for it, where a number of bytes is enough
+-- the bytes of an unsigned integer in LEB128, as few as possible, if `most` bytes are enough
 unfoldable pub shortest_bytes : ℕ → ℕ → List ℕ
 shortest_bytes zero n = []
 shortest_bytes (suc most) n = if nat_lt n (2 ^ 7) then n ∷ [] else (n % 2 ^ 7 + 2 ^ 7) ∷ shortest_bytes most (n / 2 ^ 7)
@@ -46,7 +46,8 @@ IsLittleEndian zero n piece = (n ≡ 0) × (piece ≡ [])
 IsLittleEndian (suc count) n [] = ⊥
 IsLittleEndian (suc count) n (byte ∷ piece) = (m : ℕ) × IsLittleEndian count m piece × (n ≡ byte + 2 ^ 8 * m) × (byte < 2 ^ 8)
 
--- the bits of a vector in sixteen bytes; the integer that stands for them is negative where the highest bit is set
+-- the bits of a vector in sixteen bytes; the integer with these bits is negative if the highest bit
+-- is set
 abbrev pub IsVector : ℤ → List ℕ → Type 0
 IsVector (pos n) piece = (n < 2 ^ 127) × IsLittleEndian 16 n piece
 IsVector (negsuc n) piece = (n < 2 ^ 127) × IsLittleEndian 16 (2 ^ 128 - 1 - n) piece

@@ -42,12 +42,12 @@ pub record IsSized (Content : List ℕ → Type 0) (piece : List ℕ) : Type 0 w
 abbrev pub IsSection : ℕ → (List ℕ → Type 0) → List ℕ → Type 0
 IsSection id Content = Joined (IsByte id) (IsSized Content)
 
--- a spelling than which none is shorter
+-- a shortest spelling
 pub record Shortest (Spells : List ℕ → Type 0) (piece : List ℕ) : Type 0 where
   pub spelled : Spells piece
   pub least : (other : List ℕ) → Spells other → length piece ≤ length other
 
--- the old bytes, then a piece for which this holds
+-- the old bytes, then a piece with this property
 pub record Writes (Spells : List ℕ → Type 0) (old new : List ℕ) : Type 0 where
   pub piece : List ℕ
   pub spelled : Spells piece

@@ -2,7 +2,7 @@
 #![tactic(auto)]
 
 mod error;
-/// Laws: functions that do nothing, whose clauses say what holds.
+/// Laws: functions without effect, whose clauses state properties.
 pub mod laws;
 mod numbers;
 mod pieces;

@@ -44,7 +44,8 @@ fn write_little_endian(value: u128, count: usize, sink: &mut Sink) -> Result<(),
 }
 
 impl Sink {
-    /// Writes `value` without sign in LEB128, as an integer of any number of bits that it fits, in as few bytes as there are for it.
+    /// Writes `value` without sign in LEB128, in as few bytes as possible, as an integer of any
+    /// number of bits that it fits.
     pub fn write_unsigned(&mut self, value: u64) -> Result<(), EncodeError>
         ensures writes { OnOk result ((bits : ℕ) → value < 2 ^ bits → Writes (Shortest (IsUnsigned bits value)) self.old self.new) }
         ensures memory { IfErr result (λ e. e ≡ Memory) }
@@ -56,7 +57,8 @@ impl Sink {
         self.write_unsigned(value / 128)
     }
 
-    /// Writes `value` with its sign in LEB128, as an integer of any number of bits that it fits, in as few bytes as there are for it.
+    /// Writes `value` with its sign in LEB128, in as few bytes as possible, as an integer of any
+    /// number of bits that it fits.
     pub fn write_signed(&mut self, value: i64) -> Result<(), EncodeError>
         ensures writes { OnOk result ((bits : ℕ) → FitsBits bits value → Writes (Shortest (IsSigned bits value)) self.old self.new) }
         ensures memory { IfErr result (λ e. e ≡ Memory) }
@@ -84,7 +86,7 @@ impl Sink {
         self.write_unsigned(value)
     }
 
-    /// Writes the index `value` as a signed integer of 33 bits, as heap types have it.
+    /// Writes the index `value` as a signed integer of 33 bits, the form in heap types.
     pub fn write_s33(&mut self, value: u32) -> Result<(), EncodeError>
         ensures writes { OnOk result (Writes (IsSigned 33 (pos value)) self.old self.new) }
         ensures memory { IfErr result (λ e. e ≡ Memory) }

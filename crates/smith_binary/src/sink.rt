@@ -6,7 +6,8 @@ use crate::error::EncodeError;
 use std::alloc::Global;
 use std::marker::Model;
 
-/// Bytes that are being written, in memory of an allocator. Contracts see them as the list of the bytes so far.
+/// Bytes that are being written, in memory from an allocator. Contracts see the list of the bytes
+/// so far.
 #[derive(Drop)]
 pub struct Sink {
     alloc: Global,
@@ -20,7 +21,7 @@ impl Model for Sink {
 }
 
 impl Sink {
-    /// Makes a sink without bytes, which takes memory of `alloc` once a byte is written.
+    /// Makes a sink without bytes. It takes memory from `alloc` once a byte is written.
     pub fn new(alloc: Global) -> Self
         ensures { result ≡ [] }
     {
@@ -44,7 +45,7 @@ impl Sink {
         self.bytes.as_slice()
     }
 
-    /// Gives the bytes back. Takes no memory.
+    /// Returns the bytes. Takes no memory.
     pub fn into_vec(self) -> Vec<u8>
         ensures { result.items ≡ self }
     {
