@@ -1,13 +1,13 @@
 ghost use Rattle.std.specs.Prelude.{◌≡◌};
 ghost use Rattle.smith_c.specs.Answers.{IsPut};
 
-/// What a call of the library answers.
+/// Answer of a call of the library.
 #[repr(C)]
 #[derive(Clone, Copy, Debug, PartialEq, Eq)]
 pub struct Answer {
-    /// The number of what the call came to: `MADE`, `SHORT`, or that of a refusal.
+    /// The status: `MADE`, `SHORT`, or the number of a refusal.
     pub status: u32,
-    /// The number of bytes that the output has, written or not.
+    /// The number of bytes of the output, written or not.
     pub length: usize,
 }
 
@@ -18,7 +18,7 @@ pub const MADE: u32 = 0;
 pub const SHORT: u32 = 1;
 
 impl Answer {
-    /// The answer where there is no output.
+    /// Returns the answer without an output.
     pub fn without_output(status: u32) -> Answer
         ensures { result ≡ record { status = status; length = 0 } }
     {
@@ -26,7 +26,8 @@ impl Answer {
     }
 }
 
-/// Writes `bytes` to the front of `out`, and answers `status`; or writes nothing and answers `SHORT`, where they have no room.
+/// Writes `bytes` to the front of `out`, and returns `status`. If they do not fit, writes nothing
+/// and returns `SHORT`.
 pub fn put(status: u32, bytes: &[u8], out: &mut [u8]) -> Answer
     ensures { IsPut status bytes.now out.old out.new result }
 {

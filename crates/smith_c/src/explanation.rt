@@ -5,7 +5,8 @@ use crate::answer::{Answer, put};
 use smith_request::Refusal;
 use std::alloc::Global;
 
-/// Writes `refusal` in words to `out`, with its number. The text is empty where there is no memory for it.
+/// Writes `refusal` in words to `out`, with its number. The text is empty if there is no memory for
+/// it.
 pub fn explain(alloc: Global, refusal: &Refusal, out: &mut [u8]) -> Answer
     ensures { PutsText (status_of refusal.now) out.old out.new result }
 {

@@ -1,5 +1,5 @@
-//! The generator for C, and for all that calls C: a module of a configuration and an input, with bodies of instructions, into the
-//! caller's memory.
+//! The generator for C, and for all languages that call C: a module of a configuration and an
+//! input, with bodies of instructions, into the caller's memory.
 #![tactic(auto)]
 
 ghost use Rattle.smith_c.specs.Answers.{IsAnswered, IsExplained};
@@ -28,7 +28,8 @@ pub extern "C" fn smith_binary(alloc: Global, config: &[u8], input: &[u8], out: 
     }
 }
 
-/// Writes that module in the text format, for which none is too long. No clause says which text it is.
+/// Writes that module in the text format, which no module is too long for. No clause states the
+/// text.
 #[unsafe(no_mangle)]
 pub extern "C" fn smith_text(alloc: Global, config: &[u8], input: &[u8], out: &mut [u8]) -> Answer
     ensures { IsAnswered (λ text. HasProgram config.now input.now) (IsTextRefusal config.now input.now) out.old out.new result }
@@ -39,8 +40,8 @@ pub extern "C" fn smith_text(alloc: Global, config: &[u8], input: &[u8], out: &m
     }
 }
 
-/// Writes why there is no such module, in words, and answers the number of that refusal. Writes nothing where there is a
-/// module. No clause says which words they are.
+/// Writes the reason why there is no such module, in words, and returns the number of that refusal.
+/// Writes nothing if there is a module. No clause states the words.
 #[unsafe(no_mangle)]
 pub extern "C" fn smith_refusal(
     alloc: Global,
