@@ -1,16 +1,18 @@
-//! Answers cases, each a JSON object on a line of standard input, and prints which of them are answered as they want.
+//! Answers cases, each a JSON object on a line of standard input, and prints which answers are as
+//! the cases want.
 //!
-//! For each case there is a line `ok NAME`, or `not ok NAME: ` and the first difference. The last line counts, and the status is 1
-//! where a case is not ok. Where memory is refused outside of a call, the last line is `not ok: Memory while reading` and the status
-//! is 1 too. A case is answered twice, one of checksums once, and two answers that differ are not ok. Lines of blanks, and lines that
-//! begin with `#`, are passed over. The crate's own cases are in `stdin`; in this folder they are tried in some four minutes, before
-//! any proof, by
+//! For each case there is a line `ok NAME`, or `not ok NAME: ` and the first difference. The last
+//! line counts, and the status is 1 if a case is not ok. If memory is refused outside of a call,
+//! the last line is `not ok: Memory while reading` and the status is 1 too. A case is answered
+//! twice, a case of checksums once; if the two answers differ, it is not ok. Blank lines, and lines
+//! that begin with `#`, are skipped. The crate's own cases are in `stdin`. In this folder, this
+//! command tries them in some four minutes, before any proof:
 //!
 //! ```sh
 //! rt try --seconds 600 < stdin
 //! ```
 //!
-//! The head of `smith_answers` says what each key of a case means.
+//! The documentation of `smith_answers` explains the keys of a case.
 #![tactic(auto)]
 
 #[cfg(test)]
@@ -30,7 +32,8 @@ fn main(rt: HostRuntime) -> io::Result<ExitCode> {
     }
 }
 
-// Answers the cases of the standard input. An error is that of a line that can't be read or written, or want of memory for one.
+// Answers the cases of the standard input. Fails if a line can't be read or written, or if memory
+// for a line runs out.
 fn answered(rt: &HostRuntime) -> io::Result<ExitCode> {
     let alloc = rt.alloc();
     let mut right: u64 = 0;

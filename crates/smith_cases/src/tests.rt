@@ -1,7 +1,7 @@
 use smith_answers::judge;
 use std::test::Fail;
 
-// Each line, and what the report says after `not ok`.
+// Each line, and the report after `not ok`.
 const WRONG: [(&str, &str); 28] = [
     ("", " : no object of a case"),
     ("[]", " : no object of a case"),
