@@ -1,4 +1,4 @@
--- What is chosen, by the places that are drawn.
+-- The chosen node, by the drawn places.
 use Rattle.std.specs.Prelude.{slice_get, slice_index_or, option_map}
 use Rattle.std.proofs.Common.{◌≡◌, ℕ, zero, suc, ◌+◌, ◌-◌, ◌<◌, ◌≤◌, true, false, List, [], ◌∷◌, Option, Some, None, length, get_or, refl, ap, ◌∙◌, arith}
 use Rattle.std.proofs.lemmas.Option.{slice_get-get_or, slice_get_past}
@@ -47,7 +47,7 @@ call_there context wanted bytes left index function drawn at =
     ap (λ (drawn : Option ℕ × List ℕ). giving (call_node context) drawn) drawn
     ∙ ap (λ (o : Option FuncType). (option_map (λ (function : FuncType). node_of function.params (instr.Call index) (length function.results - 1)) o, left)) at
 
--- a function that is called for nothing
+-- a function whose results are dropped
 pub any_call_none : (context : BodyContext) (bytes : List ℕ) → indexed (length context.funcs) ≡ 0 → any_call_at context bytes ≡ (None, bytes)
 unfolding any_call_at
 any_call_none context bytes none =
@@ -128,7 +128,7 @@ unfolding statement_choice_at
 statement_by config context bytes left families drawn_family family are drawn is =
     chosen_by (λ family bytes. or_nop (statement_of config context family bytes)) statement.Nop statement_families families bytes left drawn_family family are drawn is
 
--- the node where it is allowed
+-- the chosen node is allowed, or there is none
 pub allowed_node : (config : Config) (context : BodyContext) (wanted : ValType) (bytes left : List ℕ) (node : Node) → value_choice_at config context wanted bytes ≡ (Some node, left) → is_node_allowed context.features config node ≡ true
     → allowed_choice_at config context wanted bytes ≡ (Some node, left)
 unfolding allowed_choice_at

@@ -1,4 +1,4 @@
--- Calls, drops, and instructions on locals and globals leave what they should.
+-- Calls, drops, and instructions on locals and globals leave the values of their definitions.
 use Rattle.std.specs.Prelude.{slice_get, All}
 use Rattle.std.proofs.Common.{◌≡◌, ℕ, ◌+◌, ◌-◌, ◌<◌, ◌≤◌, true, List, [], ◌∷◌, ◌++◌, Option, Some, length, get_or, drop, refl, sym, subst, ap, ◌∙◌, arith}
 use Rattle.std.proofs.lemmas.List.Elements.{All-drop}
@@ -103,13 +103,13 @@ call_node context set values dropped index function scope given spare (ty, at, t
   inside = tt;
 }
 
--- a function that is called for nothing
+-- a function whose results are dropped
 pub any_call_node : (context : BodyContext) (set : List ℕ) (index : ℕ) (function : FuncType) → AreParamsValid context → AreValid context function.results → IsFunction context index function
     → IsNode context set [] (node_of function.params (instr.Call index) (length function.results))
 any_call_node context set index function scope results there =
     call_node context set [] function.results index function scope (no_valid context) results there (below_themselves context.types function.results) (omega arith)
 
--- a function whose first result is wanted
+-- a function whose first result matches the wanted type
 pub call_for : (context : BodyContext) (set : List ℕ) (wanted : ValType) (index : ℕ) (function : FuncType) → IsOrderly context.types → AreParamsValid context → AreValid context function.results → IsValid context wanted
     → is_callable context wanted index ≡ true → function_at context index ≡ Some function → IsNode context set (wanted ∷ []) (node_of function.params (instr.Call index) (length function.results - 1))
 call_for context set wanted index function orderly params results valid callable at =

@@ -1,4 +1,4 @@
--- What was drawn, one part after another.
+-- Drawn instructions, one part after another.
 use Rattle.std.proofs.Common.{◌≡◌, ℕ, zero, suc, ◌+◌, ◌-◌, ◌*◌, ◌<◌, ◌≤◌, List, [], ◌∷◌, ◌++◌, length, replicate, take, get_or, refl, sym, subst, ap, ◌∙◌, append_assoc, arith, length-append}
 use Rattle.std.specs.Prelude.{option_to_list, Option, All}
 use Rattle.std.proofs.Math.Seq.{take-append_seam}
@@ -122,7 +122,7 @@ drawn_then {scope = scope} {b = b} {c = c} {old = old} {middle = middle} {new = 
       short = omega arith;
     }
 
--- on top of more values
+-- instructions drawn on top of more values
 drawn_above : {scope : Scope} {a b : List ValType} {n : ℕ} {old new : Draft} (below : List ValType) → AreValid (bare scope) below → IsDrawn scope a b n old new → IsDrawn scope (below ++ a) (below ++ b) n old new
 drawn_above {scope = scope} {a = a} {b = b} below valid drawn = record {
   more = drawn.more;
@@ -136,11 +136,11 @@ drawn_above {scope = scope} {a = a} {b = b} below valid drawn = record {
   short = drawn.short;
 }
 
--- values after others
+-- values drawn after other values
 pub drawn_more : {scope : Scope} {a b : List ValType} {m n : ℕ} {old middle new : Draft} → AreValid (bare scope) a → IsDrawn scope [] a m old middle → IsDrawn scope [] b n middle new → IsDrawn scope [] (a ++ b) (m + n) old new
 drawn_more {a = a} valid first second = drawn_then first (rw append-nil at (drawn_above a valid second))
 
--- at a greater cost
+-- instructions drawn at a greater cost
 pub drawn_within : {scope : Scope} {a b : List ValType} {m n : ℕ} {old new : Draft} → m ≤ n → IsDrawn scope a b m old new → IsDrawn scope a b n old new
 drawn_within less drawn =
     let short = drawn.short in
@@ -156,11 +156,11 @@ drawn_within less drawn =
       short = omega arith;
     }
 
--- the labels of what is drawn over are the labels of what was drawn
+-- drawn instructions keep the labels
 pub labels_kept : {scope : Scope} {a b : List ValType} {n : ℕ} {old new : Draft} → IsDrawn scope a b n old new → AreLabels scope old.labels.items → AreLabels scope new.labels.items
 labels_kept {scope = scope} drawn labels = subst (AreLabels scope) (sym drawn.same) labels
 
--- one turn of the loop over operands
+-- one iteration of the loop over operands
 pub drawn_turn : {scope : Scope} (operands : List ValType) (n : ℕ) (d : ValType) {old middle new : Draft} → AreValid (bare scope) operands → n < length operands → IsDrawn scope [] (take n operands) (length (take n operands)) old middle
     → IsDrawn scope [] (get_or operands n d ∷ []) 1 middle new → IsDrawn scope [] (take (n + 1) operands) (length (take (n + 1) operands)) old new
 drawn_turn {scope = scope} operands n d valid inside first second =
@@ -236,7 +236,7 @@ pay w n g o m (suc f) few paid short =
     let short' : m + (4 * w + 4) * g ≤ o + n + (4 * w + 4) * f = rw less at short in
     omega arith
 
--- what one unit of fuel pays for
+-- one unit of fuel pays for the instructions of a node
 pub paid_for : {scope : Scope} {a b : List ValType} {n : ℕ} {old new : Draft} → n ≤ most scope.types.now.types → 0 < old.fuel → IsDrawn scope a b n (record old { fuel = old.fuel - 1 }) new → IsDrawn scope a b 0 old new
 paid_for {scope = scope} {n = n} {old = old} {new = new} few paid drawn =
     let spent = drawn.spent in
@@ -252,7 +252,7 @@ paid_for {scope = scope} {n = n} {old = old} {new = new} few paid drawn =
       short = pay (widest scope.types.now.types) n new.fuel (length old.out) (length new.out) old.fuel few paid drawn.short;
     }
 
--- a node: its operands, its head, and what is dropped
+-- a node: its operands, its head, and the dropped values
 pub node_drawn : {scope : Scope} {values : List ValType} {node : Node} {old middle after new : Draft} → IsNode (where_stands scope old) old.set.items values node → (0 < node.drops → IsAllowedIn scope instr.Drop) → 0 < old.fuel
     → IsDrawn scope [] node.operands (length node.operands) (record old { fuel = old.fuel - 1 }) middle
     → ((operands given values : List ValType) → HasHeadType (where_stands scope middle) middle.set.items node.head operands given → AreBelow (bare scope) given values → AreValid (bare scope) values → head_sets node.head ≡ option_to_list node.sets
@@ -273,7 +273,7 @@ node_drawn {scope = scope} {values = values} {node = node} {old = old} {middle =
     let same = fits.drops in
     paid_for {n = length node.operands + block_cost scope.types.now.types + length fits.dropped} (omega arith) paid (drawn_then (drawn_then operands top) (dropped_drawn values fits.dropped fits.given fits.spare allowed out' set labels fuel))
 
--- what was set before is left
+-- the locals that were set before remain
 pub height_left : (xs ys zs : List ℕ) → zs ≡ xs ++ ys → take (length xs) zs ≡ xs
 height_left xs ys zs is = rw is (take-append_seam xs ys)
 
@@ -298,7 +298,7 @@ plain_drawn {scope = scope} {old = old} head instruction operands results values
     let allowed' : IsAllowedIn scope instruction = rw is at allowed in
     drawn_within (omega arith) (written_drawn instruction operands results values set typed' below valid allowed' local' written)
 
--- a block around what is drawn in it
+-- a block around the instructions drawn in it
 enclosed : (opening : Opening) (context : BodyContext) (ty : BlockType) (body : List Instr) (params results values base : List ValType) (set inner after : List ℕ) → IsBlockType context ty params results → MayOpen opening params results → AreValid context results → AreBelow context results values → AreValid context values → AreValid context base → after ≡ set
     → AreTyped (labelled context (label_of opening params results)) body (stacked params set) (stacked results inner)
     → AreTyped context (opened opening ty ∷ (body ++ instr.End ∷ [])) (stacked (base ++ taken_by opening params) set) (stacked (base ++ values) after)
@@ -310,7 +310,7 @@ enclosed opening.IfAlone context ty body params results values base set inner af
     if_alone refl fits typed (record { below = subst (AreBelow context params) may (below_themselves context.types params); valid = given })
     (around context (params ++ I32 ∷ []) results values base set after below valid left) (finished context (base ++ values) after (joined_valid context base values under valid))
 
--- a block that this instruction opens, whatever is in it
+-- a block that this instruction opens, with any body
 abbrev Encloses : BodyContext → Instr → List ValType → List ValType → List ValType → List ValType → List ValType → Type 0
 Encloses context opening label params results taken values =
     (body : List Instr) (base : List ValType) (set inner after : List ℕ) → AreValid context base → after ≡ set → AreTyped (labelled context label) body (stacked params set) (stacked results inner)
@@ -414,14 +414,14 @@ if_drawn {scope = scope} {old = old} {entered = entered} {first = first} {other 
       short = rw same' (omega arith);
     }
 
--- a block that was opened has labels as before it, and its own
+-- the labels of an open block are its own, then those before
 pub opened_labels : {scope : Scope} {old entered : Draft} {instruction : Instr} (label : List ValType) → IsOpened instruction label old entered → AreLabels scope old.labels.items → AreValid (bare scope) label → length label ≤ widest scope.types.now.types → AreLabels scope entered.labels.items
 opened_labels {scope = scope} {old = old} label start labels valid few = rw start.labels (record {
   valid = All-append (AreValid (bare scope)) (label ∷ []) old.labels.items (All-push (AreValid (bare scope)) [] label (All-nil (AreValid (bare scope))) valid) labels.valid;
   few = All-append (λ (label : List ValType). length label ≤ widest scope.types.now.types) (label ∷ []) old.labels.items (All-push (λ (label : List ValType). length label ≤ widest scope.types.now.types) [] label (All-nil (λ (label : List ValType). length label ≤ widest scope.types.now.types)) few) labels.few;
 })
 
--- what is drawn after nothing is a body
+-- instructions drawn from an empty draft are a body
 pub body_typed : {scope : Scope} {start new : Draft} → IsDrawn scope [] scope.results.now (length scope.results.now) start new → start.out ≡ [] → start.set.items ≡ [] → start.labels.items ≡ scope.results.now ∷ [] → IsBodyTyped (bare scope) new.out
 body_typed {scope = scope} {start = start} {new = new} drawn empty unset alone =
     let typed : AreTyped (context_of scope start.labels.items) drawn.more (stacked [] start.set.items) (stacked scope.results.now new.set.items) = drawn.typed [] (All-nil (IsValid (bare scope))) in

@@ -1,4 +1,4 @@
--- What is drawn is what the bytes give, one part after another.
+-- The drawn instructions are those that the bytes produce, one part after another.
 use Rattle.std.proofs.Common.{◌≡◌, ℕ, zero, suc, ◌+◌, ◌-◌, ◌<◌, ◌≤◌, true, false, List, [], ◌∷◌, ◌++◌, Option, Some, None, length, get_or, replicate, take, drop, drop-cons, refl, sym, ap, ◌∙◌, arith}
 use Rattle.std.specs.Prelude.{option_to_list, ◌==◌}
 use Rattle.smith_bytes.specs.Draws.{range_at}
@@ -33,7 +33,7 @@ state_is : (scope : Scope) (draft : Draft) (labels : List (List ValType)) (out :
     → draft.labels.items ≡ labels → draft.out ≡ out → draft.set.items ≡ set → draft.fuel ≡ fuel → made scope labels out set fuel bytes ≡ state_of scope draft bytes
 state_is scope draft labels out set fuel bytes labels_are out_is set_is fuel_is = rw (← labels_are, ← out_is, ← set_is, ← fuel_is) refl
 
--- a value: an instruction without operands at the last level and without fuel, and otherwise what was chosen
+-- a value: an instruction without operands at the last level and without fuel, else the chosen node
 pub last_value : (config : Config) (depth : ℕ) (wanted : ValType) (s : State) → depth ≡ 0 → (drawing_at config depth).value wanted s ≡ leaf_in config wanted s
 unfolding drawing_at
 last_value config zero wanted s last = refl
@@ -68,7 +68,7 @@ pub drops_written : (scope : Scope) (count : ℕ) (old new : Draft) (bytes : Lis
     → dropped count (state_of scope old bytes) ≡ state_of scope new bytes
 drops_written scope count old new bytes out set labels fuel = state_is scope new old.labels.items (old.out ++ replicate count instr.Drop) old.set.items old.fuel bytes labels out set fuel
 
--- a node: its operands, its head, and what is dropped
+-- a node: its operands, its head, and the dropped values
 pub node_exact : (draw : Drawing) (node : Node) (s operands rest : State) → values_at draw node.operands (record s { fuel = s.fuel - 1 }) ≡ operands → head_at draw node.head node.sets operands ≡ rest → node_at draw node s ≡ dropped node.drops rest
 unfolding node_at
 node_exact draw node s operands rest first second =
@@ -107,7 +107,7 @@ entered_exact : (scope : Scope) (opening : Instr) (label : List ValType) (old en
 entered_exact scope opening label old entered bytes start =
     state_is scope entered (label ∷ old.labels.items) (old.out ++ opening ∷ []) old.set.items old.fuel bytes start.labels start.out start.set start.fuel
 
--- what was drawn in a block, and what is written after it
+-- the instructions drawn in a block, and the end of the block
 closed_exact : (scope : Scope) (closing : Instr) (s : State) (old inside new : Draft) (bytes left : List ℕ) → s ≡ state_of scope inside left → new.out ≡ inside.out ++ closing ∷ [] → new.set.items ≡ old.set.items → new.labels.items ≡ old.labels.items → new.fuel ≡ inside.fuel
     → written closing (record s { context = context_of scope old.labels.items; set = old.set.items }) ≡ state_of scope new left
 closed_exact scope closing s old inside new bytes left is out set labels fuel =
@@ -148,7 +148,7 @@ if_exact scope draw ty sides old entered first other last new bytes middle left 
     ap (λ (s : State). written instr.End (enclosed_at draw sides.results sides (written instr.Else (record s { context = context_of scope old.labels.items; set = old.set.items })))) once
     ∙ closed_exact scope instr.End _ old last new middle left again end.out set' labels end.fuel
 
--- values: one after another
+-- values, one after another
 pub next_value : (draw : Drawing) (wanted : List ValType) (place : ℕ) (d : ValType) (s t : State) → place < length wanted → draw.value (get_or wanted place d) s ≡ t → values_at draw (drop place wanted) s ≡ values_at draw (drop (place + 1) wanted) t
 next_value draw wanted place d s t inside is =
     let first : drop place wanted ≡ get_or wanted place d ∷ drop (suc place) wanted = drop-cons wanted place d inside in
@@ -172,7 +172,7 @@ pub forbidden_statement : (config : Config) (below : Drawing) (s : State) (node 
 unfolding statement_at
 forbidden_statement config below s node left chosen forbidden = rw (chosen, forbidden) refl
 
--- statements that are still to come, of which there are at most as many as there is fuel
+-- the remaining statements, at most one for each unit of fuel
 pub record AreLeft (statement : State → State) (whole s : State) : Type 0 where
   pub most : ℕ
   pub few : s.fuel ≤ most

@@ -1,4 +1,4 @@
--- Which instruction without operands is chosen.
+-- The instruction without operands that is chosen.
 use Rattle.std.proofs.Common.{◌≡◌, ℕ, ◌<◌, Bool, List, [], Option, Some, None, length, get_or, refl, sym, subst, ap, ◌∙◌}
 use Rattle.std.specs.Prelude.{slice_get, if◌then◌else◌}
 use Rattle.std.proofs.lemmas.Option.{slice_get-get_or}
@@ -16,7 +16,7 @@ use Rattle.smith_code.specs.declared.families.LeafFamily.{LeafFamily}
 use Rattle.smith_code.specs.declared.families.LeafFamily.TheVariants as leaf
 use Rattle.smith_code_nodes.proofs.ChosenLemmas.{chosen_by}
 
--- a function that may be named, by its place among those
+-- a function that may be named, by its place among those offered
 pub named_none : (context : BodyContext) (wanted : ValType) (bytes left : List ℕ) → choose_at (offered (is_reference context wanted) (length context.references)) bytes ≡ (None, left) → named_at context wanted bytes ≡ (None, left)
 unfolding named_at
 named_none context wanted bytes left drawn = ap (λ (d : Option ℕ × List ℕ). giving (λ place. slice_get context.references place) d) drawn
@@ -27,7 +27,7 @@ unfolding named_at
 named_there context wanted bytes left place d drawn inside =
     ap (λ (d : Option ℕ × List ℕ). giving (λ place. slice_get context.references place) d) drawn ∙ ap (λ (o : Option ℕ). (o, left)) (slice_get-get_or context.references place d inside)
 
--- what is chosen by its family
+-- an instruction without operands, by its drawn family
 pub leaf_by : (context : BodyContext) (set : List ℕ) (wanted : ValType) (bytes left : List ℕ) (families : List LeafFamily) (drawn_family family : LeafFamily) → families ≡ leaf_families → chosen_at leaf.Constant families bytes ≡ (drawn_family, left)
     → drawn_family ≡ family → leaf_choice_at context set wanted bytes ≡ leaf_of context set wanted family left
 unfolding leaf_choice_at
@@ -42,13 +42,13 @@ pub leaf_constant : (context : BodyContext) (set : List ℕ) (wanted : ValType) 
 unfolding any_leaf_at
 leaf_constant context set wanted bytes middle left instruction drawn is = ap (λ (d : Option Instr × List ℕ). or_constant wanted d.0 d.1) drawn ∙ is
 
--- the instruction where it is permitted, or another
+-- the drawn instruction if it is permitted, else its replacement
 pub leaf_permitted : (config : Config) (context : BodyContext) (set : List ℕ) (wanted : ValType) (bytes left : List ℕ) (instruction : Instr) (permitted : Bool) → any_leaf_at context set wanted bytes ≡ (instruction, left) → is_permitted context.features config instruction ≡ permitted
     → leaf_at config context set wanted bytes ≡ (if permitted then instruction else spare_leaf config context set wanted, left)
 unfolding leaf_at
 leaf_permitted config context set wanted bytes left instruction permitted drawn is = rw (drawn, is) refl
 
--- the first instruction of a family, where it is permitted
+-- the first instruction of a family, if it is permitted
 pub first_none : (config : Config) (context : BodyContext) (set : List ℕ) (wanted : ValType) (family : LeafFamily) (bytes left : List ℕ) → bytes ≡ [] → leaf_of context set wanted family bytes ≡ (None, left) → None ≡ first_of config context set wanted family
 first_none config context set wanted family bytes left empty drawn =
     let drawn' : leaf_of context set wanted family [] ≡ (None, left) = subst (λ (bytes : List ℕ). leaf_of context set wanted family bytes ≡ (None, left)) empty drawn in

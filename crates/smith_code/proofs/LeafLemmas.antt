@@ -1,4 +1,4 @@
--- Instructions that give a value without operands.
+-- Instructions that produce a value without operands.
 use Rattle.std.proofs.Common.{◌≡◌, ℕ, true, List, [], refl}
 use Rattle.smith_types.specs.Types.{IsOrderly}
 use Rattle.smith_types.specs.Subtyping.{itself}

@@ -19,7 +19,7 @@ chosen_in_range types index h true true = h
 chosen_in_range types index h true false = h
 chosen_in_range types index h false b = h
 
--- the type of a function that is there is in range
+-- the type of an existing function is in range
 pub function_in_range : (context : BodyContext) (function d : ℕ) → All (IsFuncTypeIndex context.types) context.funcs → function < length context.funcs
     → IsValInRange context.types (reference_to_function context function (get_or context.funcs function d))
 function_in_range context function d valid inside =

@@ -23,7 +23,7 @@ pub record State : Type 0 where
   pub fuel : ℕ
   pub bytes : List ℕ
 
--- the way in which a value of a type is drawn, and statements are
+-- the draw of a value of a type, and the draw of statements
 pub record Drawing : Type 0 where
   pub value : ValType → State → State
   pub statements : State → State
@@ -48,7 +48,7 @@ unfoldable pub enclosed_at : Drawing → List ValType → Sides → State → St
 enclosed_at draw label sides s =
     record (inside_at draw sides (record s { context = labelled s.context label })) { context = s.context; set = s.set }
 
--- the instructions after operands, and the local that they set
+-- the instructions after operands, and the local that is set
 unfoldable pub head_at : Drawing → Head → Option ℕ → State → State
 head_at draw (head.Plain instruction) sets s = record s { out = s.out ++ instruction ∷ []; set = s.set ++ option_to_list sets }
 head_at draw (head.Enclosed opening ty sides) sets s =
@@ -74,18 +74,18 @@ abbrev pub node_or_leaf_at : Config → Drawing → ValType → Option Node → 
 node_or_leaf_at config below wanted (Some node) s = node_at below node s
 node_or_leaf_at config below wanted None s = leaf_in config wanted s
 
--- a value, given the draws one level deeper: without fuel an instruction without operands
+-- a value, by the draws one level deeper: without fuel an instruction without operands
 unfoldable pub value_at : Config → Drawing → ValType → State → State
 value_at config below wanted s =
     let chosen = allowed_choice_at config s.context wanted s.bytes in
     if s.fuel == 0 then leaf_in config wanted s else node_or_leaf_at config below wanted chosen.0 (record s { bytes = chosen.1 })
 
--- a node if it is allowed; otherwise one unit of fuel is taken all the same
+-- a node if it is allowed; otherwise only one unit of fuel is taken
 abbrev pub allowed_at : Config → Drawing → Node → State → State
 allowed_at config below node s =
     if is_node_allowed s.context.features config node then node_at below node s else record s { fuel = s.fuel - 1 }
 
--- a statement, given the draws one level deeper
+-- a statement, by the draws one level deeper
 unfoldable pub statement_at : Config → Drawing → State → State
 statement_at config below s =
     let chosen = statement_choice_at config s.context s.bytes in
@@ -99,7 +99,7 @@ statements_within statement (suc most) s =
     let next = record s { bytes = more.1 } in
     if s.fuel == 0 then s else if more.0 == 0 then next else statements_within statement most (statement next)
 
--- the draws at a depth, given those one level deeper: at the last there are no statements, and
+-- the draws at a depth, by those one level deeper: at the last level there are no statements, and
 -- values have no operands
 unfoldable pub drawing_at : Config → ℕ → Drawing
 drawing_at config zero = record { value = leaf_in config; statements = λ s. s }

@@ -180,7 +180,7 @@ value_families V128 = vector_value_families
 value_families (Ref reference) = reference_value_families
 value_families _ = number_families
 
--- a value of a family: none of a leaf
+-- a value of a family; none for a leaf
 abbrev pub value_of : Config → BodyContext → ValType → ValueFamily → List ℕ → Chosen
 value_of config context wanted value.Leaf bytes = (None, bytes)
 value_of config context wanted value.Numeric bytes = numeric_at wanted bytes
@@ -210,7 +210,7 @@ value_of config context wanted value.Try bytes = try_at context wanted bytes
 unfoldable pub value_choice_at : Config → BodyContext → ValType → List ℕ → Chosen
 value_choice_at config context wanted bytes = let family = chosen_at value.Leaf (value_families wanted) bytes in value_of config context wanted family.0 family.1
 
--- that node, if it is allowed
+-- the chosen node, if it is allowed
 abbrev pub if_allowed : Features → Config → Option Node → Option Node
 if_allowed features config None = None
 if_allowed features config (Some node) = if is_node_allowed features config node then Some node else None
@@ -220,7 +220,7 @@ allowed_choice_at config context wanted bytes =
     let chosen = value_choice_at config context wanted bytes in
     (if_allowed context.features config chosen.0, chosen.1)
 
--- a value that is dropped: of a type of numbers, or of the type of a local
+-- a value that is dropped: of a number type, or of the type of a local
 unfoldable pub dropped_at : List ValType → List ℕ → ValType × List ℕ
 dropped_at locals bytes = chosen_at I32 (I32 ∷ I64 ∷ F32 ∷ F64 ∷ locals) bytes
 
@@ -284,7 +284,7 @@ statement_families =
     statement.Try ∷
     []
 
--- a statement of a family: none of `nop`
+-- a statement of a family; none for `nop`
 abbrev pub statement_of : Config → BodyContext → StatementFamily → List ℕ → Chosen
 statement_of config context statement.Nop bytes = (None, bytes)
 statement_of config context statement.Drop bytes = drop_at context bytes

@@ -11,9 +11,9 @@ use Rattle.smith_code_nodes.specs.Scopes.{bare, where_stands, most, IsAllowedIn}
 use Rattle.smith_code_nodes.specs.declared.scope.Draft.{Draft}
 use Rattle.smith_code_nodes.specs.declared.scope.Scope.{Scope}
 
--- instructions follow the old ones that take operands of these types from the top of any stack, and
--- leave values of those; the labels are the same, and at most `cost` instructions are not paid for
--- by fuel
+-- the new instructions take operands of the first types from the top of any stack, and leave values
+-- of the second types; the labels are the same, and at most `cost` instructions are not paid for by
+-- fuel
 pub record IsDrawn (scope : Scope) (operands values : List ValType) (cost : ℕ) (old new : Draft) : Type 0 where
   pub more : List Instr
   pub longer : new.out ≡ old.out ++ more
@@ -38,14 +38,15 @@ pub record IsWritten (instruction : Instr) (set : Option ℕ) (old new : Draft) 
   pub same : new.labels.items ≡ old.labels.items
   pub fuel : new.fuel ≡ old.fuel
 
--- a block is opened that has this label
+-- a block with this label is opened
 pub record IsOpened (instruction : Instr) (label : List ValType) (old new : Draft) : Type 0 where
   pub out : new.out ≡ old.out ++ instruction ∷ []
   pub set : new.set.items ≡ old.set.items
   pub labels : new.labels.items ≡ label ∷ old.labels.items
   pub fuel : new.fuel ≡ old.fuel
 
--- the first part of an if ends, or a block does: of the locals that were set, `height` are left
+-- the first part of an `if`, or a block, ends: the first `height` of the locals that were set
+-- remain
 pub record IsEnded (instruction : Instr) (height : ℕ) (old new : Draft) : Type 0 where
   pub out : new.out ≡ old.out ++ instruction ∷ []
   pub set : new.set.items ≡ take height old.set.items

@@ -60,7 +60,7 @@ leaf_families =
     leaf.Constant ∷
     []
 
--- an instruction of a family: none of a constant
+-- an instruction of a family; none for a constant
 abbrev pub leaf_of : BodyContext → List ℕ → ValType → LeafFamily → List ℕ → Option Instr × List ℕ
 leaf_of context set wanted leaf.Local bytes = local_at context set wanted bytes
 leaf_of context set wanted leaf.Global bytes = global_at context wanted bytes
@@ -78,17 +78,17 @@ or_constant wanted None bytes = constant_instr_at wanted bytes
 unfoldable pub any_leaf_at : BodyContext → List ℕ → ValType → List ℕ → Instr × List ℕ
 any_leaf_at context set wanted bytes = let chosen = leaf_choice_at context set wanted bytes in or_constant wanted chosen.0 chosen.1
 
--- that instruction, if it is permitted
+-- the chosen instruction, if it is permitted
 abbrev pub if_permitted : Config → BodyContext → Option Instr → Option Instr
 if_permitted config context None = None
 if_permitted config context (Some instruction) = if is_permitted context.features config instruction then Some instruction else None
 
--- the first instruction of a family, which no bytes choose
+-- the first instruction of a family, without a draw
 abbrev pub first_of : Config → BodyContext → List ℕ → ValType → LeafFamily → Option Instr
 first_of config context set wanted family = if_permitted config context (leaf_of context set wanted family []).0
 
--- the first local, global or reference that may be read, zero or null, and only otherwise
--- `unreachable`
+-- the first local, global or reference that may be read, zero or null; `unreachable` if there is
+-- none
 unfoldable pub first_leaf : Config → BodyContext → List ℕ → ValType → Instr
 first_leaf config context set wanted =
     unwrap_or (first_of config context set wanted leaf.Local)
@@ -96,12 +96,12 @@ first_leaf config context set wanted =
     (unwrap_or (first_of config context set wanted leaf.Reference)
     (unwrap_or (if_permitted config context (Some (constant_instr_at wanted []).0)) instr.Unreachable)))
 
--- in place of an instruction that isn't permitted: `unreachable`, which with `disallow_traps` is the
--- last resort
+-- the replacement for an instruction that is not permitted: `unreachable`; with `disallow_traps`
+-- the first permitted instruction
 unfoldable pub spare_leaf : Config → BodyContext → List ℕ → ValType → Instr
 spare_leaf config context set wanted = if config.disallow_traps then first_leaf config context set wanted else instr.Unreachable
 
--- the instruction that was drawn if it is permitted, or one in its place
+-- the drawn instruction if it is permitted, else its replacement
 unfoldable pub leaf_at : Config → BodyContext → List ℕ → ValType → List ℕ → Instr × List ℕ
 leaf_at config context set wanted bytes =
     let leaf = any_leaf_at context set wanted bytes in

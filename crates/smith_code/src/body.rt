@@ -14,7 +14,7 @@ use smith_instr::Instr;
 use smith_types::Items;
 use std::alloc::Global;
 
-/// The greatest depth of instructions that are operands of each other or nested in each other.
+/// The maximum depth of instructions that are operands of each other or nested in each other.
 const DEPTH: u32 = 40;
 
 /// Draws the body of a function over `scope`, without its last `end`. The standard's section
@@ -23,9 +23,9 @@ const DEPTH: u32 = 40;
 /// Most instructions take one unit of `fuel` each. Constants, reads of locals and globals, and
 /// references to functions take none. Without fuel the body is `unreachable`.
 ///
-/// With `disallow_traps` of the configuration, no instruction may trap but `unreachable`. Then it is
-/// drawn only without fuel, or for a value that no allowed instruction without operands produces,
-/// such as a reference that is not nullable.
+/// With `disallow_traps` of the configuration, only `unreachable` may trap. It is then drawn only
+/// without fuel, or for a value that no allowed instruction without operands produces, such as a
+/// reference that is not nullable.
 ///
 /// # Errors
 ///

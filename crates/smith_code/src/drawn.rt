@@ -274,7 +274,7 @@ fn draw_values(
 }
 
 /// Draws instructions that leave the stack unchanged, at most `depth` instructions deep. A choice
-/// that is not allowed takes one unit of fuel and adds none.
+/// that is not allowed takes one unit of fuel and adds no instruction.
 #[cycle(body)]
 fn draw_statement(
     alloc: Global,
