@@ -1,4 +1,4 @@
--- Struct types, array types and their fields that are offered.
+-- The struct types, array types and fields that are offered.
 use Rattle.std.proofs.Common.{◌≡◌, ℕ, ◌<◌, Bool, true, false, List, [], ◌∷◌, Option, Some, None, length, get_or, refl, sym, subst, ap, ◌∙◌, arith}
 use Rattle.std.specs.Prelude.{slice_get, option_map, map, All}
 use Rattle.std.proofs.lemmas.List.{get_or-map, length-map}
@@ -59,7 +59,7 @@ array_option types index element None at is = cc
 pub array_is : (types : List SubType) (index : ℕ) (element : FieldType) → element_in (slice_get types index) ≡ Some element → IsArrayAt types index element
 array_is types index element is = array_option types index element (slice_get types index) refl is
 
--- what fields take is valid
+-- the values of fields and elements are valid
 pub struct_fields : (context : BodyContext) (index : ℕ) (fields : List FieldType) → IsScope context → IsStructAt context.types index fields → AreFieldsValid context fields
 struct_fields context index fields scope (t, at, is) = subst (λ (x : CompositeInnerType). AreValid context (field_values (fields_of x))) is (scope.fields_valid index t at)
 
@@ -74,7 +74,7 @@ field_valid context fields index d valid inside =
     let inside' : index < length (map value fields) = rw (length-map fields value) inside in
     subst (IsValid context) (get_or-map value fields index d (value d) inside) (valid index (value d) inside')
 
--- a reference to a type of an index is valid
+-- a reference to the type with an index is valid
 pub concrete_valid : (context : BodyContext) (index : ℕ) (t : SubType) → names_types context ≡ true → slice_get context.types index ≡ Some t → IsValid context (nullable_to (Concrete index))
 concrete_valid context index t named at =
     let (on, gc) = both context.features.reference_types context.features.gc named in
@@ -87,7 +87,7 @@ all_default fields is = All-from_recursion IsDefaultable (field_values fields) (
 pub one_default : (value : ValType) → is_defaultable value ≡ true → IsDefaultable value
 one_default value is = default_for value is
 
--- what bytes may fill
+-- fields that bytes may fill
 pub of_bytes : (stored : StorageType) → is_of_bytes stored ≡ true → IsOfBytes stored
 of_bytes storage.I8 is = tt
 of_bytes storage.I16 is = tt
@@ -98,7 +98,7 @@ of_bytes (storage.Val F64) is = tt
 of_bytes (storage.Val V128) is = tt
 of_bytes (storage.Val (Ref reference)) is = cc
 
--- an element segment whose references are of a type below that of an element
+-- an element segment whose type matches that of an element
 segment_for : (context : BodyContext) (segment : ℕ) (element : FieldType) (stored : StorageType) → IsOrderly context.types → element.element_type ≡ stored → is_of_references stored ≡ true → is_segment_below context (unpacked stored) segment ≡ true
     → IsSegmentOf context segment element
 segment_for context segment element (storage.Val (Ref reference)) orderly is of below =
@@ -115,7 +115,7 @@ segment_for context segment element storage.I16 orderly is of below = cc
 pub segment_of : (context : BodyContext) (segment : ℕ) (element : FieldType) → IsOrderly context.types → is_of_references element.element_type ≡ true → is_segment_below context (value_of element) segment ≡ true → IsSegmentOf context segment element
 segment_of context segment element orderly of below = segment_for context segment element element.element_type orderly refl of below
 
--- how a field is read
+-- the read of a field, by its extension
 pub read_by : (stored : StorageType) (signed : Bool) → IsReadBy (extension_of stored signed) stored
 read_by (storage.Val value) signed = tt
 read_by storage.I8 true = tt
@@ -135,7 +135,7 @@ storage_match types storage.I16 (storage.Val b) orderly is = cc
 storage_match types (storage.Val a) storage.I8 orderly is = cc
 storage_match types (storage.Val a) storage.I16 orderly is = cc
 
--- an array type that is chosen
+-- a chosen array type
 pub array_none : (context : BodyContext) (way : FieldUse) (bytes left : List ℕ) → choose_at (offered (is_array context way) (indexed (length context.types))) bytes ≡ (None, left) → array_at context way bytes ≡ (None, left)
 array_none context way bytes left drawn = given_none (array_there context) (choose_at (offered (is_array context way) (indexed (length context.types))) bytes) left drawn
 
@@ -155,7 +155,7 @@ created_array_some context wanted way bytes left index element drawn at =
     given_some (array_there context) (choose_at (offered (is_created_array context wanted way) (indexed (length context.types))) bytes) left index (Some (index, element)) drawn
     (ap (λ (o : Option FieldType). option_map (λ (element : FieldType). (index, element)) o) at)
 
--- a field that is chosen
+-- a chosen field
 pub field_none : (context : BodyContext) (way : FieldUse) (bytes left : List ℕ) → choose_at (offered (is_struct context way) (indexed (length context.types))) bytes ≡ (None, left) → field_at context way bytes ≡ (None, left)
 field_none context way bytes left drawn = ap (λ (d : Option ℕ × List ℕ). continued (λ (ty : ℕ) (bytes : List ℕ). field_in context way ty (struct_in (slice_get context.types ty)) bytes) d.0 d.1) drawn
 

@@ -34,7 +34,7 @@ use Rattle.smith_code_control.proofs.NullLemmas.{last_is, last_there, one_longer
 use Rattle.smith_code_nodes.proofs.OfferLemmas.{target_there, tested}
 use Rattle.smith_code_nodes.proofs.PlainLemmas.{gives_one}
 
--- the type of a local that is below a reference type, or the type itself
+-- the type of a local that matches a reference type, or the type itself
 pub below_valid : (context : BodyContext) (value : ValType) (from : RefType) → IsValid context value → IsValid context (Ref from) → IsValid context (Ref (unwrap_or (reference_in (Some value)) from))
 below_valid context (Ref to) from valid valid' = valid
 below_valid context I32 from valid valid' = valid'
@@ -89,7 +89,7 @@ last_valid scope labels index last are inside is =
     let (within, here) = last_there taken last (last_in labels index taken last (slice_get-get_or labels index [] inside) is) in
     subst (IsValid (bare scope)) here (are.valid index [] inside (length taken - 1) (Ref last) within)
 
--- what is left of a reference is below its type
+-- the type that remains after a cast matches the type before
 weaker : (a b : Bool) → IsTrue (if a then false else b) → IsTrue b
 weaker true b h = cc
 weaker false b h = h
@@ -101,7 +101,7 @@ last_below : (types : List SubType) (values : List ValType) (left from : RefType
 last_below types [] left from below = (below, tt)
 last_below types (value ∷ values) left from below = (IsValBelow-refl types value, last_below types values left from below)
 
--- a branch that drops what it leaves
+-- a branch whose values are dropped if it is not taken
 cast_drops : (scope : Scope) (labels : List (List ValType)) (set : List ℕ) (taken : List ValType) (from last left : RefType) (instruction : Instr) → AreValid (bare scope) taken → length taken ≤ widest scope.types.now.types → last_reference taken ≡ Some last
     → IsValid (bare scope) (Ref from) → IsRefBelow scope.types.now.types left from → sets instruction ≡ []
     → ((more : List ℕ) → HasInstrType (context_of scope labels) (set ++ more) instruction (take (length taken - 1) taken ++ Ref from ∷ []) (take (length taken - 1) taken ++ Ref left ∷ []))
@@ -146,7 +146,7 @@ br_on_cast_fail_gives scope labels set label to taken are inside is last to_vali
     cast_drops scope labels set taken label.last label.last to (instr.BrOnCastFail (cast_fail_of label to)) valid few last' from_valid below refl
     (λ more. (take (length taken - 1) taken, record { from_valid = from_valid.1; to_valid = to_valid.1; below = below; wanted = label.last; taken = at'; arrives = left_below scope.types.now.types label.last to }, (refl, refl)))
 
--- what is chosen
+-- the chosen branch
 pub br_on_cast_some : (context : BodyContext) (label : CastLabel) (from : RefType) (bytes left : List ℕ) (taken : List ValType) → above_at context label.last bytes ≡ (from, left) → slice_get context.labels label.index ≡ Some taken
     → br_on_cast_at context label bytes ≡ (Some (cast_node from (instr.BrOnCast (cast_down_of label from)) taken), left)
 br_on_cast_some context label from bytes left taken drawn at =
@@ -167,7 +167,7 @@ pub branch_fails : (context : BodyContext) (label : CastLabel) (bytes left : Lis
 unfolding cast_branch_for
 branch_fails context label bytes left drawn = rw drawn refl
 
--- a reference of the type that is cast to where the branch is not taken
+-- a reference of the type of the cast, if the branch is not taken
 one_above : (types : List SubType) (to : RefType) (taken : List ValType) (from : RefType) → AllZip (IsValBelow types) (Ref to ∷ []) taken → last_reference taken ≡ Some from → (taken ≡ Ref from ∷ []) × IsRefBelow types to from
 one_above types to [] from below is = absurd below
 one_above types to (Ref value ∷ []) from below is =

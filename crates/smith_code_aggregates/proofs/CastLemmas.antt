@@ -40,14 +40,14 @@ use Rattle.smith_code_nodes.proofs.OfferLemmas.{both, tested}
 use Rattle.smith_code_nodes.proofs.PlainLemmas.{gives_one}
 use Rattle.smith_code_nodes.proofs.ReferenceChoiceLemmas.{nullable_valid}
 
--- the type with null is above
+-- a reference type matches its nullable form
 pub null_above : (types : List SubType) (to : RefType) → IsRefBelow types to (with_null to)
 null_above types to = record { heap = itself; nullable = λ h. refl }
 
 pub null_valid : (context : BodyContext) (to : RefType) → IsValid context (Ref to) → IsValid context (Ref (with_null to))
 null_valid context to valid = nullable_valid context to.heap_type valid.0 valid.1.heap_type
 
--- the type of a local, or the type with null
+-- the type of a local, or the nullable form
 pub read_valid : (context : BodyContext) (value : ValType) (to : RefType) → IsValid context value → IsValid context (Ref to) → IsValid context (Ref (unwrap_or (reference_in (Some value)) (with_null to)))
 read_valid context (Ref from) to valid valid' = valid
 read_valid context I32 to valid valid' = null_valid context to valid'
@@ -69,7 +69,7 @@ pub read_above : (context : BodyContext) (to : RefType) (index : ℕ) (d : ValTy
 read_above context to index d orderly inside is =
     read_below context.types (get_or context.locals index d) to orderly (subst (λ (o : Option ValType). is_above_at context.types to o ≡ true) (slice_get-get_or context.locals index d inside) is)
 
--- the type that is drawn above a reference type
+-- the drawn type that a reference type matches
 pub above_none : (context : BodyContext) (to : RefType) (bytes left : List ℕ) → choose_at (offered (is_above context to) (indexed (length context.locals))) bytes ≡ (None, left) → above_at context to bytes ≡ (with_null to, left)
 above_none context to bytes left drawn = ap (λ (d : Option ℕ × List ℕ). (above_in context to d.0, d.1)) drawn
 
@@ -78,7 +78,7 @@ pub above_some : (context : BodyContext) (to : RefType) (bytes left : List ℕ) 
 above_some context to bytes left index d drawn inside =
     ap (λ (d : Option ℕ × List ℕ). (above_in context to d.0, d.1)) drawn ∙ ap (λ (o : Option ValType). (unwrap_or (reference_in o) (with_null to), left)) (slice_get-get_or context.locals index d inside)
 
--- the type without null is below
+-- the non-nullable form matches a reference type
 pub strict_below : (types : List SubType) (features : Features) (to : RefType) → IsRefBelow types (without_null features to) to
 strict_below types features to = record { heap = itself; nullable = λ h. (both to.nullable (not features.function_references) h).0 }
 
@@ -109,7 +109,7 @@ test_gives context set to from valid valid' below =
     gives_one context set I32 I32 (Ref from ∷ []) (instr.Reference (reference.Test to)) (λ more. (from, valid.1, valid'.1, below, (refl, refl))) tt tt refl (omega arith)
     (one_valid context (Ref from) valid')
 
--- a number out of an array or an i31
+-- a number from an array or an i31
 array_ref_valid : (context : BodyContext) → names_types context ≡ true → IsValid context (nullable_to (Abstract false abstract.Array))
 array_ref_valid context named =
     let (on, gc) = both context.features.reference_types context.features.gc named in
@@ -155,7 +155,7 @@ i31_second context to other below = rw (other, below) refl
 pub i31_none : (context : BodyContext) (to : RefType) → is_i31_below context to false ≡ false → is_i31_below context to true ≡ false → None ≡ i31_node context to
 i31_none context to other another = rw (other, another) refl
 
--- conversions between references of inside and outside
+-- conversions between internal and external references
 pub inside_gives : (context : BodyContext) (set : List ℕ) (nullable shared : Bool) → IsValid context (internal shared nullable) → IsNode context set (internal shared nullable ∷ []) (aggregate_of (external shared nullable ∷ []) aggregate.AnyConvertExtern)
 inside_gives context set nullable shared valid =
     let valid' : IsValid context (external shared nullable) = (valid.0, record { heap_type = (tt, valid.1.heap_type.1); nullable = valid.1.nullable }) in
@@ -183,7 +183,7 @@ outside_for context set to shared named is valid =
     (λ (h : HeapType). IsValid context (Ref (record { nullable = to.nullable; heap_type = h })) → IsNode context set (Ref (record { nullable = to.nullable; heap_type = h }) ∷ []) (aggregate_of (internal shared to.nullable ∷ []) aggregate.ExternConvertAny))
     (sym is) (outside_gives context set to.nullable shared named) valid
 
--- what is chosen
+-- the chosen cast, test or conversion
 pub scalar_by : (context : BodyContext) (bytes left : List ℕ) (rows : List Scalar) (drawn kind : Scalar) → rows ≡ scalars → chosen_at scalar.Length rows bytes ≡ (drawn, left) → drawn ≡ kind → scalar_at context bytes ≡ scalar_of context kind left
 unfolding scalar_at
 scalar_by context bytes left rows drawn kind are chosen is = chosen_by (scalar_of context) scalar.Length scalars rows bytes left drawn kind are chosen is

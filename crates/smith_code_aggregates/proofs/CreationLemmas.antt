@@ -1,4 +1,4 @@
--- Structs and arrays that are created.
+-- Creations of structs and arrays.
 use Rattle.std.proofs.Common.{◌≡◌, ℕ, ◌<◌, ◌≤◌, true, false, List, [], ◌∷◌, Option, Some, None, length, replicate, refl, subst, ap, arith}
 use Rattle.std.specs.Prelude.{slice_get, option_map, All}
 use Rattle.std.proofs.lemmas.Bool.{leb-true}
@@ -31,7 +31,7 @@ use Rattle.smith_code_nodes.proofs.NodeLemmas.{no_valid, one_valid}
 use Rattle.smith_code_nodes.proofs.OfferLemmas.{both, tested}
 use Rattle.smith_code_nodes.proofs.PlainLemmas.{gives_one, two_valid}
 
--- an instruction that gives a value of a type that is below the wanted one when it is created
+-- an instruction whose created value matches the wanted type
 created_gives : (context : BodyContext) (set : List ℕ) (wanted : ValType) (ty : ℕ) (operands : List ValType) (op : AggregateInstr) → IsOrderly context.types → IsValid context wanted → is_created_below context wanted ty ≡ true
     → HasAggregateType context op operands (created_reference context ty ∷ []) → length operands ≤ 7 → AreValid context operands → IsNode context set (wanted ∷ []) (aggregate_of operands op)
 created_gives context set wanted ty operands op orderly valid below typed few operands_valid =
@@ -94,7 +94,7 @@ pub array_elem_gives : (context : BodyContext) (set : List ℕ) (wanted : ValTyp
 array_elem_gives context set wanted ty segment element orderly valid there of below held =
     created_gives context set wanted ty (I32 ∷ I32 ∷ []) (aggregate.ArrayNewElem ty segment) orderly valid below (element, there, segment_of context segment element orderly of held, (refl, refl)) (omega arith) (two_valid context I32 I32 tt tt)
 
--- how a value is created
+-- the chosen creation
 pub created_by : (context : BodyContext) (wanted : ValType) (bytes left : List ℕ) (rows : List Creation) (drawn kind : Creation) → rows ≡ creations → chosen_at creation.StructNew rows bytes ≡ (drawn, left) → drawn ≡ kind
     → created_at context wanted bytes ≡ creation_of context wanted kind left
 unfolding created_at

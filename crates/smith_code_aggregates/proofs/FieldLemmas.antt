@@ -1,4 +1,4 @@
--- Fields and elements that are read and written.
+-- Reads and writes of fields and elements.
 use Rattle.std.proofs.Common.{◌≡◌, ℕ, ◌<◌, Bool, true, false, List, [], ◌∷◌, Some, None, refl, arith}
 use Rattle.smith_bytes.specs.Draws.{bool_at}
 use Rattle.smith_types.specs.Expressions.{IsArrayAt}
@@ -39,7 +39,7 @@ struct_valid context ty index field named there = let (t, at, is) = there.struct
 array_valid : (context : BodyContext) (ty : ℕ) (element : FieldType) → names_types context ≡ true → IsArrayAt context.types ty element → IsValid context (nullable_to (Concrete ty))
 array_valid context ty element named (t, at, is) = concrete_valid context ty t named at
 
--- a field of a struct type, whatever the labels
+-- a field of a struct type, with any labels
 pub field_labelled : (scope : Scope) (labels : List (List ValType)) (ty index : ℕ) (field : FieldType) → IsFieldAt (bare scope) ty index field → IsFieldAt (context_of scope labels) ty index field
 field_labelled scope labels ty index field there = record { fields = there.fields; structure = there.structure; there = there.there }
 

@@ -1,4 +1,4 @@
--- Which struct types, array types and fields are offered.
+-- The struct types, array types and fields that are offered.
 use Rattle.std.specs.Prelude.{ℕ, Bool, false, ◌&&◌, nat_le, nat_lt, Option, Some, None, option_map, List, length, slice_get, if◌then◌else◌}
 use Rattle.smith_bytes.specs.Draws.{choose_at}
 use Rattle.smith_types.specs.Grounded.{are_defaultable}
@@ -16,7 +16,7 @@ use Rattle.smith_code_nodes.specs.Scopes.{indexed}
 use Rattle.smith_code_aggregates.specs.declared.aggregates.StructField.{StructField}
 use Rattle.smith_code_aggregates.specs.declared.fields.FieldUse.{FieldUse}
 
--- a reference to a type of an index is a value
+-- references may name types by their indices
 abbrev pub names_types : BodyContext → Bool
 names_types context = context.features.reference_types && context.features.gc
 
@@ -24,26 +24,27 @@ names_types context = context.features.reference_types && context.features.gc
 abbrev pub is_array : BodyContext → FieldUse → ℕ → Bool
 is_array context way index = is_usable_in context.types way (element_in (slice_get context.types index))
 
--- the reference to a value of the type, when it is created, is below the wanted type
+-- the reference to a created value of the type matches the wanted type
 abbrev pub is_created_below : BodyContext → ValType → ℕ → Bool
 is_created_below context wanted index = is_val_below context.types (created_reference context index) wanted
 
 abbrev pub is_created_array : BodyContext → ValType → FieldUse → ℕ → Bool
 is_created_array context wanted way index = is_created_below context wanted index && is_array context way index
 
--- an array type that is chosen, with its element
+-- a chosen array type, with its element
 abbrev pub array_there : BodyContext → ℕ → Option (ℕ × FieldType)
 array_there context index = option_map (λ (element : FieldType). (index, element)) (element_in (slice_get context.types index))
 
 abbrev pub array_at : BodyContext → FieldUse → List ℕ → Option (ℕ × FieldType) × List ℕ
 array_at context way bytes = giving (array_there context) (choose_at (offered (is_array context way) (indexed (length context.types))) bytes)
 
--- one whose created values are below the wanted type
+-- an array type whose created values match the wanted type
 abbrev pub created_array_at : BodyContext → ValType → FieldUse → List ℕ → Option (ℕ × FieldType) × List ℕ
 created_array_at context wanted way bytes =
     giving (array_there context) (choose_at (offered (is_created_array context wanted way) (indexed (length context.types))) bytes)
 
--- a struct may be created of default values, or of values for its fields where these are at most seven
+-- a struct may be created from default values, or from values for its fields if these are at most
+-- seven
 abbrev pub is_creatable : Bool → List FieldType → Bool
 is_creatable defaults fields = if defaults then are_defaultable fields else nat_le (length fields) 7
 
@@ -51,7 +52,7 @@ abbrev pub is_creatable_in : Bool → Option StructType → Bool
 is_creatable_in defaults (Some structure) = is_creatable defaults structure.fields
 is_creatable_in defaults None = false
 
--- a struct type whose created values are below the wanted type
+-- a struct type whose created values match the wanted type
 abbrev pub is_created_struct : BodyContext → ValType → Bool → ℕ → Bool
 is_created_struct context wanted defaults index = is_created_below context wanted index && is_creatable_in defaults (struct_in (slice_get context.types index))
 
@@ -74,7 +75,7 @@ has_field types way None = false
 abbrev pub is_struct : BodyContext → FieldUse → ℕ → Bool
 is_struct context way index = has_field context.types way (struct_in (slice_get context.types index))
 
--- a field of a struct type that is chosen, with their indices
+-- a chosen field of a struct type, with both indices
 abbrev pub field_there : ℕ → List FieldType → ℕ → Option StructField
 field_there ty fields index = option_map (λ (field : FieldType). record { ty = ty; index = index; field = field }) (slice_get fields index)
 

@@ -1,4 +1,5 @@
--- Which branch on a cast the bytes choose. The choices, their order and how often each comes are rules of this project.
+-- The branch on a cast that the bytes choose. The choices, their order and their weights are rules
+-- of this project.
 use Rattle.std.specs.Prelude.{ℕ, ◌-◌, min, Option, Some, None, option_map, option_and_then, unwrap_or, List, [], ◌∷◌, ◌++◌, length, slice_get, take, if◌then◌else◌}
 use Rattle.smith_bytes.specs.Draws.{bool_at, choose_at}
 use Rattle.smith_types.specs.declared.value_type.RefType.{RefType}
@@ -32,12 +33,12 @@ cast_label_there labels index = option_map (cast_label index) (last_of labels in
 abbrev pub cast_label_at : List (List ValType) → List ℕ → Option CastLabel × List ℕ
 cast_label_at labels bytes = giving (cast_label_there labels) (choose_at (offered (is_of_reference labels) (min (length labels) 64)) bytes)
 
--- a branch on a cast takes the values of its label, with a reference of another type as the last, and drops what it leaves if it is
--- not taken
+-- a branch on a cast takes the values of its label, with a reference of another type as the last;
+-- if it is not taken, the values that it leaves are dropped
 abbrev pub cast_node : RefType → Instr → List ValType → Node
 cast_node from instruction taken = node_of (take (length taken - 1) taken ++ Ref from ∷ []) instruction (length taken)
 
--- a branch if a reference is of the type of the label's last value
+-- a branch if a reference has the type of the label's last value
 abbrev pub cast_down_of : CastLabel → RefType → BranchCast
 cast_down_of label from = record { label = label.index; from = from; to = label.last }
 
@@ -46,7 +47,7 @@ br_on_cast_at context label bytes =
     let from = above_at context label.last bytes in
     (option_map (cast_node from.0 (instr.BrOnCast (cast_down_of label from.0))) (slice_get context.labels label.index), from.1)
 
--- a type below a reference type: that of a local, or the type itself where there is none
+-- a type that matches a reference type: that of a local, or the type itself if there is none
 abbrev pub below_in : BodyContext → RefType → Option ℕ → RefType
 below_in context from (Some index) = unwrap_or (reference_in (slice_get context.locals index)) from
 below_in context from None = from
@@ -56,7 +57,8 @@ below_at context from bytes =
     let index = choose_at (offered (is_local_below context (Ref from)) (indexed (length context.locals))) bytes in
     (below_in context from index.0, index.1)
 
--- a branch if a reference of the type of the label's last value is not of a type below it
+-- a branch if a reference does not have the type of a cast, which matches that of the label's last
+-- value
 abbrev pub cast_fail_of : CastLabel → RefType → BranchCast
 cast_fail_of label to = record { label = label.index; from = label.last; to = to }
 
@@ -71,11 +73,12 @@ cast_branch_for context label bytes =
     let succeeds = bool_at bytes in
     if succeeds.0 then br_on_cast_at context label succeeds.1 else br_on_cast_fail_at context label succeeds.1
 
--- that to a label whose last value is a reference
+-- a branch of either kind, to a label whose last value is a reference
 abbrev pub cast_branch_at : BodyContext → List ℕ → Chosen
 cast_branch_at context bytes = let label = cast_label_at context.labels bytes in continued (cast_branch_for context) label.0 label.1
 
--- a reference of the wanted type where the cast to it does not fail: its failure is a branch to a label of one value of a type above
+-- a reference of the wanted type, to which a cast succeeds; if it fails, a branch is taken to a
+-- label of one value, whose type the wanted type matches
 abbrev pub kept_cast_node : RefType → ℕ → RefType → Node
 kept_cast_node to label from = node_of (Ref from ∷ []) (instr.BrOnCastFail (cast_fail_of (cast_label label from) to)) 0
 

@@ -1,5 +1,5 @@
--- Which cast, test or conversion of a reference the bytes choose, and which instruction on an i31. The choices, their order and how
--- often each comes are rules of this project.
+-- The cast, test or conversion of a reference that the bytes choose, and the instruction on an i31.
+-- The choices, their order and their weights are rules of this project.
 use Rattle.std.specs.Prelude.{ℕ, Bool, true, false, ◌&&◌, not, Option, Some, None, is_some, unwrap_or, List, [], ◌∷◌, length, slice_get, if◌then◌else◌}
 use Rattle.smith_bytes.specs.Draws.{choose_at}
 use Rattle.smith_types.specs.Expressions.{reference_to}
@@ -32,7 +32,7 @@ use Rattle.smith_code_aggregates.specs.declared.casts.Scalar.{Scalar}
 use Rattle.smith_code_aggregates.specs.declared.casts.Scalar.TheVariants as scalar
 use Rattle.smith_code_nodes.specs.declared.node.Node.{Node}
 
--- a local of a type above a reference type
+-- a local whose type a reference type matches
 abbrev pub is_above_at : List SubType → RefType → Option ValType → Bool
 is_above_at types to (Some value) = is_val_below types (Ref to) value
 is_above_at types to None = false
@@ -40,7 +40,7 @@ is_above_at types to None = false
 abbrev pub is_above : BodyContext → RefType → ℕ → Bool
 is_above context to index = is_above_at context.types to (slice_get context.locals index)
 
--- the type with null
+-- the nullable form of a reference type
 abbrev pub with_null : RefType → RefType
 with_null to = record { nullable = true; heap_type = to.heap_type }
 
@@ -48,13 +48,13 @@ abbrev pub above_in : BodyContext → RefType → Option ℕ → RefType
 above_in context to (Some index) = unwrap_or (reference_in (slice_get context.locals index)) (with_null to)
 above_in context to None = with_null to
 
--- a type above a reference type: that of a local, or the type with null where there is none
+-- a type that a reference type matches: that of a local, or its nullable form if there is none
 abbrev pub above_at : BodyContext → RefType → List ℕ → RefType × List ℕ
 above_at context to bytes =
     let index = choose_at (offered (is_above context to) (indexed (length context.locals))) bytes in
     (above_in context to index.0, index.1)
 
--- the type without null, if the feature of such types is on
+-- the non-nullable form of a reference type, if such types are enabled
 abbrev pub without_null : Features → RefType → RefType
 without_null features to = record { nullable = to.nullable && not features.function_references; heap_type = to.heap_type }
 
@@ -77,13 +77,13 @@ tested_for context to bytes = let from = above_at context to bytes in (Some (nod
 unfoldable pub type_test_at : BodyContext → List ℕ → Chosen
 type_test_at context bytes = let to = reference_local_at context bytes in continued (tested_for context) to.0 to.1
 
--- a test for the type of a local without null
+-- a test for the non-nullable form of the type of a local
 unfoldable pub non_null_test_at : BodyContext → List ℕ → Chosen
 non_null_test_at context bytes =
     let to = reference_local_at context bytes in
     continued (λ (to : RefType) (bytes : List ℕ). tested_for context (without_null context.features to) bytes) to.0 to.1
 
--- a number out of a reference, each way as likely
+-- a number from a reference; each way has the same weight
 abbrev pub scalars : List Scalar
 scalars = scalar.Length ∷ scalar.Signed ∷ scalar.Unsigned ∷ scalar.Test ∷ scalar.NonNullTest ∷ []
 
@@ -97,7 +97,7 @@ scalar_of context scalar.NonNullTest bytes = non_null_test_at context bytes
 unfoldable pub scalar_at : BodyContext → List ℕ → Chosen
 scalar_at context bytes = let kind = chosen_at scalar.Length scalars bytes in scalar_of context kind.0 kind.1
 
--- an i31 where it is of a type below the wanted one, shared or not
+-- an i31, shared or not, if its type matches the wanted type
 abbrev pub is_i31_below : BodyContext → RefType → Bool → Bool
 is_i31_below context to shared = is_val_below context.types (reference_to (Abstract shared abstract.I31)) (Ref to)
 
@@ -113,7 +113,8 @@ converted_to nullable (Abstract shared abstract.Any) = Some (aggregate_of (exter
 converted_to nullable (Abstract shared abstract.Extern) = Some (aggregate_of (internal shared nullable ∷ []) aggregate.ExternConvertAny)
 converted_to nullable _ = None
 
--- a reference out of a number or another reference; the number of times that each way is listed is its weight
+-- a reference from a number or another reference; the number of times that each way is listed is
+-- its weight
 abbrev pub conversions : List Conversion
 conversions = conversion.I31 ∷ conversion.Outside ∷ conversion.Cast ∷ conversion.NonNullCast ∷ conversion.Outside ∷ conversion.Outside ∷ conversion.Outside ∷ []
 
@@ -126,12 +127,12 @@ conversion_of context to conversion.NonNullCast bytes = cast_at context (without
 unfoldable pub conversion_at : BodyContext → RefType → List ℕ → Chosen
 conversion_at context to bytes = let kind = chosen_at conversion.Cast conversions bytes in conversion_of context to kind.0 kind.1
 
--- what gives a value of the wanted type
+-- a node that produces a value of the wanted type
 unfoldable pub cast_for : BodyContext → ValType → List ℕ → Chosen
 cast_for context I32 bytes = scalar_at context bytes
 cast_for context (Ref to) bytes = conversion_at context to bytes
 cast_for context _ bytes = (None, bytes)
 
--- where references of these types are values
+-- the same, if references may name types by their indices
 unfoldable pub cast_choice_at : BodyContext → ValType → List ℕ → Chosen
 cast_choice_at context wanted bytes = if names_types context then cast_for context wanted bytes else (None, bytes)

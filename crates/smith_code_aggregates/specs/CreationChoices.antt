@@ -1,5 +1,5 @@
--- Which creation of a struct or an array the bytes choose. The choices, their order and how often each comes are rules of this
--- project.
+-- The creation of a struct or an array that the bytes choose. The choices, their order and their
+-- weights are rules of this project.
 use Rattle.std.specs.Prelude.{ℕ, true, false, Option, Some, None, option_map, List, [], ◌∷◌, length, replicate, slice_get}
 use Rattle.smith_bytes.specs.Draws.{choose_at, range_at}
 use Rattle.smith_types.specs.Expressions.{field_values}
@@ -30,7 +30,7 @@ use Rattle.smith_code_nodes.specs.declared.node.Node.{Node}
 abbrev pub aggregate_of : List ValType → AggregateInstr → Node
 aggregate_of operands op = node_of operands (instr.Aggregate op) 0
 
--- a struct of values for its fields, or of default values
+-- a struct from values for its fields, or from default values
 abbrev pub struct_new_node : BodyContext → ℕ → Option Node
 struct_new_node context ty =
     option_map (λ (structure : StructType). aggregate_of (field_values structure.fields) (aggregate.StructNew ty)) (struct_in (slice_get context.types ty))
@@ -44,20 +44,20 @@ struct_default_node ty = Some (aggregate_of [] (aggregate.StructNewDefault ty))
 abbrev pub struct_default_at : BodyContext → ValType → List ℕ → Chosen
 struct_default_at context wanted bytes = giving struct_default_node (created_struct_at context wanted true bytes)
 
--- an array of one value, or of the default value
+-- an array from one value, or from the default value
 abbrev pub array_new_node : ℕ × FieldType → Option Node
 array_new_node array = Some (aggregate_of (value_of array.1 ∷ I32 ∷ []) (aggregate.ArrayNew array.0))
 
 abbrev pub array_default_node : ℕ × FieldType → Option Node
 array_default_node array = Some (aggregate_of (I32 ∷ []) (aggregate.ArrayNewDefault array.0))
 
--- an array of at most seven values
+-- an array from at most seven values
 abbrev pub array_fixed : ℕ × FieldType → List ℕ → Chosen
 array_fixed array bytes =
     let size = range_at 0 7 bytes in
     (Some (aggregate_of (replicate size.0 (value_of array.1)) (aggregate.ArrayNewFixed array.0 size.0)), size.1)
 
--- an array out of a data segment, or out of an element segment whose references are of a type below that of its elements
+-- an array from a data segment, or from an element segment whose type matches that of its elements
 abbrev pub array_data_node : ℕ × FieldType → ℕ → Option Node
 array_data_node array segment = Some (aggregate_of (I32 ∷ I32 ∷ []) (aggregate.ArrayNewData array.0 segment))
 
@@ -90,7 +90,7 @@ creations =
     creation.ArrayElem ∷
     []
 
--- an array type that is drawn, and then what creates an array of it
+-- a drawn array type, then the creation of an array of it
 abbrev pub fixed_at : BodyContext → ValType → List ℕ → Chosen
 fixed_at context wanted bytes = let array = created_array_at context wanted field_use.New bytes in continued array_fixed array.0 array.1
 
@@ -100,7 +100,7 @@ data_at context wanted bytes = let array = created_array_at context wanted field
 abbrev pub elem_at : BodyContext → ValType → List ℕ → Chosen
 elem_at context wanted bytes = let array = created_array_at context wanted field_use.NewReferences bytes in continued (array_elem context) array.0 array.1
 
--- a creation whose value is of a type below the wanted type
+-- a creation whose value matches the wanted type
 abbrev pub creation_of : BodyContext → ValType → Creation → List ℕ → Chosen
 creation_of context wanted creation.StructNew bytes = struct_new_at context wanted bytes
 creation_of context wanted creation.StructDefault bytes = struct_default_at context wanted bytes
@@ -113,7 +113,7 @@ creation_of context wanted creation.ArrayElem bytes = elem_at context wanted byt
 unfoldable pub created_at : BodyContext → ValType → List ℕ → Chosen
 created_at context wanted bytes = let kind = chosen_at creation.StructNew creations bytes in creation_of context wanted kind.0 kind.1
 
--- that of a wanted reference
+-- a creation, if the wanted type is a reference type
 unfoldable pub creation_at : BodyContext → ValType → List ℕ → Chosen
 creation_at context (Ref to) bytes = created_at context (Ref to) bytes
 creation_at context _ bytes = (None, bytes)

@@ -1,5 +1,5 @@
--- Which read or write of a field or an element the bytes choose. The choices, their order and how often each comes are rules of this
--- project.
+-- The read or write of a field or an element that the bytes choose. The choices, their order and
+-- their weights are rules of this project.
 use Rattle.std.specs.Prelude.{ℕ, Option, Some, None, List, [], ◌∷◌, if◌then◌else◌}
 use Rattle.smith_bytes.specs.Draws.{bool_at}
 use Rattle.smith_types.specs.declared.composite_type.FieldType.{FieldType}
@@ -21,7 +21,7 @@ use Rattle.smith_code_aggregates.specs.declared.field_writes.FieldWrite.TheVaria
 use Rattle.smith_code_aggregates.specs.declared.fields.FieldUse.TheVariants as field_use
 use Rattle.smith_code_nodes.specs.declared.node.Node.{Node}
 
--- a field that is read, extended by its sign where it is packed and the drawn bit is set
+-- a field that is read; a packed one is extended by its sign if the drawn bool is true
 abbrev pub struct_get : StructField → List ℕ → Chosen
 struct_get chosen bytes =
     let signed = bool_at bytes in
@@ -39,13 +39,13 @@ array_get array bytes =
 abbrev pub array_get_at : BodyContext → ValType → List ℕ → Chosen
 array_get_at context wanted bytes = let array = array_at context (field_use.Read wanted) bytes in continued array_get array.0 array.1
 
--- a field or an element whose value is of a type below the wanted type
+-- a field or an element whose value matches the wanted type
 unfoldable pub read_at : BodyContext → ValType → List ℕ → Chosen
 read_at context wanted bytes =
     let structure = bool_at bytes in
     if structure.0 then struct_get_at context wanted structure.1 else array_get_at context wanted structure.1
 
--- where a reference may name a type
+-- the same, if references may name types by their indices
 unfoldable pub field_read_at : BodyContext → ValType → List ℕ → Chosen
 field_read_at context wanted bytes = if names_types context then read_at context wanted bytes else (None, bytes)
 
@@ -61,7 +61,7 @@ array_set_node array = Some (aggregate_of (nullable_to (Concrete array.0) ∷ I3
 abbrev pub array_fill_node : ℕ × FieldType → Option Node
 array_fill_node array = Some (aggregate_of (nullable_to (Concrete array.0) ∷ I32 ∷ value_of array.1 ∷ I32 ∷ []) (aggregate.ArrayFill array.0))
 
--- elements that are copied into an array out of one
+-- elements that are copied into an array from an array
 abbrev pub array_copy_node : ℕ × FieldType → ℕ × FieldType → Option Node
 array_copy_node into out =
     Some (aggregate_of (nullable_to (Concrete into.0) ∷ I32 ∷ nullable_to (Concrete out.0) ∷ I32 ∷ I32 ∷ []) (aggregate.ArrayCopy into.0 out.0))
@@ -109,6 +109,6 @@ write_of context write.InitElem bytes = init_elem_at context bytes
 unfoldable pub write_at : BodyContext → List ℕ → Chosen
 write_at context bytes = let kind = chosen_at write.StructSet field_writes bytes in write_of context kind.0 kind.1
 
--- where a reference may name a type
+-- the same, if references may name types by their indices
 unfoldable pub field_write_at : BodyContext → List ℕ → Chosen
 field_write_at context bytes = if names_types context then write_at context bytes else (None, bytes)

@@ -1,4 +1,4 @@
--- What fields of structs and elements of arrays are looked for.
+-- The uses of fields of structs and of elements of arrays.
 use Rattle.std.specs.Prelude.{ℕ, Bool, true, false, ◌&&◌, Option, Some, None, List, length}
 use Rattle.smith_types.specs.Expressions.{field_values, unpacked}
 use Rattle.smith_types.specs.Features.{Features}
@@ -20,7 +20,7 @@ use Rattle.smith_instr.specs.declared.aggregate.Extension.TheVariants as extensi
 use Rattle.smith_code_aggregates.specs.declared.fields.FieldUse.{FieldUse}
 use Rattle.smith_code_aggregates.specs.declared.fields.FieldUse.TheVariants as field_use
 
--- the struct type that a type is, if it is one
+-- the fields of a type, if it is a struct type
 abbrev pub struct_of : CompositeInnerType → Option StructType
 struct_of (inner.Struct structure) = Some structure
 struct_of _ = None
@@ -29,7 +29,7 @@ abbrev pub struct_in : Option SubType → Option StructType
 struct_in (Some t) = struct_of t.composite_type.inner
 struct_in None = None
 
--- the element of the array type that a type is, if it is one
+-- the element of a type, if it is an array type
 abbrev pub element_of : CompositeInnerType → Option FieldType
 element_of (inner.Array array) = Some array.0
 element_of _ = None
@@ -42,7 +42,8 @@ element_in None = None
 abbrev pub AreFieldsValid : BodyContext → List FieldType → Type 0
 AreFieldsValid context fields = AreValid context (field_values fields)
 
--- bytes may fill it: packed integers, numbers and vectors (Validation, Aggregate Instructions, array.new_data)
+-- bytes may fill a field: packed integers, numbers and vectors (Validation, Aggregate Instructions,
+-- array.new_data)
 abbrev pub is_of_bytes : StorageType → Bool
 is_of_bytes (storage.Val (Ref reference)) = false
 is_of_bytes _ = true
@@ -83,7 +84,8 @@ abbrev pub is_usable_in : List SubType → FieldUse → Option FieldType → Boo
 is_usable_in types way (Some field) = is_usable types way field
 is_usable_in types way None = false
 
--- how an integer is extended that is read: not at all where it is not packed (Validation, Aggregate Instructions, struct.get)
+-- the extension of an integer that is read: none unless it is packed (Validation, Aggregate
+-- Instructions, struct.get)
 abbrev pub extension_of : StorageType → Bool → Extension
 extension_of (storage.Val value) signed = extension.Unpacked
 extension_of _ true = extension.Signed

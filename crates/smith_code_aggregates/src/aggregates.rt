@@ -82,8 +82,8 @@ impl<'a> Offer for CreatedArrayOffer<'a> {
     }
 }
 
-/// Struct types that may be created and whose created values match a wanted type. They are created of
-/// default values if `defaults` is set.
+/// Struct types that may be created and whose created values match a wanted type. If `defaults` is
+/// set, their fields get default values.
 #[derive(Clone, Copy)]
 struct CreatedStructOffer<'a> {
     scope: &'a Scope<'a>,
@@ -230,8 +230,8 @@ fn created_reference(scope: &Scope<'_>, index: u32) -> ValType
     })
 }
 
-/// Whether a struct of `fields` may be created: of default values if `defaults` is set, else of at
-/// most seven operands.
+/// Whether a struct of `fields` may be created: from default values if `defaults` is set, else from
+/// at most seven operands.
 fn is_creatable(defaults: bool, fields: &[FieldType]) -> bool
     ensures { result ≡ is_creatable defaults fields.now }
 {
@@ -282,8 +282,8 @@ pub(crate) fn choose_created_array(
     Some((index as u32, element))
 }
 
-/// Chooses a struct type that may be created and whose created values match `wanted`. It is created of
-/// default values if `defaults` is set.
+/// Chooses a struct type that may be created and whose created values match `wanted`. If `defaults`
+/// is set, its fields get default values.
 pub(crate) fn choose_created_struct(
     scope: &Scope<'_>,
     wanted: ValType,

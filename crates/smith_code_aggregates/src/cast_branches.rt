@@ -152,7 +152,7 @@ fn choose_br_on_cast_fail(
     Ok(Some(node))
 }
 
-/// Draws the type of a local below `from`, or returns `from` where there is none.
+/// Draws the type of a local that matches `from`. Returns `from` if there is none.
 fn draw_below(scope: &Scope<'_>, from: RefType, u: &mut Unstructured<'_>) -> RefType
     requires scope { IsScope (bare scope.now) }
     requires from { IsValid (bare scope.now) (Ref from) }
@@ -167,8 +167,8 @@ fn draw_below(scope: &Scope<'_>, from: RefType, u: &mut Unstructured<'_>) -> Ref
     reference_or(scope.locals[index as usize], from)
 }
 
-/// Makes the node of `instruction`, a branch to a label of the values `taken`, whose last operand is
-/// a reference of the type `from`. Drops what it leaves.
+/// Makes the node of `instruction`, a branch to a label of the values `taken`, whose last operand
+/// is a reference of the type `from`. Drops the values that it leaves.
 fn dropping(
     alloc: Global,
     from: RefType,

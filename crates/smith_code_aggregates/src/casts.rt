@@ -29,9 +29,9 @@ enum Scalar {
     Signed,
     /// An i31 that is extended by zeros.
     Unsigned,
-    /// A test for a type.
+    /// A test for a reference type.
     Test,
-    /// A test for a type without null.
+    /// A test for a non-nullable reference type.
     NonNullTest,
 }
 
@@ -42,7 +42,7 @@ enum Conversion {
     /// A conversion between internal and external references.
     Outside,
     Cast,
-    /// A cast to a type without null.
+    /// A cast to a non-nullable reference type.
     NonNullCast,
 }
 
@@ -226,7 +226,7 @@ fn choose_type_test(
     test_for(alloc, scope, to, draft, u)
 }
 
-/// Chooses a test of a reference for the type of a local without null.
+/// Chooses a test of a reference for the non-nullable form of the type of a local.
 fn choose_non_null_test(
     alloc: Global,
     scope: &Scope<'_>,
@@ -306,7 +306,7 @@ pub(crate) fn reference_or(value: ValType, other: RefType) -> RefType
     }
 }
 
-/// Returns the type `to` without null, if the feature of such types is on.
+/// Returns the non-nullable form of `to` if such types are enabled, else `to`.
 fn without_null(scope: &Scope<'_>, to: RefType) -> RefType
     requires to { IsValid (bare scope.now) (Ref to) }
     ensures exact { result ≡ without_null (bare scope.now).features to }
@@ -375,7 +375,7 @@ fn choose_i31(
     Ok(None)
 }
 
-/// Whether the type of an i31 matches `to`. It is a shared one if `shared` is set.
+/// Whether the type of an i31 matches `to`. If `shared` is set, the i31 is shared.
 fn is_i31_below(scope: &Scope<'_>, to: RefType, shared: bool) -> bool
     requires to { IsValid (bare scope.now) (Ref to) }
     ensures { result ≡ is_i31_below (bare scope.now) to shared }
@@ -461,7 +461,7 @@ fn cast_to(
     Ok(Some(node))
 }
 
-/// Chooses a cast to `to` without null.
+/// Chooses a cast to the non-nullable form of `to`.
 fn cast_to_non_null(
     alloc: Global,
     scope: &Scope<'_>,

@@ -81,7 +81,7 @@ fn choose_struct_get(
     get_field(alloc, scope, wanted, chosen, draft, u)
 }
 
-/// Chooses how the field `from` is read.
+/// Chooses the read of the field `from`.
 fn get_field(
     alloc: Global,
     scope: &Scope<'_>,
@@ -132,7 +132,7 @@ fn choose_array_get(
     get_element(alloc, scope, wanted, array, draft, u)
 }
 
-/// Chooses how an element of an array of the type `from` is read.
+/// Chooses the read of an element of an array of the type `from`.
 fn get_element(
     alloc: Global,
     scope: &Scope<'_>,

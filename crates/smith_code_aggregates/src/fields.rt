@@ -15,23 +15,23 @@ use smith_types::{
 /// Uses of a field of a struct or of an element of an array.
 #[derive(Clone, Copy)]
 pub(crate) enum FieldUse {
-    /// It is read as a value of a wanted type.
+    /// A read of a value of a wanted type.
     Read(ValType),
-    /// It is created of a value.
+    /// Creation from a value.
     New,
-    /// It is created of the default value.
+    /// Creation from the default value.
     NewDefault,
-    /// It is created of the bytes of a data segment.
+    /// Creation from the bytes of a data segment.
     NewBytes,
-    /// It is created of the references of an element segment.
+    /// Creation from the references of an element segment.
     NewReferences,
-    /// It is set.
+    /// A write of a value.
     Set,
-    /// It is set to the bytes of a data segment.
+    /// A write of the bytes of a data segment.
     SetBytes,
-    /// It is set to the references of an element segment.
+    /// A write of the references of an element segment.
     SetReferences,
-    /// It is copied into an element of this storage type.
+    /// A copy into an element of this storage type.
     CopyInto(StorageType),
 }
 
@@ -86,8 +86,8 @@ fn is_storage_below(scope: &Scope<'_>, stored: StorageType, into: StorageType) -
     }
 }
 
-/// Returns the extension of a value that is read from `stored`. A packed one is extended by its sign if
-/// `signed` is set.
+/// Returns the extension of a value that is read from `stored`. A packed value is extended by its
+/// sign if `signed` is set.
 pub(crate) fn extension_of(stored: StorageType, signed: bool) -> Extension
     ensures { result ≡ extension_of stored signed }
 {
