@@ -1,4 +1,4 @@
--- The block that is chosen, by the places that are drawn.
+-- The chosen block, by the drawn places.
 use Rattle.std.specs.Prelude.{slice_get}
 use Rattle.std.proofs.Common.{◌≡◌, ℕ, ◌-◌, List, [], ◌∷◌, Option, Some, length, refl}
 use Rattle.smith_bytes.specs.Draws.{range_at}

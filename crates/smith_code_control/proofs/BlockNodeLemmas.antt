@@ -1,4 +1,4 @@
--- Blocks leave what they should.
+-- Blocks leave the values of their types.
 use Rattle.std.specs.Prelude.{IfSome, if◌then◌else◌}
 use Rattle.std.specs.Cmp.Lexicographic.{pointwise}
 use Rattle.std.proofs.Common.{◌≡◌, ℕ, ◌+◌, ◌-◌, ◌≤◌, Bool, true, false, List, [], ◌∷◌, ◌++◌, Option, Some, None, length, length-append, refl, arith}
@@ -21,7 +21,7 @@ use Rattle.smith_code_nodes.specs.declared.node.Opening.TheVariants as opening
 use Rattle.smith_code_nodes.specs.declared.node.Sides.{Sides}
 use Rattle.smith_code_nodes.proofs.NodeLemmas.{func_wide, no_valid, one_valid, three_wide}
 
--- what a block takes
+-- the operands of a block are valid
 pub taken_valid : (context : BodyContext) (opening : Opening) (params : List ValType) → AreValid context params → AreValid context (taken_by opening params)
 taken_valid context opening.Block params valid = valid
 taken_valid context opening.Loop params valid = valid
@@ -32,7 +32,7 @@ taken_few opening.Block params = omega arith
 taken_few opening.Loop params = omega arith
 taken_few opening.IfAlone params = simp length-append (omega arith)
 
--- an `if` alone may be opened where its parameters are its results
+-- an `if` without `else` may be opened if its parameters are its results
 alone : (same : Bool) (params results : List ValType) → (same ≡ true → params ≡ results) → IfSome (if same then Some opening.IfAlone else None) (λ opening. MayOpen opening params results)
 alone true params results is = is refl
 alone false params results is = tt

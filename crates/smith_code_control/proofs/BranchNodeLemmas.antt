@@ -1,4 +1,4 @@
--- Branches leave any values.
+-- Unconditional branches leave any values.
 use Rattle.std.specs.Prelude.{slice_get, All}
 use Rattle.std.proofs.Common.{◌≡◌, ℕ, ◌+◌, ◌-◌, ◌<◌, ◌≤◌, List, [], ◌∷◌, ◌++◌, Some, length, length-append, get_or, refl, sym, subst, arith}
 use Rattle.std.proofs.lemmas.List.{append-nil}
@@ -16,7 +16,7 @@ use Rattle.smith_code_nodes.specs.declared.scope.Scope.{Scope}
 use Rattle.smith_code_nodes.proofs.NodeLemmas.{no_valid}
 use Rattle.smith_code_control.proofs.BlockNodeLemmas.{taken_valid}
 
--- what a branch to a label takes
+-- the operands of a branch to a label
 pub label_at : (scope : Scope) (labels : List (List ValType)) → AreLabels scope labels → (index : ℕ) (taken : List ValType) → index < length labels → taken ≡ get_or labels index taken
     → (slice_get labels index ≡ Some taken) × AreValid (bare scope) taken × (length taken ≤ widest scope.types.now.types)
 label_at scope labels are index taken inside is =

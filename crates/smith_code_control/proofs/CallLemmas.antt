@@ -30,7 +30,7 @@ use Rattle.smith_code_control.specs.declared.outcomes.Outcome.TheVariants as out
 use Rattle.smith_code_nodes.proofs.NodeLemmas.{address_valid, first_below, func_wide, no_valid, one_valid, zip_length}
 use Rattle.smith_code_nodes.proofs.OfferLemmas.{all_below, either, func_there, function_there, tested}
 
--- a call gives the results of the function; a tail call gives whatever is valid
+-- a call leaves the results of the function; a tail call leaves any valid values
 abbrev pub Gives : BodyContext → Outcome → FuncType → List ValType → Type 0
 Gives context outcome.Returned function results = AreValid context results
 Gives context _ function results = results ≡ function.results
@@ -107,7 +107,7 @@ function_table context index d orderly is =
     let same : table ≡ get_or context.tables index d = same_Some table (get_or context.tables index d) (sym at ∙ here) in
     subst (λ (t : TableType). IsFunctionTable context index t.table64) same of
 
--- of what fits it is a function type
+-- a function type whose results may have an outcome
 pub fit_type : (context : BodyContext) (outcome : Outcome) (index : ℕ) (function : FuncType) → is_fit_type context outcome index ≡ true → func_in (slice_get context.types index) ≡ Some function → is_fit context.types context.results outcome function ≡ true
 fit_type context outcome index function is at = subst (λ (o : Option FuncType). is_fit_in context.types context.results outcome o ≡ true) at is
 
@@ -136,7 +136,7 @@ by_reference_sets (outcome.Wanted value) ty = refl
 by_reference_sets outcome.Dropped ty = refl
 by_reference_sets outcome.Returned ty = refl
 
--- parameters with one operand more
+-- parameters with one more operand
 topped_few : (params : List ValType) (top : ValType) → length (params ++ top ∷ []) ≤ length params + 1
 topped_few params top = simp length-append (omega arith)
 
@@ -172,7 +172,7 @@ return_call_gives context set function values index orderly params results is at
     (λ more given gives. (function, (ty, type_at, there), all_below context.types orderly function.results context.results fit, ([], refl, gives))) refl
     (func_wide context.types ty function there) (omega arith) params
 
--- what is chosen
+-- the chosen call
 pub indirect_none : (context : BodyContext) (outcome : Outcome) (bytes left : List ℕ) → fit_type_at context outcome bytes ≡ (None, left) → indirect_at context outcome bytes ≡ (None, left)
 unfolding indirect_at
 indirect_none context outcome bytes left drawn = ap (λ (ty : Option ℕ × List ℕ). indirect_by context outcome ty.0 ty.1) drawn

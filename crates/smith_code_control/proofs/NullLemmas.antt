@@ -31,7 +31,7 @@ use Rattle.smith_code_nodes.proofs.NodeLemmas.{no_valid, one_valid, three_wide}
 use Rattle.smith_code_nodes.proofs.PlainLemmas.{gives_one}
 use Rattle.smith_code_nodes.proofs.ReferenceChoiceLemmas.{nullable_valid}
 
--- a label that takes at most so many values
+-- a label of at most `most` values
 short_option : (labels : List (List ValType)) (most index : ℕ) (o : Option (List ValType)) → slice_get labels index ≡ o → is_short_at most o ≡ true → (taken : List ValType) × (slice_get labels index ≡ Some taken) × (length taken ≤ most)
 short_option labels most index (Some taken) at is = (taken, at, leb-true (length taken) most is)
 short_option labels most index None at is = cc
@@ -43,7 +43,7 @@ none_of : (values : List ValType) → length values ≤ 0 → values ≡ []
 none_of [] none = refl
 none_of (value ∷ values) none = absurd (omega arith)
 
--- a reference that is not null where the branch is not taken
+-- a non-null reference, if the branch is not taken
 pub kept_gives : (context : BodyContext) (set : List ℕ) (to : RefType) (label : ℕ) → IsValid context (Ref to) → is_short context.labels 0 label ≡ true → IsNode context set (Ref to ∷ []) (node_of (nullable_to to.heap_type ∷ []) (instr.BrOnNull label) 0)
 kept_gives context set to label valid is =
     let (taken, at, few) = short_there context.labels 0 label is in
@@ -128,7 +128,7 @@ br_on_non_null_gives scope labels set label taken to are inside is last =
       inside = tt;
     }
 
--- what is chosen
+-- the chosen branch
 pub kept_none : (context : BodyContext) (to : RefType) (bytes left : List ℕ) → short_label_at context 0 bytes ≡ (None, left) → br_on_null_value_at context (Ref to) bytes ≡ (None, left)
 unfolding br_on_null_value_at
 kept_none context to bytes left drawn = ap (λ (label : Option ℕ × List ℕ). giving (kept_node to) label) drawn

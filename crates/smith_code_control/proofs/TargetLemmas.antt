@@ -12,7 +12,7 @@ use Rattle.smith_code_nodes.specs.Offered.{is_target, label_count, offered}
 use Rattle.smith_code_nodes.proofs.ChosenLemmas.{choose_none}
 use Rattle.smith_code_nodes.proofs.RepeatLemmas.{AreDrawnSoFar, all_turns, no_turn, one_turn}
 
--- none is chosen only of none
+-- no item is chosen only if there is none
 none_offered : {A : Type 0} (items : List A) (bytes left : List ℕ) → choose_at items bytes ≡ (None, left) → length items ≡ 0
 unfolding choose_at
 none_offered [] bytes left drawn = refl
@@ -23,7 +23,7 @@ none_offered {A = A} (x ∷ xs) bytes left drawn =
     let none : slice_get (x ∷ xs) place ≡ None = ap (λ (r : Option A × List ℕ). r.0) drawn in
     cc
 
--- the targets that were drawn, and those that are to come
+-- the targets drawn so far and the remaining ones
 abbrev pub AreDrawnTargets : BodyContext → List ValType → ℕ → List ℕ → ℕ → List ℕ → List ℕ → Type 0
 AreDrawnTargets context taken count start turns done bytes = AreDrawnSoFar (targets_at context taken) count start turns done bytes
 
@@ -55,6 +55,6 @@ targets_stop context taken count turns start done bytes left drawn so_far =
     ∙ (ap (λ (r : List ℕ × List ℕ). (done ++ r.0, r.1)) (no_targets context taken (count - turns) bytes none)
     ∙ (ap (λ (targets : List ℕ). (targets, bytes)) (append-nil done) ∙ ap (λ (b : List ℕ). (done, b)) same))
 
--- a number of them that is drawn first
+-- the number of targets is drawn first
 pub targets_by : (context : BodyContext) (taken : List ValType) (bytes start left targets : List ℕ) (count : ℕ) → range_at 0 7 bytes ≡ (count, start) → targets_at context taken count start ≡ (targets, left) → some_targets_at context taken bytes ≡ (targets, left)
 targets_by context taken bytes start left targets count drawn is = ap (λ (r : ℕ × List ℕ). targets_at context taken r.0 r.1) drawn ∙ is

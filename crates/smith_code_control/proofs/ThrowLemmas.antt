@@ -38,7 +38,7 @@ same_func types index one other (t, at, is) (t', at', is') =
     let functions : Func one ≡ Func other = sym is ∙ (ap (λ (t : SubType). t.composite_type.inner) same ∙ is') in
     cc
 
--- it has no results
+-- the type of a tag has no results
 pub tag_is : (context : BodyContext) (tag : ℕ) (ty : FuncType) → All (IsTagValid context.types) context.tags → tag_type_at context tag ≡ Some ty → IsTag context tag ty.params
 tag_is context tag ty valid is =
     let (index, at, there) = tag_there context tag ty is in
@@ -73,7 +73,7 @@ throw_ref_gives context set values refers valid =
     plain_node context set (nullable_to exn ∷ []) values instr.ThrowRef (λ more. ([], refl, valid)) refl
     (one_valid context (nullable_to exn) (nullable_valid context exn on (exceptions, λ h. cc))) valid (omega arith)
 
--- what is chosen
+-- the chosen tag and throw
 pub tag_none : (tags bytes : List ℕ) → indexed (length tags) ≡ 0 → tag_at tags bytes ≡ (None, bytes)
 unfolding tag_at
 tag_none tags bytes none = rw none refl

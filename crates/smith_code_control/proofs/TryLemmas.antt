@@ -25,7 +25,7 @@ use Rattle.smith_code_nodes.proofs.RepeatLemmas.{AreDrawnSoFar, all_turns, one_t
 use Rattle.smith_code_control.specs.ThrowChoices.{exn, refers_to_exceptions, tag_at, tag_type_at}
 use Rattle.smith_code_control.specs.TryChoices.{IsCaught, any_try_at, any_try_node, brought, clause_at, clause_of, clause_to, clauses_at, referenced_at, refers_to_caught, some_clauses_at, tagged_by, tagged_clause_at, tagged_to, try_at}
 
--- what a clause brings to its label
+-- the values that a clause passes to its label are valid
 pub brought_valid : (context : BodyContext) (values : List ValType) (referenced : Bool) → AreValid context values → (IsTrue referenced → IsTrue (refers_to_caught context.features)) → AreValid context (brought values referenced)
 brought_valid context values false valid possible = valid
 brought_valid context values true valid possible =

@@ -48,7 +48,7 @@ targets_at context taken (suc count) bytes =
     let more = targets_at context taken count label.1 in
     (option_to_list label.0 ++ more.0, more.1)
 
--- at most seven of them
+-- at most seven such labels
 abbrev pub some_targets_at : BodyContext → List ValType → List ℕ → List ℕ × List ℕ
 some_targets_at context taken bytes = let count = range_at 0 7 bytes in targets_at context taken count.0 count.1
 

@@ -52,7 +52,7 @@ abbrev pub is_fit_in : List SubType → List ValType → Outcome → Option Func
 is_fit_in types returned outcome (Some function) = is_fit types returned outcome function
 is_fit_in types returned outcome None = false
 
--- a function type whose results may have it
+-- a function type whose results may have this outcome
 abbrev pub is_fit_type : BodyContext → Outcome → ℕ → Bool
 is_fit_type context outcome index = is_fit_in context.types context.results outcome (func_in (slice_get context.types index))
 
@@ -65,7 +65,7 @@ is_returnable context index = is_fit_in context.types context.results outcome.Re
 abbrev pub is_below_func : List SubType → RefType → Bool → Bool
 is_below_func types element shared = is_val_below types (Ref element) (nullable_to (Abstract shared abstract.Func))
 
--- it matches that of either
+-- a reference type matches that of shared or of unshared functions
 abbrev pub holds_functions : List SubType → RefType → Bool
 holds_functions types element = is_below_func types element false || is_below_func types element true
 
@@ -103,7 +103,7 @@ indirect_by context outcome (Some ty) bytes =
 abbrev pub fit_type_at : BodyContext → Outcome → List ℕ → Option ℕ × List ℕ
 fit_type_at context outcome bytes = choose_at (offered (is_fit_type context outcome) (indexed (length context.types))) bytes
 
--- such a call, of a type that fits
+-- such a call, of a type whose results may have this outcome
 unfoldable pub indirect_at : BodyContext → Outcome → List ℕ → Chosen
 indirect_at context outcome bytes = let ty = fit_type_at context outcome bytes in indirect_by context outcome ty.0 ty.1
 
@@ -117,7 +117,7 @@ by_reference_node context outcome ty =
     option_map (λ (function : FuncType). node_of (function.params ++ nullable_to (Concrete ty) ∷ []) (by_reference_instr outcome ty) (dropped_of outcome function))
     (func_in (slice_get context.types ty))
 
--- such a call, of a type that fits, if a reference may name a type
+-- such a call, of a type whose results may have this outcome, if a reference may name a type
 unfoldable pub by_reference_at : BodyContext → Outcome → List ℕ → Chosen
 by_reference_at context outcome bytes =
     if context.features.reference_types && context.features.gc then giving (by_reference_node context outcome) (fit_type_at context outcome bytes)

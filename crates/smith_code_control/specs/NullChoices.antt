@@ -22,15 +22,15 @@ is_short_at most None = false
 abbrev pub is_short : List (List ValType) → ℕ → ℕ → Bool
 is_short labels most index = is_short_at most (slice_get labels index)
 
--- one of those
+-- a chosen label of at most `most` values
 abbrev pub short_label_at : BodyContext → ℕ → List ℕ → Option ℕ × List ℕ
 short_label_at context most bytes = choose_at (offered (is_short context.labels most) (label_count context)) bytes
 
--- a reference that is not null: for null a branch is taken to a label without values
+-- a non-null reference: for null, a branch is taken to a label without values
 abbrev pub kept_node : RefType → ℕ → Option Node
 kept_node to label = Some (node_of (nullable_to to.heap_type ∷ []) (instr.BrOnNull label) 0)
 
--- such a reference of the wanted type
+-- a non-null reference of the wanted type
 unfoldable pub br_on_null_value_at : BodyContext → ValType → List ℕ → Chosen
 br_on_null_value_at context (Ref to) bytes = giving (kept_node to) (short_label_at context 0 bytes)
 br_on_null_value_at context _ bytes = (None, bytes)
@@ -51,7 +51,7 @@ br_on_null_at context bytes =
     let label = short_label_at context 2 bytes in
     if context.features.reference_types then br_on_null_by context label.0 label.1 else (None, bytes)
 
--- the type of the last of these values, if it is a reference type
+-- the type of the last of some values, if it is a reference type
 abbrev pub reference_in : Option ValType → Option RefType
 reference_in (Some (Ref to)) = Some to
 reference_in _ = None
@@ -67,7 +67,7 @@ is_of_reference_at None = false
 abbrev pub is_of_reference : List (List ValType) → ℕ → Bool
 is_of_reference labels index = is_of_reference_at (slice_get labels index)
 
--- a branch on a reference that is not null, whose other values are dropped if it is not taken
+-- a branch on non-null, whose other values are dropped if it is not taken
 abbrev pub br_on_non_null_node : ℕ → List ValType → RefType → Node
 br_on_non_null_node label taken to =
     node_of (take (length taken - 1) taken ++ nullable_to to.heap_type ∷ []) (instr.BrOnNonNull label) (length taken - 1)

@@ -37,11 +37,11 @@ throw_at context bytes = giving (throw_node context) (tag_at context.tags bytes)
 abbrev pub exn : HeapType
 exn = Abstract false abstract.Exn
 
--- whether there are references to exceptions
+-- whether references to exceptions are enabled
 abbrev pub refers_to_exceptions : Features → Bool
 refers_to_exceptions features = features.reference_types && features.exceptions
 
--- `throw_ref`, if there are
+-- `throw_ref`, if references to exceptions are enabled
 abbrev pub throw_ref_node : Features → Option Node
 throw_ref_node features = if refers_to_exceptions features then Some (node_of (nullable_to exn ∷ []) instr.ThrowRef 0) else None
 

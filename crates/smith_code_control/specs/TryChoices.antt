@@ -17,23 +17,23 @@ use Rattle.smith_code_nodes.specs.Scopes.{indexed}
 use Rattle.smith_code_control.specs.ThrowChoices.{exn, refers_to_exceptions, tag_at, tag_type_at}
 use Rattle.smith_code_nodes.specs.declared.node.Node.{Node}
 
--- whether there are references to exceptions that are not null
+-- whether non-nullable references to exceptions are enabled
 abbrev pub refers_to_caught : Features → Bool
 refers_to_caught features = refers_to_exceptions features && features.function_references
 
--- a clause for the exceptions of a tag, or for all, that brings a reference to the exception or not
+-- a clause for the exceptions of a tag, or for all, that passes a reference to the exception or not
 abbrev pub clause_of : Option ℕ → Bool → ℕ → Catch
 clause_of (Some tag) false label = catch.One tag label
 clause_of (Some tag) true label = catch.OneRef tag label
 clause_of None false label = catch.All label
 clause_of None true label = catch.AllRef label
 
--- the values that it brings to its label: those of the exception, and then the reference
+-- the values that a clause passes to its label: those of the exception, then the reference, if any
 abbrev pub brought : List ValType → Bool → List ValType
 brought values false = values
 brought values true = values ++ reference_to exn ∷ []
 
--- these are the values of the exceptions of a tag; without a tag none are known
+-- the values of the exceptions of a tag; none without a tag
 abbrev pub IsCaught : BodyContext → Option ℕ → List ValType → Type 0
 IsCaught context (Some tag) values = IsTag context tag values
 IsCaught context None values = values ≡ []
@@ -56,7 +56,7 @@ tagged_by context referenced None bytes = (None, bytes)
 unfoldable pub tagged_clause_at : BodyContext → Bool → List ℕ → Option Catch × List ℕ
 tagged_clause_at context referenced bytes = let tag = tag_at context.tags bytes in tagged_by context referenced tag.0 tag.1
 
--- whether a clause brings a reference to the exception
+-- whether a clause passes a reference to the exception
 unfoldable pub referenced_at : Features → List ℕ → Bool × List ℕ
 referenced_at features bytes = let wanted = bool_at bytes in (wanted.0 && refers_to_caught features, wanted.1)
 

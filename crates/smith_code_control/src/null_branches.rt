@@ -211,7 +211,7 @@ fn choose_br_on_non_null(
     Ok(Some(node))
 }
 
-/// Chooses a branch on null, or on a reference that is not null, or `nop` if there is none.
+/// Chooses a branch on null or on non-null, or `nop` if there is none.
 pub fn choose_null_branch(
     alloc: Global,
     scope: &Scope<'_>,

@@ -12,11 +12,11 @@ use smith_types::{FuncType, ValType};
 /// Outcomes of the results of a call.
 #[derive(Clone, Copy)]
 pub enum Outcome {
-    /// The first is a value of a wanted type, and the others are dropped.
+    /// The first result is a value of a wanted type, and the others are dropped.
     Wanted(ValType),
-    /// All are dropped.
+    /// All results are dropped.
     Dropped,
-    /// The function of the body returns them.
+    /// The function of the body returns the results.
     Returned,
 }
 

@@ -45,7 +45,7 @@ pub(crate) fn exn() -> HeapType
     }
 }
 
-/// Whether there are references to exceptions.
+/// Whether references to exceptions are enabled.
 pub(crate) fn refers_to_exceptions(scope: &Scope<'_>) -> bool
     ensures { result ≡ refers_to_exceptions (bare scope.now).features }
 {
@@ -76,7 +76,7 @@ fn choose_throw(
     Ok(Some(node))
 }
 
-/// Chooses `throw_ref`, if there are references to exceptions.
+/// Chooses `throw_ref`, if references to exceptions are enabled.
 fn choose_throw_ref(alloc: Global, scope: &Scope<'_>, draft: &Draft) -> Result<Option<Node>, Error>
     ensures exact { IfOk result (λ chosen. chosen ≡ throw_ref_node (bare scope.now).features) }
     ensures offer { (values : List Val) → AreValid (bare scope.now) values → IsOffer (where_stands scope.now draft.now) draft.now.set.items values result }

@@ -15,14 +15,14 @@ use smith_instr::{BlockType, Catch};
 use smith_types::{Items, RefType, ValType, WasmFeatures};
 use std::alloc::Global;
 
-/// Whether there are references to exceptions that are not null.
+/// Whether non-nullable references to exceptions are enabled.
 fn refers_to_caught(scope: &Scope<'_>) -> bool
     ensures { result ≡ refers_to_caught (bare scope.now).features }
 {
     refers_to_exceptions(scope) && scope.features.contains(WasmFeatures::FUNCTION_REFERENCES)
 }
 
-/// Draws whether a clause brings a reference to the exception.
+/// Draws whether a clause passes a reference to the exception.
 fn draw_referenced(scope: &Scope<'_>, u: &mut Unstructured<'_>) -> bool
     ensures exact { referenced_at (bare scope.now).features u.old ≡ (result, u.new) }
     ensures possible { IsTrue result → IsTrue (refers_to_caught (bare scope.now).features) }
@@ -35,7 +35,7 @@ fn draw_referenced(scope: &Scope<'_>, u: &mut Unstructured<'_>) -> bool
 }
 
 /// Returns the clause for the exceptions of `tag`, or for all exceptions, that goes to `label`. It
-/// brings a reference to the exception if `referenced` is true.
+/// passes a reference to the exception if `referenced` is true.
 fn clause_of(tag: Option<u32>, referenced: bool, label: u32) -> Catch
     ensures { result ≡ clause_of tag referenced label }
 {
@@ -63,7 +63,7 @@ fn brought(alloc: Global, values: &[ValType], referenced: bool) -> Result<Items<
     Ok(taken)
 }
 
-/// Chooses the label of a clause, if there is one that takes what the clause brings. The
+/// Chooses the label of a clause, if there is one that takes the values that the clause passes. The
 /// exceptions of `tag` hold `values`.
 fn choose_clause_to(
     alloc: Global,
