@@ -1,4 +1,4 @@
--- Contexts and types that the examples of structures, arrays and casts speak of.
+-- Contexts and types of the examples of structures, arrays and casts.
 use Rattle.std.specs.Prelude.{ℕ, List, [], ◌∷◌}
 use Rattle.smith_types.specs.ExampleFeatures.{without_gc}
 use Rattle.smith_types.specs.ExampleTypes.{constant, final_type, not_null, nullable, plain, struct, variable}
@@ -26,32 +26,33 @@ aggregates locals = record (function_of locals []) {
       ∷ [];
 }
 
--- one without garbage collection
+-- such a function without garbage collection
 abbrev pub unmanaged : BodyContext
 unmanaged = record (aggregates []) { features = without_gc }
 
--- a reference to the type of an index, which may not be null, or may be
+-- a reference to the type with an index: non-nullable, then nullable
 abbrev pub some : ℕ → ValType
 some index = Ref (not_null (Concrete index))
 
 abbrev pub any : ℕ → ValType
 any index = Ref (nullable (Concrete index))
 
--- a reference to an abstract heap type, which may not be null, or may be
+-- a reference to an abstract heap type: non-nullable, then nullable
 abbrev pub some_of : AbstractHeapType → ValType
 some_of ty = Ref (not_null (plain ty))
 
 abbrev pub any_of : AbstractHeapType → ValType
 any_of ty = Ref (nullable (plain ty))
 
--- locals: a number, a struct that may not be null, any struct, and any external reference
+-- locals: a number, a non-nullable struct, and nullable references to any struct and to any
+-- external value
 abbrev pub references : List ValType
 references = I64 ∷ some 0 ∷ any_of heap.Struct ∷ any_of heap.Extern ∷ []
 
--- with labels of an i32 and a struct, and of an i64
+-- the context with labels of an i32 and a struct, and of an i64
 abbrev pub branching : List ValType → BodyContext
 branching locals = record (aggregates locals) { labels = (I32 ∷ any 0 ∷ []) ∷ (I64 ∷ []) ∷ [] }
 
--- without locals, and with these labels
+-- the context without locals, with these labels
 abbrev pub labelled_by : List (List ValType) → BodyContext
 labelled_by labels = record (aggregates []) { labels = labels }

@@ -1,4 +1,4 @@
--- Bytes, configurations and contexts that the examples speak of.
+-- Bytes, configurations and contexts of the examples.
 use Rattle.std.specs.Prelude.{ℕ, false, true, List, [], ◌∷◌, ◌++◌, pos}
 use Rattle.smith_types.specs.ExampleFeatures.{usual_features}
 use Rattle.smith_types.specs.ExampleTypes.{final_type}
@@ -20,27 +20,28 @@ of_kinds kinds = record default_config { allowed_instructions = kinds }
 abbrev pub trapless : Config
 trapless = record default_config { disallow_traps = true }
 
--- what gives an i32 constant where an instruction without operands is drawn
+-- the bytes from which an instruction without operands is an i32 constant
 abbrev pub narrow : ℕ → List ℕ
 narrow n = 4 ∷ n ∷ 0 ∷ 0 ∷ 0 ∷ []
 
--- and an i64 constant
+-- the bytes from which an instruction without operands is an i64 constant
 abbrev pub wide : ℕ → List ℕ
 wide n = 4 ∷ n ∷ 0 ∷ 0 ∷ 0 ∷ 0 ∷ 0 ∷ 0 ∷ 0 ∷ []
 
 abbrev pub wide_number : ℕ → Instr
 wide_number n = instr.I64Const (pos n)
 
--- without parameters, and of this type: a function that gives an i32, and one that takes an i64 and gives an i32 and an i64
+-- a body with these results, and types of a function with the result i32, and of one from i64 to
+-- i32 and i64
 abbrev pub calling : List ValType → BodyContext
 calling results = record (function_of [] results) {
   types = final_type (Func (record { params = []; results = I32 ∷ [] })) ∷ final_type (Func (record { params = I64 ∷ []; results = I32 ∷ I64 ∷ [] })) ∷ [];
 }
 
--- without parameters, and of this type: a function that gives the i64 that it takes
+-- a body with these results, and the type of a function from i64 to i64
 abbrev pub keeping : List ValType → BodyContext
 keeping results = record (function_of [] results) { types = final_type (Func (record { params = I64 ∷ []; results = I64 ∷ [] })) ∷ [] }
 
--- without exceptions
+-- a body with these results, without exceptions
 abbrev pub without_exceptions : List ValType → BodyContext
 without_exceptions results = record (function_of [] results) { features = record usual_features { exceptions = false } }

@@ -1,4 +1,4 @@
--- Contexts that the examples of choices speak of, each a variation of that of `function_of`.
+-- Contexts of the examples of choices, each a variation of that of `function_of`.
 use Rattle.std.specs.Prelude.{true, false, List, [], ◌∷◌}
 use Rattle.smith_types.specs.ExampleFeatures.{usual_features, without_gc}
 use Rattle.smith_types.specs.ExampleTypes.{nullable, plain}
@@ -11,30 +11,30 @@ use Rattle.smith_types.specs.declared.value_type.ValType.TheVariants.{I32, I64, 
 use Rattle.smith_instr.specs.Contexts.{BodyContext}
 use Rattle.smith_instr_examples.specs.ExampleBodies.{function_of, functions}
 
--- the reference to anything from the host that may be null
+-- a nullable external reference
 abbrev pub external : RefType
 external = nullable (plain heap.Extern)
 
--- a table of such references, and a table of functions by addresses of 64 bits
+-- a table of such references, and a table of functions with addresses of 64 bits
 abbrev pub externals : TableType
 externals = record functions { element_type = external }
 
 abbrev pub wide_functions : TableType
 wide_functions = record functions { table64 = true }
 
--- with these tables
+-- a context with these tables
 abbrev pub holding : List TableType → BodyContext
 holding tables = record (function_of [] []) { tables = tables }
 
--- with those three tables, and element segments of functions and of references from the host
+-- a context with three tables, and element segments of functions and of external references
 abbrev pub tabled : BodyContext
 tabled = record (holding (functions ∷ externals ∷ wide_functions ∷ [])) { elements = funcref ∷ external ∷ [] }
 
--- with these labels, the innermost first
+-- a context with these labels, the innermost first
 abbrev pub among : List (List ValType) → BodyContext
 among labels = record (function_of [] []) { labels = labels }
 
--- with labels of no value, an i64, three of i32, and an i32 and a reference to a function
+-- a context with labels of no value, an i64, three i32, and an i32 and a reference to a function
 abbrev pub labelled_four : BodyContext
 labelled_four = among ([] ∷ (I64 ∷ []) ∷ (I32 ∷ I32 ∷ I32 ∷ []) ∷ (I32 ∷ Ref funcref ∷ []) ∷ [])
 
