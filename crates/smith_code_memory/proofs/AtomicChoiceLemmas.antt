@@ -1,4 +1,4 @@
--- Atomic accesses that are chosen, by the places that are drawn.
+-- The chosen atomic access, by the drawn places.
 use Rattle.std.proofs.Common.{◌≡◌, ℕ, ◌-◌, ◌<◌, List, Option, None, length, get_or, refl, ap, ◌∙◌}
 use Rattle.std.specs.Prelude.{option_map}
 use Rattle.smith_bytes.specs.Draws.{range_at}
@@ -20,7 +20,7 @@ pub atomic_none : (config : Config) (context : BodyContext) (wanted : ValType) (
 unfolding atomic_at
 atomic_none config context wanted bytes rows are none = ap (λ (op : Option AtomicAccess × List ℕ). atomic_by config context.memories op.0 op.1) (row_none rows (atomic_rows wanted) bytes are none)
 
--- where there is a memory, and where there is none
+-- with a memory, and without
 pub atomic_drawn : (config : Config) (context : BodyContext) (wanted : ValType) (bytes middle left : List ℕ) (rows : List AtomicAccess) (place : ℕ) (d : AtomicAccess) (o : Option Access) → rows ≡ atomic_rows wanted → range_at 0 (length rows - 1) bytes ≡ (place, middle) → place < length rows
     → access_at config context.memories 0 middle ≡ (o, left) → atomic_at config context wanted bytes ≡ (option_map (atomic_node (get_or rows place d)) o, left)
 unfolding atomic_at

@@ -1,4 +1,4 @@
--- Instructions on many bytes of a memory, and what they take.
+-- Instructions on several bytes of a memory, and their operands.
 use Rattle.std.proofs.Common.{◌≡◌, ℕ, ◌<◌, List, [], ◌∷◌, refl, arith}
 use Rattle.smith_types.specs.declared.entity_type.MemoryType.{MemoryType}
 use Rattle.smith_types.specs.declared.value_type.ValType.TheVariants.{I32}
@@ -36,7 +36,7 @@ init_node context set index segment ty there inside =
     gives_none context set (address ty.memory64 ∷ I32 ∷ I32 ∷ []) (instr.Memory (memory.Init index segment)) (λ more. (ty, there, inside, (refl, refl))) refl (omega arith)
     (three_valid context (address ty.memory64) I32 I32 (address_valid context ty.memory64) tt tt)
 
--- what is done to many bytes
+-- the chosen statement on several bytes
 pub bulk_by : (context : BodyContext) (bytes left : List ℕ) (rows : List Bulk) (drawn_kind kind : Bulk) → rows ≡ bulks → chosen_at bulk.Fill rows bytes ≡ (drawn_kind, left) → drawn_kind ≡ kind
     → or_nop (bulk_at context bytes) ≡ or_nop (bulk_of context kind left)
 unfolding bulk_at

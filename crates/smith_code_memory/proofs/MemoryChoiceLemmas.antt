@@ -1,4 +1,4 @@
--- The access to a memory that is chosen, by the places that are drawn.
+-- The chosen access to a memory, by the drawn places.
 use Rattle.std.specs.Prelude.{slice_get}
 use Rattle.std.proofs.Common.{◌≡◌, ℕ, ◌-◌, ◌<◌, Bool, List, [], ◌∷◌, Option, Some, None, length, get_or, refl, sym, subst, ap, ◌∙◌}
 use Rattle.std.proofs.lemmas.Option.{slice_get-get_or, slice_get_past}
@@ -24,7 +24,7 @@ use Rattle.smith_code_memory.specs.Accesses.{access_at, offset_at}
 use Rattle.smith_code_memory.specs.MemoryRows.{loads_of, stores}
 use Rattle.smith_code_memory.specs.declared.memories.Access.{Access}
 
--- where a memory is accessed
+-- the place of an access
 pub access_none : (config : Config) (memories : List MemoryType) (log2_bytes : ℕ) (bytes : List ℕ) → indexed (length memories) ≡ 0 → access_at config memories log2_bytes bytes ≡ (None, bytes)
 unfolding access_at
 access_none config memories log2_bytes bytes none =

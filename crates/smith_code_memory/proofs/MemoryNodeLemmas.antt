@@ -1,4 +1,4 @@
--- Loads, stores, and the size and growth of memories leave what they should.
+-- Loads, stores, and the size and growth of memories leave the values of their types.
 use Rattle.std.specs.List.{list_all}
 use Rattle.std.proofs.Common.{rules, ◌≡◌, ℕ, ◌-◌, ◌<◌, ◌≤◌, Bool, true, List, [], ◌∷◌, length, get_or, refl, sym, subst, ap, arith}
 use Rattle.std.proofs.lemmas.List.Sums.{AllPass-from_list_all}

@@ -1,4 +1,4 @@
--- Table instructions that are chosen, and what they take and give.
+-- The chosen table instructions, and their operands and results.
 use Rattle.std.proofs.Common.{◌≡◌, ℕ, ◌<◌, true, List, [], ◌∷◌, Option, Some, None, length, get_or, refl, sym, subst, ap, ◌∙◌, arith}
 use Rattle.std.specs.Prelude.{slice_get, option_map, All}
 use Rattle.std.proofs.lemmas.Option.{same_Some, slice_get-get_or}
@@ -25,7 +25,7 @@ use Rattle.smith_code_nodes.proofs.NodeLemmas.{address_valid, no_valid, one_vali
 use Rattle.smith_code_nodes.proofs.OfferLemmas.{both, is_this_address, tested}
 use Rattle.smith_code_nodes.proofs.PlainLemmas.{gives_none, gives_one, narrower_valid, three_valid, two_valid}
 
--- a table whose references are of a type below the wanted type
+-- a table whose element type matches the wanted type
 table_below : (context : BodyContext) (wanted : ValType) (index : ℕ) (d : TableType) → IsOrderly context.types → index < length context.tables → is_table_below context wanted index ≡ true
     → IsValBelow context.types (Ref (get_or context.tables index d).element_type) wanted
 table_below context wanted index d orderly inside is =
@@ -37,7 +37,7 @@ pub segment_below_at : (context : BodyContext) (wanted : ValType) (segment : ℕ
 segment_below_at context wanted segment (Some element) orderly at is = (element, at, tested context.types orderly (Ref element) wanted is)
 segment_below_at context wanted segment None orderly at is = cc
 
--- a table whose addresses are of the wanted type, where references are values
+-- a table whose addresses have the wanted type
 addressed_at : (context : BodyContext) (wanted : ValType) (index : ℕ) (o : Option TableType) → slice_get context.tables index ≡ o → is_table_addressed_at wanted o ≡ true
     → (ty : TableType) × IsTable context index ty × (wanted ≡ address ty.table64)
 addressed_at context wanted index (Some ty) at is = (ty, at, is_this_address wanted ty.table64 is)
@@ -102,7 +102,7 @@ init_node context set index segment ty orderly there is =
     gives_none context set (address ty.table64 ∷ I32 ∷ I32 ∷ []) (instr.Table (table_instr.Init index segment)) (λ more. (ty, element, there, there', below, (refl, refl))) refl (omega arith)
     (three_valid context (address ty.table64) I32 I32 (address_valid context ty.table64) tt tt)
 
--- a value out of a table, or a number that a table gives
+-- a reference from a table, or its size or growth
 pub value_reference : (context : BodyContext) (wanted : ValType) (reference : RefType) (bytes : List ℕ) → wanted ≡ Ref reference → table_value_at context wanted bytes ≡ table_get_at context wanted bytes
 unfolding table_value_at
 value_reference context (Ref r) reference bytes is = refl
@@ -121,7 +121,7 @@ value_number context F32 bytes other = refl
 value_number context F64 bytes other = refl
 value_number context V128 bytes other = refl
 
--- what is done to a table
+-- the chosen statement on a table
 pub change_by : (context : BodyContext) (bytes left : List ℕ) (rows : List TableChange) (drawn this : TableChange) → rows ≡ table_changes → chosen_at change.Set rows bytes ≡ (drawn, left) → drawn ≡ this
     → or_nop (table_change_at context bytes) ≡ or_nop (table_change_of context this left)
 unfolding table_change_at

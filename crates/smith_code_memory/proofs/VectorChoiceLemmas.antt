@@ -1,4 +1,4 @@
--- Vector instructions that are chosen, by the places that are drawn.
+-- The chosen vector instruction, by the drawn places.
 use Rattle.std.proofs.Common.{◌≡◌, ℕ, suc, ◌+◌, ◌-◌, ◌^◌, ◌<◌, true, false, List, [], ◌∷◌, ◌++◌, Option, Some, None, length, get_or, refl, ap, ◌∙◌, add-one}
 use Rattle.std.specs.Prelude.{option_map}
 use Rattle.smith_bytes.specs.Draws.{range_at}
@@ -51,7 +51,7 @@ vector_load_by config memories bytes middle left rows op o are drawn at =
     let drawn' : chosen_at load.V128 vector_loads bytes ≡ (op, middle) = rw are at drawn in
     rw (drawn', at) refl
 
--- a lane, and where a memory is accessed for it
+-- a lane, and the access to a memory for it
 pub lane_access_none : (config : Config) (memories : List MemoryType) (bytes middle left : List ℕ) (log2_bytes : ℕ) → range_at 0 3 bytes ≡ (log2_bytes, middle) → access_at config memories log2_bytes middle ≡ (None, left) → lane_access_at config memories bytes ≡ (None, left)
 unfolding lane_access_at
 lane_access_none config memories bytes middle left log2_bytes drawn at = rw (drawn, at) refl
@@ -69,7 +69,7 @@ vector_choice_by config memories bytes left families drawn_family of_family are 
     let drawn' : chosen_at family.Instr vector_families bytes ≡ (of_family, left) = rw (are, is) at drawn in
     ap (λ (r : VectorFamily × List ℕ). vector_of config memories r.0 r.1) drawn'
 
--- with the feature of vectors, and without
+-- with vectors, and without
 pub vector_off : (config : Config) (context : BodyContext) (wanted : ValType) (bytes : List ℕ) → context.features.simd ≡ false → vector_at config context wanted bytes ≡ (None, bytes)
 unfolding vector_at
 vector_off config context wanted bytes off = rw off refl

@@ -21,7 +21,7 @@ use Rattle.smith_code_memory.specs.VectorRows.{vector_operands, vector_result, v
 use Rattle.smith_code_nodes.proofs.NodeLemmas.{address_valid, more_valid, no_valid, one_valid}
 use Rattle.smith_code_nodes.proofs.PlainNodeLemmas.{plain_node, row_gives}
 
--- with the feature of vectors, numbers and vectors are valid
+-- numbers and vectors are valid if vectors are enabled
 numeric_valid : (context : BodyContext) (value : ValType) → IsTrue context.features.simd → is_numeric value ≡ true → IsValid context value
 numeric_valid context I32 simd is = tt
 numeric_valid context I64 simd is = tt

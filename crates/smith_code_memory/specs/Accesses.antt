@@ -13,8 +13,8 @@ use Rattle.smith_code_nodes.specs.declared.node.Node.{Node}
 abbrev pub bytes_of : MemoryType → ℕ → ℕ
 bytes_of memory pages = pages * 2 ^ page_log2 memory.page_size_log2
 
--- the least number of bytes of a memory, and the greatest: without a maximum as many as it can
--- address
+-- the least number of bytes of a memory, and the greatest: without a maximum, the number that it
+-- can address
 abbrev pub least_bytes : MemoryType → ℕ
 least_bytes memory = bytes_of memory memory.minimum
 
@@ -25,8 +25,8 @@ most_in memory None = addresses memory.memory64
 abbrev pub most_bytes : MemoryType → ℕ
 most_bytes memory = most_in memory memory.maximum
 
--- an address from a first one on and before an end: the first one if the end isn't past it, and none
--- past the last address of a memory
+-- an address from a first one on and before an end: the first one if the end isn't past it, and at
+-- most the last address of a memory
 abbrev pub place_in : ℕ → ℕ → ℕ → List ℕ → ℕ × List ℕ
 place_in last first end bytes = range_at (min first last) (max (min first last) (min (end - 1) last)) bytes
 
@@ -34,7 +34,7 @@ unfoldable pub place_at : MemoryType → ℕ → ℕ → List ℕ → ℕ × Lis
 place_at memory first end bytes = place_in (addresses memory.memory64 - 1) first end bytes
 
 -- an offset below the least number of bytes, from there to the greatest, or past it, by the weights
--- of the three; without any weight it is past it
+-- of the three; if all weights are 0, past the greatest
 unfoldable pub offset_at : MemoryOffsetChoices → MemoryType → List ℕ → ℕ × List ℕ
 offset_at weights memory bytes =
     let drawn = range_at 0 (weights.0 + weights.1 + weights.2 - 1) bytes in

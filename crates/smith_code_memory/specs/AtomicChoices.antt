@@ -1,4 +1,5 @@
--- Which atomic access the bytes choose. The choices, their order and how often each comes are rules of this project.
+-- The atomic access that the bytes choose. The choices, their order and their weights are rules of
+-- this project.
 use Rattle.std.specs.Prelude.{ℕ, Option, Some, None, List, ◌∷◌}
 use Rattle.smith_bytes.specs.Draws.{choose_at}
 use Rattle.smith_types.specs.declared.value_type.ValType.{ValType}
@@ -21,7 +22,7 @@ abbrev pub atomic_node : AtomicAccess → Access → Node
 atomic_node op access =
     node_of (address access.wide ∷ atomic_operands op) (instr.Atomic op (record access.at { align = atomic_bytes op })) 0
 
--- no byte tells the alignment
+-- the node of an atomic access, whose alignment takes no byte
 abbrev pub atomic_of : Config → List MemoryType → AtomicAccess → List ℕ → Option Node × List ℕ
 atomic_of config memories op bytes = accessing (atomic_node op) (access_at config memories 0 bytes)
 
@@ -29,7 +30,7 @@ abbrev pub atomic_by : Config → List MemoryType → Option AtomicAccess → Li
 atomic_by config memories None bytes = (None, bytes)
 atomic_by config memories (Some op) bytes = atomic_of config memories op bytes
 
--- one that gives a value of the wanted type
+-- an atomic access that produces a value of the wanted type
 unfoldable pub atomic_at : Config → BodyContext → ValType → List ℕ → Option Node × List ℕ
 atomic_at config context wanted bytes = let op = choose_at (atomic_rows wanted) bytes in atomic_by config context.memories op.0 op.1
 

@@ -1,4 +1,4 @@
--- Atomic accesses by the type of their result, and what they take and give.
+-- Atomic accesses by the type of their result, and their operands and results.
 use Rattle.std.specs.Prelude.{ℕ, List, [], ◌∷◌}
 use Rattle.smith_types.specs.declared.value_type.ValType.{ValType}
 use Rattle.smith_types.specs.declared.value_type.ValType.TheVariants as value
@@ -10,7 +10,7 @@ use Rattle.smith_instr.specs.declared.atomic.AtomicUpdate.TheVariants as update
 use Rattle.smith_instr.specs.declared.atomic.AtomicWidth.{AtomicWidth}
 use Rattle.smith_instr.specs.declared.atomic.AtomicWidth.TheVariants as width
 
--- the atomic accesses that give an i32
+-- the atomic accesses that produce an i32
 abbrev pub i32_atomic_rows : List AtomicAccess
 i32_atomic_rows =
     atomic.Notify ∷
@@ -42,7 +42,7 @@ i32_atomic_rows =
     atomic.CompareExchange width.I32Of16 ∷
     []
 
--- the atomic accesses that give an i64
+-- the atomic accesses that produce an i64
 abbrev pub i64_atomic_rows : List AtomicAccess
 i64_atomic_rows =
     atomic.Load width.I64 ∷
@@ -79,7 +79,7 @@ i64_atomic_rows =
     atomic.CompareExchange width.I64Of32 ∷
     []
 
--- the atomic accesses that give a value of this type
+-- the atomic accesses that produce a value of this type
 abbrev pub atomic_rows : ValType → List AtomicAccess
 atomic_rows value.I32 = i32_atomic_rows
 atomic_rows value.I64 = i64_atomic_rows
@@ -107,7 +107,7 @@ atomic_operands (atomic.Store op) = (atomic_width op).0 ∷ []
 atomic_operands (atomic.Update how op) = (atomic_width op).0 ∷ []
 atomic_operands (atomic.CompareExchange op) = (atomic_width op).0 ∷ (atomic_width op).0 ∷ []
 
--- the binary logarithm of its bytes (threads proposal)
+-- the binary logarithm of the number of bytes of an atomic access (threads proposal)
 abbrev pub atomic_bytes : AtomicAccess → ℕ
 atomic_bytes atomic.Notify = 2
 atomic_bytes atomic.Wait32 = 2

@@ -44,7 +44,7 @@ abbrev pub memory_by : ValType → Option ℕ → List ℕ → Chosen
 memory_by wanted None bytes = (None, bytes)
 memory_by wanted (Some index) bytes = let grown = bool_at bytes in (Some (growth_node wanted index grown.0), grown.1)
 
--- that of a memory whose addresses have the wanted type
+-- the growth or the size of a memory whose addresses have the wanted type
 unfoldable pub memory_at : BodyContext → ValType → List ℕ → Chosen
 memory_at context wanted bytes =
     let index = choose_at (offered (is_addressed context wanted) (indexed (length context.memories))) bytes in

@@ -24,7 +24,7 @@ abbrev pub is_table_below : BodyContext → ValType → ℕ → Bool
 is_table_below context wanted index =
     is_below_at context.types wanted (option_map (λ (table : TableType). Ref table.element_type) (slice_get context.tables index))
 
--- an element segment whose type does
+-- an element segment whose type matches the wanted type
 abbrev pub is_segment_below : BodyContext → ValType → ℕ → Bool
 is_segment_below context wanted index = is_below_at context.types wanted (option_map Ref (slice_get context.elements index))
 
@@ -53,7 +53,7 @@ table_growth_node context wanted true index =
     (slice_get context.tables index)
 table_growth_node context wanted false index = Some (node_of [] (instr.Table (table_instr.Size index)) 0)
 
--- that of a table whose addresses have the wanted type
+-- the growth or the size of a table whose addresses have the wanted type
 abbrev pub table_growth_at : BodyContext → ValType → List ℕ → Chosen
 table_growth_at context wanted bytes =
     let grown = bool_at bytes in
@@ -69,7 +69,7 @@ table_value_at context wanted bytes = table_growth_at context wanted bytes
 abbrev pub held_table_at : BodyContext → List ℕ → Option (ℕ × TableType) × List ℕ
 held_table_at context bytes = if context.features.reference_types then item_at context.tables bytes else (None, bytes)
 
--- one of its references is set, or several of them
+-- one or several references of a table are set
 abbrev pub table_set_node : ℕ × TableType → Option Node
 table_set_node into =
     Some (node_of (address into.1.table64 ∷ Ref into.1.element_type ∷ []) (instr.Table (table_instr.Set into.0)) 0)

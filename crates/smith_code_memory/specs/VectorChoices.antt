@@ -49,7 +49,7 @@ abbrev pub vector_by : Option VectorInstr → List ℕ → Option Node × List �
 vector_by None bytes = (None, bytes)
 vector_by (Some row) bytes = let op = lanes_at row bytes in (Some (vector_node op.0), op.1)
 
--- one whose result has the wanted type
+-- a vector instruction whose result has the wanted type
 unfoldable pub vector_row_at : ValType → List ℕ → Option Node × List ℕ
 vector_row_at wanted bytes = let row = choose_at (vector_rows wanted) bytes in vector_by row.0 row.1
 
@@ -109,7 +109,7 @@ abbrev pub any_vector_at : Config → List MemoryType → ValType → List ℕ �
 any_vector_at config memories V128 bytes = vector_choice_at config memories bytes
 any_vector_at config memories wanted bytes = vector_row_at wanted bytes
 
--- none without the feature
+-- the same; none without vectors
 unfoldable pub vector_at : Config → BodyContext → ValType → List ℕ → Option Node × List ℕ
 vector_at config context wanted bytes = if context.features.simd then any_vector_at config context.memories wanted bytes else (None, bytes)
 

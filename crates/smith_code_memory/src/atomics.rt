@@ -16,7 +16,7 @@ use smith_instr::{AtomicAccess, AtomicUpdate, AtomicWidth, Instr, MemArg};
 use smith_types::ValType;
 use std::alloc::Global;
 
-/// The atomic accesses that give a value of the type `wanted`.
+/// Lists the atomic accesses that produce a value of the type `wanted`.
 fn atomic_rows<'a>(wanted: ValType) -> &'a [AtomicAccess]
     ensures { result.now ≡ atomic_rows wanted }
 {
@@ -114,7 +114,8 @@ fn atomic_widths<'a>() -> &'a [AtomicWidth]
     ]
 }
 
-/// Chooses an atomic access that gives a value of the type `wanted`, or none where there is no memory.
+/// Chooses an atomic access that produces a value of the type `wanted`. Returns none if there is no
+/// memory.
 pub fn choose_atomic(
     alloc: Global,
     scope: &Scope<'_>,
@@ -141,7 +142,7 @@ pub fn choose_atomic(
     Ok(Some(node))
 }
 
-/// Chooses an atomic store, or `nop` where there is no memory.
+/// Chooses an atomic store, or `nop` if there is no memory.
 pub fn choose_atomic_store(
     alloc: Global,
     scope: &Scope<'_>,
@@ -186,7 +187,7 @@ fn atomic(alloc: Global, op: AtomicAccess, access: Access) -> Result<Node, Error
     }
 }
 
-/// The binary logarithm of the number of bytes that are accessed.
+/// Returns the binary logarithm of the number of bytes that `op` accesses.
 fn log2_bytes(op: AtomicAccess) -> u32
     ensures { result ≡ atomic_bytes op }
 {
@@ -211,7 +212,7 @@ fn log2_width(width: AtomicWidth) -> u32
     }
 }
 
-/// The type of the value that is accessed.
+/// Returns the type of the value that is accessed.
 fn value(width: AtomicWidth) -> ValType
     ensures { result ≡ (atomic_width width).0 }
 {
