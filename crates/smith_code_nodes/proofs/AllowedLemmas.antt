@@ -1,4 +1,4 @@
--- What may be chosen is allowed.
+-- Instructions that may be chosen are allowed.
 use Rattle.std.specs.Prelude.{◌&&◌, ◌||◌, not, IsTrue, All}
 use Rattle.std.proofs.Common.{◌≡◌, Bool, true, false, List, refl, ◌-◌, ◌<◌, length, sym, ◌∙◌}
 use Rattle.std.proofs.lemmas.Bool.{false≢true}
@@ -40,7 +40,7 @@ all_enabled scope body allowed =
 pub all_trapless : (scope : Scope) (body : List Instr) → All (IsAllowedIn scope) body → IsTrue scope.config.now.disallow_traps → All IsTrapless body
 all_trapless scope body allowed disallowed = All-weaker (IsAllowedIn scope) IsTrapless (λ (instruction : Instr) (h : IsAllowedIn scope instruction). h.trapless disallowed) body allowed
 
--- where a block that catches exceptions is allowed
+-- the conditions of a block that catches exceptions, in another order
 shuffled : (b e k h : Bool) → (((b && e) && k) && h) ≡ (((e && k) && h) && ((b && k) && h))
 shuffled true true true true = refl
 shuffled true true true false = refl

@@ -1,4 +1,4 @@
--- Tests that go through lists.
+-- Tests by loops over lists.
 use Rattle.std.proofs.Common.{◌≡◌, ℕ, suc, ◌+◌, ◌<◌, Bool, true, false, List, [], ◌∷◌, length, get_or, drop, drop-cons, refl, ap, ◌∙◌, arith}
 use Rattle.std.specs.Prelude.{◌==◌, ◌&&◌}
 use Rattle.std.specs.Cmp.{unsigned_Decides}

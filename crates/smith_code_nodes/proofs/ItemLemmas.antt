@@ -1,4 +1,4 @@
--- What is drawn of items, and what comes of it.
+-- Draws of items, and the draws that follow.
 use Rattle.std.proofs.Common.{◌≡◌, ℕ, zero, suc, ◌-◌, ◌<◌, List, Option, Some, None, length, refl, ap, ◌∙◌, arith}
 use Rattle.std.specs.Prelude.{slice_get, option_map}
 use Rattle.smith_bytes.specs.Draws.{range_at}
@@ -7,7 +7,7 @@ use Rattle.smith_code_nodes.specs.Items.{index_at, item_at}
 use Rattle.smith_code_nodes.specs.Scopes.{indexed}
 use Rattle.smith_code_nodes.proofs.ChosenLemmas.{no_range, not_zero}
 
--- what an item gives that was drawn
+-- the result for a drawn item
 pub given_none : {A B : Type 0} (give : A → Option B) (drawn : Option A × List ℕ) (left : List ℕ) → drawn ≡ (None, left) → giving give drawn ≡ (None, left)
 given_none {A = A} give drawn left is = ap (λ (d : Option A × List ℕ). giving give d) is
 

@@ -1,4 +1,4 @@
--- Nodes that give what they should.
+-- Nodes that leave the values of their types.
 use Rattle.std.specs.Prelude.{slice_get}
 use Rattle.std.specs.List.{list_all, AllZip}
 use Rattle.std.proofs.Common.{◌≡◌, ℕ, zero, suc, ◌+◌, ◌-◌, ◌≤◌, Bool, true, false, List, [], ◌∷◌, Some, length, get_or, drop, refl, ap, arith}
@@ -34,7 +34,7 @@ no_valid context = All-nil (IsValid context)
 pub more_valid : (context : BodyContext) (value : ValType) (values : List ValType) → IsValid context value → AreValid context values → AreValid context (value ∷ values)
 more_valid context value values valid more = All-append (IsValid context) (value ∷ []) values (one_valid context value valid) more
 
--- a type of numbers
+-- a number type
 unfoldable pub is_number : ValType → Bool
 is_number I32 = true
 is_number I64 = true
@@ -54,7 +54,7 @@ number_valid context (Ref reference) is = cc
 pub numbers_valid : (context : BodyContext) (values : List ValType) → list_all is_number values ≡ true → AreValid context values
 numbers_valid context values numbers = λ k d inside. number_valid context (get_or values k d) (AllPass-from_list_all is_number values numbers k d inside)
 
--- the first of these types is this number
+-- whether the first of some types is this number type
 unfoldable pub begins : ValType → List ValType → Bool
 begins I32 (I32 ∷ more) = true
 begins I64 (I64 ∷ more) = true
@@ -86,7 +86,7 @@ func_wide types index function (t, at, is) =
 abbrev pub AreParamsValid : BodyContext → Type 0
 AreParamsValid context = (index : ℕ) (function : FuncType) → IsFuncAt context.types index function → AreValid context function.params
 
--- the first of these is below the wanted type
+-- the first of these values matches the wanted type
 pub zip_length : {A B : Type 0} (R : A → B → Type 0) (xs : List A) (ys : List B) → AllZip R xs ys → length xs ≡ length ys
 zip_length R [] [] zip = refl
 zip_length R [] (y ∷ ys) zip = absurd zip
@@ -101,7 +101,7 @@ pub address_valid : (context : BodyContext) (wide : Bool) → IsValid context (a
 address_valid context true = tt
 address_valid context false = tt
 
--- `nop` and `unreachable` for nothing
+-- `nop` and `unreachable` leave no value
 pub nop_node : (context : BodyContext) (set : List ℕ) → IsNode context set [] (node_of [] instr.Nop 0)
 nop_node context set = record {
   results = [];

@@ -1,4 +1,4 @@
--- The numeric instruction that is chosen, by the place that is drawn.
+-- The chosen numeric instruction, by the drawn place.
 use Rattle.std.proofs.Common.{◌≡◌, ℕ, ◌-◌, ◌<◌, List, Option, Some, None, length, get_or, sym, subst, ap, ◌∙◌}
 use Rattle.smith_bytes.specs.Draws.{choose_at, range_at}
 use Rattle.smith_types.specs.declared.value_type.ValType.{ValType}

@@ -1,4 +1,4 @@
--- Numeric instructions, and `select`, leave what they should.
+-- Numeric instructions, and `select`, leave the values of their types.
 use Rattle.std.specs.List.{list_all}
 use Rattle.std.proofs.Common.{rules, ◌≡◌, ℕ, suc, ◌+◌, ◌-◌, ◌<◌, ◌≤◌, true, List, [], ◌∷◌, length, get_or, drop, refl, sym, subst, ap, ◌∙◌, arith}
 use Rattle.std.proofs.lemmas.List.Sums.{AllPass-from_list_all}

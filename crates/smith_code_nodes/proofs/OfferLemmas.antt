@@ -1,4 +1,4 @@
--- What is offered is what was looked for.
+-- Offered items have the wanted property.
 use Rattle.std.proofs.Common.{◌≡◌, inl, inr, ℕ, suc, ◌<◌, ◌⊎◌, Bool, true, false, List, [], ◌∷◌, Option, Some, None, refl, ap, arith}
 use Rattle.std.specs.Prelude.{slice_get, nat_lt, ◌&&◌, ◌||◌, ◌==◌}
 use Rattle.std.specs.List.{AllZip, Contains}
@@ -143,7 +143,7 @@ addressed_at : (context : BodyContext) (wanted : ValType) (index : ℕ) (o : Opt
 addressed_at context wanted index (Some memory) at is = (memory, at, is_this_address wanted memory.memory64 is)
 addressed_at context wanted index None at is = cc
 
--- a memory whose addresses are of the wanted type
+-- a memory whose addresses have the wanted type
 pub addressed : (context : BodyContext) (wanted : ValType) (index : ℕ) → is_addressed context wanted index ≡ true
     → (memory : MemoryType) × (slice_get context.memories index ≡ Some memory) × (wanted ≡ address memory.memory64)
 addressed context wanted index is = addressed_at context wanted index (slice_get context.memories index) refl is

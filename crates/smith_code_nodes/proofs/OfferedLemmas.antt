@@ -1,4 +1,4 @@
--- The places of what is offered.
+-- The places of offered items.
 use Rattle.std.proofs.Common.{◌≡◌, ℕ, zero, suc, ◌+◌, ◌-◌, ◌<◌, Bool, true, false, List, [], ◌∷◌, ◌++◌, Option, Some, None, length, length-append, refl, sym, ap, ◌∙◌, arith}
 use Rattle.std.specs.Prelude.{slice_get, if◌then◌else◌}
 use Rattle.std.proofs.Math.ListN.{get_or-append}
@@ -48,7 +48,7 @@ many_more test (suc more) n k inside =
     let next : n + suc more ≡ suc (n + more) = omega arith in
     rw next (longer, is' ∙ is)
 
--- an item that is offered is at the place that counts those before it
+-- the place of an offered item is the number of offered items before it
 pub offered_place : (test : ℕ → Bool) (size index : ℕ) → index < size → test index ≡ true → slice_get (offered test size) (length (offered test index)) ≡ Some index
 offered_place test size index inside is =
     let xs = offered test index in
@@ -62,7 +62,7 @@ offered_place test size index inside is =
     let all : index + 1 + (size - (index + 1)) ≡ size = omega arith in
     (rw all at kept) ∙ here'
 
--- the count of what is offered, item by item
+-- the number of offered items, item by item
 pub counted_none : (test : ℕ → Bool) → 0 ≡ length (offered test 0)
 counted_none test = sym (ap (λ (xs : List ℕ). length xs) (offered_none test))
 
@@ -75,7 +75,7 @@ counted_more test n count next is counted next_is =
 pub counted_same : (test : ℕ → Bool) (n count next : ℕ) → test n ≡ false → count ≡ length (offered test n) → next ≡ count → next ≡ length (offered test (n + 1))
 counted_same test n count next is counted next_is = rw (next_is, counted, offered_less test n is) refl
 
--- how much of a place is left after items
+-- the rest of a place after some items
 pub placed_none : (test : ℕ → Bool) (place : ℕ) → place + length (offered test 0) ≡ place
 placed_none test place = let none = counted_none test in omega arith
 
@@ -99,7 +99,7 @@ placed_past test size n rest place all placed =
     let placed' : rest + length (offered test size) ≡ place = rw all at placed in
     sym (slice_get_past (offered test size) place (omega arith))
 
--- a choice by the place that is drawn
+-- a choice by the drawn place
 pub chosen_at_place : {A : Type 0} (items : List A) (bytes left : List ℕ) (place : ℕ) (o : Option A) → range_at 0 (length items - 1) bytes ≡ (place, left) → o ≡ slice_get items place → choose_at items bytes ≡ (o, left)
 unfolding choose_at
 chosen_at_place items bytes left place o drawn is = rw (drawn, is) refl

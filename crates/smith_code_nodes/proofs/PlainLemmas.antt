@@ -10,12 +10,12 @@ use Rattle.smith_code_nodes.specs.Nodes.{IsNode, node_of}
 use Rattle.smith_code_nodes.proofs.NodeLemmas.{address_valid, more_valid, no_valid, one_valid, three_wide}
 use Rattle.smith_code_nodes.proofs.PlainNodeLemmas.{plain_node}
 
--- an instruction that gives nothing
+-- an instruction without results
 pub gives_none : (context : BodyContext) (set : List ℕ) (operands : List ValType) (instruction : Instr) → ((more : List ℕ) → HasInstrType context (set ++ more) instruction operands []) → sets instruction ≡ [] → length operands ≤ 7 → AreValid context operands
     → IsNode context set [] (node_of operands instruction 0)
 gives_none context set operands instruction typed none few operands_valid = plain_node context set operands [] instruction typed none operands_valid (no_valid context) few
 
--- an instruction that gives one value
+-- an instruction with one result
 pub gives_one : (context : BodyContext) (set : List ℕ) (wanted value : ValType) (operands : List ValType) (instruction : Instr) → ((more : List ℕ) → HasInstrType context (set ++ more) instruction operands (value ∷ [])) → IsValBelow context.types value wanted → IsValid context wanted
     → sets instruction ≡ [] → length operands ≤ 7 → AreValid context operands → IsNode context set (wanted ∷ []) (node_of operands instruction 0)
 gives_one context set wanted value operands instruction typed below valid none few operands_valid = record {

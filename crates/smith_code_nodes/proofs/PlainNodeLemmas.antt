@@ -1,4 +1,4 @@
--- Instructions that give just what is wanted: rows of them, and their nodes.
+-- Instructions whose results are just the wanted types: rows of them, and their nodes.
 use Rattle.std.proofs.Common.{◌≡◌, ℕ, ◌-◌, ◌<◌, ◌≤◌, true, List, [], ◌∷◌, ◌++◌, Some, None, length, get_or, refl, sym, subst, ap, ◌∙◌, arith}
 use Rattle.std.specs.Cmp.Lexicographic.{pointwise}
 use Rattle.std.specs.List.{list_all}
@@ -16,7 +16,7 @@ use Rattle.smith_code_nodes.specs.Nodes.{IsNode, node_of}
 use Rattle.smith_code_nodes.proofs.ChosenLemmas.{choose_none, choose_there}
 use Rattle.smith_code_nodes.proofs.NodeLemmas.{no_valid, three_wide}
 
--- no row of a table without rows
+-- no row is chosen from an empty table
 pub row_none : {A : Type 0} (rows table : List A) (bytes : List ℕ) → rows ≡ table → length rows ≡ 0 → choose_at table bytes ≡ (None, bytes)
 row_none {A = A} rows table bytes are none = choose_none table bytes (ap (λ (rows : List A). length rows) (sym are) ∙ none)
 
@@ -25,7 +25,7 @@ pub row_there : {A : Type 0} (rows table : List A) (bytes left : List ℕ) (plac
 row_there {A = A} rows table bytes left place d are drawn inside =
     subst (λ (rows' : List A). choose_at rows' bytes ≡ (Some (get_or rows place d), left)) are (choose_there rows bytes left place d drawn inside)
 
--- a row gives what all of them give
+-- a row has the results that all rows have
 pub row_gives : {A : Type 0} (results : A → List ValType) (rows table : List A) (wanted : ValType) (place : ℕ) (d : A) → rows ≡ table → list_all (λ (row : A). pointwise val_same.eq (results row) (wanted ∷ [])) table ≡ true → place < length rows
     → results (get_or rows place d) ≡ wanted ∷ []
 row_gives {A = A} results rows table wanted place d are all inside =

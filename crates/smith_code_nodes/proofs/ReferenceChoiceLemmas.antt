@@ -1,4 +1,4 @@
--- What is chosen on references.
+-- The chosen instruction on references.
 use Rattle.std.proofs.Common.{◌≡◌, ℕ, zero, suc, ◌+◌, ◌-◌, ◌<◌, ◌≤◌, true, false, List, [], ◌∷◌, Some, None, length, get_or, refl, ap, ◌∙◌, arith}
 use Rattle.std.specs.Prelude.{slice_index_or, IsTrue}
 use Rattle.smith_bytes.specs.Draws.{bool_at, range_at}
@@ -27,7 +27,7 @@ select_typed_gives wanted context set valid =
     gives_one context set wanted wanted (wanted ∷ wanted ∷ I32 ∷ []) (instr.SelectTyped wanted) (λ more. (valid, (refl, refl))) (IsValBelow-refl context.types wanted) valid refl (omega arith)
     (more_valid context wanted (wanted ∷ I32 ∷ []) valid (more_valid context wanted (I32 ∷ []) valid (one_valid context I32 tt)))
 
--- what references refer to
+-- the heap types of references
 pub referent_valid : (context : BodyContext) (value : ValType) → IsValid context value → IsHeapValid context (referent value)
 referent_valid context (Ref to) valid = valid.1.heap_type
 referent_valid context I32 valid = (tt, λ h. cc)
@@ -95,7 +95,7 @@ eq_off features off = rw off refl
 pub eq_on : (features : Features) → features.gc ≡ true → Some (node_of (eqref ∷ eqref ∷ []) (instr.Reference reference.Eq) 0) ≡ eq_node features
 eq_on features on = rw on refl
 
--- a reference that is not null
+-- a non-null reference
 pub non_null_gives : (to : RefType) (context : BodyContext) (set : List ℕ) → IsValid context (Ref to) → IsNode context set (Ref to ∷ []) (node_of (nullable_to to.heap_type ∷ []) (instr.Reference reference.AsNonNull) 0)
 non_null_gives to context set valid =
     gives_one context set (Ref to) (reference_to to.heap_type) (nullable_to to.heap_type ∷ []) (instr.Reference reference.AsNonNull) (λ more. (to.heap_type, valid.1.heap_type, (refl, refl)))

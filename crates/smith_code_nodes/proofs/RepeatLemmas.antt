@@ -2,7 +2,7 @@
 use Rattle.std.proofs.Common.{◌≡◌, ℕ, suc, ◌+◌, ◌-◌, ◌<◌, ◌≤◌, List, [], ◌++◌, refl, ap, ◌∙◌, append_assoc, arith}
 use Rattle.std.proofs.lemmas.List.{append-nil}
 
--- those that were drawn in some turns, and those that are to come
+-- the items drawn in some turns, and the remaining ones
 abbrev pub AreDrawnSoFar : {A : Type 0} → (ℕ → List ℕ → List A × List ℕ) → ℕ → List ℕ → ℕ → List A → List ℕ → Type 0
 AreDrawnSoFar many count start turns done bytes = many count start ≡ (done ++ (many (count - turns) bytes).0, (many (count - turns) bytes).1)
 

@@ -1,4 +1,4 @@
--- A choice, and the draw for it: an item, or none.
+-- A choice, and its draw: an item, or none.
 use Rattle.std.specs.Prelude.{ℕ, ◌-◌, Option, unwrap_or, List, [], option_and_then}
 use Rattle.smith_instr.specs.declared.instr.Instr.TheVariants as instr
 use Rattle.smith_code_nodes.specs.Nodes.{node_of}

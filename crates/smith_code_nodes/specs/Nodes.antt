@@ -35,7 +35,7 @@ label_of opening.Block params results = results
 label_of opening.Loop params results = params
 label_of opening.IfAlone params results = results
 
--- the types of its operands: an `if` takes a number above its parameters
+-- the types of the operands of a block: an `if` takes a number above its parameters
 abbrev pub taken_by : Opening → List ValType → List ValType
 taken_by opening.Block params = params
 taken_by opening.Loop params = params
@@ -48,12 +48,13 @@ abbrev pub MayOpen : Opening → List ValType → List ValType → Type 0
 MayOpen opening.IfAlone params results = params ≡ results
 MayOpen _ params results = Unit {0}
 
--- its opening, if the block may have it; else it is an `if` with its `else`
+-- the opening of a block, if the block may have it; else an `if` with its `else`
 abbrev pub fitting : Option Opening → List ValType → List ValType → Option Opening
 fitting (Some opening.IfAlone) params results = if pointwise val_same.eq params results then Some opening.IfAlone else None
 fitting opening params results = opening
 
--- the part after the operands of a node takes these, and leaves those, if these locals are set
+-- the part of a node after its operands takes `operands` and leaves `results`, if these locals are
+-- set
 abbrev pub HasHeadType : BodyContext → List ℕ → Head → List ValType → List ValType → Type 0
 HasHeadType context set (head.Plain instruction) operands results = HasInstrType context set instruction operands results
 HasHeadType context set (head.Enclosed opening ty sides) operands results =
@@ -70,7 +71,7 @@ pub record AreSidesValid (features : Features) (types : List SubType) (sides : S
   pub results : All (IsValTypeValid features (length types)) sides.results
   pub few : length sides.params + length sides.results ≤ widest types
 
--- those of the block of a node, if it has one
+-- the parameters and results of the block of a node, if it has one
 abbrev pub IsHeadValid : Features → List SubType → Head → Type 0
 IsHeadValid features types (head.Plain instruction) = Unit {0}
 IsHeadValid features types (head.Enclosed opening ty sides) = AreSidesValid features types sides
@@ -81,7 +82,7 @@ IsHeadValid features types (head.Try ty clauses sides) = AreSidesValid features 
 abbrev pub block_cost : List SubType → ℕ
 block_cost types = 2 * widest types + 3
 
--- the locals that it sets
+-- the locals that the part after the operands sets
 abbrev pub head_sets : Head → List ℕ
 head_sets (head.Plain instruction) = sets instruction
 head_sets _ = []

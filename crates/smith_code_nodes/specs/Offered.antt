@@ -18,7 +18,7 @@ unfoldable pub offered : (ℕ → Bool) → ℕ → List ℕ
 offered test zero = []
 offered test (suc n) = offered test n ++ (if test n then n ∷ [] else [])
 
--- only the 64 innermost labels may be chosen
+-- the number of labels that may be chosen: the 64 innermost ones
 abbrev pub label_count : BodyContext → ℕ
 label_count context = min (length context.labels) 64
 
@@ -36,7 +36,7 @@ abbrev pub has_default : ValType → Bool
 has_default (Ref reference) = reference.nullable
 has_default _ = true
 
--- a number is among these
+-- whether a number is in a list
 abbrev pub is_among : ℕ → List ℕ → Bool
 is_among n [] = false
 is_among n (m ∷ more) = (m == n) || is_among n more
@@ -97,7 +97,7 @@ is_callable_at types wanted None = false
 abbrev pub is_callable : BodyContext → ValType → ℕ → Bool
 is_callable context wanted index = is_callable_at context.types wanted (function_at context index)
 
--- types, each of which matches the other's
+-- types, each of which matches the wanted type at its place
 abbrev pub are_below : List SubType → List ValType → List ValType → Bool
 are_below types [] [] = true
 are_below types (value ∷ values) (wanted ∷ more) = is_val_below types value wanted && are_below types values more

@@ -1,7 +1,7 @@
 -- The instructions that may trap: the chapter Execution, Instructions, of the WebAssembly Core
--- Specification 3.0. Atomic accesses are those of the threads proposal. A call traps where the
--- function that it calls does, which is judged there; that stacks and memory are limited is no trap
--- of an instruction.
+-- Specification 3.0. Atomic accesses are those of the threads proposal. A call is not counted as a
+-- trap: the instructions of the called function are judged there. Nor are the limits of stacks and
+-- memory.
 use Rattle.std.specs.Prelude.{◌≡◌, Bool, true, false, IsTrue}
 use Rattle.smith_instr.specs.declared.aggregate.AggregateInstr.{AggregateInstr}
 use Rattle.smith_instr.specs.declared.aggregate.AggregateInstr.TheVariants as aggregate
@@ -20,7 +20,7 @@ use Rattle.smith_instr.specs.declared.reference.ReferenceInstr.TheVariants as re
 use Rattle.smith_instr.specs.declared.table.TableInstr.{TableInstr}
 use Rattle.smith_instr.specs.declared.table.TableInstr.TheVariants as table
 
--- by zero, or past the greatest quotient (Execution, Integer Operations, idiv and irem)
+-- division by zero, or past the greatest quotient (Execution, Integer Operations, idiv and irem)
 abbrev pub divides : IntBinary → Bool
 divides int_binary.DivS = true
 divides int_binary.DivU = true
@@ -28,7 +28,7 @@ divides int_binary.RemS = true
 divides int_binary.RemU = true
 divides _ = false
 
--- of a NaN, of an infinity, or out of range (Execution, Conversions, trunc)
+-- truncation of a NaN, of an infinity, or out of range (Execution, Conversions, trunc)
 abbrev pub truncates : Conversion → Bool
 truncates convert.I32TruncF32S = true
 truncates convert.I32TruncF32U = true
@@ -47,14 +47,14 @@ may_numeric_trap (numeric.I64Binary op) = divides op
 may_numeric_trap (numeric.Convert op) = truncates op
 may_numeric_trap _ = false
 
--- of null, or of a reference of another type (Execution, Reference Instructions)
+-- a use of null, or of a reference of another type (Execution, Reference Instructions)
 abbrev pub may_reference_trap : ReferenceInstr → Bool
 may_reference_trap reference.AsNonNull = true
 may_reference_trap (reference.Cast to) = true
 may_reference_trap _ = false
 
--- past the end of a table or of an element segment (Execution, Table Instructions); a table that
--- doesn't grow is no trap
+-- an access past the end of a table or of an element segment (Execution, Table Instructions); a
+-- table that doesn't grow is no trap
 abbrev pub may_table_trap : TableInstr → Bool
 may_table_trap (table.Get index) = true
 may_table_trap (table.Set index) = true
@@ -63,15 +63,16 @@ may_table_trap (table.Copy to from) = true
 may_table_trap (table.Init index segment) = true
 may_table_trap _ = false
 
--- past the end of a memory or of a data segment (Execution, Memory Instructions); a memory that
--- doesn't grow is no trap
+-- an access past the end of a memory or of a data segment (Execution, Memory Instructions); a
+-- memory that doesn't grow is no trap
 abbrev pub may_memory_trap : MemoryInstr → Bool
 may_memory_trap (memory.Fill index) = true
 may_memory_trap (memory.Copy to from) = true
 may_memory_trap (memory.Init index segment) = true
 may_memory_trap _ = false
 
--- of null, or past the end of an array or of a segment (Execution, Aggregate Instructions)
+-- a use of null, or an access past the end of an array or of a segment (Execution, Aggregate
+-- Instructions)
 abbrev pub may_aggregate_trap : AggregateInstr → Bool
 may_aggregate_trap (aggregate.StructGet ty field extension) = true
 may_aggregate_trap (aggregate.StructSet ty field) = true

@@ -248,8 +248,8 @@ fn is_head_allowed(scope: &Scope<'_>, head: &Head) -> bool
     }
 }
 
-/// Whether a `try_table` of the type `ty` is allowed in `scope`: where `throw` is, and a `block`
-/// of that type.
+/// Whether a `try_table` of the type `ty` is allowed in `scope`: if `throw` and a `block` of that
+/// type are.
 fn is_try_allowed(scope: &Scope<'_>, ty: BlockType, sides: &Sides) -> bool
     ensures exact { (clauses : List Clause) → result ≡ (is_permitted (features_in scope.now.features) scope.now.config.now (instr.TryTable ty clauses) && is_drop_allowed (features_in scope.now.features) scope.now.config.now (length sides.now.params)) }
     ensures drops { IsTrue result → 0 < length sides.now.params → IsAllowedIn scope.now instr.Drop }

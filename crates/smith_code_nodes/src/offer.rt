@@ -5,7 +5,7 @@ ghost use Rattle.smith_code_nodes.specs.Offered.{offered};
 
 use smith_bytes::Unstructured;
 
-/// Row of items, some of which are offered.
+/// A row of items, some of which are offered.
 pub trait Offer {
     /// The condition on the row under which items may be tested.
     ghost ready: { Self → Type 0 };

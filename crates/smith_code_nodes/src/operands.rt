@@ -8,7 +8,7 @@ use smith_instr::Instr;
 use smith_types::{FieldType, Items, ValType, unpacked};
 use std::alloc::Global;
 
-/// Lists the types of the values that `fields` take.
+/// Lists the types of the values that `fields` hold.
 pub fn field_values(alloc: Global, fields: &[FieldType]) -> Result<Items<ValType>, Error>
     ensures exact { IfOk result (λ values. values ≡ field_values fields.now) }
     ensures memory { IfErr result (λ e. e ≡ Error.Memory) }

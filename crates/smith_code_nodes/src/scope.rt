@@ -13,8 +13,8 @@ use smith_types::{
 pub struct Scope<'a> {
     /// The features that are on.
     pub features: WasmFeatures,
-    /// The configuration, which says the kinds of instructions that are allowed, whether they may
-    /// trap, and where accesses to memories lie.
+    /// The configuration: the allowed kinds of instructions, whether they may trap, and the weights
+    /// of offsets into memories.
     pub config: &'a Config,
     /// The types.
     pub types: &'a TypeSpace,
