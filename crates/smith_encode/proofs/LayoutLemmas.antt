@@ -1,4 +1,4 @@
--- What the sections as they are written say of a module.
+-- The written sections of a module are those of its parts.
 use Rattle.std.proofs.Common.{◌≡◌, ℕ, Bool, true, false, List, [], ◌∷◌, ◌++◌, Option, Some, None, length, ◌≤◌, refl, sym, subst, ap, ◌∙◌, arith, append_assoc, append-nil}
 use Rattle.std.specs.Prelude.{map, ◌||◌, is_some}
 use Rattle.std.specs.List.{zip}
@@ -37,15 +37,15 @@ regrouped h = record {
   whole = h.whole ∙ ap (λ (bytes : List ℕ). bytes ++ h.second) h.is_first.whole ∙ append_assoc h.is_first.first h.is_first.second h.second;
 }
 
--- pieces in order, each read as something else
+-- pieces in order, each with a property that implies another
 pub both_as : {A B V W : List ℕ → Type 0} (piece : List ℕ) → ((p : List ℕ) → A p → V p) → ((p : List ℕ) → B p → W p) → Joined A B piece → Joined V W piece
 both_as piece one other h = record { first = h.first; second = h.second; is_first = one h.first h.is_first; is_second = other h.second h.is_second; whole = h.whole }
 
--- a piece, then another that is read as something else
+-- a piece, then another with a property that implies another
 behind : {First Second Other : List ℕ → Type 0} → ((piece : List ℕ) → Second piece → Other piece) → (piece : List ℕ) → Joined First Second piece → Joined First Other piece
 behind weaker piece h = both_as piece (λ p same. same) weaker h
 
--- a section that is left out where it says nothing
+-- a section that is left out if it is empty
 optional : (is_written : Bool) (id : ℕ) (SaysNothing : Type 0) (Content Other : List ℕ → Type 0) → (is_written ≡ false → SaysNothing) → ((p : List ℕ) → Content p → Other p) → (piece : List ℕ) → IsSectionIf is_written id Content piece
     → IsOptionalSection id SaysNothing Other piece
 optional true id SaysNothing Content Other nothing weaker piece h = IsOptionalSection.present (record {
@@ -60,7 +60,7 @@ optional false id SaysNothing Content Other nothing weaker piece h = IsOptionalS
 list_optional : {A : Type 0} (is_written : Bool) (id : ℕ) (Item : A → List ℕ → Type 0) (xs : List A) → (is_written ≡ false → xs ≡ []) → (piece : List ℕ) → IsSectionIf is_written id (IsList Item xs) piece → IsListSection id Item xs piece
 list_optional is_written id Item xs nothing piece h = optional is_written id (xs ≡ []) (IsList Item xs) (IsList Item xs) nothing (λ p content. content) piece h
 
--- a list that is not filled
+-- a list that is not filled is empty
 pub not_filled : {A : Type 0} (xs : List A) → is_filled xs ≡ false → xs ≡ []
 not_filled [] e = refl
 not_filled (x ∷ xs) e = absurd (let past : length (x ∷ xs) ≤ 0 = ltb-false 0 (length (x ∷ xs)) e in omega arith)
@@ -82,7 +82,7 @@ none_mapped f xs e = ap (map f) (not_filled xs e)
 grouped : (groups : List Imports) (piece : List ℕ) → IsList IsImportGroup groups piece → IsImports (flattened groups) piece
 grouped groups piece h = record { groups = groups; grouped = refl; form = h }
 
--- the section of a list that is written by what its items mean
+-- the section of a list, by the meaning of its items
 mapped_optional : {A B : Type 0} (is_written : Bool) (id : ℕ) (Written : A → List ℕ → Type 0) (Item : B → List ℕ → Type 0) (f : A → B) → ((x : A) (piece : List ℕ) → Written x piece → Item (f x) piece) → (xs : List A) → (is_written ≡ false → map f xs ≡ [])
     → (piece : List ℕ) → IsSectionIf is_written id (IsList Written xs) piece → IsListSection id Item (map f xs) piece
 mapped_optional is_written id Written Item f weaker xs nothing piece h =
@@ -127,7 +127,7 @@ pub module_around : (m : ModuleParts) (Bodies : List ℕ → Type 0) (piece : Li
     → IsModuleAround (contents_of m) (IsSectionIf (is_filled m.code) 10 Bodies) piece
 module_around m Bodies piece h = both_as piece (λ p preamble. preamble) (λ p rest. front_is m (λ q later. middle_is m (back_is m Bodies) q later) p rest) h
 
--- a module whose code section is read as something else
+-- a module whose code section has a property that implies another
 pub around_as : (m : Contents) (Code Other : List ℕ → Type 0) → ((piece : List ℕ) → Code piece → Other piece) → (piece : List ℕ) → IsModuleAround m Code piece → IsModuleAround m Other piece
 around_as m Code Other weaker piece h =
     let last : (p : List ℕ) → Joined Code (IsListSection 11 IsData m.segments) p → Joined Other (IsListSection 11 IsData m.segments) p = λ p. both_as p weaker (λ q same. same) in

@@ -1,4 +1,4 @@
--- Sections by what their items mean in a module.
+-- Sections by the meaning of their items in a module.
 use Rattle.std.proofs.Common.{◌≡◌, ℕ, ◌+◌, ◌-◌, ◌*◌, [], ◌∷◌, ◌<◌, ◌≤◌, ◌^◌, ◌⊎◌, Bool, true, false, List, length, Result, Ok, Err, sym, subst, ap, ◌∙◌, arith, inl, inr}
 use Rattle.std.specs.Prelude.{map, Any, IfErr, IsErrAnd}
 use Rattle.std.proofs.lemmas.List.{length-map, get_or-map}
@@ -11,7 +11,7 @@ use Rattle.smith_sections.specs.Sections.{IsSectionIf}
 use Rattle.smith_sections.specs.Long.{IsLongList, IsLongContent, IsLongSection, IsNeverLong}
 use Rattle.smith_sections.proofs.ListLemmas.{list_as, list_mapped}
 
--- a section of a list by what its items mean
+-- a section of a list, by the meaning of its items
 pub section_mapped : {A B : Type 0} (is_written : Bool) (id : ℕ) (P : B → List ℕ → Type 0) (f : A → B) (xs : List A) (piece : List ℕ) → IsSectionIf is_written id (IsList (λ (x : A). P (f x)) xs) piece → IsSectionIf is_written id (IsList P (map f xs)) piece
 section_mapped true id P f xs piece h = record {
   first = h.first;
@@ -39,19 +39,19 @@ handed_on {P = P} {Q = Q} (Err y) e is weaker h = fault_as y weaker (subst (λ (
 any_mapped : {A B : Type 0} (P : B → Type 0) (f : A → B) (xs : List A) → Any (λ (x : A). P (f x)) xs → Any P (map f xs)
 any_mapped P f xs h = (h.0, f h.1, subst (λ (n : ℕ). h.0 < n) (sym (length-map xs f)) h.2, get_or-map f xs h.0 h.1 (f h.1) h.2 ∙ ap f h.3, h.4)
 
--- a section is too long by what its items mean
+-- a section is too long, by the meaning of its items
 pub long_mapped : {A B : Type 0} (P : B → List ℕ → Type 0) (IsLong : B → Type 0) (f : A → B) (xs : List A)
     → IsLongList (λ (x : A). IsLong (f x)) xs ⊎ IsLongContent (IsList (λ (x : A). P (f x)) xs) → IsLongSection P IsLong (map f xs)
 long_mapped P IsLong f xs (inl (inl many)) = inl (inl (subst (λ (n : ℕ). 2 ^ 32 ≤ n) (sym (length-map xs f)) many))
 long_mapped P IsLong f xs (inl (inr some)) = inl (inr (any_mapped IsLong f xs some))
 long_mapped P IsLong f xs (inr content) = inr (record { piece = content.piece; spelled = list_mapped P f xs content.piece content.spelled; long = content.long })
 
--- a list is too long where its items are spelled by something else too
+-- a list stays too long if its items have a spelling that implies another
 pub long_as : {A : Type 0} {IsLong : Type 0} {P Q : A → List ℕ → Type 0} → ((x : A) (piece : List ℕ) → P x piece → Q x piece) → (xs : List A) → IsLong ⊎ IsLongContent (IsList P xs) → IsLong ⊎ IsLongContent (IsList Q xs)
 long_as weaker xs (inl long) = inl long
 long_as {P = P} {Q = Q} weaker xs (inr content) = inr (record { piece = content.piece; spelled = list_as P Q weaker xs content.piece content.spelled; long = content.long })
 
--- where no item is
+-- a section whose items are never too long by themselves
 pub pairs_mapped : {A B : Type 0} (P : B → List ℕ → Type 0) (f : A → B) (xs : List A)
     → (2 ^ 32 ≤ length xs) ⊎ IsLongContent (IsList (λ (x : A). P (f x)) xs) → IsLongSection P IsNeverLong (map f xs)
 pairs_mapped P f xs (inl many) = inl (inl (subst (λ (n : ℕ). 2 ^ 32 ≤ n) (sym (length-map xs f)) many))

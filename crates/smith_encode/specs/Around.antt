@@ -12,7 +12,7 @@ use Rattle.smith_sections.specs.Data.{IsData}
 use Rattle.smith_sections.specs.Sections.{IsOptionalSection, IsListSection}
 use Rattle.smith_sections.specs.Modules.{Contents, IsPreamble, IsStartSection, IsDataCount}
 
--- a module as `IsModule` says, whose code section, or what stands in its place, is this
+-- a module as in `IsModule`, with these bytes for its code section
 abbrev pub IsModuleAround : Contents → (List ℕ → Type 0) → List ℕ → Type 0
 IsModuleAround m Code =
     Joined IsPreamble

@@ -10,7 +10,7 @@ use Rattle.smith_sections.specs.Codes.{body_of}
 use Rattle.smith_sections.specs.Data.{data_of}
 use Rattle.smith_sections.specs.Modules.{Contents}
 
--- the last items of an index space: what is defined comes after what is imported (Structure, Indices)
+-- the last items of an index space: defined items come after imported ones (Structure, Indices)
 abbrev pub defined : {A : Type 0} → ℕ → List A → List A
 defined count space = drop (length space - count) space
 

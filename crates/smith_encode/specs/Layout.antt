@@ -1,4 +1,4 @@
--- Which sections of a module are written.
+-- The sections of a module that are written.
 use Rattle.std.specs.Prelude.{ℕ, Bool, true, false, ◌&&◌, ◌||◌, nat_lt, is_some, List, [], ◌∷◌, ◌++◌, length}
 use Rattle.smith_binary.specs.Pieces.{Joined, Each, IsSection}
 use Rattle.smith_rules.specs.Module.{ModuleParts}
@@ -8,19 +8,19 @@ use Rattle.smith_encode.specs.Contents.{defined}
 abbrev pub is_filled : {A : Type 0} → List A → Bool
 is_filled xs = nat_lt 0 (length xs)
 
--- the section of this identifier, where it is written
+-- the section of this identifier, if it is written
 abbrev pub id_if : Bool → ℕ → List ℕ
 id_if true id = id ∷ []
 id_if false id = []
 
--- the type and import sections are written where the module's flags say so, and where they aren't empty
+-- the type and import sections are written if the module's flags are set, or if they aren't empty
 abbrev pub writes_types : ModuleParts → Bool
 writes_types m = m.encodes_types || is_filled m.groups
 
 abbrev pub writes_imports : ModuleParts → Bool
 writes_imports m = m.encodes_imports || is_filled m.imports
 
--- the number of data segments is stated where bulk memory is on and there is one
+-- the number of data segments is stated if bulk memory is on and there is one
 abbrev pub writes_data_count : ModuleParts → Bool
 writes_data_count m = m.config.bulk_memory_enabled && is_filled m.segments
 

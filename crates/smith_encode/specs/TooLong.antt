@@ -1,4 +1,4 @@
--- What makes a module too long for the binary format.
+-- Modules that are too long for the binary format.
 use Rattle.smith_rules.specs.Module.{ModuleParts}
 use Rattle.smith_sections.specs.Types.{IsRecGroup}
 use Rattle.smith_sections.specs.Instructions.{IsIndex}

@@ -20,7 +20,7 @@ use Rattle.smith_sections.specs.Modules.{IsPreamble, IsStartSection}
 use Rattle.smith_encode.specs.Contents.{defined, contents_of}
 use Rattle.smith_encode.specs.Layout.{is_filled, writes_types, writes_imports, writes_data_count}
 
--- up to the section of the tables
+-- the sections up to the table section
 abbrev pub IsFront : ModuleParts → List ℕ → Type 0
 IsFront m =
     Joined (IsSectionIf (writes_types m) 1 (IsList IsRecGroup (contents_of m).types))
@@ -28,14 +28,14 @@ IsFront m =
     (Joined (IsSectionIf (is_filled (defined m.num_defined_funcs m.funcs)) 3 (IsList IsIndex (contents_of m).functions))
     (IsSectionIf (is_filled m.defined_tables) 4 (IsList IsTableWritten (zip (defined (length m.defined_tables) m.tables) m.defined_tables)))))
 
--- up to the section of the exports
+-- the sections up to the export section
 abbrev pub IsMiddle : ModuleParts → List ℕ → Type 0
 IsMiddle m =
     Joined (IsSectionIf (is_filled (defined m.num_defined_memories m.memories)) 5 (IsList IsMemoryType (contents_of m).memories))
     (Joined (IsSectionIf (is_filled (defined m.num_defined_tags m.tags)) 13 (IsList IsTagType (contents_of m).tags))
     (Joined (IsSectionIf (is_filled m.defined_globals) 6 (IsList IsGlobal (contents_of m).globals)) (IsSectionIf (is_filled m.exports) 7 (IsList IsExport m.exports))))
 
--- the others, where this spells the content of the code section
+-- the other sections, if this spells the content of the code section
 abbrev pub IsBack : ModuleParts → (List ℕ → Type 0) → List ℕ → Type 0
 IsBack m Bodies =
     Joined (IsStartSection m.start)
@@ -43,7 +43,7 @@ IsBack m Bodies =
     (Joined (IsSectionIf (writes_data_count m) 12 (IsUnsigned 32 (length m.segments)))
     (Joined (IsSectionIf (is_filled m.code) 10 Bodies) (IsSectionIf (is_filled m.segments) 11 (IsList IsDataWritten m.segments)))))
 
--- a module as it is written, where this spells the content of the code section
+-- a module as it is written, if this spells the content of the code section
 abbrev pub IsWritten : ModuleParts → (List ℕ → Type 0) → List ℕ → Type 0
 IsWritten m Bodies = Joined IsPreamble (Joined (IsFront m) (Joined (IsMiddle m) (IsBack m Bodies)))
 

@@ -20,7 +20,7 @@ use smith_sections::{Bodies, Encode, Listed, write_preamble};
 use std::alloc::Global;
 use wasm_smith::Module;
 
-// Writes the sections up to that of the tables.
+// Writes the sections up to the table section.
 fn write_front(module: &Module, sink: &mut Sink) -> Result<(), EncodeError>
     ensures writes { OnOk result (Writes (IsFront «module».now) sink.old sink.new) }
     ensures fault { IfErr result (IsFault (IsTooLong «module».now)) }
@@ -31,7 +31,7 @@ fn write_front(module: &Module, sink: &mut Sink) -> Result<(), EncodeError>
     write_tables(module, sink)
 }
 
-// Writes the sections from that of the memories to that of the exports.
+// Writes the sections from the memory section to the export section.
 fn write_middle(module: &Module, sink: &mut Sink) -> Result<(), EncodeError>
     ensures writes { OnOk result (Writes (IsMiddle «module».now) sink.old sink.new) }
     ensures fault { IfErr result (IsFault (IsTooLong «module».now)) }
@@ -42,7 +42,7 @@ fn write_middle(module: &Module, sink: &mut Sink) -> Result<(), EncodeError>
     write_exports(module, sink)
 }
 
-// Writes the sections from that of the start function on, with `bodies` in the code section.
+// Writes the sections from the start section on, with `bodies` in the code section.
 fn write_back<B: Encode>(module: &Module, bodies: &B, sink: &mut Sink) -> Result<(), EncodeError>
     ensures writes { OnOk result (Writes (IsBack «module».now (B.spells bodies.now)) sink.old sink.new) }
     ensures fault { IfErr result (IsFault (IsTooLong «module».now ⊎ (B.is_long bodies.now ⊎ IsLongContent (B.spells bodies.now)))) }
@@ -54,20 +54,23 @@ fn write_back<B: Encode>(module: &Module, bodies: &B, sink: &mut Sink) -> Result
     write_segments(module, sink)
 }
 
-/// Encodes `module` in the binary format of the WebAssembly Core Specification 3.0 (chapter Binary Format), in fresh memory of
-/// `alloc`.
+/// Encodes `module` in the binary format of the WebAssembly Core Specification 3.0 (chapter Binary
+/// Format), in new memory from `alloc`.
 ///
-/// A type or import section is written where the module's flag says so or it isn't empty (groups without types count). The number of
-/// data segments is stated before the bodies where there is one and the configuration of the module enables bulk memory. Other
-/// sections are written where they aren't empty.
+/// A type or import section is written if the module's flag is set or the section isn't empty
+/// (groups without types count). The number of data segments is stated before the bodies if there
+/// is one and the configuration of the module enables bulk memory. Other sections are written if
+/// they aren't empty.
 ///
-/// An active segment names its table or memory only where that is not the first, or where its items are of a type that the short
-/// form can't state, so that tools without bulk memory read as many modules as possible. A body that is not raw begins with the
-/// check of each counter of fuel, the last one first.
+/// An active segment names its table or memory only if that is not the first, or if its items have
+/// a type that the short form can't state. So tools without bulk memory can read as many modules as
+/// possible. A body that is not raw begins with the check of each counter of fuel, the last one
+/// first.
 ///
 /// # Errors
 ///
-/// `TooLong` where a list has 2^32 items or more, or a section or a body 2^32 bytes or more; `Memory` for want of memory.
+/// `TooLong` if a list has 2^32 items or more, or a section or a body 2^32 bytes or more; `Memory`
+/// for lack of memory.
 pub fn encode(alloc: Global, module: &Module) -> Result<Vec<u8>, EncodeError>
     ensures spelled { IfOk result (λ bytes. IsModule (contents_of «module».now) bytes.items) }
     ensures sections { IfOk result (λ bytes. HasSections (section_ids «module».now) bytes.items) }
@@ -83,12 +86,13 @@ pub fn encode(alloc: Global, module: &Module) -> Result<Vec<u8>, EncodeError>
     encode_with_bodies(alloc, module, &bodies)
 }
 
-/// Encodes `module` as [`encode`] does, but for the code section, whose content is `bodies`. The section is written where the module
-/// defines a function.
+/// Encodes `module` as [`encode`] does, except for the code section, whose content is `bodies`. The
+/// section is written if the module defines a function.
 ///
 /// # Errors
 ///
-/// `TooLong` as for [`encode`], or where `bodies` have a list of 2^32 items or more, or 2^32 bytes or more; `Memory` for want of memory.
+/// `TooLong` as for [`encode`], or if `bodies` have a list of 2^32 items or more, or 2^32 bytes or
+/// more; `Memory` for lack of memory.
 pub fn encode_with_bodies<B: Encode>(
     alloc: Global,
     module: &Module,

@@ -31,7 +31,7 @@ fn is_filled<T>(items: &[T]) -> bool
     !items.is_empty()
 }
 
-// The last `count` items of an index space, which are those that are defined.
+// Returns the last `count` items of an index space: the defined ones.
 fn defined<T>(space: &[T], count: usize) -> &[T]
     ensures { result.now ≡ defined count space.now }
 {

@@ -15,7 +15,7 @@ use Rattle.smith_encode.proofs.LayoutLemmas.{around_as, code_section}
 use Rattle.smith_encode.proofs.MappedLemmas.{fault_weaker, long_mapped}
 use Rattle.smith_encode.proofs.modules.encode.Goals as goal
 
--- its bodies are too long, or other parts are
+-- the bodies of a module are too long, or other parts are
 too_long : (m : ModuleParts) → IsTooLong m ⊎ (IsLongList (λ (code : Code). IsLongBody (body_of m.fuel_globals code)) m.code ⊎ IsLongContent (AreOwnBodies m)) → IsTooLong m
 too_long m (inl other) = other
 too_long m (inr long) = IsTooLong.bodies (long_mapped IsBody IsLongBody (body_of m.fuel_globals) m.code long)
