@@ -112,7 +112,7 @@ flags_back false false false false = refl
 flags_same : IsUnambiguous (λ (f : Flags). IsByte (flags_byte f))
 flags_same = code_is_unambiguous flags_byte flags_of (λ f. flags_back f.maximum f.shared f.wide f.page)
 
--- the flags of limits by what they say
+-- the flags of limits, by their meaning
 abbrev of_limits : Option ℕ → Bool → Bool → Option ℕ → Flags
 of_limits maximum shared wide page = record { maximum = is_there maximum; shared = shared; wide = wide; page = is_there page }
 
@@ -132,7 +132,7 @@ page_same (Some m) None piece more rest other s h k e = cc
 page_same None (Some n) piece more rest other s h k e = cc
 page_same None None piece more rest other s h k e = record { item = refl; after = (same_front piece more rest other (ap length (h ∙ sym k)) e).after }
 
--- the numbers of limits, where both have a maximum or neither has
+-- the numbers of limits, if both have a maximum or neither has
 record SameRange (a b : ℕ) (x y : Option ℕ) (rest other : List ℕ) : Type 0 where
   minimum : a ≡ b
   maximum : x ≡ y

@@ -22,13 +22,13 @@ joined_begins Test First Second piece begins h =
 pub begins_as : (Test Other : ℕ → Type 0) (piece : List ℕ) → ((byte : ℕ) → Test byte → Other byte) → Begins Test piece → Begins Other piece
 begins_as Test Other piece weaker h = record { head = h.head; tail = h.tail; whole = h.whole; test = weaker h.head h.test }
 
--- pieces that begin apart are not in one place
+-- pieces that begin with different bytes are not in one place
 pub apart : (Test Other : ℕ → Type 0) (piece more rest other : List ℕ) → Begins Test piece → Begins Other more → piece ++ rest ≡ more ++ other → ((byte : ℕ) → Test byte → Other byte → ⊥) → ⊥
 apart Test Other piece more rest other h k e never =
     let heads : h.head ≡ k.head = same_head (ap (λ (bytes : List ℕ). bytes ++ rest) (sym h.whole) ∙ e ∙ ap (λ (bytes : List ℕ). bytes ++ other) k.whole) in
     never k.head (subst Test heads h.test) k.test
 
--- bytes for values
+-- values that are each one byte
 pub code_is_unambiguous : {A : Type 0} (code : A → ℕ) (decode : ℕ → A) → ((x : A) → decode (code x) ≡ x) → IsUnambiguous (λ (x : A). IsByte (code x))
 code_is_unambiguous code decode back = record {
   one = λ x y piece more rest other h k e.

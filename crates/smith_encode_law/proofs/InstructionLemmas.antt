@@ -139,7 +139,7 @@ alike x y piece more rest other h k e =
     let one = key_same (nat_le 0xFB (first_of x)) (nat_le 0xFB (first_of y)) (first_of x) (first_of y) (number_of x) (number_of y) a.first b.first (a.second ++ rest) (b.second ++ other) refl refl a.is_first b.is_first turned in
     both_true (first_of x) (first_of y) (number_of x) (number_of y) one.first one.number
 
--- instructions of one kind differ in what comes after the kind
+-- instructions of one kind differ in the bytes after the kind
 alike_same : (x y : ConstInstr) (piece more rest other : List ℕ) → is_alike x y ≡ true → IsInstr x piece → IsInstr y more → piece ++ rest ≡ more ++ other → Same x y rest other
 alike_same (instr.I32Const value) (instr.I32Const value') piece more rest other same h k e = let one = joined_same {x = 0x41} {y = 0x41} byte_is_unambiguous (signed_is_unambiguous 32) h k e in record { item = ap instr.I32Const one.second; after = one.after }
 alike_same (instr.I64Const value) (instr.I64Const value') piece more rest other same h k e = let one = joined_same {x = 0x42} {y = 0x42} byte_is_unambiguous (signed_is_unambiguous 64) h k e in record { item = ap instr.I64Const one.second; after = one.after }

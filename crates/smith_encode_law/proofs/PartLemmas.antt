@@ -18,7 +18,7 @@ any_more false b h = h
 any_here : (b id : ℕ) (rest : Bool) → b ≡ id → ((b == id) || rest) ≡ true
 any_here b id rest same = rw (eq-eqb b id same)
 
--- bytes that begin with one of these bytes, or are none
+-- bytes that are empty or begin with one of these bytes
 abbrev BeginsIn : List ℕ → List ℕ → Type 0
 BeginsIn ids [] = Unit {0}
 BeginsIn ids (byte ∷ bytes) = list_any (λ (id : ℕ). byte == id) ids ≡ true
@@ -31,7 +31,7 @@ BeginsElse id (byte ∷ bytes) = byte ≢ id
 section_begins : (id : ℕ) (Content : List ℕ → Type 0) (piece : List ℕ) → IsSection id Content piece → Begins (λ (b : ℕ). b ≡ id) piece
 section_begins id Content piece h = joined_begins _ _ _ piece (λ first one. byte_begins _ id first refl one) h
 
--- the identifier is none of these
+-- an identifier is none of these
 abbrev pub IsNew : ℕ → List ℕ → Type 0
 IsNew id ids = list_any (λ (later : ℕ). id == later) ids ≡ false
 
@@ -60,7 +60,7 @@ not_here id Content piece more rest other h none after e =
 both_none : (piece more rest other : List ℕ) → piece ≡ [] → more ≡ [] → piece ++ rest ≡ more ++ other → rest ≡ other
 both_none piece more rest other p q e = ap (λ (bytes : List ℕ). bytes ++ rest) (sym p) ∙ e ∙ ap (λ (bytes : List ℕ). bytes ++ other) q
 
--- a section of this identifier, or none: it has one meaning where what comes after it begins otherwise
+-- a section of this identifier, or none: it has one meaning if the bytes after it begin otherwise
 pub record Part {A : Type 0} (id : ℕ) (Spells : A → List ℕ → Type 0) : Type 0 where
   pub one : (x y : A) (piece more rest other : List ℕ) → BeginsElse id rest → BeginsElse id other → Spells x piece → Spells y more → piece ++ rest ≡ more ++ other → Same x y rest other
   pub begins : (x : A) (ids piece rest : List ℕ) → BeginsIn ids rest → Spells x piece → BeginsIn (id ∷ ids) (piece ++ rest)
@@ -76,7 +76,7 @@ optional_same id P SaysNothing P_one nothing x y piece more rest other a b (IsOp
 optional_same id P SaysNothing P_one nothing x y piece more rest other a b (IsOptionalSection.absent n empty) (IsOptionalSection.present k) e = absurd (not_here id (P y) more piece other rest k empty a (sym e))
 optional_same id P SaysNothing P_one nothing x y piece more rest other a b (IsOptionalSection.absent m p) (IsOptionalSection.absent n q) e = record { item = nothing x y m n; after = both_none piece more rest other p q e }
 
--- a section that is left out where it says nothing
+-- a section that is left out if it is empty
 pub optional_part : {A : Type 0} (id : ℕ) (P : A → List ℕ → Type 0) (SaysNothing : A → Type 0) → IsUnambiguousWhole P → ((x y : A) → SaysNothing x → SaysNothing y → x ≡ y)
     → Part id (λ (x : A). IsOptionalSection id (SaysNothing x) (P x))
 optional_part id P SaysNothing P_one nothing = record { one = optional_same id P SaysNothing P_one nothing; begins = optional_begins id P SaysNothing }

@@ -1,4 +1,4 @@
--- Segments that are valid are so in the abstract syntax.
+-- Valid segments are valid in the abstract syntax.
 use Rattle.std.proofs.Common.{◌≡◌, ℕ, Bool, true, false, cond, Some, None, List, [], ◌∷◌, length, refl, sym, subst}
 use Rattle.std.specs.Prelude.{All, nat_le}
 use Rattle.std.proofs.lemmas.List.Elements.{All-map, All-weaker}
@@ -60,7 +60,7 @@ not_null : (defined descriptors : Bool) (index : ℕ) → (heap_type : HeapType)
 not_null true descriptors index = (cond descriptors (Exact index) (Concrete index), refl)
 not_null false descriptors index = (Concrete index, refl)
 
--- what is below `funcref` and not null is below the type of functions that is not null
+-- a non-nullable type that matches `funcref` matches the non-nullable type of functions
 below_func : (types : List SubType) (value : ValType) (heap_type : HeapType) → value ≡ reference_to heap_type → IsValBelow types value (Ref funcref) → IsValBelow types value (Ref (func_ref false))
 below_func types value heap_type is below =
     let as_reference : IsRefBelow types (record { nullable = false; heap_type = heap_type }) funcref = subst (λ (one : ValType). IsValBelow types one (Ref funcref)) is below in
@@ -85,7 +85,7 @@ items_typed context ty (Functions functions) valid listed =
 items_typed context ty (Expressions expressions) valid listed =
     All-weaker (IsConstExpr context (Ref ty)) (IsTyped context (Ref ty)) (without_features context (Ref ty)) expressions valid.1
 
--- the type of an element segment in the abstract syntax is its own, or below it
+-- the type of an element segment in the abstract syntax matches its own
 pub element_type_below : (types : List SubType) (items : Elements) (ty : RefType) → AreListedAsFuncref items ty → IsRefBelow types (element_type items ty) ty
 element_type_below types (Functions functions) ty listed = rw listed (record { heap = itself; nullable = λ is. refl })
 element_type_below types (Expressions expressions) ty listed = record { heap = itself; nullable = λ is. is }

@@ -280,7 +280,7 @@ shape_begins : (shared : Bool) (t : CompositeInnerType) (piece : List ℕ) → J
 shape_begins true t piece h = joined_begins _ _ _ piece (λ first one. byte_begins _ 0x65 first refl one) h
 shape_begins false t piece h = begins_as _ _ piece (inner_within t) (inner_begins t piece (unshared_whole t piece h))
 
--- a bool and what comes after it
+-- a bool, then other bytes
 record SameShape (m n : Bool) (x y : CompositeInnerType) (rest other : List ℕ) : Type 0 where
   pub shared : m ≡ n
   pub inner : x ≡ y
@@ -330,7 +330,7 @@ same_sub_type x y a b c =
     ∙ ap (λ (s : Option ℕ). record { is_final = y.is_final; supertype = s; composite_type = x.composite_type }) b
     ∙ ap (λ (t : CompositeType). record { is_final = y.is_final; supertype = y.supertype; composite_type = t }) c
 
--- what comes after the first byte of a type in full
+-- the bytes after the first byte of a type in full
 abbrev IsDeclared : SubType → List ℕ → Type 0
 IsDeclared t = Joined (IsByte (final_byte t.is_final)) (Joined (IsList (IsUnsigned 32) (option_to_list t.supertype)) (IsCompositeType t.composite_type))
 

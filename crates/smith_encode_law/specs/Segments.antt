@@ -1,5 +1,6 @@
--- Valid segments in the abstract syntax: the section Validation, Modules, of the WebAssembly Core Specification 3.0, whatever
--- features are on. References are below others with the own rules of `Subtyping`.
+-- Valid segments in the abstract syntax: the section Validation, Modules, of the WebAssembly Core
+-- Specification 3.0, for any features. References match others also by the own rules of
+-- `Subtyping`.
 use Rattle.std.specs.Prelude.{◌≡◌, ℕ, List, [], ◌∷◌, Some, slice_get, All}
 use Rattle.smith_types.specs.Expressions.{Context, AreStackSteps}
 use Rattle.smith_types.specs.Flags.{funcref}
@@ -17,7 +18,7 @@ use Rattle.smith_sections.specs.Elements.{Element, Mode, passive, declared, acti
 use Rattle.smith_sections.specs.Data.{Data, DataMode}
 use Rattle.smith_sections.specs.Data as data_segment
 
--- an expression gives one value below the wanted type (Constant Expressions)
+-- an expression produces one value that matches the wanted type (Constant Expressions)
 pub record IsTyped (context : Context) (wanted : ValType) (expression : List ConstInstr) : Type 0 where
   pub value : ValType
   pub steps : AreStackSteps context expression [] (value ∷ [])
@@ -35,13 +36,14 @@ IsModeTyped context tables ty passive = Unit {0}
 IsModeTyped context tables ty declared = Unit {0}
 IsModeTyped context tables ty (active index offset) = IsTaken context tables ty index offset
 
--- an element segment: its type stands, each item gives a reference of it, and a table takes it (Element Segments)
+-- an element segment: its type exists, each item produces a reference of it, and a table takes it
+-- (Element Segments)
 pub record IsElementTyped (context : Context) (tables : List TableType) (e : Element) : Type 0 where
   pub ty : IsInRange context.types e.ty.heap_type
   pub items : All (IsTyped context (Ref e.ty)) e.items
   pub mode : IsModeTyped context tables e.ty e.mode
 
--- a data segment: its memory stands, and its offset is of the memory's addresses (Data Segments)
+-- a data segment: its memory exists, and its offset has the memory's address type (Data Segments)
 abbrev pub IsDataModeTyped : Context → List MemoryType → DataMode → Type 0
 IsDataModeTyped context memories data_segment.passive = Unit {0}
 IsDataModeTyped context memories (data_segment.active index offset) =
@@ -50,7 +52,8 @@ IsDataModeTyped context memories (data_segment.active index offset) =
 abbrev pub IsDataTyped : Context → List MemoryType → Data → Type 0
 IsDataTyped context memories d = IsDataModeTyped context memories d.mode
 
--- items that are listed as functions are of `funcref` (own rule: a binary states no other type of such a list)
+-- items that are listed as functions have the type `funcref` (own rule: a binary states no other
+-- type of such a list)
 abbrev pub AreListedAsFuncref : Elements → RefType → Type 0
 AreListedAsFuncref (Functions functions) ty = ty ≡ funcref
 AreListedAsFuncref (Expressions expressions) ty = Unit {0}

@@ -32,7 +32,7 @@ fn minus_two_has_three_spellings()
     ensures longest { IsSigned 16 (negsuc 1) (0xFE ∷ 0xFF ∷ 0x7F ∷ []) }
 {}
 
-// The last byte has no bit that the integer has no room for.
+// The unused bits of the last byte are clear.
 fn unused_bits_are_kept_clear()
     ensures unsigned { (n : ℕ) → IsUnsigned 8 n (0x83 ∷ 0x10 ∷ []) → ⊥ }
     ensures signed { (z : ℤ) → IsSigned 8 z (0x83 ∷ 0x3E ∷ []) → ⊥ }
@@ -54,7 +54,7 @@ fn element_segments()
     ensures with_a_wide_offset { ¬ IsElementTyped (context_with usual_features 3) (table funcref 2 None ∷ []) (record { ty = func_ref false; items = []; mode = active 0 (I64Const (pos 0) ∷ []) }) }
 {}
 
-// A list of functions of one type: valid as a part of a module, and not in the abstract syntax.
+// A list of functions of one type is valid as a part of a module, but not in the abstract syntax.
 fn lists_of_functions_of_one_type()
     ensures part { IsElementValid (context_with usual_features 3) (table (nullable (Concrete 0)) 1 None ∷ []) (record { kind = kind.Active None (Const32 (pos 0)); ty = nullable (Concrete 0); items = Functions (0 ∷ []) }) }
     ensures listed { ¬ AreListedAsFuncref (Functions (0 ∷ [])) (nullable (Concrete 0)) }

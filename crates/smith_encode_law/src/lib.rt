@@ -1,8 +1,8 @@
-//! What bytes in the binary format say of a module: the grammar of `smith_sections` has one meaning.
+//! Laws of modules in the binary format: the grammar of `smith_sections` is unambiguous.
 #![tactic(auto)]
 
-// Examples: functions that do nothing, whose clauses are what the standard's section Binary Format, Integers, says of spellings of
-// its own, and the empty module.
+// Examples: functions without effect, whose clauses state the examples of the standard's section
+// Binary Format, Integers, and the empty module.
 mod examples;
-/// Laws: functions that do nothing, whose clauses say what holds.
+/// Laws: functions without effect, whose clauses state properties.
 pub mod laws;

@@ -16,7 +16,7 @@ use Rattle.smith_types.proofs.WalkLemmas.{by_cases_from_below}
 use Rattle.smith_sections.specs.Elements.{func_ref}
 use Rattle.smith_encode_law.proofs.examples.lists_of_functions_of_one_type.Goals as goal
 
--- no type of a module is above that of all functions
+-- the type of all functions matches no type of a module
 not_below : ¬ IsBelow context_types (plain heap.Func) (Concrete 0)
 not_below below =
     let (t, at, shares, bottoms) = by_cases_from_below context_types (search rules) (plain heap.Func) (Concrete 0) below in

@@ -4,7 +4,7 @@ use Rattle.smith_sections.specs.Sections.{IsOptionalSection}
 use Rattle.smith_encode_law.proofs.CheckLemmas.{both}
 use Rattle.smith_encode_law.proofs.examples.the_preamble_is_a_module.Goals as goal
 
--- no section, and no other
+-- no section, and no further one
 none : {A B : List ℕ → Type 0} → A [] → B [] → Joined A B []
 none a b = both [] [] a b
 
