@@ -1,4 +1,5 @@
--- Sequences one after another: what is typed from values is typed from values below them.
+-- Sequences one after another: a sequence that is typed from values is typed from values that match
+-- them.
 use Rattle.std.proofs.Common.{◌≡◌, ℕ, List, [], ◌∷◌, ◌++◌, length, refl, sym, subst, ap, ◌∙◌, append_assoc}
 use Rattle.std.specs.List.{AllZip}
 use Rattle.std.proofs.Math.Seq.{take-append_seam}
@@ -13,7 +14,7 @@ use Rattle.smith_instr.specs.declared.instr.Instr.{Instr}
 use Rattle.smith_instr.specs.declared.instr.Instr.TheVariants as instr
 use Rattle.smith_instr.proofs.SequenceLemmas.{below_themselves}
 
--- values below others, in the parts of these
+-- values that match others, split as the others are
 pub zip_parts : {A : Type 0} (R : A → A → Type 0) (xs base top : List A) → AllZip R xs (base ++ top)
     → (front : List A) × (rest : List A) × (xs ≡ front ++ rest) × AllZip R front base × AllZip R rest top
 zip_parts R xs [] top below = ([], xs, refl, tt, below)
@@ -35,11 +36,11 @@ below_all types (x ∷ xs) [] zs first second = absurd first
 below_all types (x ∷ xs) (y ∷ ys) [] first second = absurd second
 below_all types (x ∷ xs) (y ∷ ys) (z ∷ zs) (p, first) (q, second) = (IsValBelow-trans types x y z p q, below_all types xs ys zs first second)
 
--- the first of valid values
+-- the first of some valid values are valid
 valid_front : (context : BodyContext) (front rest : List ValType) → AreValid context (front ++ rest) → AreValid context front
 valid_front context front rest valid = subst (AreValid context) (take-append_seam front rest) (All-take (IsValid context) (length front) (front ++ rest) valid)
 
--- where other values stand after an instruction that found values below the ones before it
+-- the stack after an instruction that applies to values that match those before it
 pub record IsLower (context : BodyContext) (operands results : List ValType) (set : List ℕ) (before between : Stacked) : Type 0 where
   pub stack : List ValType
   pub framed : IsFramed context operands results set before (stacked stack between.set)
@@ -69,7 +70,7 @@ lower context operands results set stack before between counts f =
       };
     }
 
--- from values below those before a sequence
+-- a sequence from values that match those before it
 pub from_below : {context : BodyContext} {xs : List Instr} {before after : Stacked} (stack : List ValType) → CountsAs context stack before.stack
     → AreTyped context xs before after → AreTyped context xs (stacked stack before.set) after
 from_below {context = context} {before = before} {after = after} stack counts (nothing others same) =
@@ -88,7 +89,7 @@ from_below {context = context} {before = before} stack counts (if_else {between 
 from_below {context = context} {before = before} stack counts (try_table {between = between} is fits caught inner framed more) =
     let l = lower context _ _ [] stack before between counts framed in try_table is fits caught inner l.framed (from_below l.stack l.counts more)
 
--- what follows a block follows it when more comes
+-- a block that begins a sequence begins it with more instructions after the sequence
 after_block : (first : Instr) (all body more ys : List Instr) → all ≡ first ∷ (body ++ instr.End ∷ more) → all ++ ys ≡ first ∷ (body ++ instr.End ∷ (more ++ ys))
 after_block first all body more ys is = ap (λ (zs : List Instr). zs ++ ys) is ∙ ap (λ (zs : List Instr). first ∷ zs) (append_assoc body (instr.End ∷ more) ys)
 

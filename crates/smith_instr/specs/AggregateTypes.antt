@@ -1,6 +1,7 @@
--- The types of aggregate instructions: the sections Validation, Aggregate Reference, Scalar Reference and External Reference
--- Instructions, of the WebAssembly Core Specification 3.0.
--- Shared references are an own rule: an instruction on every i31, array or external reference takes either sharedness.
+-- The types of aggregate instructions: the sections Validation, Aggregate Reference, Scalar
+-- Reference and External Reference Instructions, of the WebAssembly Core Specification 3.0. Shared
+-- references are an own rule: an instruction on an i31, an array or an external reference takes
+-- either sharedness.
 use Rattle.std.specs.Prelude.{◌≡◌, ℕ, ◌<◌, Bool, true, false, List, [], ◌∷◌, replicate, slice_get, Some, All}
 use Rattle.smith_types.specs.Expressions.{IsDefaultable, IsStructAt, IsArrayAt, reference_to, unpacked, field_values}
 use Rattle.smith_types.specs.Matching.{IsStorageMatch}
@@ -19,25 +20,28 @@ use Rattle.smith_instr.specs.declared.aggregate.Extension.TheVariants as extensi
 use Rattle.smith_instr.specs.declared.aggregate.AggregateInstr.{AggregateInstr}
 use Rattle.smith_instr.specs.declared.aggregate.AggregateInstr.TheVariants as aggregate
 
--- a field is read with an extension just where it is packed (Validation, Aggregate Instructions, struct.get and array.get)
+-- a field is read with an extension exactly if it is packed (Validation, Aggregate Instructions,
+-- struct.get and array.get)
 abbrev pub IsReadBy : Extension → StorageType → Type 0
 IsReadBy extension.Unpacked (storage.Val value) = Unit {0}
 IsReadBy extension.Unpacked _ = ⊥
 IsReadBy _ (storage.Val value) = ⊥
 IsReadBy _ _ = Unit {0}
 
--- what bytes may fill: packed integers, numbers and vectors (Validation, Aggregate Instructions, array.new_data)
+-- a field that bytes may fill: packed integers, numbers and vectors (Validation, Aggregate
+-- Instructions, array.new_data)
 abbrev pub IsOfBytes : StorageType → Type 0
 IsOfBytes (storage.Val (Ref reference)) = ⊥
 IsOfBytes _ = Unit {0}
 
--- a struct type of these fields, of which this one has this index
+-- a struct type that has this field at this index (Validation, Aggregate Instructions, struct.get)
 pub record IsFieldAt (context : BodyContext) (ty index : ℕ) (field : FieldType) : Type 0 where
   pub fields : List FieldType
   pub structure : IsStructAt context.types ty fields
   pub there : slice_get fields index ≡ Some field
 
--- an element segment whose references an array of this element may hold
+-- an element segment whose references an array of this element may hold (Validation, Aggregate
+-- Instructions, array.new_elem)
 pub record IsSegmentOf (context : BodyContext) (segment : ℕ) (element : FieldType) : Type 0 where
   pub held : RefType
   pub there : slice_get context.elements segment ≡ Some held
@@ -45,11 +49,12 @@ pub record IsSegmentOf (context : BodyContext) (segment : ℕ) (element : FieldT
   pub of_references : element.element_type ≡ storage.Val (Ref reference)
   pub below : IsRefBelow context.types held reference
 
--- the value of an element
+-- the value type of an element, unpacked (Validation, Aggregate Instructions)
 abbrev pub value_of : FieldType → ValType
 value_of element = unpacked element.element_type
 
--- a conversion between references of inside and outside
+-- a conversion between internal and external references (Validation, External Reference
+-- Instructions)
 abbrev pub Converts : List ValType → List ValType → (from into : Bool → ValType) → Type 0
 Converts operands results from into = (nullable : Bool) × To operands results (from nullable ∷ []) (into nullable ∷ [])
 

@@ -1,4 +1,5 @@
--- What an instruction may refer to: the section Validation, Contexts, of the WebAssembly Core Specification 3.0.
+-- The context of an instruction: the section Validation, Contexts, of the WebAssembly Core
+-- Specification 3.0.
 use Rattle.std.specs.Prelude.{◌≡◌, ◌⊎◌, ℕ, ◌<◌, Bool, true, nat_le, List, [], ◌∷◌, length, slice_get, Some, All, if◌then◌else◌}
 use Rattle.std.specs.List.{AllZip, Contains}
 use Rattle.smith_types.specs.Features.{Features}
@@ -19,9 +20,11 @@ use Rattle.smith_types.specs.declared.entity_type.TableType.{TableType}
 use Rattle.smith_instr.specs.declared.control.BlockType.{BlockType}
 use Rattle.smith_instr.specs.declared.control.BlockType.TheVariants as block
 
--- the types and the index spaces, functions and tags by the indices of their types, element segments by their types, data
--- segments by their number; the functions that `ref.func` may name; the locals, the parameters first; what a branch to each
--- label takes, the innermost label first; and the results of the function. Imported functions come first
+-- the types and the index spaces: functions and tags by the indices of their types, element
+-- segments by their types, data segments by their number; the functions that `ref.func` may name;
+-- the locals, parameters first; the types of the operands of a branch to each label, the innermost
+-- label first; and the results of the function. Imported functions come first (Validation,
+-- Contexts)
 pub record BodyContext : Type 0 where
   pub features : Features
   pub types : List SubType
@@ -39,37 +42,38 @@ pub record BodyContext : Type 0 where
   pub labels : List (List ValType)
   pub results : List ValType
 
--- the context with one label more
+-- the context with one more label (Validation, Contexts)
 abbrev pub labelled : BodyContext → List ValType → BodyContext
 labelled context taken = record context { labels = taken ∷ context.labels }
 
--- a value type that is valid (Validation, Value Types)
+-- a valid value type (Validation, Value Types)
 abbrev pub IsValid : BodyContext → ValType → Type 0
 IsValid context value = IsValTypeValid context.features (length context.types) value
 
--- value types that are (Validation, Result Types)
+-- valid value types (Validation, Result Types)
 abbrev pub AreValid : BodyContext → List ValType → Type 0
 AreValid context values = All (IsValid context) values
 
--- a heap type that is valid (Validation, Heap Types)
+-- a valid heap type (Validation, Heap Types)
 abbrev pub IsHeapValid : BodyContext → HeapType → Type 0
 IsHeapValid context heap_type = IsHeapTypeValid context.features (length context.types) heap_type
 
--- a reference type that is valid (Validation, Reference Types)
+-- a valid reference type (Validation, Reference Types)
 abbrev pub IsRefValid : BodyContext → RefType → Type 0
 IsRefValid context reference = IsRefTypeValid context.features (length context.types) reference
 
--- types, each below the other's (Validation, Matching, Result Types)
+-- types, each of which matches the type at its place in `others` (Validation, Matching, Result
+-- Types)
 abbrev pub AreBelow : BodyContext → List ValType → List ValType → Type 0
 AreBelow context values others = AllZip (IsValBelow context.types) values others
 
--- a local of this type, which is set: a parameter, one that has a default, or one that was set (Validation, Local Types;
--- Functions)
+-- a local of this type that is set: a parameter, a local with a default, or one that was set
+-- (Validation, Local Types; Functions)
 abbrev pub IsLocalSet : BodyContext → List ℕ → ℕ → ValType → Type 0
 IsLocalSet context set index value =
     (slice_get context.locals index ≡ Some value) × ((index < context.params) ⊎ (IsDefaultable value ⊎ Contains set index))
 
--- a function of this type
+-- a function of this type (Validation, Contexts)
 abbrev pub IsFunction : BodyContext → ℕ → FuncType → Type 0
 IsFunction context index function = (ty : ℕ) × (slice_get context.funcs index ≡ Some ty) × IsFuncAt context.types ty function
 
@@ -78,15 +82,17 @@ abbrev pub IsTag : BodyContext → ℕ → List ValType → Type 0
 IsTag context index values =
     (ty : ℕ) × (slice_get context.tags index ≡ Some ty) × IsFuncAt context.types ty (record { params = values; results = [] })
 
--- a reference that may be null
+-- the type of nullable references to a heap type
 abbrev pub nullable_to : HeapType → ValType
 nullable_to heap_type = Ref (record { nullable = true; heap_type = heap_type })
 
--- the reference to a value that is created, or to a defined function, of a type: exact with custom descriptors (own rule)
+-- the reference to a created value, or to a defined function, of a type: exact with custom
+-- descriptors (own rule)
 abbrev pub created_reference : BodyContext → ℕ → ValType
 created_reference context index = reference_to (if context.features.custom_descriptors then Exact index else Concrete index)
 
--- the reference to a function whose type has this index: an imported one is not known exactly (own rule)
+-- the reference to a function whose type has this index: that to an imported function is not exact
+-- (own rule)
 abbrev pub reference_to_function : BodyContext → ℕ → ℕ → ValType
 reference_to_function context function index =
     if nat_le context.imported_funcs function then created_reference context index else reference_to (Concrete index)
@@ -107,6 +113,6 @@ IsBlockTypeOver features types (block.Func index) params results =
 abbrev pub IsBlockType : BodyContext → BlockType → List ValType → List ValType → Type 0
 IsBlockType context ty params results = IsBlockTypeOver context.features context.types ty params results
 
--- operands and results are these
+-- `operands` and `results` are `these` and `those`
 abbrev pub To : List ValType → List ValType → List ValType → List ValType → Type 0
 To operands results these those = (operands ≡ these) × (results ≡ those)

@@ -1,6 +1,7 @@
--- The features and the kind of instructions that each instruction needs. That a body may use an instruction only where its feature
--- is on is a rule of this project; the standard has one language. Kinds are the standard's sections of chapter Structure,
--- Instructions; that those of numbers, vectors and memories come in two, without floats and whole, is this project's rule.
+-- The features and the kind of instructions that each instruction needs. A body may use an
+-- instruction only if its feature is on, by a rule of this project; the standard has one language.
+-- Kinds are the standard's sections of chapter Structure, Instructions; by a rule of this project,
+-- those of numbers, vectors and memories come in two: without floats, and whole.
 use Rattle.std.specs.Prelude.{Bool, true, false, IsTrue, ◌&&◌, ◌||◌, ◌==◌, bit_and, if◌then◌else◌}
 use Rattle.smith_types.specs.Features.{Features}
 use Rattle.smith_types.specs.Instructions.{kind_bits, kinds_bits}
@@ -33,7 +34,7 @@ use Rattle.smith_instr.specs.declared.vector.VectorInstr.{VectorInstr}
 use Rattle.smith_instr.specs.declared.vector.VectorInstr.TheVariants as vector
 use Rattle.smith_instr.specs.VectorTypes.{extracted}
 
--- whether a conversion concerns floats
+-- whether a conversion concerns floats (own rule)
 abbrev pub has_floats : Conversion → Bool
 has_floats convert.I32WrapI64 = false
 has_floats convert.I64ExtendI32S = false
@@ -81,8 +82,9 @@ store_kind store.F32 = kind.Memory
 store_kind store.F64 = kind.Memory
 store_kind _ = kind.MemoryInt
 
--- the kind of an instruction: its section of chapter Structure, Instructions; nop and unreachable, which the standard has among the
--- parametric instructions, count as control, and atomic ones, of which the standard has none, among those of memories (own rules)
+-- the kind of an instruction: its section of chapter Structure, Instructions; `nop` and
+-- `unreachable`, parametric in the standard, count as control, and atomic accesses, which the
+-- standard lacks, as memory (own rules)
 abbrev pub instr_kind : Instr → InstructionKind
 instr_kind instr.Drop = kind.Parametric
 instr_kind instr.Select = kind.Parametric
@@ -192,18 +194,19 @@ has_features features (instr.Atomic op at) = features.threads
 has_features features instr.AtomicFence = features.threads
 has_features features _ = true
 
--- a kind is among the kinds (own rule)
+-- whether a kind is among the allowed kinds (own rule)
 abbrev pub is_allowed : InstructionKinds → InstructionKind → Bool
 is_allowed kinds wanted = bit_and (kinds_bits kinds) (kind_bits wanted) == kind_bits wanted
 
--- instructions that every set of kinds allows (own rule): without these there is no body of every type, and no block
+-- instructions that every set of kinds allows (own rule): without them some types have no body, and
+-- there are no blocks
 abbrev pub is_always_allowed : Instr → Bool
 is_always_allowed instr.Unreachable = true
 is_always_allowed instr.Else = true
 is_always_allowed instr.End = true
 is_always_allowed _ = false
 
--- where a body may use an instruction, by the allowed kinds (own rule)
+-- whether a body may use an instruction, by the allowed kinds (own rule)
 abbrev pub is_kind_enabled : InstructionKinds → Instr → Bool
 is_kind_enabled kinds instruction = is_always_allowed instruction || is_allowed kinds (instr_kind instruction)
 

@@ -24,7 +24,7 @@ use Rattle.smith_instr.specs.declared.control.Catch.TheVariants as catch
 use Rattle.smith_instr.specs.declared.instr.Instr.{Instr}
 use Rattle.smith_instr.specs.declared.instr.Instr.TheVariants as instr
 
--- a type of numbers or vectors (Validation, Parametric Instructions, select)
+-- a number type or a vector type (Validation, Parametric Instructions, select)
 abbrev pub IsNumeric : ValType → Type 0
 IsNumeric (Ref reference) = ⊥
 IsNumeric _ = Unit {0}
@@ -35,20 +35,21 @@ sets (instr.LocalSet index) = index ∷ []
 sets (instr.LocalTee index) = index ∷ []
 sets _ = []
 
--- a branch to a label takes values of these types
+-- a branch to a label takes values of these types (Validation, Control Instructions, br)
 abbrev pub IsLabel : BodyContext → ℕ → List ValType → Type 0
 IsLabel context label taken = slice_get context.labels label ≡ Some taken
 
--- values of these types may go to a label
+-- a branch to a label may take values of these types (Validation, Control Instructions, br)
 abbrev pub IsTaken : BodyContext → List ValType → ℕ → Type 0
 IsTaken context values label = (taken : List ValType) × IsLabel context label taken × AreBelow context values taken
 
--- an instruction that does not come back takes its operands from above any others, and gives whatever is valid (Validation,
--- Instructions, polymorphic instructions)
+-- an instruction after which control does not continue takes its operands from the top of any
+-- others, and leaves any valid values (Validation, Instructions, polymorphic instructions)
 abbrev pub Leaves : BodyContext → List ValType → List ValType → List ValType → Type 0
 Leaves context operands results taken = (below : List ValType) × (operands ≡ below ++ taken) × AreValid context results
 
--- what a function gives, the function of the body may return (Validation, Control Instructions, return_call)
+-- the function of the body may return the results of a function (Validation, Control Instructions,
+-- return_call)
 abbrev pub ReturnsFrom : BodyContext → FuncType → Type 0
 ReturnsFrom context function = AreBelow context function.results context.results
 
@@ -60,7 +61,8 @@ pub record IsFunctionTable (context : BodyContext) (index : ℕ) (wide : Bool) :
   pub shared : Bool
   pub of_functions : IsRefBelow context.types table.element_type (record { nullable = true; heap_type = Abstract shared abstract.Func })
 
--- the values that a clause brings to its label (Validation, Control Instructions, Catch Clauses)
+-- a clause whose label takes the values that the clause passes (Validation, Control Instructions,
+-- Catch Clauses)
 abbrev pub IsCatch : BodyContext → Catch → Type 0
 IsCatch context (catch.One tag label) = (values : List ValType) × IsTag context tag values × IsTaken context values label
 IsCatch context (catch.OneRef tag label) =
@@ -68,13 +70,13 @@ IsCatch context (catch.OneRef tag label) =
 IsCatch context (catch.All label) = IsTaken context [] label
 IsCatch context (catch.AllRef label) = IsTaken context (reference_to (Abstract false abstract.Exn) ∷ []) label
 
--- the type of a reference that was not cast: not null where the cast would have taken null (Validation, Conventions, Types,
--- type difference)
+-- the type of a reference whose cast failed: non-nullable if the cast accepts null (Validation,
+-- Conventions, Types, type difference)
 abbrev pub difference : RefType → RefType → RefType
 difference from to = record from { nullable = if to.nullable then false else from.nullable }
 
--- the types of a cast are valid, and a branch takes other values and then one that is above this (Validation, Control
--- Instructions, br_on_cast and br_on_cast_fail)
+-- the types of a cast are valid, and the label takes the other values, then a type that `branches`
+-- matches (Validation, Control Instructions, br_on_cast and br_on_cast_fail)
 pub record IsBranchCast (context : BodyContext) (cast : BranchCast) (branches : RefType) (others : List ValType) : Type 0 where
   pub from_valid : IsRefValid context cast.from
   pub to_valid : IsRefValid context cast.to
@@ -83,10 +85,10 @@ pub record IsBranchCast (context : BodyContext) (cast : BranchCast) (branches : 
   pub taken : IsLabel context cast.label (others ++ Ref wanted ∷ [])
   pub arrives : IsRefBelow context.types branches wanted
 
--- an instruction takes operands of these types, the last on top, and gives results of those, where these locals are set. Blocks,
--- loops, ifs and try_tables are typed with their bodies (`AreTyped`). There is no bottom type, so that br_table and select in code
--- that cannot be reached are typed more strictly than in the standard, which has unreachable and nop among the parametric
--- instructions
+-- an instruction takes operands of these types, the last on top, and leaves results of those, if
+-- these locals are set. Blocks, loops, ifs and try_tables are typed with their bodies (`AreTyped`).
+-- There is no bottom type, so br_table and select in unreachable code are typed more strictly than
+-- in the standard, which has unreachable and nop among the parametric instructions
 abbrev pub HasInstrType : BodyContext → List ℕ → Instr → List ValType → List ValType → Type 0
 HasInstrType context set instr.Unreachable operands results = Leaves context operands results []
 HasInstrType context set instr.Nop operands results = To operands results [] []

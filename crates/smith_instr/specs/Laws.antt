@@ -5,13 +5,13 @@ use Rattle.smith_instr.specs.Contexts.{BodyContext}
 use Rattle.smith_instr.specs.Sequences.{Stacked, stacked, CountsAs, AreTyped}
 use Rattle.smith_instr.specs.declared.instr.Instr.{Instr}
 
--- one sequence after another takes the first's stack to the second's
+-- one sequence after another is typed from the stack before the first to the stack after the second
 abbrev pub SequencesCompose : Type 0
 SequencesCompose =
     (context : BodyContext) (first second : List Instr) (before between after : Stacked)
     → AreTyped context first before between → AreTyped context second between after → AreTyped context (first ++ second) before after
 
--- what is typed from some values is typed from values that count as them
+-- a sequence that is typed from some values is typed from values that count as them
 abbrev pub SequencesTakeValuesBelow : Type 0
 SequencesTakeValuesBelow =
     (context : BodyContext) (sequence : List Instr) (before after : Stacked) (values : List ValType)

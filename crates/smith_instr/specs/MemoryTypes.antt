@@ -20,7 +20,8 @@ use Rattle.smith_instr.specs.declared.atomic.AtomicWidth.TheVariants as width
 use Rattle.smith_instr.specs.declared.atomic.AtomicAccess.{AtomicAccess}
 use Rattle.smith_instr.specs.declared.atomic.AtomicAccess.TheVariants as atomic
 
--- the value that a load gives, and the binary logarithm of the bytes that it reads
+-- the value type that a load produces, and the binary logarithm of the bytes that it reads
+-- (Validation, Memory Instructions)
 abbrev pub loaded : Load → ValType × ℕ
 loaded load.I32 = (I32, 2)
 loaded load.I64 = (I64, 3)
@@ -37,7 +38,8 @@ loaded load.I64From16U = (I64, 1)
 loaded load.I64From32S = (I64, 2)
 loaded load.I64From32U = (I64, 2)
 
--- the value that a store takes, and the binary logarithm of the bytes that it writes
+-- the value type that a store takes, and the binary logarithm of the bytes that it writes
+-- (Validation, Memory Instructions)
 abbrev pub stored : Store → ValType × ℕ
 stored store.I32 = (I32, 2)
 stored store.I64 = (I64, 3)
@@ -49,7 +51,7 @@ stored store.I64To8 = (I64, 0)
 stored store.I64To16 = (I64, 1)
 stored store.I64To32 = (I64, 2)
 
--- the binary logarithm of the bytes that a load of a vector reads
+-- the binary logarithm of the bytes that a load of a vector reads (Validation, Memory Instructions)
 abbrev pub vector_bytes : VectorLoad → ℕ
 vector_bytes vector.V128 = 4
 vector_bytes vector.I8x8S = 3
@@ -65,14 +67,16 @@ vector_bytes vector.Splat64 = 3
 vector_bytes vector.Zero32 = 2
 vector_bytes vector.Zero64 = 3
 
--- a memory of this type, and an offset that an address of it holds (Validation, Memory Instructions, memarg)
+-- a memory exists whose addresses have this width, and hold the offset (Validation, Memory
+-- Instructions, memarg)
 pub record IsAccess (memories : List MemoryType) (at : MemArg) (wide : Bool) : Type 0 where
   pub memory : MemoryType
   pub there : slice_get memories at.memory ≡ Some memory
   pub addressed : wide ≡ memory.memory64
   pub offset : at.offset < (if wide then 2 ^ 64 else 2 ^ 32)
 
--- an access to bytes of this binary logarithm, whose alignment is not above it (Validation, Memory Instructions, memarg)
+-- an access to bytes of this binary logarithm, with at most that alignment (Validation, Memory
+-- Instructions, memarg)
 abbrev pub IsAlignedAccess : BodyContext → MemArg → ℕ → Bool → Type 0
 IsAlignedAccess context at log2_bytes wide = IsAccess context.memories at wide × (at.align ≤ log2_bytes)
 
@@ -93,16 +97,17 @@ abbrev pub HasVectorStoreType : BodyContext → MemArg → List ValType → List
 HasVectorStoreType context at operands results =
     (wide : Bool) × IsAlignedAccess context at 4 wide × To operands results (address wide ∷ V128 ∷ []) []
 
--- a lane of bytes of this binary logarithm, of 16 bytes (Validation, Memory Instructions)
+-- the index of a lane of this size among 16 bytes; the size is a binary logarithm (Validation,
+-- Memory Instructions)
 abbrev pub IsLane : ℕ → ℕ → Type 0
 IsLane log2_bytes lane = (log2_bytes ≤ 3) × (lane < 2 ^ (4 - log2_bytes))
 
--- a lane that is loaded into a vector, or stored out of one (Validation, Memory Instructions)
+-- a lane that is loaded into a vector, or stored from one (Validation, Memory Instructions)
 abbrev pub HasLaneType : BodyContext → ℕ → MemArg → ℕ → List ValType → List ValType → List ValType → Type 0
 HasLaneType context log2_bytes at lane given operands results =
     (wide : Bool) × IsAlignedAccess context at log2_bytes wide × IsLane log2_bytes lane × To operands results (address wide ∷ V128 ∷ []) given
 
--- a memory of this type
+-- a memory of this type (Validation, Contexts)
 abbrev pub IsMemory : BodyContext → ℕ → MemoryType → Type 0
 IsMemory context index ty = slice_get context.memories index ≡ Some ty
 
@@ -121,7 +126,7 @@ HasMemoryType context (memory.Init index segment) operands results =
     (ty : MemoryType) × IsMemory context index ty × (segment < context.datas) × To operands results (address ty.memory64 ∷ I32 ∷ I32 ∷ []) []
 HasMemoryType context (memory.DataDrop segment) operands results = (segment < context.datas) × To operands results [] []
 
--- the value of an atomic access, and the binary logarithm of its bytes
+-- the value type of an atomic access, and the binary logarithm of its bytes (threads proposal)
 abbrev pub atomic_width : AtomicWidth → ValType × ℕ
 atomic_width width.I32 = (I32, 2)
 atomic_width width.I64 = (I64, 3)
@@ -131,7 +136,7 @@ atomic_width width.I64Of8 = (I64, 0)
 atomic_width width.I64Of16 = (I64, 1)
 atomic_width width.I64Of32 = (I64, 2)
 
--- an access to bytes of this binary logarithm, whose alignment is just that (threads proposal)
+-- an access to bytes of this binary logarithm, with exactly that alignment (threads proposal)
 abbrev pub IsAtomicAccess : BodyContext → MemArg → ℕ → Bool → Type 0
 IsAtomicAccess context at log2_bytes wide = IsAccess context.memories at wide × (at.align ≡ log2_bytes)
 

@@ -19,11 +19,11 @@ pub record Signature : Type 0 where
   pub operands : List ValType
   pub results : List ValType
 
--- from operands to one result
+-- the signature from some operands to one result
 abbrev pub to : List ValType → ValType → Signature
 to operands result = record { operands = operands; results = result ∷ [] }
 
--- from one operand to one result
+-- the signature from one operand to one result
 abbrev pub of : ValType → ValType → Signature
 of operand result = to (operand ∷ []) result
 
@@ -55,7 +55,7 @@ conversion convert.I64ReinterpretF64 = of F64 I64
 conversion convert.F32ReinterpretI32 = of I32 F32
 conversion convert.F64ReinterpretI64 = of I64 F64
 
--- conversions that saturate
+-- conversions that saturate: t2.cvtop_t1_sx? : [t1] → [t2]
 abbrev pub saturating_conversion : SaturatingConversion → Signature
 saturating_conversion saturate.I32TruncSatF32S = of F32 I32
 saturating_conversion saturate.I32TruncSatF32U = of F32 I32
@@ -66,7 +66,7 @@ saturating_conversion saturate.I64TruncSatF32U = of F32 I64
 saturating_conversion saturate.I64TruncSatF64S = of F64 I64
 saturating_conversion saturate.I64TruncSatF64U = of F64 I64
 
--- extensions of a sign, which are unary operators
+-- extensions of a sign, which are unary operators: t.unop : [t] → [t]
 abbrev pub sign_extension : SignExtension → Signature
 sign_extension extend.I32From8 = of I32 I32
 sign_extension extend.I32From16 = of I32 I32

@@ -1,5 +1,6 @@
--- The types of reference and table instructions: the sections Validation, Reference Instructions and Table Instructions, of the
--- WebAssembly Core Specification 3.0. That references of either sharedness may be compared is an own rule.
+-- The types of reference and table instructions: the sections Validation, Reference Instructions
+-- and Table Instructions, of the WebAssembly Core Specification 3.0. References of either
+-- sharedness may be compared by an own rule.
 use Rattle.std.specs.Prelude.{◌≡◌, ℕ, ◌<◌, Bool, List, [], ◌∷◌, Some, length, slice_get, if◌then◌else◌}
 use Rattle.std.specs.List.{Contains}
 use Rattle.smith_types.specs.Expressions.{reference_to}
@@ -35,11 +36,12 @@ HasReferenceType context (reference.Test to) operands results =
 HasReferenceType context (reference.Cast to) operands results =
     (from : RefType) × IsRefValid context to × IsRefValid context from × IsRefBelow context.types to from × To operands results (Ref from ∷ []) (Ref to ∷ [])
 
--- a table of this type
+-- a table of this type (Validation, Contexts)
 abbrev pub IsTable : BodyContext → ℕ → TableType → Type 0
 IsTable context index ty = slice_get context.tables index ≡ Some ty
 
--- how many elements are copied between two tables, by an address of the narrower (Validation, Table Instructions, table.copy)
+-- the type of the number of elements that are copied between two tables: the narrower address type
+-- (Validation, Table Instructions, table.copy)
 abbrev pub narrower : Bool → Bool → ValType
 narrower one other = if one then address other else I32
 

@@ -19,14 +19,15 @@ pub record Stacked : Type 0 where
 abbrev pub stacked : List ValType → List ℕ → Stacked
 stacked stack set = record { stack = stack; set = set }
 
--- values count as values of these types, which are valid and above them (Validation, Instruction Sequences, subsumption)
+-- values count as values of these valid types, which they match (Validation, Instruction Sequences,
+-- subsumption)
 pub record CountsAs (context : BodyContext) (values given : List ValType) : Type 0 where
   pub below : AreBelow context values given
   pub valid : AreValid context given
 
--- what takes these operands and gives these results may come where values below the operands are on top, and what it gives
--- counts as values above the results; the rest of the stack stays, and some locals are set (Validation, Instruction Sequences,
--- frame and subsumption)
+-- an instruction with these operands and results applies to a stack with values on top that match
+-- the operands; its results count as values of types that they match; the rest of the stack stays,
+-- and some locals are set (Validation, Instruction Sequences, frame and subsumption)
 pub record IsFramed (context : BodyContext) (operands results : List ValType) (set : List ℕ) (before after : Stacked) : Type 0 where
   pub rest : List ValType
   pub taken : List ValType
@@ -44,10 +45,11 @@ pub record IsStep (context : BodyContext) (instruction : Instr) (before after : 
   pub typed : HasInstrType context before.set instruction operands results
   pub framed : IsFramed context operands results (sets instruction) before after
 
--- instructions take one stack to another, from the first to the last. The body of a block has one label more, that of a branch
--- to its end, or of a loop to its start; what it sets is forgotten after it (Validation, Instruction Sequences; Control
--- Instructions, block, loop, if, try_table). No instruction leaves the stack, which may count as another. An if without an
--- else is one whose else is empty
+-- instructions take one stack to another, from the first to the last. The body of a block has one
+-- more label, for a branch to its end, or for a loop to its start; the locals that it sets are not
+-- set after it (Validation, Instruction Sequences; Control Instructions, block, loop, if,
+-- try_table). An empty sequence leaves the stack, which may count as another. An if without an else
+-- is an if whose else is empty
 pub data AreTyped : BodyContext → List Instr → Stacked → Stacked → Type 0 where
   nothing : {context : BodyContext} {before after : Stacked}
       → CountsAs context before.stack after.stack → after.set ≡ before.set → AreTyped context [] before after
@@ -76,9 +78,10 @@ pub data AreTyped : BodyContext → List Instr → Stacked → Stacked → Type 
       → AreTyped (labelled context results) body (stacked params before.set) (stacked results set)
       → IsFramed context params results [] before between → AreTyped context more between after → AreTyped context all before after
 
--- a body, its last `end` aside, leaves the results of its function and nothing else. At its start no local is set but those that
--- always are, and its one label is that of the function, to which a branch is a return (Validation, Functions).
--- That the types of the context are valid, its locals among them, is left to whoever makes it
+-- a body, its last `end` aside, leaves the results of its function and nothing else. At its start
+-- only the locals that are always set are set, and its only label is that of the function, to which
+-- a branch is a return (Validation, Functions). The types of the context, its locals among them,
+-- are not required to be valid here
 pub record IsBodyTyped (context : BodyContext) (body : List Instr) : Type 0 where
   pub set : List ℕ
   pub typed : AreTyped (record context { labels = context.results ∷ [] }) body (stacked [] []) (stacked context.results set)

@@ -19,7 +19,7 @@ lanes shape.I64x2 = (2, I64)
 lanes shape.F32x4 = (4, F32)
 lanes shape.F64x2 = (2, F64)
 
--- the shape out of which a lane is extracted
+-- the shape from which a lane is extracted (Validation, Vector Instructions)
 abbrev pub extracted : LaneExtract → LaneShape
 extracted extract.I8x16S = shape.I8x16
 extracted extract.I8x16U = shape.I8x16
@@ -30,7 +30,7 @@ extracted extract.I64x2 = shape.I64x2
 extracted extract.F32x4 = shape.F32x4
 extracted extract.F64x2 = shape.F64x2
 
--- vector instructions that access no memory
+-- vector instructions that access no memory (Validation, Vector Instructions)
 abbrev pub HasVectorType : VectorInstr → List ValType → List ValType → Type 0
 HasVectorType (vector.Unary op) operands results = To operands results (V128 ∷ []) (V128 ∷ [])
 HasVectorType (vector.FloatUnary op) operands results = To operands results (V128 ∷ []) (V128 ∷ [])

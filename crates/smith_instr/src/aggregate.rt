@@ -1,7 +1,8 @@
-/// How the integer of a packed field is extended: the standard's section Structure, Aggregate Instructions.
+/// Extension of the integer of a packed field: the standard's section Structure, Aggregate
+/// Instructions.
 #[derive(Clone, Copy, Debug)]
 pub enum Extension {
-    /// Not at all, where the field isn't packed.
+    /// None: the field isn't packed.
     Unpacked,
     /// By its sign.
     Signed,
@@ -9,8 +10,8 @@ pub enum Extension {
     Unsigned,
 }
 
-/// An aggregate instruction: the standard's section Structure, Aggregate Instructions. Types, segments and fields are given by
-/// their indices.
+/// An aggregate instruction: the standard's section Structure, Aggregate Instructions. Types,
+/// segments and fields are named by their indices.
 #[derive(Clone, Copy, Debug)]
 pub enum AggregateInstr {
     /// `struct.new` of a struct type.
@@ -58,7 +59,7 @@ pub enum AggregateInstr {
     ArrayLen,
     /// `array.fill` of an array type.
     ArrayFill(u32),
-    /// `array.copy` into an array of the type `to` out of one of the type `from`.
+    /// `array.copy` into an array of the type `to` from one of the type `from`.
     ArrayCopy {
         to: u32,
         from: u32,

@@ -1,4 +1,4 @@
-/// The value of an atomic access, and the bytes of memory that it concerns: the threads proposal.
+/// The value of an atomic access, and the bytes of memory that it accesses: the threads proposal.
 #[derive(Clone, Copy, Debug)]
 pub enum AtomicWidth {
     I32,
@@ -10,7 +10,7 @@ pub enum AtomicWidth {
     I64Of32,
 }
 
-/// How an atomic access updates a value: the threads proposal.
+/// Update of a value by an atomic access: the threads proposal.
 #[derive(Clone, Copy, Debug)]
 pub enum AtomicUpdate {
     Add,
@@ -34,8 +34,8 @@ pub enum AtomicAccess {
     Load(AtomicWidth),
     /// An atomic store.
     Store(AtomicWidth),
-    /// A read, an update and a write at once.
+    /// A read, an update and a write, as one access.
     Update(AtomicUpdate, AtomicWidth),
-    /// A compare and an exchange at once.
+    /// A compare and an exchange, as one access.
     CompareExchange(AtomicWidth),
 }

@@ -7,7 +7,7 @@ pub enum BlockType {
     Empty,
     /// One result.
     Value(ValType),
-    /// The parameters and results of the function type of an index.
+    /// The parameters and results of the function type with an index.
     Func(u32),
 }
 

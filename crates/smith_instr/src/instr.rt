@@ -8,8 +8,9 @@ use crate::table::TableInstr;
 use crate::vector::{VectorInstr, VectorLoad};
 use smith_types::{Items, ValType};
 
-/// An instruction: the standard's section Structure, Instructions, flat as in its text and binary formats. A block, loop, if or
-/// `try_table` goes to its `End`. Labels, functions, types and other entities are given by their indices.
+/// An instruction: the standard's section Structure, Instructions, flat as in its text and binary
+/// formats. A `block`, `loop`, `if` or `try_table` extends to its `End`. Labels, functions, types
+/// and other entities are named by their indices.
 #[derive(Debug, Drop)]
 pub enum Instr {
     /// `unreachable`.

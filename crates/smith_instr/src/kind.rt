@@ -17,7 +17,8 @@ use crate::vector::{LaneExtract, LaneShape, VectorInstr};
 use smith_types::InstructionKind;
 
 impl Instr {
-    /// The kind of the instruction. `unreachable`, `else` and `end` are allowed by every set of kinds.
+    /// Returns the kind of the instruction. Every set of kinds allows `unreachable`, `else` and
+    /// `end`.
     pub fn kind(&self) -> InstructionKind
         ensures { result ≡ instr_kind self.now }
     {

@@ -1,11 +1,12 @@
 ghost use Rattle.smith_instr.specs.Laws.{SequencesCompose, SequencesTakeValuesBelow};
 
-/// States that one sequence after another is typed, from what the first takes to what the second leaves.
+/// Proves that one sequence after another is typed, from the stack before the first to the stack
+/// after the second.
 pub fn sequences_compose()
     ensures { SequencesCompose }
 {}
 
-/// States that a sequence that takes some values takes values that count as them.
+/// Proves that a sequence that is typed from some values is typed from values that count as them.
 pub fn sequences_take_values_below()
     ensures { SequencesTakeValuesBelow }
 {}

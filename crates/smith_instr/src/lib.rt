@@ -11,7 +11,7 @@ mod control;
 mod enabled;
 mod instr;
 mod kind;
-/// Laws: functions that do nothing, whose clauses say what holds.
+/// Laws: functions without effect, whose clauses state properties.
 pub mod laws;
 mod memory;
 mod numeric;

@@ -1,4 +1,5 @@
-/// The value that a load gives, and what it reads: the standard's section Structure, Memory Instructions.
+/// The value that a load produces, and the bytes that it reads: the standard's section Structure,
+/// Memory Instructions.
 #[derive(Clone, Copy, Debug)]
 pub enum Load {
     I32,
@@ -17,7 +18,8 @@ pub enum Load {
     I64From32U,
 }
 
-/// The value that a store takes, and what it writes: the standard's section Structure, Memory Instructions.
+/// The value that a store takes, and the bytes that it writes: the standard's section Structure,
+/// Memory Instructions.
 #[derive(Clone, Copy, Debug)]
 pub enum Store {
     I32,
@@ -31,12 +33,12 @@ pub enum Store {
     I64To32,
 }
 
-/// Where a memory is read or written: the standard's section Structure, Memory Instructions.
+/// The place of an access to a memory: the standard's section Structure, Memory Instructions.
 #[derive(Clone, Copy, Debug)]
 pub struct MemArg {
     /// The binary logarithm of the alignment.
     pub align: u32,
-    /// What is added to the address.
+    /// The offset that is added to the address.
     pub offset: u64,
     /// The index of the memory.
     pub memory: u32,
@@ -51,7 +53,7 @@ pub enum MemoryInstr {
     Grow(u32),
     /// `memory.fill` of a memory.
     Fill(u32),
-    /// `memory.copy` into the memory `to` out of the memory `from`.
+    /// `memory.copy` into the memory `to` from the memory `from`.
     Copy { to: u32, from: u32 },
     /// `memory.init` of a memory from a data segment.
     Init { memory: u32, segment: u32 },

@@ -76,7 +76,7 @@ pub enum FloatCompare {
     Ge,
 }
 
-/// A conversion between number types: cvtop, but for those that saturate.
+/// A conversion between number types that does not saturate: cvtop.
 #[derive(Clone, Copy, Debug)]
 pub enum Conversion {
     I32WrapI64,

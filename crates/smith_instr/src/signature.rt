@@ -15,7 +15,7 @@ use crate::numeric::{
 use smith_types::ValType;
 
 impl NumericInstr {
-    /// The types of the operands, the last on top.
+    /// Returns the types of the operands, the last on top.
     pub fn operands<'a>(self) -> &'a [ValType]
         ensures { result.now ≡ (signature self).operands }
     {
@@ -43,7 +43,7 @@ impl NumericInstr {
         }
     }
 
-    /// The types of the results.
+    /// Returns the types of the results.
     pub fn results<'a>(self) -> &'a [ValType]
         ensures { result.now ≡ (signature self).results }
     {
@@ -63,7 +63,7 @@ impl NumericInstr {
     }
 }
 
-/// The operand of a conversion.
+/// Returns the operand of a conversion.
 fn converted<'a>(op: Conversion) -> &'a [ValType]
     ensures { result.now ≡ (conversion op).operands }
 {
@@ -84,7 +84,7 @@ fn converted<'a>(op: Conversion) -> &'a [ValType]
     }
 }
 
-/// The result of a conversion.
+/// Returns the result of a conversion.
 fn conversions<'a>(op: Conversion) -> &'a [ValType]
     ensures { result.now ≡ (conversion op).results }
 {
@@ -143,7 +143,7 @@ fn saturations<'a>(op: SaturatingConversion) -> &'a [ValType]
     }
 }
 
-/// The operand of an extension of a sign, and its result.
+/// Returns the operand of an extension of a sign, and its result.
 fn extended<'a>(op: SignExtension) -> &'a [ValType]
     ensures operands { result.now ≡ (sign_extension op).operands }
     ensures results { result.now ≡ (sign_extension op).results }
@@ -167,7 +167,7 @@ fn widened<'a>(op: WideArithmetic) -> &'a [ValType]
 }
 
 impl Load {
-    /// The type of the value.
+    /// Returns the type of the value.
     pub fn value(self) -> ValType
         ensures { result ≡ (loaded self).0 }
     {
@@ -182,7 +182,7 @@ impl Load {
         }
     }
 
-    /// The binary logarithm of the number of bytes that are read.
+    /// Returns the binary logarithm of the number of bytes that are read.
     pub fn log2_bytes(self) -> u32
         ensures { result ≡ (loaded self).1 }
     {
@@ -196,7 +196,7 @@ impl Load {
 }
 
 impl Store {
-    /// The type of the value.
+    /// Returns the type of the value.
     pub fn value(self) -> ValType
         ensures { result ≡ (stored self).0 }
     {
@@ -208,7 +208,7 @@ impl Store {
         }
     }
 
-    /// The binary logarithm of the number of bytes that are written.
+    /// Returns the binary logarithm of the number of bytes that are written.
     pub fn log2_bytes(self) -> u32
         ensures { result ≡ (stored self).1 }
     {

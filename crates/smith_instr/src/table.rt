@@ -11,7 +11,7 @@ pub enum TableInstr {
     Grow(u32),
     /// `table.fill` of a table.
     Fill(u32),
-    /// `table.copy` into the table `to` out of the table `from`.
+    /// `table.copy` into the table `to` from the table `from`.
     Copy { to: u32, from: u32 },
     /// `table.init` of a table from an element segment.
     Init { table: u32, segment: u32 },

@@ -18,8 +18,8 @@ pub enum LaneShape {
     F64x2,
 }
 
-/// The lane that is extracted, and how its integer is extended: the standard's section Structure, Vector Instructions,
-/// extract_lane.
+/// The lane that is extracted, and the extension of its integer: the standard's section Structure,
+/// Vector Instructions, extract_lane.
 #[derive(Clone, Copy, Debug)]
 pub enum LaneExtract {
     I8x16S,
@@ -32,7 +32,8 @@ pub enum LaneExtract {
     F64x2,
 }
 
-/// An operator on one vector that concerns no floats: the standard's section Structure, Vector Instructions.
+/// An operator on one vector, without floats: the standard's section Structure, Vector
+/// Instructions.
 #[derive(Clone, Copy, Debug)]
 pub enum VectorUnary {
     V128Not,
@@ -63,7 +64,7 @@ pub enum VectorUnary {
     I64x2ExtendHighI32x4U,
 }
 
-/// An operator on one vector that concerns floats: the standard's section Structure, Vector Instructions.
+/// An operator on one vector, with floats: the standard's section Structure, Vector Instructions.
 #[derive(Clone, Copy, Debug)]
 pub enum VectorFloatUnary {
     F32x4Abs,
@@ -92,7 +93,8 @@ pub enum VectorFloatUnary {
     F64x2PromoteLowF32x4,
 }
 
-/// An operator on two vectors that concerns no floats: the standard's section Structure, Vector Instructions.
+/// An operator on two vectors, without floats: the standard's section Structure, Vector
+/// Instructions.
 #[derive(Clone, Copy, Debug)]
 pub enum VectorBinary {
     V128And,
@@ -189,7 +191,7 @@ pub enum VectorBinary {
     I64x2ExtMulHighI32x4U,
 }
 
-/// An operator on two vectors that concerns floats: the standard's section Structure, Vector Instructions.
+/// An operator on two vectors, with floats: the standard's section Structure, Vector Instructions.
 #[derive(Clone, Copy, Debug)]
 pub enum VectorFloatBinary {
     F32x4Eq,
@@ -230,7 +232,8 @@ pub enum VectorShift {
     ShrU,
 }
 
-/// A relaxed operator on one vector: the standard's section Structure, Vector Instructions. All concern floats.
+/// A relaxed operator on one vector, with floats: the standard's section Structure, Vector
+/// Instructions.
 #[derive(Clone, Copy, Debug)]
 pub enum RelaxedFloatUnary {
     I32x4TruncF32x4S,
@@ -239,7 +242,8 @@ pub enum RelaxedFloatUnary {
     I32x4TruncF64x2UZero,
 }
 
-/// A relaxed operator on two vectors that concerns no floats: the standard's section Structure, Vector Instructions.
+/// A relaxed operator on two vectors, without floats: the standard's section Structure, Vector
+/// Instructions.
 #[derive(Clone, Copy, Debug)]
 pub enum RelaxedBinary {
     I8x16Swizzle,
@@ -247,7 +251,8 @@ pub enum RelaxedBinary {
     I16x8DotI8x16I7x16S,
 }
 
-/// A relaxed operator on two vectors that concerns floats: the standard's section Structure, Vector Instructions.
+/// A relaxed operator on two vectors, with floats: the standard's section Structure, Vector
+/// Instructions.
 #[derive(Clone, Copy, Debug)]
 pub enum RelaxedFloatBinary {
     F32x4Min,
@@ -256,7 +261,8 @@ pub enum RelaxedFloatBinary {
     F64x2Max,
 }
 
-/// A relaxed operator on three vectors that concerns no floats: the standard's section Structure, Vector Instructions.
+/// A relaxed operator on three vectors, without floats: the standard's section Structure, Vector
+/// Instructions.
 #[derive(Clone, Copy, Debug)]
 pub enum RelaxedTernary {
     I8x16Laneselect,
@@ -266,7 +272,8 @@ pub enum RelaxedTernary {
     I32x4DotI8x16I7x16AddS,
 }
 
-/// A relaxed operator on three vectors that concerns floats: the standard's section Structure, Vector Instructions.
+/// A relaxed operator on three vectors, with floats: the standard's section Structure, Vector
+/// Instructions.
 #[derive(Clone, Copy, Debug)]
 pub enum RelaxedFloatTernary {
     F32x4Madd,
@@ -275,8 +282,8 @@ pub enum RelaxedFloatTernary {
     F64x2Nmadd,
 }
 
-/// A vector instruction that accesses no memory: the standard's section Structure, Vector Instructions. A lane is given by its
-/// index.
+/// A vector instruction that accesses no memory: the standard's section Structure, Vector
+/// Instructions. A lane is named by its index.
 #[derive(Clone, Copy, Debug)]
 pub enum VectorInstr {
     /// An operator on one vector, without floats.
