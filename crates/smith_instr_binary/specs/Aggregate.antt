@@ -8,7 +8,7 @@ use Rattle.smith_instr.specs.declared.aggregate.AggregateInstr.TheVariants as ag
 use Rattle.smith_instr.specs.declared.aggregate.Extension.{Extension}
 use Rattle.smith_instr.specs.declared.aggregate.Extension.TheVariants as extension
 
--- the number of a get of an unpacked field is `first`; those that extend follow it
+-- the number of a get: `first` for an unpacked field; the numbers of gets that extend follow it
 abbrev pub get_number : ℕ → Extension → ℕ
 get_number first extension.Unpacked = first
 get_number first extension.Signed = first + 1

@@ -6,10 +6,10 @@ use Rattle.smith_sections.specs.Codes.{IsLocals}
 use Rattle.smith_instr.specs.declared.instr.Instr.{Instr}
 use Rattle.smith_instr_binary.specs.Instructions.{IsExpr}
 
--- what a body holds: its locals, in runs of one type, then its expression
+-- the content of a body: its locals, in runs of one type, then its expression (Code Section)
 abbrev pub IsFunc : List ValType → List Instr → List ℕ → Type 0
 IsFunc locals instructions = Joined (IsLocals locals) (IsExpr instructions)
 
--- a body: the number of its bytes, then what it holds
+-- a body: the number of bytes of its content, then the content (Code Section)
 abbrev pub IsFuncBody : List ValType → List Instr → List ℕ → Type 0
 IsFuncBody locals instructions = IsSized (IsFunc locals instructions)

@@ -24,14 +24,15 @@ IsCatch (catch.OneRef tag label) piece = Joined (IsByte 0x01) (Joined (IsIndex t
 IsCatch (catch.All label) piece = Joined (IsByte 0x02) (IsIndex label) piece
 IsCatch (catch.AllRef label) piece = Joined (IsByte 0x03) (IsIndex label) piece
 
--- whether the operand of a cast may be null, and what it is cast to
+-- the byte of a cast: whether its operand may be null, and whether its target type may
 abbrev pub cast_byte : Bool → Bool → ℕ
 cast_byte false false = 0x00
 cast_byte true false = 0x01
 cast_byte false true = 0x02
 cast_byte true true = 0x03
 
--- the immediates of a branch on a cast: which of both may be null, the label, and both heap types
+-- the immediates of a branch on a cast: which of both types are nullable, the label, and both heap
+-- types
 abbrev pub IsBranchCast : BranchCast → List ℕ → Type 0
 IsBranchCast cast =
     Joined (IsByte (cast_byte cast.from.nullable cast.to.nullable))

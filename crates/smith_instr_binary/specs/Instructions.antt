@@ -1,6 +1,7 @@
--- Instructions, flat: the section Binary Format, Instructions, of the WebAssembly Core Specification 3.0. A block is spelled by its
--- start, its instructions and its end in order, so a flat list is spelled instruction by instruction; which lists are the blocks of
--- the standard is said in Nesting. Atomic instructions are those of the threads proposal.
+-- Instructions, flat: the section Binary Format, Instructions, of the WebAssembly Core
+-- Specification 3.0. A block is spelled by its start, its instructions and its end in order, so a
+-- flat list is spelled instruction by instruction; the lists that are blocks of the standard are
+-- defined in `Nesting`. Atomic instructions are those of the threads proposal.
 use Rattle.std.specs.Prelude.{ℕ, List, [], ◌∷◌}
 use Rattle.smith_binary.specs.Numbers.{IsSigned, IsLittleEndian, IsVector}
 use Rattle.smith_binary.specs.Pieces.{IsByte, Joined, Each, IsList}

@@ -1,4 +1,4 @@
--- What the format has no room for.
+-- Instructions and bodies that the binary format cannot express.
 use Rattle.std.specs.Prelude.{◌^◌, ◌≤◌, ◌⊎◌, List, Any}
 use Rattle.smith_types.specs.declared.value_type.ValType.{ValType}
 use Rattle.smith_sections.specs.Long.{IsLongContent, IsLongList, IsNeverLong}
@@ -11,8 +11,8 @@ use Rattle.smith_instr_binary.specs.Bodies.{IsFunc}
 abbrev pub IsWide : MemArg → Type 0
 IsWide at = 2 ^ 6 ≤ at.align
 
--- an instruction with a list of 2^32 items or more, with an alignment that the format has no bits for, or on a lane of another
--- size than the four that have numbers
+-- an instruction with a list of 2^32 items or more, with an alignment of more bits than the format
+-- has, or on a lane of another size than the four that have numbers
 abbrev pub IsLongInstr : Instr → Type 0
 IsLongInstr (instr.BrTable labels last) = IsLongList IsNeverLong labels
 IsLongInstr (instr.TryTable ty clauses) = IsLongList IsNeverLong clauses
@@ -25,7 +25,8 @@ IsLongInstr (instr.VectorStoreLane log2_bytes at lane) = (4 ≤ log2_bytes) ⊎ 
 IsLongInstr (instr.Atomic access at) = IsWide at
 IsLongInstr _ = ⊥
 
--- a body with 2^32 locals or more, or such an instruction, or of which a spelling has 2^32 bytes or more
+-- a body with 2^32 locals or more, with such an instruction, or with a spelling of 2^32 bytes or
+-- more
 abbrev pub IsLongFunc : List ValType → List Instr → Type 0
 IsLongFunc locals instructions =
     IsLongList IsNeverLong locals ⊎ (Any IsLongInstr instructions ⊎ IsLongContent (IsFunc locals instructions))

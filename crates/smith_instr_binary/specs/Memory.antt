@@ -13,8 +13,9 @@ use Rattle.smith_instr.specs.declared.memory.MemoryInstr.TheVariants as memory
 use Rattle.smith_instr.specs.declared.vector.VectorLoad.{VectorLoad}
 use Rattle.smith_instr.specs.declared.vector.VectorLoad.TheVariants as vector_load
 
--- where a memory is read or written: the alignment, then the offset, in the first memory; or the alignment with the bit after its
--- six bits set, then the index of the memory and the offset
+-- the place of an access to a memory: for the first memory the alignment, then the offset; for any
+-- memory the alignment with the bit after its six bits set, then the index of the memory and the
+-- offset
 pub data IsMemArg (at : MemArg) (piece : List ℕ) : Type 0 where
   first_memory : at.memory ≡ 0 → at.align < 2 ^ 6 → Joined (IsUnsigned 32 at.align) (IsUnsigned 64 at.offset) piece → IsMemArg at piece
   named_memory : at.align < 2 ^ 6 → Joined (IsUnsigned 32 (at.align + 2 ^ 6)) (Joined (IsIndex at.memory) (IsUnsigned 64 at.offset)) piece → IsMemArg at piece

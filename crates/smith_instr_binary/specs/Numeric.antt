@@ -26,8 +26,8 @@ use Rattle.smith_instr.specs.declared.numeric.WideArithmetic.TheVariants as wide
 use Rattle.smith_instr.specs.declared.numeric.NumericInstr.{NumericInstr}
 use Rattle.smith_instr.specs.declared.numeric.NumericInstr.TheVariants as numeric
 
--- the opcodes of the operators of a type, which follow one another from the first on
--- unary operators of integers
+-- the opcodes of the operators of a type, which follow one another from the first on; unary
+-- operators of integers
 abbrev pub int_unary_opcode : ℕ → IntUnary → ℕ
 int_unary_opcode first int_unary.Clz = first
 int_unary_opcode first int_unary.Ctz = first + 1

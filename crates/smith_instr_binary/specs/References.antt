@@ -10,7 +10,8 @@ use Rattle.smith_instr.specs.declared.reference.ReferenceInstr.TheVariants as re
 use Rattle.smith_instr.specs.declared.table.TableInstr.{TableInstr}
 use Rattle.smith_instr.specs.declared.table.TableInstr.TheVariants as table
 
--- the number of a test or a cast to a type that may not be null is `first`; that to one that may be null is the next
+-- the number of a test or a cast to a reference type: `first` for a non-nullable one, and the next
+-- for a nullable one
 abbrev pub cast_number : ℕ → Bool → ℕ
 cast_number first false = first
 cast_number first true = first + 1

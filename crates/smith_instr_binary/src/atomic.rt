@@ -3,7 +3,7 @@ ghost use Rattle.smith_instr_binary.specs.Atomic.{atomic_number, update_number, 
 
 use smith_instr::{AtomicAccess, AtomicUpdate, AtomicWidth};
 
-// The number of the access of a width, of which `first` is the number of the first width.
+// Returns the number of the access of a width, of which `first` is the number of the first width.
 fn sized_number(first: u32, width: AtomicWidth) -> u32
     requires { first < 200 }
     ensures { result ≡ first + width_number width }
@@ -19,7 +19,7 @@ fn sized_number(first: u32, width: AtomicWidth) -> u32
     }
 }
 
-// The number of the update `update` of the first width.
+// Returns the number of the update `update` of the first width.
 fn update_number(update: AtomicUpdate) -> u32
     ensures is { result ≡ update_number update }
     ensures small { result < 200 }
@@ -34,7 +34,7 @@ fn update_number(update: AtomicUpdate) -> u32
     }
 }
 
-// The number of an atomic access, after its prefix.
+// Returns the number of an atomic access, after its prefix.
 pub(crate) fn atomic_number(access: AtomicAccess) -> u32
     ensures { result ≡ atomic_number access }
 {

@@ -12,7 +12,7 @@ use smith_instr::Instr;
 use smith_sections::{Encode, EncodeItem, Listed};
 use smith_types::ValType;
 
-// The way to write a local: as a run of its own.
+// Writes a local as a run of its own.
 #[derive(Clone, Copy)]
 struct Runs;
 
@@ -31,7 +31,7 @@ impl EncodeItem<ValType> for Runs {
 ///
 /// # Errors
 ///
-/// `TooLong` where there are 2^32 locals or more.
+/// `TooLong` if there are 2^32 locals or more.
 pub fn encode_locals(sink: &mut Sink, locals: &[ValType]) -> Result<(), EncodeError>
     ensures writes { OnOk result (Writes (IsLocals locals.now) sink.old sink.new) }
     ensures fault { IfErr result (IsFault (IsLongList IsNeverLong locals.now)) }
@@ -43,12 +43,13 @@ pub fn encode_locals(sink: &mut Sink, locals: &[ValType]) -> Result<(), EncodeEr
     list.encode(sink)
 }
 
-/// Writes a body of the locals `locals`, parameters aside, and the instructions `instructions`, the last `end` aside: the number of
-/// its bytes, its locals and its expression, as the standard's section Binary Format, Code Section, has it.
+/// Writes a body of the locals `locals`, parameters aside, and the instructions `instructions`, the
+/// last `end` aside: the number of its bytes, its locals and its expression, in the form of the
+/// standard's section Binary Format, Code Section.
 ///
 /// # Errors
 ///
-/// `TooLong` where there are 2^32 locals or more, where the body would have 2^32 bytes or more, or as for
+/// `TooLong` if there are 2^32 locals or more, if the body would have 2^32 bytes or more, or as for
 /// [`encode_instr`](crate::encode_instr).
 pub fn encode_body(
     sink: &mut Sink,

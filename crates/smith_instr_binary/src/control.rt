@@ -34,7 +34,7 @@ pub(crate) fn write_block(opcode: u8, ty: BlockType, sink: &mut Sink) -> Result<
     write_block_type(ty, sink)
 }
 
-// The way to write a clause of `try_table`.
+// Writes a clause of `try_table`.
 #[derive(Clone, Copy)]
 struct Catches;
 
@@ -89,7 +89,7 @@ pub(crate) fn write_branch_table(
     sink.write_u32(last)
 }
 
-// The byte of a cast that says which of its types may be null.
+// Returns the byte of a cast for which of its types are nullable.
 fn cast_byte(from: bool, to: bool) -> u8
     ensures { result ≡ cast_byte from to }
 {

@@ -70,12 +70,13 @@ fn write_fence(sink: &mut Sink) -> Result<(), EncodeError>
 
 /// Writes `instruction` at the end of `sink`: the standard's section Binary Format, Instructions.
 ///
-/// The form of an access to memory that names the memory is written for other memories than the first alone.
+/// An access to memory names the memory unless it is the first.
 ///
 /// # Errors
 ///
-/// `TooLong` where a list of `instruction` has 2^32 items or more, where its alignment has more than the six bits of the format,
-/// or where it accesses a lane of more than eight bytes. None of these instructions but those of long lists is valid.
+/// `TooLong` if a list of `instruction` has 2^32 items or more, if its alignment needs more than
+/// the six bits of the format, or if it accesses a lane of more than eight bytes. Of these
+/// instructions, only those with long lists can be valid.
 pub fn encode_instr(sink: &mut Sink, instruction: &Instr) -> Result<(), EncodeError>
     ensures writes { OnOk result (Writes (IsInstr instruction.now) sink.old sink.new) }
     ensures fault { IfErr result (IsFault (IsLongInstr instruction.now)) }

@@ -1,8 +1,8 @@
 //! Instructions and bodies of functions in the binary format of the WebAssembly Core Specification 3.0 (chapter Binary Format,
 //! Instructions).
 //!
-//! What proposals outside the standard add is written in the encoding of the proposal: atomic accesses to memory (threads), the
-//! shared i31 (shared-everything-threads), and wide arithmetic.
+//! Additions of proposals outside the standard are written in the encoding of the proposal: atomic
+//! accesses to memory (threads), the shared i31 (shared-everything-threads), and wide arithmetic.
 #![tactic(auto)]
 
 mod aggregate;

@@ -16,7 +16,7 @@ use crate::opcodes::{write_indexed, write_prefixed, write_prefixed_index, write_
 use smith_binary::{EncodeError, Sink};
 use smith_instr::{Load, MemArg, MemoryInstr, Store, VectorLoad};
 
-// Writes `at`. The form that names the memory is for other memories than the first.
+// Writes `at`. Names the memory unless it is the first.
 fn write_mem_arg(at: MemArg, sink: &mut Sink) -> Result<(), EncodeError>
     ensures writes { OnOk result (Writes (IsMemArg at) sink.old sink.new) }
     ensures fault { IfErr result (IsFault (2 ^ 6 ≤ at.align)) }
@@ -76,7 +76,7 @@ pub(crate) fn write_lane_access(
     sink.write_byte(lane)
 }
 
-// The opcode of a load.
+// Returns the opcode of a load.
 pub(crate) fn load_opcode(op: Load) -> u8
     ensures { result ≡ load_opcode op }
 {
@@ -98,7 +98,7 @@ pub(crate) fn load_opcode(op: Load) -> u8
     }
 }
 
-// The opcode of a store.
+// Returns the opcode of a store.
 pub(crate) fn store_opcode(op: Store) -> u8
     ensures { result ≡ store_opcode op }
 {
@@ -115,7 +115,7 @@ pub(crate) fn store_opcode(op: Store) -> u8
     }
 }
 
-// The number of a load of a vector, after its prefix.
+// Returns the number of a load of a vector, after its prefix.
 pub(crate) fn vector_load_number(op: VectorLoad) -> u32
     ensures { result ≡ vector_load_number op }
 {

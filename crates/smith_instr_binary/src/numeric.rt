@@ -22,7 +22,7 @@ use smith_instr::{
     NumericInstr, SaturatingConversion, SignExtension, WideArithmetic,
 };
 
-// The opcode of one of the unary operators of integers, of which `first` is the first.
+// Returns the opcode of one of the unary operators of integers, of which `first` is the first.
 fn int_unary_opcode(first: u8, op: IntUnary) -> u8
     requires { first < 200 }
     ensures { result ≡ int_unary_opcode first op }
@@ -34,7 +34,7 @@ fn int_unary_opcode(first: u8, op: IntUnary) -> u8
     }
 }
 
-// The opcode of one of the binary operators of integers, of which `first` is the first.
+// Returns the opcode of one of the binary operators of integers, of which `first` is the first.
 fn int_binary_opcode(first: u8, op: IntBinary) -> u8
     requires { first < 200 }
     ensures { result ≡ int_binary_opcode first op }
@@ -58,7 +58,7 @@ fn int_binary_opcode(first: u8, op: IntBinary) -> u8
     }
 }
 
-// The opcode of one of the comparisons of integers, of which `first` is the first.
+// Returns the opcode of one of the comparisons of integers, of which `first` is the first.
 fn int_compare_opcode(first: u8, op: IntCompare) -> u8
     requires { first < 200 }
     ensures { result ≡ int_compare_opcode first op }
@@ -77,7 +77,7 @@ fn int_compare_opcode(first: u8, op: IntCompare) -> u8
     }
 }
 
-// The opcode of one of the unary operators of floats, of which `first` is the first.
+// Returns the opcode of one of the unary operators of floats, of which `first` is the first.
 fn float_unary_opcode(first: u8, op: FloatUnary) -> u8
     requires { first < 200 }
     ensures { result ≡ float_unary_opcode first op }
@@ -93,7 +93,7 @@ fn float_unary_opcode(first: u8, op: FloatUnary) -> u8
     }
 }
 
-// The opcode of one of the binary operators of floats, of which `first` is the first.
+// Returns the opcode of one of the binary operators of floats, of which `first` is the first.
 fn float_binary_opcode(first: u8, op: FloatBinary) -> u8
     requires { first < 200 }
     ensures { result ≡ float_binary_opcode first op }
@@ -109,7 +109,7 @@ fn float_binary_opcode(first: u8, op: FloatBinary) -> u8
     }
 }
 
-// The opcode of one of the comparisons of floats, of which `first` is the first.
+// Returns the opcode of one of the comparisons of floats, of which `first` is the first.
 fn float_compare_opcode(first: u8, op: FloatCompare) -> u8
     requires { first < 200 }
     ensures { result ≡ float_compare_opcode first op }
@@ -124,7 +124,7 @@ fn float_compare_opcode(first: u8, op: FloatCompare) -> u8
     }
 }
 
-// The opcode of a conversion.
+// Returns the opcode of a conversion.
 fn conversion_opcode(op: Conversion) -> u8
     ensures { result ≡ conversion_opcode op }
 {
@@ -157,7 +157,7 @@ fn conversion_opcode(op: Conversion) -> u8
     }
 }
 
-// The opcode of an extension of a sign.
+// Returns the opcode of an extension of a sign.
 fn extension_opcode(op: SignExtension) -> u8
     ensures { result ≡ extension_opcode op }
 {
@@ -170,7 +170,7 @@ fn extension_opcode(op: SignExtension) -> u8
     }
 }
 
-// The number of a conversion that saturates, after its prefix.
+// Returns the number of a conversion that saturates, after its prefix.
 fn saturating_number(op: SaturatingConversion) -> u32
     ensures { result ≡ saturating_number op }
 {
@@ -186,7 +186,7 @@ fn saturating_number(op: SaturatingConversion) -> u32
     }
 }
 
-// The number of wide arithmetic, after its prefix.
+// Returns the number of wide arithmetic, after its prefix.
 fn wide_number(op: WideArithmetic) -> u32
     ensures { result ≡ wide_number op }
 {

@@ -9,7 +9,8 @@ use smith_instr::{ReferenceInstr, TableInstr};
 use smith_sections::Encode;
 use smith_types::RefType;
 
-// The number of a test or a cast to a type that may be null, or may not; `first` is that of the latter.
+// Returns the number of a test or a cast to a reference type, nullable if `nullable` is set.
+// `first` is the number for a non-nullable one.
 fn cast_number(first: u32, nullable: bool) -> u32
     requires { first < 200 }
     ensures { result ≡ cast_number first nullable }

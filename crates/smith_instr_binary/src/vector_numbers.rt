@@ -24,7 +24,7 @@ use smith_instr::{
     VectorShift, VectorUnary,
 };
 
-// The number of an operator on one vector, without floats.
+// Returns the number of an operator on one vector, without floats.
 pub(crate) fn vector_unary_number(op: VectorUnary) -> u32
     ensures { result ≡ vector_unary_number op }
 {
@@ -58,7 +58,7 @@ pub(crate) fn vector_unary_number(op: VectorUnary) -> u32
     }
 }
 
-// The number of an operator on one vector, with floats.
+// Returns the number of an operator on one vector, with floats.
 pub(crate) fn vector_float_unary_number(op: VectorFloatUnary) -> u32
     ensures { result ≡ vector_float_unary_number op }
 {
@@ -90,7 +90,7 @@ pub(crate) fn vector_float_unary_number(op: VectorFloatUnary) -> u32
     }
 }
 
-// The number of an operator on two vectors, without floats.
+// Returns the number of an operator on two vectors, without floats.
 #[tactic(auto, unfolding(crate::specs::VectorNumbers::vector_binary_number))]
 pub(crate) fn vector_binary_number(op: VectorBinary) -> u32
     ensures { result ≡ vector_binary_number op }
@@ -191,7 +191,7 @@ pub(crate) fn vector_binary_number(op: VectorBinary) -> u32
     }
 }
 
-// The number of an operator on two vectors, with floats.
+// Returns the number of an operator on two vectors, with floats.
 pub(crate) fn vector_float_binary_number(op: VectorFloatBinary) -> u32
     ensures { result ≡ vector_float_binary_number op }
 {
@@ -227,7 +227,7 @@ pub(crate) fn vector_float_binary_number(op: VectorFloatBinary) -> u32
     }
 }
 
-// The number of `all_true`.
+// Returns the number of `all_true`.
 pub(crate) fn all_true_number(shape: IntShape) -> u32
     ensures { result ≡ all_true_number shape }
 {
@@ -239,7 +239,7 @@ pub(crate) fn all_true_number(shape: IntShape) -> u32
     }
 }
 
-// The number of `bitmask`.
+// Returns the number of `bitmask`.
 pub(crate) fn bitmask_number(shape: IntShape) -> u32
     ensures { result ≡ bitmask_number shape }
 {
@@ -251,7 +251,7 @@ pub(crate) fn bitmask_number(shape: IntShape) -> u32
     }
 }
 
-// The number of `shl`.
+// Returns the number of `shl`.
 fn shl_number(shape: IntShape) -> u32
     ensures is { result ≡ shl_number shape }
     ensures small { result < 210 }
@@ -264,7 +264,7 @@ fn shl_number(shape: IntShape) -> u32
     }
 }
 
-// The number of `splat`.
+// Returns the number of `splat`.
 pub(crate) fn splat_number(shape: LaneShape) -> u32
     ensures { result ≡ splat_number shape }
 {
@@ -278,7 +278,7 @@ pub(crate) fn splat_number(shape: LaneShape) -> u32
     }
 }
 
-// The number of `extract_lane`.
+// Returns the number of `extract_lane`.
 pub(crate) fn extract_number(op: LaneExtract) -> u32
     ensures { result ≡ extract_number op }
 {
@@ -294,7 +294,7 @@ pub(crate) fn extract_number(op: LaneExtract) -> u32
     }
 }
 
-// The number of `replace_lane`.
+// Returns the number of `replace_lane`.
 pub(crate) fn replace_number(shape: LaneShape) -> u32
     ensures { result ≡ replace_number shape }
 {
@@ -308,7 +308,7 @@ pub(crate) fn replace_number(shape: LaneShape) -> u32
     }
 }
 
-// The number of a relaxed operator on one vector.
+// Returns the number of a relaxed operator on one vector.
 pub(crate) fn relaxed_float_unary_number(op: RelaxedFloatUnary) -> u32
     ensures { result ≡ relaxed_float_unary_number op }
 {
@@ -320,7 +320,7 @@ pub(crate) fn relaxed_float_unary_number(op: RelaxedFloatUnary) -> u32
     }
 }
 
-// The number of a relaxed operator on two vectors, without floats.
+// Returns the number of a relaxed operator on two vectors, without floats.
 pub(crate) fn relaxed_binary_number(op: RelaxedBinary) -> u32
     ensures { result ≡ relaxed_binary_number op }
 {
@@ -331,7 +331,7 @@ pub(crate) fn relaxed_binary_number(op: RelaxedBinary) -> u32
     }
 }
 
-// The number of a relaxed operator on two vectors, with floats.
+// Returns the number of a relaxed operator on two vectors, with floats.
 pub(crate) fn relaxed_float_binary_number(op: RelaxedFloatBinary) -> u32
     ensures { result ≡ relaxed_float_binary_number op }
 {
@@ -343,7 +343,7 @@ pub(crate) fn relaxed_float_binary_number(op: RelaxedFloatBinary) -> u32
     }
 }
 
-// The number of a relaxed operator on three vectors, without floats.
+// Returns the number of a relaxed operator on three vectors, without floats.
 pub(crate) fn relaxed_ternary_number(op: RelaxedTernary) -> u32
     ensures { result ≡ relaxed_ternary_number op }
 {
@@ -356,7 +356,7 @@ pub(crate) fn relaxed_ternary_number(op: RelaxedTernary) -> u32
     }
 }
 
-// The number of a relaxed operator on three vectors, with floats.
+// Returns the number of a relaxed operator on three vectors, with floats.
 pub(crate) fn relaxed_float_ternary_number(op: RelaxedFloatTernary) -> u32
     ensures { result ≡ relaxed_float_ternary_number op }
 {
@@ -368,7 +368,7 @@ pub(crate) fn relaxed_float_ternary_number(op: RelaxedFloatTernary) -> u32
     }
 }
 
-// The number of a shift of the lanes of a shape.
+// Returns the number of a shift of the lanes of a shape.
 pub(crate) fn shift_number(op: VectorShift, shape: IntShape) -> u32
     ensures { result ≡ shift_number op shape }
 {
