@@ -1,4 +1,4 @@
--- Bytes that spell the parts of examples, and what instructions have.
+-- Bytes that spell the parts of examples, and the parts of instructions.
 use Rattle.std.proofs.Common.{◌≡◌, ℕ, ◌^◌, ◌<◌, Bool, true, false, Some, None, List, [], ◌∷◌, ◌++◌, pos, refl, sym, arith}
 use Rattle.smith_binary.specs.Numbers.{IsUnsigned}
 use Rattle.smith_binary.specs.Pieces.{Each, IsByte, IsList, Joined}
@@ -30,7 +30,7 @@ index n low = small 32 n low (omega arith)
 pub prefixed : (prefix n : ℕ) → n < 128 → IsPrefixed prefix n (prefix ∷ n ∷ [])
 prefixed prefix n low = both (prefix ∷ []) (n ∷ []) refl (index n low)
 
--- no item, and one item more
+-- no item, and one more item
 pub no_item : {A : Type 0} (Item : A → List ℕ → Type 0) → Each Item [] []
 unfolding Each
 no_item Item = refl
@@ -58,7 +58,7 @@ pub null_spelled : IsExpression no_function (0xD0 ∷ 0x70 ∷ 0x0B ∷ [])
 null_spelled =
     both (0xD0 ∷ 0x70 ∷ []) (0x0B ∷ []) (more_items IsConst (RefNull (plain heap.Func)) [] (0xD0 ∷ 0x70 ∷ []) [] (both (0xD0 ∷ []) (0x70 ∷ []) refl refl) (no_item IsConst)) refl
 
--- bytes that begin with another number than the wanted one
+-- bytes that begin with another number than the required one
 pub other_number : (n m : ℕ) (Second : List ℕ → Type 0) (piece : List ℕ) → m < 128 → (n ≡ m → ⊥) → Joined (IsUnsigned 32 n) Second (m ∷ piece) → ⊥
 other_number n m Second piece low differ h =
     differ ((unsigned_is_unambiguous 32).one n m h.first (m ∷ []) h.second piece h.is_first (index m low) (sym h.whole)).item
@@ -78,7 +78,7 @@ abbrev pub table_of : Instr → ℕ
 table_of (instr.CallIndirect table ty) = table
 table_of _ = 0
 
--- whether blocks come to their ends
+-- whether blocks end
 unfoldable pub nests : List Bool → List Instr → Bool
 nests [] [] = true
 nests (block ∷ blocks) [] = false

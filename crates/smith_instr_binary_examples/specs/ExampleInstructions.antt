@@ -1,4 +1,4 @@
--- Instructions that the examples speak of.
+-- Instructions of the examples.
 use Rattle.std.specs.Prelude.{ℕ, true, false}
 use Rattle.smith_types.specs.declared.value_type.AbstractHeapType.TheVariants as heap
 use Rattle.smith_types.specs.declared.value_type.HeapType.TheVariants.{Abstract}
@@ -28,7 +28,7 @@ all_true = instr.Vector (vector.AllTrue shape.I16x8)
 abbrev pub load_word : ℕ → ℕ → ℕ → Instr
 load_word align offset memory = instr.Load load.I32 (record { align = align; offset = offset; memory = memory })
 
--- the types `anyref` and `(ref i31)`, and a branch from a cast of one to the other to the label 7
+-- the types `anyref` and `(ref i31)`, and a branch to the label 7 on a cast of one to the other
 abbrev pub any_reference : RefType
 any_reference = record { nullable = true; heap_type = Abstract false heap.Any }
 

@@ -1,4 +1,4 @@
--- Segments that the examples speak of.
+-- Segments of the examples.
 use Rattle.std.specs.Prelude.{List, [], ◌∷◌, pos}
 use Rattle.smith_types.specs.ExampleTypes.{plain}
 use Rattle.smith_types.specs.Flags.{funcref}
@@ -13,11 +13,11 @@ use Rattle.smith_types.specs.declared.segments.Offset.{Offset}
 use Rattle.smith_types.specs.declared.segments.Offset.TheVariants.{Const32}
 use Rattle.smith_types.specs.declared.value_type.AbstractHeapType.TheVariants as heap
 
--- from the start of a table or a memory
+-- the offset of the start of a table or a memory
 abbrev pub start : Offset
 start = Const32 (pos 0)
 
--- the reference to no function
+-- a null reference to a function
 abbrev pub no_function : List ConstInstr
 no_function = RefNull (plain heap.Func) ∷ []
 

@@ -1,5 +1,6 @@
-//! Bytes that spell instructions, bodies, tables and segments, and ones that do not. The clauses are proved, and nothing calls these
-//! functions. What is written is compared with what another encoder wrote.
+//! Bytes that spell instructions, bodies, tables and segments, and bytes that do not. The clauses
+//! are proved, and nothing calls these functions. The written bytes are compared with those of
+//! another encoder.
 #![tactic(auto)]
 
 mod bodies;
