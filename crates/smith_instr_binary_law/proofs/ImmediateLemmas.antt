@@ -88,7 +88,7 @@ catch_same x y piece more rest other h k e =
 pub catch_is_unambiguous : IsUnambiguous IsCatch
 catch_is_unambiguous = record { one = catch_same }
 
--- which of both types of a cast may be null
+-- the byte for the nullable types of a cast
 cast_of : ℕ → Bool × Bool
 cast_of b = if b == 0x00 then (false, false) else if b == 0x01 then (true, false) else if b == 0x02 then (false, true) else (true, true)
 

@@ -52,14 +52,14 @@ list_long x xs piece h =
     let sum = length-append h.first h.second in
     omega (arith, first, whole, sum)
 
--- a spelling that is followed by as many bytes as no spelling is not longer
+-- a spelling of some byte changes the number of bytes
 never_longer : (piece last : List ℕ) → last ≡ piece ++ last → 1 ≤ length piece → ⊥
 never_longer piece last e long =
     let whole : length last ≡ length (piece ++ last) = ap length e in
     let sum = length-append piece last in
     omega (arith, whole, sum, long)
 
--- lists that are spelled by all bytes up to the same end
+-- two lists that are spelled by the same bytes up to the same end are equal
 lists_same : (xs ys : List Instr) (piece more last : List ℕ) → Each IsInstr xs piece → Each IsInstr ys more → piece ++ last ≡ more ++ last → xs ≡ ys
 unfolding Each
 lists_same [] [] piece more last h k e = refl
@@ -80,7 +80,7 @@ expr_is_unambiguous = record {
       (ap (λ (bytes : List ℕ). h.first ++ bytes) (sym h.is_second) ∙ sym h.whole ∙ k.whole ∙ ap (λ (bytes : List ℕ). k.first ++ bytes) k.is_second);
 }
 
--- after no block there is no `end`
+-- without an open block there is no `end`
 end_is_last : (y : Instr) (blocks next : List Bool) → instr.End ≡ y → blocks ≡ [] → blocks_after y blocks ≡ Some next → ⊥
 end_is_last y blocks next same none after =
     let at_end : blocks_after instr.End [] ≡ Some next =
@@ -119,7 +119,7 @@ nested_same xs ys piece more rest other m n h k e =
     ended_same [] xs ys h.first k.first rest other m n h.is_first k.is_first
     (ap (λ (bytes : List ℕ). h.first ++ (bytes ++ rest)) (sym h.is_second) ∙ regrouped piece more rest other h k e ∙ ap (λ (bytes : List ℕ). k.first ++ (bytes ++ other)) k.is_second)
 
--- what a body holds
+-- the content of a body
 func_is_unambiguous : IsUnambiguousWhole (λ (body : List ValType × List Instr). IsFunc body.0 body.1)
 func_is_unambiguous = record {
   one = λ x y piece h k.

@@ -1,4 +1,4 @@
--- What is typed is nested.
+-- Typed instructions are nested.
 use Rattle.std.proofs.Common.{◌≡◌, ℕ, Bool, true, false, Some, List, [], ◌∷◌, ◌++◌, refl, sym, subst, append_assoc, append-nil}
 use Rattle.smith_types.specs.declared.value_type.ValType.{ValType}
 use Rattle.smith_instr.specs.Contexts.{BodyContext}
@@ -8,7 +8,7 @@ use Rattle.smith_instr.specs.declared.instr.Instr.{Instr}
 use Rattle.smith_instr.specs.declared.instr.Instr.TheVariants as instr
 use Rattle.smith_instr_binary.specs.Nesting.{blocks_after, AreNested}
 
--- an instruction that is typed alone starts and ends no block
+-- an instruction with a type of its own neither opens nor ends a block
 keeps_blocks : (context : BodyContext) (set : List ℕ) (x : Instr) (operands results : List ValType) (blocks : List Bool) → HasInstrType context set x operands results → blocks_after x blocks ≡ Some blocks
 keeps_blocks context set (instr.Block ty) operands results blocks h = absurd h
 keeps_blocks context set (instr.Loop ty) operands results blocks h = absurd h
@@ -18,13 +18,13 @@ keeps_blocks context set instr.End operands results blocks h = absurd h
 keeps_blocks context set (instr.TryTable ty clauses) operands results blocks h = absurd h
 keeps_blocks context set x operands results blocks h = refl
 
--- a block and what comes after it
+-- a block, then other instructions
 enclosed : (has_else : Bool) (blocks : List Bool) (first : Instr) (all body more rest : List Instr) → all ≡ first ∷ (body ++ instr.End ∷ more) → blocks_after first blocks ≡ Some (has_else ∷ blocks)
     → AreNested (has_else ∷ blocks) (body ++ instr.End ∷ (more ++ rest)) → AreNested blocks (all ++ rest)
 enclosed has_else blocks first all body more rest is starts inside =
     subst (λ (xs : List Instr). AreNested blocks (xs ++ rest)) (sym is) (has_else ∷ blocks, starts, subst (AreNested (has_else ∷ blocks)) (sym (append_assoc body (instr.End ∷ more) rest)) inside)
 
--- what is typed leaves the blocks as they are
+-- typed instructions leave the open blocks unchanged
 typed_nested : {context : BodyContext} {xs : List Instr} {before after : Stacked} → AreTyped context xs before after → (blocks : List Bool) (rest : List Instr) → AreNested blocks rest → AreNested blocks (xs ++ rest)
 typed_nested (nothing counts same) blocks rest h = h
 typed_nested {context = context} {before = before} (step {instruction = x} s more) blocks rest h =

@@ -1,4 +1,4 @@
--- Instructions by the immediates after their opcode: given these, the instruction.
+-- Instructions by the immediates after their opcode.
 use Rattle.std.proofs.Common.{◌≡◌, ℕ, List, [], ◌∷◌, ◌++◌, refl, sym, subst, ap, ◌∙◌}
 use Rattle.std.specs.Prelude.{ℤ}
 use Rattle.smith_binary.specs.Numbers.{IsSigned, IsLittleEndian, IsVector}
@@ -20,7 +20,7 @@ use Rattle.smith_instr_binary.specs.Memory.{IsMemArg}
 use Rattle.smith_instr_binary.specs.Vector.{IsLanes}
 use Rattle.smith_instr_binary_law.proofs.ImmediateLemmas.{block_is_unambiguous, catch_is_unambiguous, cast_is_unambiguous, mem_arg_is_unambiguous, lanes_are_unambiguous, one_type_is_unambiguous, pair_is_unambiguous}
 
--- what comes after an opcode, and the instruction that it gives
+-- the immediates after an opcode, and the instruction with them
 pub data Shape : Type 0 where
   plain : Instr → Shape
   zero_byte : Instr → Shape
@@ -125,7 +125,7 @@ immediates_same (signed bits to) x y piece more rest other h k e = let one = (si
 immediates_same (digits count to) x y piece more rest other h k e = let one = (digits_is_unambiguous count).one x y piece more rest other h k e in record { item = ap to one.item; after = one.after }
 immediates_same (vector to) x y piece more rest other h k e = let one = vector_is_unambiguous.one x y piece more rest other h k e in record { item = ap to one.item; after = one.after }
 
--- what comes after one opcode gives one instruction
+-- equal bytes after one opcode are the same immediates, so the same instruction
 pub shaped_same : (s t : Shape) → s ≡ t → (x : Immediates s) (y : Immediates t) (piece more rest other : List ℕ) → AreImmediates s x piece → AreImmediates t y more → piece ++ rest ≡ more ++ other → Same (instr_of s x) (instr_of t y) rest other
 shaped_same s t same =
     subst

@@ -1,5 +1,5 @@
-//! What bytes in the binary format say of instructions: the grammar of `smith_instr_binary` has one meaning.
+//! Laws of instructions in the binary format: the grammar of `smith_instr_binary` is unambiguous.
 #![tactic(auto)]
 
-/// Laws: functions that do nothing, whose clauses say what holds.
+/// Laws: functions without effect, whose clauses state properties.
 pub mod laws;
