@@ -21,7 +21,7 @@ use Rattle.smith_instr.specs.declared.instr.Instr.TheVariants as instr
 use Rattle.smith_instr.proofs.SequenceLemmas.{one, framed, finished, count_as_themselves}
 use Rattle.smith_instr_examples.specs.ExampleBodies.{weakens, function_of, some_func, number, add}
 
--- an instruction that opens nothing
+-- whether an instruction opens no block
 pub is_plain : Instr → Bool
 is_plain (instr.Block ty) = false
 is_plain (instr.Loop ty) = false
@@ -32,7 +32,7 @@ is_plain _ = true
 opens_not : {A : Type 0} (first other : Instr) (xs ys : List Instr) → first ∷ xs ≡ other ∷ ys → is_plain first ≡ true → is_plain other ≡ false → A
 opens_not first other xs ys is plain opens = let same : first ≡ other = cc in let never : is_plain other ≡ true = rw same at plain in cc
 
--- the first step of a sequence that begins with an instruction that opens nothing
+-- the first step of a sequence that begins with an instruction that opens no block
 pub step_of : {context : BodyContext} {instruction : Instr} {more : List Instr} {a b : Stacked} → is_plain instruction ≡ true → AreTyped context (instruction ∷ more) a b → (between : Stacked) × IsStep context instruction a between × AreTyped context more between b
 unfolding is_plain
 step_of plain (step {between = between} first rest) = (between, first, rest)
@@ -48,7 +48,7 @@ zip_length R [] (y ∷ ys) h = absurd h
 zip_length R (x ∷ xs) [] h = absurd h
 zip_length R (x ∷ xs) (y ∷ ys) (p, h) = ap suc (zip_length R xs ys h)
 
--- where no instruction is left, the stack is as high as at the end, and counts as it
+-- after the last instruction, the stack counts as the stack at the end, and has its height
 pub end_of : {context : BodyContext} {a b : Stacked} → AreTyped context [] a b → CountsAs context a.stack b.stack
 end_of (nothing counts same) = counts
 end_of (block is fits inner framed rest) = cc
@@ -60,7 +60,7 @@ end_of (try_table is fits caught inner framed rest) = cc
 pub end_height : {context : BodyContext} {a b : Stacked} → AreTyped context [] a b → length a.stack ≡ length b.stack
 end_height {context = context} {a = a} {b = b} end = zip_length (IsValBelow context.types) a.stack b.stack (end_of end).below
 
--- how high the stack is after a step
+-- the height of the stack after a step
 pub height : {context : BodyContext} {instruction : Instr} {a b : Stacked} (s : IsStep context instruction a b) → (length s.operands ≤ length a.stack) × (length b.stack + length s.operands ≡ length a.stack + length s.results)
 height {context = context} {a = a} {b = b} s =
     let f = s.framed in
@@ -177,7 +177,7 @@ without_value body =
     let many : length first.operands ≡ length below + length taken = ap length is ∙ simp length-append refl in
     omega arith
 
--- one value is not another above some
+-- a stack of one value does not end in a value of another type
 other_end : (below : List ValType) → I32 ∷ [] ≡ below ++ I64 ∷ [] → ⊥
 other_end [] is = cc
 other_end (x ∷ []) is = cc
@@ -207,7 +207,7 @@ no_else (x ∷ []) ys is = cc
 no_else (x ∷ y ∷ []) ys is = cc
 no_else (x ∷ y ∷ z ∷ body) ys is = cc
 
--- an if that gives a value where it has no else
+-- an if without an else that has a result
 no_if : {context : BodyContext} {a b : Stacked} → AreTyped context (instr.If (blocks.Value I32) ∷ number 2 ∷ instr.End ∷ []) a b → ⊥
 no_if (step s rest) = s.typed
 no_if (block is fits inner framed rest) = cc

@@ -1,4 +1,4 @@
--- Contexts and instructions that the examples speak of.
+-- Contexts and instructions of the examples.
 use Rattle.std.specs.Prelude.{ℕ, true, false, List, [], ◌∷◌, pos, None}
 use Rattle.smith_types.specs.ExampleFeatures.{usual_features}
 use Rattle.smith_types.specs.ExampleTypes.{func, final_type, plain_func, struct, taking, constant, variable, not_null, nullable, plain}
@@ -22,7 +22,7 @@ use Rattle.smith_instr.specs.declared.memory.MemArg.{MemArg}
 use Rattle.smith_instr.specs.declared.numeric.NumericInstr.TheVariants as numeric
 use Rattle.smith_instr.specs.declared.numeric.IntBinary.TheVariants.{Add}
 
--- a memory of one page, by addresses of 32 bits, and one by addresses of 64
+-- a memory of one page with addresses of 32 bits, and one with addresses of 64 bits
 abbrev pub narrow_memory : MemoryType
 narrow_memory = record { minimum = 1; maximum = None; memory64 = false; shared = false; page_size_log2 = None }
 
@@ -33,18 +33,19 @@ wide_memory = record narrow_memory { memory64 = true }
 abbrev pub functions : TableType
 functions = record { element_type = funcref; minimum = 1; maximum = None; table64 = false; shared = false }
 
--- a reference to a function that may not be null
+-- a non-nullable reference to a function
 abbrev pub some_func : ValType
 some_func = Ref (not_null (plain heap.Func))
 
--- what takes such a reference, and gives one that may be null
+-- a function type from such a reference to a nullable one
 abbrev pub weakens : FuncType
 weakens = func some_func (Ref funcref)
 
--- a function without parameters, with these locals and results. There are a function type without parameters, one with an i32, a
--- struct of a constant packed field and a variable i64, an array of variable i32, and a function type that weakens a reference; two functions, of which the last may be
--- named by `ref.func`; memories of either width, a table, a constant global and a variable one, a tag with an i32, an element
--- segment and a data segment
+-- a function without parameters, with these locals and results. The types are a function type
+-- without parameters, one with an i32, a struct of a constant packed field and a variable i64, an
+-- array of variable i32, and a function type from a non-nullable reference to a nullable one. There
+-- are two functions, of which `ref.func` may name the last; memories of either width, a table, a
+-- constant global and a variable one, a tag with an i32, an element segment and a data segment
 abbrev pub function_of : List ValType → List ValType → BodyContext
 function_of locals results = record {
   features = usual_features;
@@ -64,11 +65,12 @@ function_of locals results = record {
   results = results;
 }
 
--- the reference to any exception
+-- the type of references to any exception
 abbrev pub exnref : ValType
 exnref = Ref (nullable (plain heap.Exn))
 
--- where the memory of an index is accessed, without an offset, at this binary logarithm of an alignment
+-- the place of an access to the memory with this index, without an offset, with this binary
+-- logarithm of an alignment
 abbrev pub aligned : ℕ → ℕ → MemArg
 aligned memory align = record { align = align; offset = 0; memory = memory }
 
@@ -78,6 +80,6 @@ number n = instr.I32Const (pos n)
 abbrev pub add : Instr
 add = instr.Numeric (numeric.I32Binary Add)
 
--- the set of this kind alone
+-- the set of only this kind
 abbrev pub kinds_of : InstructionKind → InstructionKinds
 kinds_of kind = record { 0 = kind_bits kind }
