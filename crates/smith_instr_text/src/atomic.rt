@@ -5,7 +5,7 @@ use smith_instr::{AtomicAccess, AtomicUpdate, AtomicWidth, MemArg};
 use smith_text::Sink;
 use std::fmt;
 
-// The type of the value of an atomic access.
+// Returns the type of the value of an atomic access.
 fn type_of(width: AtomicWidth) -> &'static str {
     match width {
         AtomicWidth::I32 | AtomicWidth::I32Of8 | AtomicWidth::I32Of16 => "i32",
@@ -15,7 +15,7 @@ fn type_of(width: AtomicWidth) -> &'static str {
     }
 }
 
-// The bits of an access that is narrower than its value.
+// Returns the bits of an access that is narrower than its value.
 fn bits_of(width: AtomicWidth) -> &'static str {
     match width {
         AtomicWidth::I32 | AtomicWidth::I64 => "",
@@ -25,7 +25,8 @@ fn bits_of(width: AtomicWidth) -> &'static str {
     }
 }
 
-// The end of the keyword of an access that gives a value, which is extended by zeros where it is narrower.
+// Returns the end of the keyword of an access that produces a value, which is extended by zeros if
+// the access is narrower.
 fn extended(width: AtomicWidth) -> &'static str {
     match width {
         AtomicWidth::I32 | AtomicWidth::I64 => "",
@@ -33,7 +34,7 @@ fn extended(width: AtomicWidth) -> &'static str {
     }
 }
 
-// The keyword of an update.
+// Returns the keyword of an update.
 fn update_keyword(update: AtomicUpdate) -> &'static str {
     match update {
         AtomicUpdate::Add => "add",
@@ -45,7 +46,7 @@ fn update_keyword(update: AtomicUpdate) -> &'static str {
     }
 }
 
-// Writes the keyword of a read, an update and a write at once.
+// Writes the keyword of a read, an update and a write, as one access.
 fn write_update<S: Sink>(operation: &str, width: AtomicWidth, sink: &mut S) -> fmt::Result
     requires open { S.failed sink.old ≡ false }
     ensures fault { S.failed sink.new ≡ is_err result }

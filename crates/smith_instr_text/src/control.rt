@@ -4,7 +4,7 @@ use smith_instr::{BlockType, BranchCast, Catch};
 use smith_text::{Sink, TextForm};
 use std::fmt;
 
-// Writes the type of a block after a space, or nothing where it is empty.
+// Writes the type of a block after a space, or nothing if it is empty.
 fn write_block_type<S: Sink>(ty: BlockType, sink: &mut S) -> fmt::Result
     requires open { S.failed sink.old ≡ false }
     ensures fault { S.failed sink.new ≡ is_err result }

@@ -1,5 +1,5 @@
-//! Instructions in the text format of the WebAssembly Core Specification 3.0, chapter Text Format, in their plain form. What
-//! proposals add is written in their own text forms.
+//! Instructions in the text format of the WebAssembly Core Specification 3.0, chapter Text Format,
+//! in their plain form. Additions of proposals are written in the text forms of the proposals.
 #![tactic(auto)]
 
 mod atomic;

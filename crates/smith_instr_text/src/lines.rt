@@ -5,7 +5,8 @@ use smith_instr::{BlockType, Instr, IntBinary, NumericInstr};
 use smith_text::Sink;
 use std::fmt;
 
-// The depth at which `instruction` is written, where the instructions before it are at the depth `depth`.
+// Returns the depth at which `instruction` is written, if the instructions before it are at the
+// depth `depth`.
 fn depth_at(instruction: &Instr, depth: usize) -> usize {
     match instruction {
         Instr::Else | Instr::End => depth.saturating_sub(1),
@@ -13,7 +14,7 @@ fn depth_at(instruction: &Instr, depth: usize) -> usize {
     }
 }
 
-// The depth of what comes after `instruction`, which is written at the depth `depth`.
+// Returns the depth of the instructions after `instruction`, which is written at the depth `depth`.
 fn depth_after(instruction: &Instr, depth: usize) -> usize {
     match instruction {
         Instr::Block(_) | Instr::Loop(_) | Instr::If(_) | Instr::Else | Instr::TryTable(_, _) => {
@@ -34,7 +35,8 @@ fn write_indent<S: Sink>(depth: usize, sink: &mut S) -> fmt::Result
     Ok(())
 }
 
-// Writes the line of `instruction`, where those before it are at the depth `depth`, and returns the depth of those after it.
+// Writes the line of `instruction`, if those before it are at the depth `depth`. Returns the depth
+// of those after it.
 fn write_line<S: Sink>(instruction: &Instr, depth: usize, sink: &mut S) -> Result<usize, fmt::Error>
     requires open { S.failed sink.old ≡ false }
     ensures fault { S.failed sink.new ≡ is_err result }
@@ -74,7 +76,7 @@ fn write_checks<S: Sink>(counters: &[u32], depth: usize, sink: &mut S) -> fmt::R
     Ok(())
 }
 
-// Writes the check of the counter of fuel `counter`: a trap at 0, else 1 is taken off.
+// Writes the check of the counter of fuel `counter`: a trap at 0, else 1 is subtracted.
 fn write_check<S: Sink>(counter: u32, depth: usize, sink: &mut S) -> fmt::Result
     requires open { S.failed sink.old ≡ false }
     ensures fault { S.failed sink.new ≡ is_err result }

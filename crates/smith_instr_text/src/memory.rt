@@ -4,7 +4,7 @@ use smith_instr::{Load, MemArg, MemoryInstr, Store, VectorLoad};
 use smith_text::Sink;
 use std::fmt;
 
-// The keyword of a load.
+// Returns the keyword of a load.
 pub(crate) fn load_keyword(op: Load) -> &'static str {
     match op {
         Load::I32 => "i32.load",
@@ -24,7 +24,7 @@ pub(crate) fn load_keyword(op: Load) -> &'static str {
     }
 }
 
-// The keyword of a store.
+// Returns the keyword of a store.
 pub(crate) fn store_keyword(op: Store) -> &'static str {
     match op {
         Store::I32 => "i32.store",
@@ -39,7 +39,7 @@ pub(crate) fn store_keyword(op: Store) -> &'static str {
     }
 }
 
-// The keyword of a load of a vector.
+// Returns the keyword of a load of a vector.
 pub(crate) fn vector_load_keyword(op: VectorLoad) -> &'static str {
     match op {
         VectorLoad::V128 => "v128.load",
@@ -78,7 +78,8 @@ pub(crate) fn write_access<S: Sink>(keyword: &str, at: MemArg, sink: &mut S) -> 
     write_mem_arg(at, sink)
 }
 
-/// Writes where a memory is read or written, after a space. An alignment that no integer of 64 bits has is written as 0.
+/// Writes the place of an access to a memory, after a space. An alignment that does not fit 64 bits
+/// is written as 0.
 pub(crate) fn write_mem_arg<S: Sink>(at: MemArg, sink: &mut S) -> fmt::Result
     requires open { S.failed sink.old ≡ false }
     ensures fault { S.failed sink.new ≡ is_err result }
@@ -88,7 +89,7 @@ pub(crate) fn write_mem_arg<S: Sink>(at: MemArg, sink: &mut S) -> fmt::Result
     write!(sink, " offset={} align={alignment}", at.offset)
 }
 
-/// Writes an access to the lane `lane` of `2 ^ log2_bytes` bytes; `verb` says which.
+/// Writes an access to the lane `lane` of `2 ^ log2_bytes` bytes; `verb` is its keyword.
 pub(crate) fn write_lane_access<S: Sink>(
     verb: &str,
     log2_bytes: u32,

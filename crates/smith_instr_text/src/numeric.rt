@@ -7,7 +7,7 @@ use smith_instr::{
 use smith_text::Sink;
 use std::fmt;
 
-// The keyword of an operator, after its type.
+// Returns the keyword of an operator, after its type.
 fn int_unary(op: IntUnary) -> &'static str {
     match op {
         IntUnary::Clz => "clz",
@@ -86,7 +86,7 @@ fn float_compare(op: FloatCompare) -> &'static str {
     }
 }
 
-// The keyword of a conversion.
+// Returns the keyword of a conversion.
 fn conversion(op: Conversion) -> &'static str {
     match op {
         Conversion::I32WrapI64 => "i32.wrap_i64",
@@ -117,7 +117,7 @@ fn conversion(op: Conversion) -> &'static str {
     }
 }
 
-// The keyword of a conversion that saturates.
+// Returns the keyword of a conversion that saturates.
 fn saturating(op: SaturatingConversion) -> &'static str {
     match op {
         SaturatingConversion::I32TruncSatF32S => "i32.trunc_sat_f32_s",
@@ -131,7 +131,7 @@ fn saturating(op: SaturatingConversion) -> &'static str {
     }
 }
 
-// The keyword of an extension of a sign.
+// Returns the keyword of an extension of a sign.
 fn extension(op: SignExtension) -> &'static str {
     match op {
         SignExtension::I32From8 => "i32.extend8_s",
@@ -142,7 +142,7 @@ fn extension(op: SignExtension) -> &'static str {
     }
 }
 
-// The keyword of wide arithmetic.
+// Returns the keyword of wide arithmetic.
 fn wide(op: WideArithmetic) -> &'static str {
     match op {
         WideArithmetic::Add128 => "i64.add128",

@@ -50,7 +50,7 @@ pub(crate) fn write_table<S: Sink>(instruction: TableInstr, sink: &mut S) -> fmt
     }
 }
 
-// The end of the keyword of a get.
+// Returns the end of the keyword of a get.
 fn extended(extension: Extension) -> &'static str {
     match extension {
         Extension::Unpacked => "",

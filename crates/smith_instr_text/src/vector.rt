@@ -8,7 +8,7 @@ use smith_instr::{
 use smith_text::Sink;
 use std::fmt;
 
-// The keyword of an operator.
+// Returns the keyword of an operator.
 fn unary(op: VectorUnary) -> &'static str {
     match op {
         VectorUnary::V128Not => "v128.not",
@@ -40,7 +40,7 @@ fn unary(op: VectorUnary) -> &'static str {
     }
 }
 
-// The keyword of an operator.
+// Returns the keyword of an operator.
 fn float_unary(op: VectorFloatUnary) -> &'static str {
     match op {
         VectorFloatUnary::F32x4Abs => "f32x4.abs",
@@ -70,7 +70,7 @@ fn float_unary(op: VectorFloatUnary) -> &'static str {
     }
 }
 
-// The keyword of an operator.
+// Returns the keyword of an operator.
 fn binary(op: VectorBinary) -> &'static str {
     match op {
         VectorBinary::V128And => "v128.and",
@@ -168,7 +168,7 @@ fn binary(op: VectorBinary) -> &'static str {
     }
 }
 
-// The keyword of an operator.
+// Returns the keyword of an operator.
 fn float_binary(op: VectorFloatBinary) -> &'static str {
     match op {
         VectorFloatBinary::F32x4Eq => "f32x4.eq",
@@ -202,7 +202,7 @@ fn float_binary(op: VectorFloatBinary) -> &'static str {
     }
 }
 
-// The keyword of a relaxed operator.
+// Returns the keyword of a relaxed operator.
 fn relaxed_float_unary(op: RelaxedFloatUnary) -> &'static str {
     match op {
         RelaxedFloatUnary::I32x4TruncF32x4S => "i32x4.relaxed_trunc_f32x4_s",
@@ -212,7 +212,7 @@ fn relaxed_float_unary(op: RelaxedFloatUnary) -> &'static str {
     }
 }
 
-// The keyword of a relaxed operator.
+// Returns the keyword of a relaxed operator.
 fn relaxed_binary(op: RelaxedBinary) -> &'static str {
     match op {
         RelaxedBinary::I8x16Swizzle => "i8x16.relaxed_swizzle",
@@ -221,7 +221,7 @@ fn relaxed_binary(op: RelaxedBinary) -> &'static str {
     }
 }
 
-// The keyword of a relaxed operator.
+// Returns the keyword of a relaxed operator.
 fn relaxed_float_binary(op: RelaxedFloatBinary) -> &'static str {
     match op {
         RelaxedFloatBinary::F32x4Min => "f32x4.relaxed_min",
@@ -231,7 +231,7 @@ fn relaxed_float_binary(op: RelaxedFloatBinary) -> &'static str {
     }
 }
 
-// The keyword of a relaxed operator.
+// Returns the keyword of a relaxed operator.
 fn relaxed_ternary(op: RelaxedTernary) -> &'static str {
     match op {
         RelaxedTernary::I8x16Laneselect => "i8x16.relaxed_laneselect",
@@ -242,7 +242,7 @@ fn relaxed_ternary(op: RelaxedTernary) -> &'static str {
     }
 }
 
-// The keyword of a relaxed operator.
+// Returns the keyword of a relaxed operator.
 fn relaxed_float_ternary(op: RelaxedFloatTernary) -> &'static str {
     match op {
         RelaxedFloatTernary::F32x4Madd => "f32x4.relaxed_madd",
@@ -252,7 +252,7 @@ fn relaxed_float_ternary(op: RelaxedFloatTernary) -> &'static str {
     }
 }
 
-// The keyword of a shape.
+// Returns the keyword of a shape.
 fn int_shape(shape: IntShape) -> &'static str {
     match shape {
         IntShape::I8x16 => "i8x16",
@@ -262,7 +262,7 @@ fn int_shape(shape: IntShape) -> &'static str {
     }
 }
 
-// The keyword of a shape.
+// Returns the keyword of a shape.
 fn lane_shape(shape: LaneShape) -> &'static str {
     match shape {
         LaneShape::I8x16 => "i8x16",
@@ -274,7 +274,7 @@ fn lane_shape(shape: LaneShape) -> &'static str {
     }
 }
 
-// The keyword of an extraction.
+// Returns the keyword of an extraction.
 fn extract(op: LaneExtract) -> &'static str {
     match op {
         LaneExtract::I8x16S => "i8x16.extract_lane_s",
@@ -288,7 +288,7 @@ fn extract(op: LaneExtract) -> &'static str {
     }
 }
 
-// The keyword of a shift, after its shape.
+// Returns the keyword of a shift, after its shape.
 fn shift(op: VectorShift) -> &'static str {
     match op {
         VectorShift::Shl => "shl",
