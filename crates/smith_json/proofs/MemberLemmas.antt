@@ -1,4 +1,4 @@
--- Names that were given, and what a key leaves of the tokens.
+-- The names of earlier members, and the tokens after a key.
 use Rattle.std.proofs.Common.{◌≡◌, ℕ, suc, List, [], ◌∷◌, Bool, ◌||◌, Option, Some, length, map, refl, sym, ap, ◌∙◌, arith, Bor}
 use Rattle.std.specs.List.{list_any}
 use Rattle.std.specs.Str.{bytes_eq}

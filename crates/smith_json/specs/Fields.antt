@@ -1,4 +1,5 @@
--- The fields of a configuration as a text names them, each with what sets it. Rules of this project.
+-- The fields of a configuration, by their names in a text, each with the function that sets it.
+-- Rules of this project.
 use Rattle.std.specs.Prelude.{ℕ, ◌-◌, ◌^◌, Bool, List, [], ◌∷◌, Option, Some, None, cond, codes}
 use Rattle.std.specs.Str.{bytes_eq}
 use Rattle.smith_config.specs.declared.config.Config.{Config}
@@ -9,16 +10,16 @@ use Rattle.smith_types.specs.declared.instruction_kind.InstructionKinds.{Instruc
 abbrev pub Setter : Type 0 → Type 0
 Setter A = Config → A → Config
 
--- names, each with something
+-- a list of names, each with an item
 abbrev pub Table : Type 0 → Type 0
 Table A = List (List ℕ × A)
 
--- what stands first under a name
+-- the first item with a name
 abbrev pub named : {A : Type 0} → List ℕ → Table A → Option A
 named name [] = None
 named name (entry ∷ entries) = cond (bytes_eq name entry.0) (Some entry.1) (named name entries)
 
--- what a field takes, and what sets it
+-- the type of a field's values, and the function that sets it
 pub data Field : Type 0 where
   whole : ℕ → Setter ℕ → Field
   truth : Setter Bool → Field
@@ -26,7 +27,7 @@ pub data Field : Type 0 where
   choices : Setter MemoryOffsetChoices → Field
   file : Field
 
--- a number is at most what its type holds: `u8`
+-- numbers within the bounds of their type: `u8`
 abbrev pub byte : Setter ℕ → Field
 byte set = whole (2 ^ 8 - 1) set
 
@@ -122,6 +123,6 @@ fields =
     ∷ (codes "module-shape", file)
     ∷ []
 
--- the field of a name
+-- the field with a name
 abbrev pub field_named : List ℕ → Option Field
 field_named name = named name fields

@@ -1,4 +1,4 @@
--- What an object makes of a configuration. Rules of this project.
+-- The configuration that an object makes of another. Rules of this project.
 use Rattle.std.specs.Prelude.{◌≡◌, ℕ, List, [], ◌∷◌, ◌++◌, drop, Option, Some, None, Result, Ok, Err, Bool, true, false}
 use Rattle.std.specs.List.{list_any}
 use Rattle.std.specs.Str.{bytes_eq}
@@ -18,12 +18,12 @@ use Rattle.smith_json.specs.Values.{map_ok, first, unwanted, whole_value, truth_
 abbrev pub Outcome : Type 0
 Outcome = Result (Config × List Token) Fault
 
--- what stands after a value that was taken or refused
+-- the tokens after a value that was taken or refused
 abbrev pub outcome : Result (Unit {0}) Fault → Config → List Token → Outcome
 outcome (Ok u) config rest = Ok (config, rest)
 outcome (Err fault) config rest = Err fault
 
--- the field is set to a value; at null it stays
+-- the field is set to a value; null leaves it unchanged
 abbrev pub set_to : {A : Type 0} → Setter A → Config → List Token → Result (Option A) Fault → Outcome
 set_to set config rest (Ok None) = Ok (config, rest)
 set_to set config rest (Ok (Some x)) = Ok (set config x, rest)
@@ -35,7 +35,8 @@ set_choices set config null rest = Ok (config, rest)
 set_choices set config begin_array rest = set_to set config (drop 4 rest) (map_ok Some (weights rest))
 set_choices set config t rest = Err (unwanted t)
 
--- r is what the value at the front of the tokens makes of a configuration, as the value of a field
+-- `r` is the result of the value at the front of the tokens, as the value of a field of a
+-- configuration
 abbrev pub Sets : Option Field → Config → List Token → Outcome → Type 0
 Sets None config ts r = r ≡ Err UnknownField
 Sets (Some (whole most set)) config ts r = r ≡ set_to set config (drop 1 ts) (whole_value most (first ts))
@@ -44,7 +45,7 @@ Sets (Some (kinds set)) config ts r = (v : Result (Option InstructionKinds) Faul
 Sets (Some (choices set)) config ts r = r ≡ set_choices set config (first ts) (drop 1 ts)
 Sets (Some file) config ts r = r ≡ outcome (file_value (first ts)) config (drop 1 ts)
 
--- whether a member before has the name
+-- whether an earlier member has the name
 abbrev pub is_given : List (List ℕ) → List ℕ → Bool
 is_given given name = list_any (λ other. bytes_eq other name) given
 
@@ -52,7 +53,8 @@ is_given given name = list_any (λ other. bytes_eq other name) given
 abbrev pub Reading : Type 0
 Reading = Result (Config × List Token) (Fault × List ℕ)
 
--- what the members from here to the end of the object make of a configuration, after members of the names `given`
+-- the result of the members from here to the end of the object, after members with the names
+-- `given`
 pub data ReadsMembers : List (List ℕ) → Config → List Token → Reading → Type 0 where
   ends : {given : List (List ℕ)} {config : Config} {ts rest : List Token} →
       read_key ts ≡ Some (None, rest) → ReadsMembers given config ts (Ok (config, rest))
@@ -67,7 +69,7 @@ pub data ReadsMembers : List (List ℕ) → Config → List Token → Reading �
       read_key ts ≡ Some (Some name, rest) → is_given given name ≡ false → Sets (field_named name) config rest (Ok (next, after)) →
       ReadsMembers (given ++ name ∷ []) next after r → ReadsMembers given config ts r
 
--- what an object makes of a configuration
+-- the result of an object for a configuration
 abbrev pub ReadsObject : Config → List Token → Reading → Type 0
 ReadsObject config [] r = r ≡ Err (NotAnObject, [])
 ReadsObject config (begin_object ∷ ts) r = ReadsMembers [] config ts r
@@ -79,10 +81,10 @@ alone (Ok (config, [])) = Ok (config, [])
 alone (Ok (config, t ∷ ts)) = Err (TextAfter, [])
 alone (Err e) = Err e
 
--- what a whole text makes of a configuration
+-- the result of a whole text for a configuration
 abbrev pub ReadsAlone : Config → List ℕ → Reading → Type 0
 ReadsAlone config text r = (s : Reading) × ReadsObject config (tokens text) s × (r ≡ alone s)
 
--- what a whole text makes of the default configuration
+-- the result of a whole text for the default configuration
 abbrev pub ReadsText : List ℕ → Reading → Type 0
 ReadsText text r = ReadsAlone default_config text r

@@ -1,4 +1,4 @@
--- The fields as the code names them.
+-- The fields by their names in the code.
 use Rattle.std.specs.Prelude.{ℕ, Bool, List, map}
 use Rattle.std.specs.Borrow.{Bor}
 use Rattle.smith_json.specs.declared.place.Place.{Place}
@@ -101,6 +101,6 @@ field_of place.AllowedInstructions = kinds (λ config k. record config { allowed
 field_of place.MemoryOffsetChoices = choices (λ config c. record config { memory_offset_choices = c })
 field_of place.File = file
 
--- the fields of a table of the code
+-- the fields of a table in the code
 abbrev pub fields_in : List (Bor (List ℕ) × Place) → Table Field
 fields_in table = map (λ entry. (entry.0.now, field_of entry.1)) table

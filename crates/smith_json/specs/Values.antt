@@ -1,4 +1,4 @@
--- What the tokens of a value denote for a field that takes it. Rules of this project.
+-- The values that tokens denote, for the fields that take them. Rules of this project.
 use Rattle.std.specs.Prelude.{◌≡◌, ℕ, ◌-◌, ◌^◌, nat_lt, List, [], ◌∷◌, drop, Bool, false, ◌==◌, if◌then◌else◌, Option, Some, None, option_map, Result, Ok, Err, length}
 use Rattle.std.specs.List.{list_all}
 use Rattle.std.specs.Char.{is_ascii_digit}
@@ -37,11 +37,11 @@ unwanted (boolean b) = WrongType
 unwanted null = WrongType
 unwanted bad = NotAnObject
 
--- whether a text has a digit, and digits alone
+-- whether a text has a digit, and only digits
 abbrev pub are_digits : List ℕ → Bool
 are_digits text = if length text == 0 then false else list_all is_ascii_digit text
 
--- the number that digits alone write, where it is at most `most`
+-- the number that digits write, if it is at most `most`
 abbrev pub number_of : ℕ → List ℕ → Result ℕ Fault
 number_of most text = if are_digits text then (if nat_lt most (digits_value 10 text) then Err OutOfRange else Ok (digits_value 10 text)) else Err WrongType
 
@@ -74,13 +74,13 @@ AreKinds (number text) v = map_ok (option_map kinds_bits) v ≡ map_ok Some (num
 AreKinds (string text) v = (r : Result InstructionKinds UnknownKind) × AreReadKinds text r × (v ≡ of_names r)
 AreKinds t v = v ≡ Err (unwanted t)
 
--- one of the three weights; where the list has ended it is too short
+-- one of the three weights; at the end of the list, the list is too short
 abbrev pub weight : Token → Result ℕ Fault
 weight (number text) = number_of (2 ^ 32 - 1) text
 weight end_array = Err WrongType
 weight t = Err (unwanted t)
 
--- the end of the list; where there is another value it is too long
+-- the end of the list; at another value, the list is too long
 abbrev pub list_end : Token → Result (Unit {0}) Fault
 list_end end_array = Ok tt
 list_end t = Err (unwanted t)

@@ -5,7 +5,7 @@ ghost use Rattle.smith_json.specs.Places.{field_of, fields_in};
 use crate::place::{Flag, Long, Place, Size, Word};
 use std::fmt;
 
-/// The kind of value that a field takes. Each field takes `null` too, which leaves it as it is.
+/// Kind of value that a field takes. Each field also takes `null`, which leaves it unchanged.
 #[derive(Clone, Copy, Debug, PartialEq, Eq)]
 pub enum FieldKind {
     /// A whole number below `2^bits`, written in digits alone.
@@ -35,14 +35,14 @@ impl fmt::Display for FieldKind {
     }
 }
 
-/// A field of a configuration, as a text names it.
+/// Field of a configuration, by its name in a text.
 #[derive(Clone, Copy, Debug)]
 pub struct Field {
     /// The name, in lower case and with hyphens.
     pub name: &'static str,
     /// The kind of its value.
     pub kind: FieldKind,
-    /// One sentence on what the field asks for.
+    /// A sentence on the meaning of the field.
     pub about: &'static str,
 }
 
@@ -200,7 +200,7 @@ pub(crate) fn place_named(name: &str) -> Option<Place>
     found(&PLACES, name)
 }
 
-/// Finds what stands first under `name`.
+/// Finds the first item with the name `name`.
 fn found(table: &[(&str, Place)], name: &str) -> Option<Place>
     ensures { option_map field_of result ≡ named name.now (fields_in table.now) }
 {

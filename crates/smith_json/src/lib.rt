@@ -1,7 +1,7 @@
 //! Reads a configuration from a JSON object whose members are named after the fields of `Config`.
 //!
-//! A name has hyphens where the field has underscores, as in `max-types`. A field that no member
-//! names keeps its default, and so does a field whose member is `null`.
+//! A name has hyphens in place of the field's underscores, as in `max-types`. A field that no
+//! member names keeps its default, and so does a field whose member is `null`.
 #![tactic(auto)]
 
 mod field;

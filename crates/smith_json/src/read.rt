@@ -11,8 +11,8 @@ use json::{Reader, Scratch, Token};
 use smith_config::Config;
 use std::alloc::Global;
 
-/// Reads a configuration from `text`, an object and no more. A field that no member names keeps
-/// its default.
+/// Reads a configuration from `text`, which is one object. A field that no member names keeps its
+/// default.
 ///
 /// # Errors
 ///
@@ -29,12 +29,14 @@ pub fn config(alloc: Global, text: &str) -> Result<Config, ConfigRefusal>
     }
 }
 
-/// Reads an object from `text`, which holds no more, and sets the fields of `config` that its members name.
+/// Reads an object from `text`, which holds nothing else, and sets the fields of `config` that its
+/// members name.
 ///
 /// # Errors
 ///
-/// Refuses the text at its first fault, reading from the start. The members before the fault are set then. The place of the fault is
-/// an offset in `text`, of which [`Refusal::in_text`] makes a line and a column.
+/// Refuses the text at its first fault, reading from the start. The members before the fault are
+/// set then. The place of the fault is an offset in `text`, for which [`Refusal::in_text`] finds
+/// the line and the column.
 pub fn read_text(alloc: Global, text: &str, config: &mut Config) -> Result<(), Refusal>
     ensures ok { OnOk result (ReadsAlone config.old text.now (Ok (config.new, []))) }
     ensures refused { IfErr result (λ refusal. refusal.fault ≢ Fault.OutOfMemory → ReadsAlone config.old text.now (Err (refusal.fault, string_bytes refusal.field))) }
@@ -51,8 +53,8 @@ pub fn read_text(alloc: Global, text: &str, config: &mut Config) -> Result<(), R
     }
 }
 
-/// Reads an object from where `reader` is, and sets the fields of `config` that its members name.
-/// The reader is past the object afterwards.
+/// Reads an object from the place of `reader`, and sets the fields of `config` that its members
+/// name. The reader is then past the object.
 ///
 /// # Errors
 ///
@@ -101,14 +103,14 @@ fn read_members<'a>(
     }
 }
 
-/// Whether a member before has the name `name`.
+/// Whether an earlier member has the name `name`.
 fn is_given(given: &[&str], name: &str) -> bool
     ensures { result ≡ list_any (λ other. bytes_eq other.now name.now) given.now }
 {
     given.iter().any(|other| *other == name)
 }
 
-/// Reads the value of the member `name`, which stands at `start`, into the field of that name.
+/// Reads the value of the member `name`, which is at `start`, into the field of that name.
 fn read_member(
     alloc: Global,
     reader: &mut Reader<'_>,
@@ -128,7 +130,7 @@ fn read_member(
     }
 }
 
-/// A refusal that names no member.
+/// Returns a refusal that names no member.
 fn nameless(alloc: Global, fault: Fault, offset: usize) -> Refusal
     ensures { (result.fault ≡ fault) × (string_bytes result.field ≡ []) }
 {
@@ -139,7 +141,7 @@ fn nameless(alloc: Global, fault: Fault, offset: usize) -> Refusal
     }
 }
 
-/// The refusal of the member `name`.
+/// Returns the refusal of the member `name`.
 fn refused(alloc: Global, fault: Fault, name: &str, offset: usize) -> Refusal
     ensures { result.fault ≢ Fault.OutOfMemory → (result.fault ≡ fault) × (string_bytes result.field ≡ name.now) }
 {

@@ -5,42 +5,42 @@ use crate::field::Field;
 use std::error::Error;
 use std::fmt;
 
-/// What is wrong with the text of a configuration.
+/// Fault of the text of a configuration.
 #[derive(Clone, Copy, Debug, PartialEq, Eq)]
 pub enum Fault {
-    /// No JSON object stands there, or the text stops being JSON.
+    /// There is no JSON object, or the text stops being JSON.
     NotAnObject,
     /// No field has the name.
     UnknownField,
-    /// A member before has the same name.
+    /// An earlier member has the same name.
     RepeatedField,
     /// The value is of another type than the field takes.
     WrongType,
-    /// The value is of the field's type, and none that the field takes.
+    /// The value has the field's type, but the field does not take it.
     OutOfRange,
     /// Something follows the object.
     TextAfter,
-    /// There is no memory left.
+    /// Memory ran out.
     OutOfMemory,
 }
 
-/// Why an object that stands in a longer text is no configuration, and where.
+/// Reason why an object within a longer text is not a configuration, and its place.
 #[derive(Debug, Drop)]
 pub struct Refusal {
-    /// What is wrong.
+    /// The fault.
     pub fault: Fault,
-    /// The name of the member at fault, empty where no member is.
+    /// The name of the member at fault, empty if no member is.
     pub field: String,
     /// The offset in bytes of the name or the value at fault.
     pub offset: usize,
 }
 
-/// Why a text is no configuration, and where.
+/// Reason why a text is not a configuration, and its place.
 #[derive(Debug, Drop)]
 pub struct ConfigRefusal {
-    /// What is wrong.
+    /// The fault.
     pub fault: Fault,
-    /// The name of the member at fault, empty where no member is.
+    /// The name of the member at fault, empty if no member is.
     pub field: String,
     /// The line of the name or the value at fault, from 1.
     pub line: usize,
@@ -49,7 +49,7 @@ pub struct ConfigRefusal {
 }
 
 impl Refusal {
-    /// Gives the refusal its line and column in `text`, which the reader has read.
+    /// Returns the refusal with its line and column in `text`, which the reader has read.
     pub fn in_text(self, text: &str) -> ConfigRefusal
         ensures { (result.fault ≡ self.fault) × (string_bytes result.field ≡ string_bytes self.field) }
     {
@@ -68,7 +68,7 @@ impl Refusal {
     }
 }
 
-/// The line and the column, both from 1, of the byte at `offset`. A column is a character.
+/// Returns the line and the column, both from 1, of the byte at `offset`. A column is a character.
 fn place(text: &[u8], offset: usize) -> (usize, usize) {
     let before = &text[..offset.min(text.len())];
     let line = before.iter().filter(|byte| **byte == b'\n').count();

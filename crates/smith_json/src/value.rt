@@ -37,7 +37,7 @@ fn next<'a>(reader: &mut Reader<'a>) -> Token<'a>
     reader.next().unwrap_or(Token::Bad)
 }
 
-/// The fault of a token that a field doesn't take.
+/// Returns the fault of a token that a field doesn't take.
 fn unwanted(token: Token<'_>) -> Fault
     ensures { result ≡ unwanted (token_of token.entry) }
 {
@@ -52,7 +52,7 @@ fn unwanted(token: Token<'_>) -> Fault
     }
 }
 
-/// Whether a text has a digit and digits alone.
+/// Whether a text has a digit, and only digits.
 fn are_digits(text: &str) -> bool
     ensures { result ≡ are_digits text.now }
 {
@@ -66,7 +66,7 @@ fn all_digits(text: &[u8]) -> bool
     text.iter().all(|byte| byte.is_ascii_digit())
 }
 
-/// The number, at most `most`, that the text of a JSON number writes in digits alone.
+/// Returns the number, at most `most`, that the text of a JSON number writes in digits only.
 fn number(text: &str, most: u128) -> Result<u128, Fault>
     ensures exact { result ≡ number_of most text.now }
     ensures bounded { IfOk result (λ n. n ≤ most) }
@@ -80,7 +80,7 @@ fn number(text: &str, most: u128) -> Result<u128, Fault>
     }
 }
 
-/// The whole number, at most `most`, that a token denotes, or none at `null`.
+/// Returns the whole number, at most `most`, that a token denotes, or none at `null`.
 fn whole(token: Token<'_>, most: u128) -> Result<Option<u128>, Fault>
     ensures exact { result ≡ whole_value most (token_of token.entry) }
     ensures bounded { IfOk result (λ value. IfSome value (λ n. n ≤ most)) }
@@ -92,7 +92,7 @@ fn whole(token: Token<'_>, most: u128) -> Result<Option<u128>, Fault>
     }
 }
 
-/// The truth value that a token denotes, or none at `null`.
+/// Returns the truth value that a token denotes, or none at `null`.
 fn truth(token: Token<'_>) -> Result<Option<bool>, Fault>
     ensures { result ≡ truth_value (token_of token.entry) }
 {
@@ -103,7 +103,7 @@ fn truth(token: Token<'_>) -> Result<Option<bool>, Fault>
     }
 }
 
-/// Takes `null` alone, in place of a path.
+/// Takes only `null`, in place of a path.
 fn no_file(token: Token<'_>) -> Result<(), Fault>
     ensures { result ≡ file_value (token_of token.entry) }
 {
@@ -113,7 +113,7 @@ fn no_file(token: Token<'_>) -> Result<(), Fault>
     }
 }
 
-/// The set of kinds of instructions that a token denotes, or none at `null`.
+/// Returns the set of kinds of instructions that a token denotes, or none at `null`.
 fn kinds(token: Token<'_>) -> Result<Option<InstructionKinds>, Fault>
     ensures { AreKinds (token_of token.entry) result }
 {
@@ -142,7 +142,7 @@ fn weight(token: Token<'_>) -> Result<u32, Fault>
     }
 }
 
-/// The end of the list of weights.
+/// Checks the end of the list of weights.
 fn list_end(token: Token<'_>) -> Result<(), Fault>
     ensures { result ≡ list_end (token_of token.entry) }
 {
@@ -198,7 +198,7 @@ fn read_field(config: &mut Config, place: Place, reader: &mut Reader<'_>) -> Res
     }
 }
 
-/// The same for a field of type `usize`.
+/// Reads and sets a field of type `usize`.
 fn read_size(config: &mut Config, size: Size, reader: &mut Reader<'_>) -> Result<(), Fault>
     ensures exact { Sets (Some (field_of (Place.Size size))) config.old reader.old (outcome result config.new reader.new) }
     ensures shorter { length reader.new ≤ length reader.old }
@@ -209,7 +209,7 @@ fn read_size(config: &mut Config, size: Size, reader: &mut Reader<'_>) -> Result
     Ok(())
 }
 
-/// The same for a field of type `u32`.
+/// Reads and sets a field of type `u32`.
 fn read_word(config: &mut Config, word: Word, reader: &mut Reader<'_>) -> Result<(), Fault>
     ensures exact { Sets (Some (field_of (Place.Word word))) config.old reader.old (outcome result config.new reader.new) }
     ensures shorter { length reader.new ≤ length reader.old }
@@ -220,7 +220,7 @@ fn read_word(config: &mut Config, word: Word, reader: &mut Reader<'_>) -> Result
     Ok(())
 }
 
-/// The same for a field of type `u64`.
+/// Reads and sets a field of type `u64`.
 fn read_long(config: &mut Config, long: Long, reader: &mut Reader<'_>) -> Result<(), Fault>
     ensures exact { Sets (Some (field_of (Place.Long long))) config.old reader.old (outcome result config.new reader.new) }
     ensures shorter { length reader.new ≤ length reader.old }
@@ -231,7 +231,7 @@ fn read_long(config: &mut Config, long: Long, reader: &mut Reader<'_>) -> Result
     Ok(())
 }
 
-/// The same for the field of type `u8`.
+/// Reads and sets the field of type `u8`.
 fn read_uleb_size(config: &mut Config, reader: &mut Reader<'_>) -> Result<(), Fault>
     ensures exact { Sets (Some (field_of Place.MinUlebSize)) config.old reader.old (outcome result config.new reader.new) }
     ensures shorter { length reader.new ≤ length reader.old }
@@ -242,7 +242,7 @@ fn read_uleb_size(config: &mut Config, reader: &mut Reader<'_>) -> Result<(), Fa
     Ok(())
 }
 
-/// The same for the field of type `u128`.
+/// Reads and sets the field of type `u128`.
 fn read_memory64_bytes(config: &mut Config, reader: &mut Reader<'_>) -> Result<(), Fault>
     ensures exact { Sets (Some (field_of Place.MaxMemory64Bytes)) config.old reader.old (outcome result config.new reader.new) }
     ensures shorter { length reader.new ≤ length reader.old }
@@ -253,7 +253,7 @@ fn read_memory64_bytes(config: &mut Config, reader: &mut Reader<'_>) -> Result<(
     Ok(())
 }
 
-/// The same for a flag.
+/// Reads and sets a flag.
 fn read_flag(config: &mut Config, flag: Flag, reader: &mut Reader<'_>) -> Result<(), Fault>
     ensures exact { Sets (Some (field_of (Place.Flag flag))) config.old reader.old (outcome result config.new reader.new) }
     ensures shorter { length reader.new ≤ length reader.old }
@@ -264,7 +264,7 @@ fn read_flag(config: &mut Config, flag: Flag, reader: &mut Reader<'_>) -> Result
     Ok(())
 }
 
-/// The same for the set of kinds of instructions.
+/// Reads and sets the set of kinds of instructions.
 fn read_instructions(config: &mut Config, reader: &mut Reader<'_>) -> Result<(), Fault>
     ensures exact { Sets (Some (field_of Place.AllowedInstructions)) config.old reader.old (outcome result config.new reader.new) }
     ensures shorter { length reader.new ≤ length reader.old }
@@ -275,7 +275,7 @@ fn read_instructions(config: &mut Config, reader: &mut Reader<'_>) -> Result<(),
     Ok(())
 }
 
-/// The same for the three weights.
+/// Reads and sets the three weights.
 fn read_choices(config: &mut Config, reader: &mut Reader<'_>) -> Result<(), Fault>
     ensures exact { Sets (Some (field_of Place.MemoryOffsetChoices)) config.old reader.old (outcome result config.new reader.new) }
     ensures shorter { length reader.new ≤ length reader.old }
