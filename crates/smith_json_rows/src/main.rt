@@ -1,6 +1,6 @@
-//! Reads texts of configurations from standard input, with an empty line between them, and prints
-//! each configuration, or why a text is refused. Before them it gives each field an object, which
-//! no field takes.
+//! Reads texts of configurations from standard input, with an empty line between them. Prints each
+//! configuration, or the refusal of the text. First tries an object for each field, which no field
+//! takes.
 #![tactic(auto)]
 
 use smith_json::{FIELDS, config};
@@ -18,7 +18,7 @@ fn main(rt: HostRuntime) -> io::Result<()> {
     Ok(())
 }
 
-/// Prints what the text of a configuration is read as.
+/// Prints the configuration of a text, or the refusal.
 fn answer(rt: &HostRuntime, text: &str) -> io::Result<()> {
     match config(rt.alloc(), text) {
         Ok(config) => println!(rt; "{config:?}"),
