@@ -6,20 +6,20 @@ const SLOT: usize = 1 << 16;
 // The bytes between two slots, which keep them apart when they are freed.
 const GAP: usize = 64;
 
-// The bytes of the largest block that is asked for, more than a process can address.
+// The bytes of the largest requested block, more than a process can address.
 const LARGEST: usize = 1 << 46;
 
 // The bytes of the smallest block.
 const SMALLEST: usize = 16;
 
-// The most blocks that the memory of a process is taken in.
+// The maximum number of blocks in which the memory of a process is taken.
 const MOST_BLOCKS: usize = 30_000;
 
-// The most blocks that are kept: after each step the blocks that the call gave back are taken too.
+// The maximum number of kept blocks: after each step, the blocks that the call freed are taken too.
 const MOST_KEPT: usize = 100_000;
 
-/// The memory that the process can have, taken in blocks that nobody touches. Some slots are set aside, which are given back one by
-/// one. All of it is given back when the hoard is dropped.
+/// All memory that the process can have, taken in blocks that nobody touches. Some slots are set
+/// aside, and freed one by one. Dropping the hoard frees all of it.
 #[derive(Drop)]
 pub struct Hoard {
     kept: Vec<Vec<u8>>,
@@ -28,7 +28,8 @@ pub struct Hoard {
 }
 
 impl Hoard {
-    /// Takes all memory of the process but for `slots` slots. None where more than 30,000 blocks would be needed.
+    /// Takes all memory of the process except `slots` slots. Returns none if more than 30,000
+    /// blocks would be needed.
     pub fn new(alloc: Global, slots: usize) -> Result<Option<Hoard>, AllocError> {
         let mut hoard = Hoard {
             kept: Vec::with_capacity(alloc, MOST_KEPT)?,
@@ -48,7 +49,8 @@ impl Hoard {
         Ok(())
     }
 
-    // Takes all memory, in blocks of at most `size` bytes, the largest first. False where there are too many blocks.
+    // Takes all memory, in blocks of at most `size` bytes, the largest first. Returns false if
+    // there are too many blocks.
     fn take(&mut self, alloc: Global, size: usize) -> bool {
         let mut size = size;
         for _ in 0..MOST_KEPT {
@@ -68,8 +70,8 @@ impl Hoard {
         false
     }
 
-    /// Takes what was given back since, and leaves one piece of at most `bytes` bytes, at most 64 KiB. False where no slot is left, or
-    /// there are too many blocks.
+    /// Takes the memory that was freed since, and leaves one piece of at most `bytes` bytes, at
+    /// most 64 KiB. Returns false if no slot is left, or if there are too many blocks.
     pub fn leave(&mut self, alloc: Global, bytes: usize) -> bool {
         if !self.take(alloc, SLOT) {
             return false;

@@ -1,7 +1,7 @@
 //! The memory of a process, used up, and calls that are tried with more and more of it.
 //!
-//! The standard allocator refuses nothing while there is memory, so a test of a call under want of memory first takes all that the
-//! process can have. Blocks that nobody touches take address space alone.
+//! The standard allocator refuses nothing while there is memory, so a test of lack of memory first
+//! takes all memory that the process can have. Blocks that nobody touches take only address space.
 #![tactic(auto)]
 
 mod hoard;

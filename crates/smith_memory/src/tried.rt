@@ -2,27 +2,28 @@ use crate::hoard::Hoard;
 use std::alloc::Global;
 use std::test::Fail;
 
-/// What a call came to.
+/// Outcome of a call.
 #[derive(Clone, Copy, Debug, PartialEq, Eq)]
 pub enum Ended {
-    /// The call was refused for want of memory, and left what it must.
+    /// The call was refused for lack of memory, and left its arguments in the required state.
     Refused,
-    /// The call gave what it gives with ample memory.
+    /// The call returned its result with ample memory.
     Given,
-    /// Neither.
+    /// Any other result.
     Wrong(&'static str),
 }
 
-/// A call that is tried with more and more memory. A try takes no other memory than the call does.
+/// Call that is tried with more and more memory. A try takes no other memory than the call.
 pub trait Tried {
-    /// Makes the call, and tells what it came to.
+    /// Makes the call, and returns its outcome.
     fn ended(&mut self, alloc: Global) -> Ended;
 }
 
-// The most tries of a call.
+// The maximum number of tries of a call.
 const MOST_TRIES: usize = 400;
 
-/// Tries `call` with no memory and then with `step` bytes more each time, until it isn't refused. Gives the number of refusals.
+/// Tries `call` with no memory and then with `step` bytes more each time, until it isn't refused.
+/// Returns the number of refusals.
 pub fn refusals<T: Tried>(alloc: Global, step: usize, call: &mut T) -> Result<usize, Fail> {
     let Some(mut hoard) = Hoard::new(alloc, MOST_TRIES)? else {
         return Err(Fail::new("the memory of this machine takes too many blocks"));
