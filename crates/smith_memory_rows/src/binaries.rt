@@ -19,7 +19,7 @@ impl Tried for Encoding<'_> {
     }
 }
 
-// What the call that answered `answer` came to.
+// Returns the outcome of the call that answered `answer`.
 fn encoded(answer: Result<Vec<u8>, EncodeError>) -> Ended {
     match answer {
         Ok(bytes) if bytes.as_slice().starts_with(b"\0asm") => Ended::Given,
@@ -28,7 +28,7 @@ fn encoded(answer: Result<Vec<u8>, EncodeError>) -> Ended {
     }
 }
 
-// Some of each part.
+// A configuration with some of each part.
 const PARTS: &[u8] = &[
     1, 1, 1, 1, 0, 0, 0, 0, 0, 0, 1, 1, 0, 1, 0, 1, 1, 0, 1, 1, 1, 0, 1, 0, 1, 1, 1,
 ];
@@ -39,7 +39,7 @@ fn config_of_parts() -> Config {
     config
 }
 
-// A module of some of each part.
+// Returns a module with some of each part.
 fn module_of_parts(alloc: Global) -> Result<Module, Error> {
     Module::new(alloc, config_of_parts(), &mut Unstructured::new(PARTS))
 }

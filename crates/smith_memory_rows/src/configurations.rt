@@ -19,7 +19,7 @@ impl Tried for Copying<'_> {
     }
 }
 
-// What a copy of `config` came to.
+// Returns the outcome of a copy of `config`.
 fn copied(copy: Result<Config, Error>, config: &Config) -> Ended {
     match copy {
         Ok(copy) => compared(&copy, config),
@@ -50,7 +50,7 @@ fn refusals_of_a_copy(alloc: Global) -> Result<usize, Fail> {
     refusals_of_copies(alloc, &mut config)
 }
 
-// A configuration with two shapes is copied.
+// Copies a configuration with two shapes.
 #[test]
 fn copies(rt: HostRuntime) -> Result<(), Fail> {
     assert!(rt; refusals_of_a_copy(rt.alloc())? > 0);
@@ -96,7 +96,7 @@ fn refusals_of_memories(alloc: Global) -> Result<usize, Fail> {
     refusals_of(alloc, &three_memories(alloc)?, Which::ModuleShape)
 }
 
-// A shape without types and exports is checked without memory.
+// Checks a shape without types and exports, without memory.
 #[test]
 fn checks(rt: HostRuntime) -> Result<(), Fail> {
     assert!(rt; refusals_of_exports(rt.alloc())? > 0);

@@ -6,7 +6,7 @@ use std::alloc::Global;
 use std::test::Fail;
 use wasm_smith::Module;
 
-// A counter of fuel that is added to `module`. `copy` is the same module, and stays as it is.
+// Counter of fuel that is added to `module`. `copy` is the same module, and is unchanged.
 #[derive(Drop)]
 struct Counting {
     module: Module,
@@ -34,7 +34,8 @@ fn counted(alloc: Global, module: &mut Module) -> Ended {
     }
 }
 
-// Whether what a counter adds to is equal, and what it must not change.
+// Whether two modules are equal in the parts that a counter adds to, and in those that it must not
+// change.
 fn are_equal(one: &Module, other: &Module) -> bool {
     one.globals() == other.globals()
         && one.defined_globals() == other.defined_globals()
@@ -44,7 +45,7 @@ fn are_equal(one: &Module, other: &Module) -> bool {
         && one.types() == other.types()
 }
 
-// A function that takes a number.
+// A function with a parameter that is a number.
 const INPUT: &[u8] = &[1, 1, 0, 0, 0, 0, 0, 0, 1];
 
 fn config_of_a_function() -> Config {
@@ -55,7 +56,7 @@ fn config_of_a_function() -> Config {
     config
 }
 
-// A module of a function that takes a number.
+// Returns a module of a function with a parameter that is a number.
 fn function(alloc: Global) -> Result<Module, Error> {
     Module::new(alloc, config_of_a_function(), &mut Unstructured::new(INPUT))
 }

@@ -1,4 +1,5 @@
-//! Calls under want of memory: each answers `Memory` and no other value until there is enough memory for it, and leaves what it must.
+//! Calls that lack memory: each returns `Memory` until there is enough memory for it, and leaves
+//! its arguments in the required state.
 #![tactic(auto)]
 
 #[cfg(test)]

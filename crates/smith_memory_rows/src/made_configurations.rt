@@ -3,14 +3,14 @@ use smith_bytes::Error;
 use smith_config::{Config, Shape};
 use std::alloc::Global;
 
-/// Makes a configuration that allows three memories, and is the default else.
+/// Makes a configuration that allows three memories, otherwise the default.
 pub(crate) fn config_of_memories() -> Config {
     let mut config = Config::default();
     config.max_memories = 3;
     config
 }
 
-/// Sets some of each part at least.
+/// Sets the minimums of each part to some.
 pub(crate) fn set_minimums(config: &mut Config) {
     config.min_types = 4;
     config.min_tables = 1;

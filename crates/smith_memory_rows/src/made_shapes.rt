@@ -40,7 +40,7 @@ const EXTERNAL_TABLE: TableType = TableType {
     shared: false,
 };
 
-// A global of the value type `val_type` that is not mutable and not shared.
+// Returns a global of the value type `val_type` that is not mutable and not shared.
 fn constant(val_type: ValType) -> GlobalType {
     GlobalType {
         val_type,
@@ -63,7 +63,7 @@ fn shape_of(alloc: Global, groups: Items<Items<SubType>>, imports: Items<Imports
     }
 }
 
-// Makes an import from `env` by the name `name`, by itself.
+// Makes a single import from `env` with the name `name`.
 fn import_of(alloc: Global, name: &str, entity_type: EntityType) -> Result<Imports, Error> {
     Ok(Imports::Single(Import {
         module: Name::from_text(alloc, "env")?,
@@ -72,7 +72,8 @@ fn import_of(alloc: Global, name: &str, entity_type: EntityType) -> Result<Impor
     }))
 }
 
-// Makes a compact group of imports from `module` by the names `texts`, each a memory of one page with a type of its own.
+// Makes a compact group of imports from `module` with the names `texts`, each a memory of one page
+// with a type of its own.
 fn items_of(alloc: Global, module: &str, texts: &[&str]) -> Result<Imports, Error> {
     let mut items = Items::new(alloc);
     for text in texts {
@@ -87,7 +88,8 @@ fn items_of(alloc: Global, module: &str, texts: &[&str]) -> Result<Imports, Erro
     })
 }
 
-// Makes a compact group of imports from `module` by the names `texts`, memories of one page that share their type.
+// Makes a compact group of imports from `module` with the names `texts`, memories of one page that
+// share their type.
 fn names_of(alloc: Global, module: &str, texts: &[&str]) -> Result<Imports, Error> {
     let mut names = Items::new(alloc);
     for text in texts {
@@ -120,7 +122,7 @@ fn with_names(
     with(imports, names_of(alloc, module, texts)?)
 }
 
-// Makes a group of each form with imports, and one of each without.
+// Makes a group of each form with imports, and one of each form without.
 fn groups_of_memories(alloc: Global) -> Result<Items<Imports>, Error> {
     let one = with_items(alloc, Items::new(alloc), "env", &["one"])?;
     let none = with_items(alloc, one, "a", &[])?;
@@ -128,7 +130,8 @@ fn groups_of_memories(alloc: Global) -> Result<Items<Imports>, Error> {
     with_names(alloc, three, "env", &[])
 }
 
-/// Makes a shape of three memories to import, one and two in a group, with empty groups between them.
+/// Makes a shape that imports three memories, one and two in a group, with empty groups between
+/// them.
 pub(crate) fn three_memories(alloc: Global) -> Result<Shape, Error> {
     Ok(shape_of(alloc, Items::new(alloc), groups_of_memories(alloc)?))
 }
@@ -149,7 +152,7 @@ const EXPORTS: [(&str, ExportKind); 5] = [
     ("quux", ExportKind::Tag),
 ];
 
-// Exports the first of each kind.
+// Exports the first item of each kind.
 fn exports_of_each(alloc: Global) -> Result<Items<(Name, ExportKind, u32)>, Error> {
     let mut exports = Items::new(alloc);
     for (name, kind) in EXPORTS {
@@ -185,7 +188,7 @@ fn ping_and_memory_imports(alloc: Global) -> Result<Items<Imports>, Error> {
     with(imports, import_of(alloc, "memory", MEMORY)?)
 }
 
-/// Makes a shape of a function that takes an i32, and of a memory, to import.
+/// Makes a shape that imports a function with a parameter i32, and a memory.
 pub(crate) fn ping_and_memory(alloc: Global) -> Result<Shape, Error> {
     let groups = type_of_ping(alloc)?;
     Ok(shape_of(alloc, groups, ping_and_memory_imports(alloc)?))

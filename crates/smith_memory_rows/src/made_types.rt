@@ -4,7 +4,7 @@ use smith_types::{
 };
 use std::alloc::Global;
 
-/// Adds `item` to `items`, which are given back with it.
+/// Returns `items` with `item` at the end.
 pub(crate) fn with<T: Drop>(mut items: Items<T>, item: T) -> Result<Items<T>, Error> {
     items.push(item)?;
     Ok(items)
@@ -24,7 +24,7 @@ pub(crate) fn with_type(
     with(groups, group_of(alloc, ty)?)
 }
 
-/// Makes a struct type without fields, below the type `supertype` where that is given.
+/// Makes a struct type without fields, with the supertype `supertype`, if any.
 pub(crate) fn empty_struct(alloc: Global, is_final: bool, supertype: Option<u32>) -> SubType {
     SubType {
         is_final,
@@ -38,7 +38,7 @@ pub(crate) fn empty_struct(alloc: Global, is_final: bool, supertype: Option<u32>
     }
 }
 
-/// Makes a function type that takes `params` and gives `results`.
+/// Makes a function type from `params` to `results`.
 pub(crate) fn function(
     alloc: Global,
     is_final: bool,

@@ -9,7 +9,7 @@ use std::alloc::Global;
 use std::test::Fail;
 use wasm_smith::Module;
 
-// A module that is drawn of `input`, for a copy of `config`.
+// Module that is drawn from `input`, for a copy of `config`.
 #[derive(Clone, Copy)]
 struct Drawing<'a> {
     config: &'a Config,
@@ -39,7 +39,7 @@ fn drawn(alloc: Global, config: Config, input: &[u8]) -> Ended {
     }
 }
 
-// What the call that answered `answer` came to.
+// Returns the outcome of the call that answered `answer`.
 fn made(answer: Result<Module, Error>) -> Ended {
     match answer {
         Ok(_) => Ended::Given,
@@ -47,16 +47,16 @@ fn made(answer: Result<Module, Error>) -> Ended {
     }
 }
 
-// What is set in a configuration.
+// Settings of a configuration.
 #[derive(Clone, Copy, Debug)]
 enum Asked {
     Nothing,
-    /// Two imports at most, and a global at least.
+    /// At most two imports, and at least one global.
     Imports,
     AvailableImports,
     Exports,
     ModuleShape,
-    /// Some of each part at least.
+    /// At least some of each part.
     EachPart,
 }
 
@@ -77,7 +77,7 @@ fn set_imports(config: &mut Config) {
     config.min_globals = 1;
 }
 
-// The number of refusals before there is enough memory.
+// Returns the number of refusals before there is enough memory.
 fn refusals_of(alloc: Global, asked: Asked, input: &'static [u8]) -> Result<usize, Fail> {
     let mut config = config_of_memories();
     refusals_under(alloc, asked, input, &mut config)

@@ -12,15 +12,15 @@ enum Kind {
     Url,
 }
 
-// The names that stand before the draw. The set is full: one more makes it grow.
+// The names before the draw. The set is full: one more name makes it grow.
 const NAMES: [&str; 3] = ["a", "b", "a-name-of-many-letters-that-stands-already"];
 
-// What is drawn: a name of fifteen characters at most.
+// The drawn name, of at most fifteen characters.
 const INPUT: &[u8] = &[
     15, 97, 98, 99, 100, 101, 102, 103, 104, 105, 106, 107, 108, 109, 110, 111, 112,
 ];
 
-// A name that is drawn beside those that stand.
+// Name that is drawn, distinct from those before.
 #[derive(Drop)]
 struct Naming {
     kind: Kind,
@@ -42,7 +42,7 @@ impl Tried for Naming {
     }
 }
 
-// What the draw that answered `answer` came to, which left `names`.
+// Returns the outcome of the draw that answered `answer` and left `names`.
 fn drawn(answer: Result<String, Error>, names: &HashSet<String>) -> Ended {
     if !NAMES.iter().all(|name| names.contains(*name)) {
         return Ended::Wrong("the names are others");

@@ -29,7 +29,7 @@ impl Tried for Spelling<'_> {
     }
 }
 
-// A final type of this structure.
+// Returns a final type of this structure.
 fn final_type(inner: CompositeInnerType) -> SubType {
     SubType {
         is_final: true,
@@ -55,13 +55,13 @@ const FIRST: FieldType = FieldType {
     mutable: true,
 };
 
-// A struct that refers to the first type.
+// Returns a struct that refers to the first type.
 fn referrer(alloc: Global) -> Result<SubType, Error> {
     let fields = Items::from_slice(alloc, &[FIRST])?;
     Ok(final_type(CompositeInnerType::Struct(StructType { fields })))
 }
 
-// An array of bytes, and a struct that refers to it.
+// Returns an array of bytes, and a struct that refers to it.
 fn array_and_struct(alloc: Global) -> Result<Items<Items<SubType>>, Error> {
     let array = final_type(CompositeInnerType::Array(ArrayType(BYTE)));
     let groups = with_type(alloc, Items::new(alloc), array)?;

@@ -1,9 +1,9 @@
-//! What tries have in common.
+//! Functions that tries share.
 
 use smith_bytes::{Error, Unstructured};
 use smith_memory::{Ended, is_piece};
 
-/// What a try came to that was refused for the reason `refusal`.
+/// Returns the outcome of a try that was refused for the reason `refusal`.
 pub(crate) fn refused(refusal: Error) -> Ended {
     match refusal {
         Error::Memory => Ended::Refused,
@@ -11,7 +11,7 @@ pub(crate) fn refused(refusal: Error) -> Ended {
     }
 }
 
-/// Whether what `u` has left is a piece of `input`.
+/// Whether the rest of `u` is a piece of `input`.
 pub(crate) fn is_left(u: &Unstructured<'_>, input: &[u8]) -> bool {
     u.peek_bytes(u.len())
         .is_some_and(|left| is_piece(left, input))

@@ -5,7 +5,7 @@ use smith_types::TypeSpace;
 use std::alloc::Global;
 use std::test::Fail;
 
-// Types that are pushed onto a space, each below the one before, in one group.
+// Types that are pushed onto a space, each a subtype of the one before, in one group.
 #[derive(Drop)]
 struct Pushes;
 
@@ -33,7 +33,8 @@ fn push(alloc: Global, types: &mut TypeSpace, index: u32) -> Result<(), Error> {
     Ok(())
 }
 
-// Whether `types` are so many, each below the one before, and no group.
+// Whether there are this number of types in `types`, each a subtype of the one before, and no
+// group.
 fn is_chain(types: &TypeSpace, count: u32) -> bool {
     let above = types.types().iter().map(|ty| ty.supertype);
     types.rec_groups().is_empty()
