@@ -1,4 +1,4 @@
--- What a fault of writing is among the faults of a whole call.
+-- A fault of writing as a fault of the whole call.
 use Rattle.std.proofs.Common.{ℕ, List, Ok, inl}
 use Rattle.smith_config.specs.declared.config.Config.{Config}
 use Rattle.smith_program.specs.Generated.{IsProgram}

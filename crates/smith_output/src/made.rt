@@ -10,7 +10,7 @@ use smith_program_binary::{EncodeError, encode};
 use smith_program_text::text;
 use std::alloc::Global;
 
-/// The format in which a module is written.
+/// Format of a written module.
 #[derive(Clone, Copy, Debug, PartialEq, Eq)]
 pub enum Form {
     /// The binary format.
@@ -19,16 +19,17 @@ pub enum Form {
     Text,
 }
 
-/// How a module is written.
+/// Manner of writing a module.
 #[derive(Clone, Copy, Debug, PartialEq, Eq)]
 pub struct Manner {
     /// The format.
     pub form: Form,
-    /// The number of calls and of turns of loops that a program without raw bodies allows before it traps, where they are counted.
+    /// The number of calls and of iterations of loops after which a program without raw bodies
+    /// traps, if they are counted.
     pub fuel: Option<u32>,
 }
 
-/// The reason why no module was written.
+/// Reason why no module was written.
 #[derive(Clone, Copy, Debug, PartialEq, Eq, thiserror::Error)]
 pub enum OutputFault {
     /// No module was made, for this reason.
@@ -54,7 +55,8 @@ impl From<Error> for OutputFault {
 ///
 /// # Errors
 ///
-/// `Refused` with the refusal of [`Program::new`]; `TooLong` where the binary format has no room for the program.
+/// `Refused` with the refusal of [`Program::new`]; `TooLong` if the program is too long for the
+/// binary format.
 pub fn binary(
     alloc: Global,
     config: Config,
@@ -81,13 +83,15 @@ fn encoded(alloc: Global, program: &Program) -> Result<Vec<u8>, OutputFault>
     }
 }
 
-/// Draws a program from the bytes of `u` under `config`, as [`Program::new`] does, counts its calls and its turns of loops where `manner`
-/// says so, and writes it in the form of `manner`.
+/// Draws a program from the bytes of `u` under `config`, as [`Program::new`] does, adds a count of
+/// its calls and of its iterations of loops if `manner` has one, and writes it in the form of
+/// `manner`.
 ///
 /// # Errors
 ///
-/// `Refused` with the refusal of [`Program::new`], or with `IncorrectFormat(RawBody)` where calls are to be counted and a body is raw
-/// bytes; `TooLong` where the binary format has no room for the program.
+/// `Refused` with the refusal of [`Program::new`], or with `IncorrectFormat(RawBody)` if calls are
+/// to be counted and a body is raw bytes; `TooLong` if the program is too long for the binary
+/// format.
 pub fn output(
     alloc: Global,
     config: Config,
@@ -106,7 +110,8 @@ pub fn output(
     }
 }
 
-/// Writes `program` in the form of `manner`, after its calls and its turns of loops are counted where `manner` says so.
+/// Writes `program` in the form of `manner`, with a count of its calls and of its iterations of
+/// loops if `manner` has one.
 fn counted(alloc: Global, mut program: Program, manner: Manner) -> Result<Vec<u8>, OutputFault> {
     if let Some(fuel) = manner.fuel {
         count(alloc, &mut program, fuel)?;
@@ -117,7 +122,8 @@ fn counted(alloc: Global, mut program: Program, manner: Manner) -> Result<Vec<u8
     }
 }
 
-/// Adds to the module of `program` a global that counts calls and turns of loops down from `fuel`.
+/// Adds a global to the module of `program` that counts calls and iterations of loops down from
+/// `fuel`.
 fn count(alloc: Global, program: &mut Program, fuel: u32) -> Result<(), OutputFault> {
     if program.module.globals().len() >= u32::MAX as usize {
         return Err(OutputFault::TooLong);
