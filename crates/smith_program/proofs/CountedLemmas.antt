@@ -1,4 +1,4 @@
--- A body is typed as it was where the counters of fuel are checked in it.
+-- A body stays typed with the checks of counters of fuel in it.
 use Rattle.std.proofs.Common.{◌≡◌, ℕ, List, [], ◌∷◌, ◌++◌, Some, refl, sym, subst, ap, append_assoc, append-nil, pos}
 use Rattle.std.specs.Prelude.{slice_get}
 use Rattle.std.specs.List.{flat_map, AllByRecursion as Each}
@@ -29,7 +29,7 @@ number = I32 ∷ []
 number_valid : (context : BodyContext) → AreValid context number
 number_valid context = one_valid context I32 tt
 
--- what takes the topmost values and sets no local
+-- a step that takes the topmost values and sets no local
 framed_by : (context : BodyContext) (operands results base before after : List ValType) (set : List ℕ) → before ≡ base ++ operands → after ≡ base ++ results → AreValid context results
     → IsFramed context operands results [] (stacked before set) (stacked after set)
 framed_by context operands results base before after set under over valid = record {
@@ -92,12 +92,12 @@ checks_then context (index ∷ counters) rest base set after (counts, count) mor
     subst (λ (all : List Instr). AreTyped context all (stacked base set) after) (sym (append_assoc (checks_of counters) (check_of index) rest))
     (checks_then context counters (check_of index ++ rest) base set after count (check_then context index rest base set after counts more))
 
--- an instruction that is a step starts no loop
+-- a typed instruction that is not a loop has no checks after it
 no_checks : (context : BodyContext) (set counters : List ℕ) (instruction : Instr) (operands results : List ValType) → HasInstrType context set instruction operands results → checked_after counters instruction ≡ instruction ∷ []
 no_checks context set counters (instr.Loop ty) operands results typed = absurd typed
 no_checks context set counters _ operands results typed = refl
 
--- checks in a block, and in both parts of an if
+-- checks in a block, and in both parts of an `if`
 in_block : (counters : List ℕ) (first : Instr) (starts all body more : List Instr) → all ≡ first ∷ (body ++ instr.End ∷ more) → checked_after counters first ≡ first ∷ starts
     → flat_map (checked_after counters) all ≡ first ∷ ((starts ++ flat_map (checked_after counters) body) ++ instr.End ∷ flat_map (checked_after counters) more)
 in_block counters first starts all body more is begins =

@@ -1,4 +1,4 @@
--- The bodies that were drawn are those that the bytes give.
+-- The drawn bodies are those that the bytes produce.
 use Rattle.std.proofs.Common.{◌≡◌, ℕ, zero, suc, ◌+◌, ◌<◌, ◌≤◌, List, [], ◌∷◌, ◌++◌, Some, inl, inr, length, get_or, drop, drop-cons, append_assoc, refl, sym, subst, ap, ◌∙◌, arith}
 use Rattle.std.specs.Prelude.{slice_get}
 use Rattle.std.proofs.lemmas.List.{append-nil, drop_all}
@@ -45,7 +45,7 @@ one_drawn m place bodies body bytes left whole inside drawn before =
     ap (λ (codes : List Code). after bodies (bodies_from m place codes bytes)) first ∙ ap (λ (r : List Body × List ℕ). after bodies r) step ∙ ap (λ (l : List Body). (l, rest.1)) (sym (append_assoc bodies (body ∷ []) rest.0)) in
     rw next (sym same ∙ before)
 
--- what holds of each body holds of each when one more is added, if it holds of that one
+-- a property of each body, and of one more, is one of all
 pub still_held : (Holds : ℕ → Body → Type 0) (bodies : List Body) (body : Body) (place : ℕ) → length bodies ≡ place → ((k : ℕ) (one : Body) → slice_get bodies k ≡ Some one → Holds k one) → Holds place body
     → (k : ℕ) (one : Body) → slice_get (bodies ++ body ∷ []) k ≡ Some one → Holds k one
 still_held Holds bodies body place each before last k one at = elim (slice_get-push bodies body k one at) [
@@ -53,13 +53,13 @@ still_held Holds bodies body place each before last k one at = elim (slice_get-p
   | inr (is, same) ↦ subst (λ (b : Body). Holds k b) same (subst (λ (n : ℕ). Holds n body) (sym (is ∙ each)) last)
 ]
 
--- all of them
+-- all bodies are drawn
 pub all_drawn : (m : ModuleParts) (place : ℕ) (bodies : List Body) (bytes : List ℕ) (whole : List Body × List ℕ) → length m.code ≤ place → after bodies (bodies_from m place (drop place m.code) bytes) ≡ whole → whole ≡ (bodies, bytes)
 all_drawn m place bodies bytes whole past before =
     let none : drop place m.code ≡ [] = drop_all place m.code past in
     sym before ∙ rw (none, append-nil) refl
 
--- the body of a function that was read
+-- the body at a place: raw bytes are kept, and instructions are drawn
 pub raw_drawn : (m : ModuleParts) (place : ℕ) (given : Code) (raw bytes : List ℕ) → given ≡ get_or m.code place given → given.instructions ≡ Arbitrary raw → (code : Code) → slice_get m.code place ≡ Some code → one_at m place code bytes ≡ (body.Raw, bytes)
 unfolding one_at
 raw_drawn m place given raw bytes read is code at =

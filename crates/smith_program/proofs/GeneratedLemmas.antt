@@ -1,4 +1,4 @@
--- What is answered where a module is drawn and then its bodies.
+-- The result of drawing a module and then its bodies.
 use Rattle.std.proofs.Common.{◌≡◌, ◌∙◌, sym, subst, ℕ, List, false, Ok, Err, inl, inr}
 use Rattle.std.specs.Prelude.{Result, IsErrAnd}
 use Rattle.smith_bytes.specs.Source.{KeepsPieces}
@@ -23,7 +23,7 @@ program_made given bytes after left m bodies generated drawn exact kept = record
   source = kept bytes generated.source;
 }
 
--- no module
+-- a refusal of the module
 pub module_refused : (given : Config) (bytes left : List ℕ) (answer : Result Program Error) (e : Error) → IsGenerated false given bytes (Err e) left → IsErrAnd answer (λ y. y ≡ e)
     → IsProgram given bytes answer left
 module_refused given bytes left (Ok program) e generated passed = absurd passed
@@ -34,7 +34,7 @@ module_refused given bytes left (Err y) e generated passed = record {
   source = generated.source;
 }
 
--- no memory for the bodies
+-- lack of memory for the bodies
 pub bodies_refused : (given : Config) (bytes after left : List ℕ) (m : ModuleParts) (answer : Result Program Error) (e : Error) → IsGenerated false given bytes (Ok m) after → IsErrAnd answer (λ y. y ≡ e) → e ≡ Memory → KeepsPieces after left
     → IsProgram given bytes answer left
 bodies_refused given bytes after left m (Ok program) e generated passed memory kept = absurd passed

@@ -1,4 +1,4 @@
--- What bodies of a valid module may refer to.
+-- The parts of a valid module that its bodies may refer to.
 use Rattle.std.proofs.Common.{◌≡◌, ℕ, ◌+◌, ◌*◌, ◌<◌, ◌≤◌, List, [], ◌∷◌, ◌++◌, Some, length, length-append, get_or, refl, subst, ap, ◌∙◌, arith}
 use Rattle.std.specs.Prelude.{All, IsTrue, slice_get}
 use Rattle.std.specs.List.{AllByRecursion as Each}
@@ -63,7 +63,7 @@ func_values features space valid index function (t, at, is) =
     let (front, back) = each_front P function.params function.results (recursion_from_All P (function.params ++ function.results) all) in
     (All-from_recursion P function.params front, All-from_recursion P function.results back)
 
--- the bodies of a valid module are drawn over what is valid
+-- the context of the bodies of a valid module is valid
 pub module_scope : (m : ModuleParts) → IsValid m → (index : ℕ) (function : FuncType) → IsFuncAt m.types index function → (locals : List ValType)
     → All (IsValTypeValid (module_features m) (length m.types)) locals → IsScope (function_context m function locals)
 module_scope m valid index function there locals locals_valid =
@@ -107,13 +107,13 @@ defined_there m valid place inside =
     let within : length (module_imports m).funcs + place < length m.funcs = omega arith in
     (slice_get-get_or m.funcs (length (module_imports m).funcs + place) 0 within, valid.entities.funcs (length (module_imports m).funcs + place) 0 within)
 
--- which is a type of the module
+-- the index of the type of a defined function is in range
 pub type_inside : (m : ModuleParts) → IsValid m → (place : ℕ) → place < length m.code → type_index m place < length m.types
 type_inside m valid place inside =
     let (there, (function, (t, at, is))) = defined_there m valid place inside in
     slice_get_within m.types (type_index m place) t at
 
--- and is that which was read
+-- the type at this index is a function type, whatever the default of the look-up
 pub is_function : (m : ModuleParts) → IsValid m → (place : ℕ) → place < length m.code → (read : SubType) → ((function : FuncType) → (get_or m.types (type_index m place) read).composite_type.inner ≡ Func function → ⊥) → ⊥
 is_function m valid place inside read none =
     let (there, (function, (t, at, is))) = defined_there m valid place inside in
@@ -129,7 +129,7 @@ pub not_raw : (instructions : Instructions) → ((bytes : List ℕ) → instruct
 not_raw Unreachable other = λ raw. raw
 not_raw (Arbitrary bytes) other = λ raw. other bytes refl
 
--- a body that was drawn for the function that was read
+-- the drawn body of a function is that of the function at its place
 pub drawn_at : (m : ModuleParts) (place : ℕ) (given : Code) (function : FuncType) (instructions : List Instr) → given ≡ get_or m.code place given → ¬ IsRaw given.instructions → HasDefinedType m place function
     → IsBodyTyped (function_context m function given.locals) instructions → All (IsEnabled (module_features m) m.config.allowed_instructions) instructions → (IsTrue m.config.disallow_traps → All IsTrapless instructions)
     → length instructions ≤ 1 + length function.results + most m.types * m.config.max_instructions

@@ -34,7 +34,7 @@ counting fuel index old = record old {
   fuel_globals = old.fuel_globals ++ index ∷ [];
 }
 
--- its definition names no function
+-- the definition of a counter names no function
 same_references : (fuel index : ℕ) (old : ModuleParts) → references_of (counting fuel index old) ≡ references_of old
 same_references fuel index old =
     let f = λ (global : ℕ × List ConstInstr). named_in global.1 in
@@ -60,12 +60,12 @@ still_bodies fuel index old new bodies adds are =
       in_place = λ place code given at there. still_at fuel index old place code given (are.in_place place code given at there);
     })
 
--- the bodies after a counter was added, or was not
+-- the bodies after an attempt to add a counter
 pub answered_bodies : (fuel : ℕ) (old new : ModuleParts) (result : Result ℕ Error) (bodies : List Body) → AnswersFuel fuel old new result → AreBodiesOf old bodies → AreBodiesOf new bodies
 answered_bodies fuel old new (Ok index) bodies (none, adds) are = still_bodies fuel index old new bodies adds are
 answered_bodies fuel old new (Err error) bodies (may, kept) are = rw kept are
 
--- the counters of a valid module
+-- each counter of a valid module is a counter in the context of its bodies
 counters_count : (m : ModuleParts) → IsValid m → (function : FuncType) (locals : List ValType) → Each (IsCounter (function_context m function locals)) m.fuel_globals
 counters_count m valid function locals =
     recursion_from_All (IsCounter (function_context m function locals)) m.fuel_globals
@@ -82,7 +82,7 @@ counted_at m valid place code (body.Drawn instructions) (not_raw, is) = (
   },
 )
 
--- the item that was mapped to this one
+-- an item of a mapped list is the image of an item
 unmapped : {A B : Type 0} (f : A → B) (xs : List A) (d : A) (place : ℕ) (y : B) → slice_get (map f xs) place ≡ Some y → (x : A) × (slice_get xs place ≡ Some x) × (f x ≡ y)
 unmapped f xs d place y at =
     let within : place < length (map f xs) = slice_get_within (map f xs) place y at in

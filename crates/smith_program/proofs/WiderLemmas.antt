@@ -1,4 +1,4 @@
--- A body is typed as it was where its module has more globals.
+-- A body stays typed in a module with more globals.
 use Rattle.std.proofs.Common.{ℕ, List, ◌++◌}
 use Rattle.std.proofs.lemmas.List.Elements.{All-weaker}
 use Rattle.smith_types.specs.declared.entity_type.GlobalType.{GlobalType}
@@ -75,7 +75,7 @@ wider_cast more h = record { from_valid = h.from_valid; to_valid = h.to_valid; b
 wider_function_table : {context : BodyContext} {index : ℕ} {wide : _} (more : List GlobalType) → IsFunctionTable context index wide → IsFunctionTable (wider context more) index wide
 wider_function_table more h = record { table = h.table; there = h.there; addressed = h.addressed; shared = h.shared; of_functions = h.of_functions }
 
--- an instruction refers to the first globals by the same indices
+-- an instruction stays typed with more globals, since the first ones keep their indices
 wider_instr : (context : BodyContext) (more : List GlobalType) (set : List ℕ) (instruction : Instr) (operands results : List ValType) → HasInstrType context set instruction operands results → HasInstrType (wider context more) set instruction operands results
 wider_instr context more set (instr.BrOnCast cast) operands results (others, h, to) = (others, wider_cast more h, to)
 wider_instr context more set (instr.BrOnCastFail cast) operands results (others, h, to) = (others, wider_cast more h, to)
@@ -96,7 +96,7 @@ wider_catch context more (catch.OneRef tag label) caught = caught
 wider_catch context more (catch.All label) caught = caught
 wider_catch context more (catch.AllRef label) caught = caught
 
--- and a sequence does
+-- a sequence stays typed with more globals
 wider_typed : {context : BodyContext} {xs : List Instr} {before after : Stacked} (more : List GlobalType) → AreTyped context xs before after → AreTyped (wider context more) xs before after
 wider_typed more (nothing others same) = nothing (wider_counts more others) same
 wider_typed {context = context} more (step {instruction = instruction} {before = before} s rest) =

@@ -49,8 +49,8 @@ pub record IsBodyAt (m : ModuleParts) (place : ℕ) (code : Code) (instructions 
   pub there : HasDefinedType m place function
   pub typed : IsBodyTyped (function_context m function code.locals) instructions
 
--- the same for instructions that are all enabled, not more than the fuel of a body allows, and with
--- `disallow_traps` all without traps but `unreachable` (own rules)
+-- the same; the instructions are enabled, no more than the fuel of a body allows, and with
+-- `disallow_traps` only `unreachable` may trap (own rules)
 pub record IsDrawnAt (m : ModuleParts) (place : ℕ) (code : Code) (instructions : List Instr) : Type 0 where
   pub body : IsBodyAt m place code instructions
   pub enabled : All (IsEnabled (module_features m) m.config.allowed_instructions) instructions

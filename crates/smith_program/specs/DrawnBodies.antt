@@ -22,7 +22,7 @@ body_of m code (Some function) bytes =
     (body.Drawn drawn.0, drawn.1)
 body_of m code None bytes = (body.Raw, bytes)
 
--- that of the defined function at a place: raw bytes are kept, and no byte is read for them
+-- the body of the defined function at a place: raw bytes are kept, and no byte is read for them
 abbrev pub unless_raw : ModuleParts → ℕ → Code → Instructions → List ℕ → Body × List ℕ
 unless_raw m place code (Arbitrary raw) bytes = (body.Raw, bytes)
 unless_raw m place code Unreachable bytes = body_of m code (defined_func_type m place) bytes
@@ -30,7 +30,7 @@ unless_raw m place code Unreachable bytes = body_of m code (defined_func_type m 
 unfoldable pub one_at : ModuleParts → ℕ → Code → List ℕ → Body × List ℕ
 one_at m place code bytes = unless_raw m place code code.instructions bytes
 
--- those of the functions from a place, one after another
+-- the bodies of the functions from a place on, one after another
 abbrev pub bodies_from : ModuleParts → ℕ → List Code → List ℕ → List Body × List ℕ
 bodies_from m place [] bytes = ([], bytes)
 bodies_from m place (code ∷ more) bytes =

@@ -27,7 +27,7 @@ pub record LacksMemory (given : Config) (bytes left : List ℕ) (e : Error) : Ty
   pub m : ModuleParts
   pub of : IsModuleOf given bytes left m
 
--- the answer for a configuration and the bytes of the source, of which some are left: a refusal is
+-- the result for a configuration and the bytes of the source, of which some are left: a refusal is
 -- that of the module, or lack of memory for its bodies
 pub record IsProgram (given : Config) (bytes : List ℕ) (answer : Result Program Error) (left : List ℕ) : Type 0 where
   pub programs : IfOk answer (IsProgramOf given bytes left)

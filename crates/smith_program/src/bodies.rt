@@ -24,8 +24,8 @@ use wasm_smith::Module;
 
 /// Draws a body for each function that `module` defines, except for bodies of raw bytes.
 ///
-/// With `disallow_traps` of the configuration, no instruction of a body may trap but `unreachable`, as
-/// [`draw_body`] says. Raw bytes stay as they are.
+/// With `disallow_traps` of the configuration, only `unreachable` may trap, as for [`draw_body`].
+/// Raw bytes stay as they are.
 ///
 /// `module` is valid.
 ///
@@ -50,7 +50,7 @@ pub fn draw_bodies(
     draw_each(alloc, module, &named, u)
 }
 
-/// Parts of the context of bodies that have to be made from a module.
+/// Parts of the context of bodies that are computed from a module.
 #[derive(Drop)]
 pub(crate) struct Named {
     /// The type of each element segment.

@@ -28,8 +28,8 @@ impl Program {
     ghost use Rattle.smith_program.specs.Generated.{IsProgram};
 
     /// Draws a module from the bytes of `u` as [`Module::new`] does, and bodies of its functions
-    /// from the bytes left. With `disallow_traps` of `config`, no instruction of a body may trap but
-    /// `unreachable`, raw bytes aside.
+    /// from the bytes left. With `disallow_traps` of `config`, only the instruction `unreachable`
+    /// of a body may trap, raw bytes aside.
     ///
     /// # Errors
     ///

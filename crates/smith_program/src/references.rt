@@ -29,8 +29,8 @@ pub(crate) fn element_types(alloc: Global, module: &Module) -> Result<Items<RefT
     Ok(types)
 }
 
-/// Lists the functions that `ref.func` may name in the bodies of `module`: those that are named
-/// elsewhere, some of them several times.
+/// Lists the functions that `ref.func` may name in the bodies of `module`: those that the module
+/// names elsewhere, some of them several times.
 pub(crate) fn references_of(alloc: Global, module: &Module) -> Result<Items<u32>, Error>
     ensures references { IfOk result (λ references. references ≡ references_of «module».now) }
     ensures memory { IfErr result (λ e. e ≡ Error.Memory) }

@@ -13,8 +13,8 @@ impl Program {
     /// [`Module::ensure_termination`] does. An encoder makes each call of a defined function, and
     /// each iteration of a loop, subtract 1 from the counter, or trap at 0.
     ///
-    /// The bodies are unchanged. They are also typed with the checks, which an encoder writes at
-    /// their starts and after each `loop`.
+    /// The bodies are unchanged. They stay typed with the checks, which an encoder writes at their
+    /// starts and after each `loop`.
     ///
     /// The module has fewer than 2^32 - 1 globals.
     ///
