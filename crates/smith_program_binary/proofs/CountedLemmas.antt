@@ -66,14 +66,14 @@ checks_last [] last = append-nil (check_of last)
 checks_last (counter ∷ counters) last =
     sym (append_assoc (check_of last) (checks_of counters) (check_of counter)) ∙ ap (λ (xs : List Instr). xs ++ check_of counter) (checks_last counters last)
 
--- one check more
+-- one more check
 pub checks_step : {Whole : List ℕ → Type 0} {start now later : List ℕ} (counters before : List ℕ) (last : ℕ) → counters ≡ before ++ last ∷ [] → Leads (IsInstrs (checks_of counters)) Whole start now
     → Writes (IsInstrs (check_of last)) now later → Leads (IsInstrs (checks_of before)) Whole start later
 checks_step {now = now} counters before last split so_far one =
     let all : check_of last ++ checks_of before ≡ checks_of counters = checks_last before last ∙ ap (λ (cs : List ℕ). checks_of cs) (sym split) in
     record { to = λ final more. so_far.to final (subst (λ (xs : List Instr). Writes (IsInstrs xs) now final) all (instrs_written (check_of last) (checks_of before) one more)) }
 
--- no check more
+-- no check is left
 pub checks_end : {Whole : List ℕ → Type 0} {start now : List ℕ} (counters : List ℕ) → length counters ≡ 0 → Leads (IsInstrs (checks_of counters)) Whole start now → Writes Whole start now
 unfolding Each
 checks_end counters none so_far = so_far.to _ (rw (nil_from_length counters none) (nothing_written refl))
@@ -83,7 +83,7 @@ pub no_loop : (counters : List ℕ) (instruction : Instr) → ((ty : BlockType) 
 no_loop counters (instr.Loop ty) none = absurd (none ty refl)
 no_loop counters _ none = refl
 
--- one instruction more, with its checks
+-- one more instruction, with its checks
 pub checked_step : {Whole : List ℕ → Type 0} {start now later : List ℕ} (counters : List ℕ) (i : ℕ) (xs : List Instr) (x d : Instr) → i < length xs → x ≡ get_or xs i d
     → Leads (IsInstrs (flat_map (checked_after counters) (drop i xs))) Whole start now → Writes (IsInstrs (checked_after counters x)) now later
     → Leads (IsInstrs (flat_map (checked_after counters) (drop (i + 1) xs))) Whole start later
@@ -92,7 +92,7 @@ checked_step counters i xs x d inside read so_far one =
     let next : drop i xs ≡ x ∷ drop (i + 1) xs = rw (read, add-one) (drop-cons xs i d inside) in
     record { to = λ final more. so_far.to final (rw next (instrs_written (f x) (flat_map f (drop (i + 1) xs)) one more)) }
 
--- no instruction more
+-- no instruction is left
 pub checked_end : {Whole : List ℕ → Type 0} {start now : List ℕ} (counters : List ℕ) (i : ℕ) (xs : List Instr) → length xs ≤ i → Leads (IsInstrs (flat_map (checked_after counters) (drop i xs))) Whole start now → Writes Whole start now
 unfolding Each
 checked_end counters i xs past so_far =

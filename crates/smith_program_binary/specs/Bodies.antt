@@ -9,7 +9,8 @@ use Rattle.smith_program.specs.Counted.{counted}
 use Rattle.smith_program.specs.declared.program.Body.{Body}
 use Rattle.smith_program.specs.declared.program.Body.TheVariants as body
 
--- the expression of a function: the instructions that were drawn, with the checks of the counters; or what the module has
+-- the expression of a function: the drawn instructions with the checks of the counters, or the raw
+-- bytes of the module
 abbrev pub IsExpressionOf : List ℕ → Code → Body → List ℕ → Type 0
 IsExpressionOf counters code (body.Drawn instructions) piece = IsExpr (counted counters instructions) piece
 IsExpressionOf counters code body.Raw piece = Is (body_bytes counters code.instructions) piece

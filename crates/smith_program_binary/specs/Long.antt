@@ -1,4 +1,4 @@
--- What makes a program too long for the binary format.
+-- Programs that are too long for the binary format.
 use Rattle.std.specs.Prelude.{ℕ, ◌⊎◌, List, Any}
 use Rattle.std.specs.List.{zip}
 use Rattle.smith_types.specs.declared.code.Code.{Code}
@@ -15,7 +15,8 @@ use Rattle.smith_program.specs.declared.program.Body.{Body}
 use Rattle.smith_program.specs.declared.program.Body.TheVariants as body
 use Rattle.smith_program_binary.specs.Bodies.{AreBodiesOf}
 
--- a body has 2^32 locals or more, an instruction that the format has no room for, or a spelling of 2^32 bytes or more
+-- a body has 2^32 locals or more, an instruction that the format cannot express, or a spelling of
+-- 2^32 bytes or more
 abbrev pub IsLongDrawn : List ℕ → List ValType → List Instr → Type 0
 IsLongDrawn counters locals instructions =
     IsLongList IsNeverLong locals ⊎ (Any IsLongInstr instructions ⊎ IsLongContent (IsFunc locals (counted counters instructions)))

@@ -13,7 +13,7 @@ use Rattle.smith_program_binary.specs.Bodies.{IsExpressionOf}
 abbrev pub AreExpressionsOf : List ℕ → List (Code × Body) → List (List ℕ) → Type 0
 AreExpressionsOf counters given expressions = AllZip (λ (pair : Code × Body). IsExpressionOf counters pair.0 pair.1) given expressions
 
--- bodies as a module has them: the locals of each function, and the bytes of its expression
+-- the bodies of a module: the locals of each function, and the bytes of its expression
 abbrev pub with_expressions : List Code → List (List ℕ) → List (List ValType × List ℕ)
 with_expressions codes expressions = zip (map (λ (code : Code). code.locals) codes) expressions
 

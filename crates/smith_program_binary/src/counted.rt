@@ -11,7 +11,7 @@ use smith_binary::{EncodeError, Sink};
 use smith_instr::{BlockType, Instr, IntBinary, NumericInstr};
 use smith_instr_binary::{encode_instr, encode_instrs};
 
-// Writes the check of the counter of fuel `counter`: it traps at 0, and else takes 1 off.
+// Writes the check of the counter of fuel `counter`: it traps at 0, else subtracts 1.
 fn write_check(counter: u32, sink: &mut Sink) -> Result<(), EncodeError>
     ensures writes { OnOk result (Writes (IsInstrs (check_of counter)) sink.old sink.new) }
     ensures memory { IfErr result (λ e. e ≡ Memory) }
@@ -43,7 +43,7 @@ fn write_checks(counters: &[u32], sink: &mut Sink) -> Result<(), EncodeError>
     Ok(())
 }
 
-// Writes `instruction`, and the checks of `counters` after it where it starts a loop.
+// Writes `instruction`, then the checks of `counters` if it starts a loop.
 fn write_checked(counters: &[u32], instruction: &Instr, sink: &mut Sink) -> Result<(), EncodeError>
     ensures writes { OnOk result (Writes (IsInstrs (checked_after counters.now instruction.now)) sink.old sink.new) }
     ensures fault { IfErr result (IsFault (IsLongInstr instruction.now)) }

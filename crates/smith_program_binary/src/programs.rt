@@ -12,14 +12,17 @@ use smith_encode::encode_with_bodies;
 use smith_program::Program;
 use std::alloc::Global;
 
-/// Encodes `program` in the binary format of the WebAssembly Core Specification 3.0, in fresh memory of `alloc`.
+/// Encodes `program` in the binary format of the WebAssembly Core Specification 3.0, in new memory
+/// from `alloc`.
 ///
-/// All but the bodies is written as [`smith_encode::encode`] writes the module. The checks of its counters of fuel are written at the
-/// start of a body that was drawn, and after each `loop` in it.
+/// All parts but the bodies are written as [`smith_encode::encode`] writes the module. The checks
+/// of its counters of fuel are written at the start of each drawn body, and after each `loop` in
+/// it.
 ///
 /// # Errors
 ///
-/// `TooLong` where a list has 2^32 items or more, or a section or a body 2^32 bytes or more; `Memory` for want of memory.
+/// `TooLong` if a list has 2^32 items or more, or a section or a body 2^32 bytes or more; `Memory`
+/// for lack of memory.
 pub fn encode(alloc: Global, program: &Program) -> Result<Vec<u8>, EncodeError>
     ensures spelled { IfOk result (λ bytes. IsProgramBinary program.now.«module» program.now.bodies bytes.items) }
     ensures sections { IfOk result (λ bytes. HasSections (section_ids program.now.«module») bytes.items) }
