@@ -1,4 +1,4 @@
--- Modules whose bodies the examples draw, and bodies that bytes give.
+-- Modules whose bodies the examples draw, and bodies that bytes produce.
 use Rattle.std.specs.Prelude.{ℕ, true, List, [], ◌∷◌}
 use Rattle.smith_types.specs.ExampleTypes.{final_type, giving, plain_func}
 use Rattle.smith_types.specs.declared.code.Code.{Code}
@@ -17,7 +17,7 @@ use Rattle.smith_code_examples.specs.ExampleBytes.{narrow}
 use Rattle.smith_program.specs.declared.program.Body.{Body}
 use Rattle.smith_program.specs.declared.program.Body.TheVariants as body
 
--- one unit of fuel for each body, and raw bytes where they are drawn
+-- one unit of fuel for each body, and raw bytes are allowed
 abbrev pub one_unit : Config
 one_unit = record default_config { max_instructions = 1; allow_invalid_funcs = true }
 
@@ -32,7 +32,7 @@ one_of ty = record (empty_module one_unit) {
   encodes_types = true;
 }
 
--- a function that takes and gives nothing, one that gives an i32, and two of these
+-- a function without parameters and results, one with the result i32, and two of these
 abbrev pub plain : ModuleParts
 plain = one_of plain_func
 
@@ -46,11 +46,11 @@ two_functions = record narrow_function { funcs = 0 ∷ 0 ∷ []; num_defined_fun
 abbrev pub raw : Code
 raw = record { locals = []; instructions = Arbitrary (7 ∷ 8 ∷ []) }
 
--- two such functions, and between them one with raw bytes
+-- two functions with the result i32, and between them one with raw bytes
 abbrev pub raw_between : ModuleParts
 raw_between = record narrow_function { funcs = 0 ∷ 0 ∷ 0 ∷ []; num_defined_funcs = 3; code = trapping ∷ raw ∷ trapping ∷ [] }
 
--- an imported function that gives nothing, and a function that gives an i32
+-- an imported function without results, and a function with the result i32
 abbrev pub after_an_import : ModuleParts
 after_an_import = record narrow_function {
   types = final_type plain_func ∷ final_type (giving (I32 ∷ [])) ∷ [];
@@ -62,7 +62,7 @@ after_an_import = record narrow_function {
   type_size = 2;
 }
 
--- a constant as a body, and what gives it: no statement, then a value without operands
+-- a constant as a body, and the bytes that produce it: no statement, then a value without operands
 abbrev pub constant : ℕ → Body
 constant n = body.Drawn (number n ∷ [])
 
