@@ -36,8 +36,8 @@ impl<'a> BodyText for Bodies<'a> {
 
 /// Writes `program` in the text format, to `sink`, of which no write has failed.
 ///
-/// All but the bodies is written as the text of the module. The checks of its counters of fuel are written at the start of a body that
-/// was drawn, and after each `loop` in it.
+/// All parts but the bodies are written as the text of the module. The checks of its counters of
+/// fuel are written at the start of each drawn body, and after each `loop` in it.
 ///
 /// # Errors
 ///
@@ -52,11 +52,11 @@ pub fn write_program<S: Sink>(program: &Program, sink: &mut S) -> fmt::Result
     write_with_bodies(&program.module, &bodies, sink)
 }
 
-/// Gives the text of `program`, as [`write_program`] writes it, in memory of `alloc`.
+/// Returns the text of `program`, as [`write_program`] writes it, in new memory from `alloc`.
 ///
 /// # Errors
 ///
-/// `Memory` for want of memory.
+/// `Memory` for lack of memory.
 pub fn text(alloc: Global, program: &Program) -> Result<String, Error>
     ensures memory { IfErr result (λ e. e ≡ Error.Memory) }
 {
