@@ -14,13 +14,13 @@ pub data IsConfigured (text : List ℕ) (config : Config) : Type 0 where
   by_default : text ≡ [] → config ≡ default_config → IsConfigured text config
   read : ReadsText text (Ok (config, [])) → IsConfigured text config
 
--- a possible answer of the generator for a configuration and an input: all that it promises holds
--- of it
+-- a possible result of the generator for a configuration and an input: it has all properties of the
+-- contract
 pub record IsProgramAnswer (config : Config) (input : List ℕ) (answer : Result Program Error) : Type 0 where
   pub left : List ℕ
   pub generated : IsProgram config input answer left
 
--- a possible answer for a configuration's text
+-- a possible result for a configuration's text
 pub record AnswersText (text input : List ℕ) (answer : Result Program Error) : Type 0 where
   pub config : Config
   pub configured : IsConfigured text config

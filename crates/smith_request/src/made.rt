@@ -80,7 +80,7 @@ fn written(alloc: Global, program: &Program) -> Result<String, Refusal>
 }
 
 /// Draws the program of [`program`], and writes it in the text format. Never refuses it as too
-/// long. No clause says that the text is right; tests try it.
+/// long. No clause states the text; it is tested.
 pub fn text(alloc: Global, text: &[u8], input: &[u8]) -> Result<String, Refusal>
     ensures ok { IfOk result (λ written. HasProgram text.now input.now) }
     ensures refused { IfErr result (λ refusal. IsRefusal text.now input.now refusal) }
