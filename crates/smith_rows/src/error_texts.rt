@@ -5,7 +5,7 @@ use std::alloc::Global;
 use std::fmt;
 use std::test::Fail;
 
-// Each error, and what it holds, once at least.
+// Each error, and each of its contents, at least once.
 const TEXTS: [(Error, &str); 29] = [
     (Error::EmptyChoose, "nothing to choose from"),
     (Error::NotEnoughData, "not enough bytes are left"),
@@ -126,7 +126,7 @@ fn is_written<T: fmt::Display>(alloc: Global, value: &T, wanted: &str) -> Result
     }
 }
 
-// Fails unless each value is written as the text beside it.
+// Fails unless each value is written as the text after it.
 fn are_written<T: fmt::Display>(alloc: Global, cases: &[(T, &str)]) -> Result<(), Fail> {
     for (value, wanted) in cases {
         is_written(alloc, value, wanted)?;

@@ -4,7 +4,7 @@ use std::fmt;
 use std::test::Fail;
 use wasm_smith::{Config, Error, Module, Unstructured};
 
-/// Fails at the write of the number `fails_at`, and counts all writes.
+/// Writer that fails at the write number `fails_at`, and counts all writes.
 #[derive(Drop)]
 struct FailingWriter {
     writes: usize,
@@ -22,7 +22,8 @@ impl fmt::Write for FailingWriter {
     }
 }
 
-// How many writes there are where the write of the number `fails_at` fails, and whether that ended the text.
+// Returns the number of writes if the write number `fails_at` fails, and whether that ended the
+// text.
 fn written<T: TextForm>(value: &T, fails_at: usize) -> (usize, bool) {
     let mut writer = FailingWriter {
         writes: 0,
@@ -32,7 +33,7 @@ fn written<T: TextForm>(value: &T, fails_at: usize) -> (usize, bool) {
     (writer.writes, ended)
 }
 
-// Fails unless each write of `value` is the last where it fails, and ends the text.
+// Fails unless each write of `value` that fails is the last one, and ends the text.
 fn failed_writes_are_last<T: TextForm>(value: &T) -> Result<(), Fail> {
     let (all, ended) = written(value, usize::MAX);
     if ended {

@@ -1,5 +1,6 @@
-//! What stays a test beside the worked cases of `smith_cases`: the README's examples of the library, what outlives a loan, the
-//! texts of errors and of pieces of plain data, and a writer that fails.
+//! Tests of what the worked cases of `smith_cases` do not cover: the README's examples of the
+//! library, data that outlive a loan, the texts of errors and of plain data, and a writer that
+//! fails.
 #![tactic(auto)]
 
 #[cfg(test)]

@@ -1,4 +1,4 @@
-//! The examples of the README: what they show compiles and answers.
+//! The examples of the README: they compile, and return the expected answers.
 
 use smith_types::{CompositeType, FuncType};
 use std::alloc::Global;
@@ -25,7 +25,7 @@ fn parameters_in(module: &Module) -> usize {
     count
 }
 
-// One function of a type that takes an i32 and gives nothing, and the empty module.
+// One function with a parameter i32 and no results, and the empty module.
 #[test]
 fn functions_take_what_the_bytes_say(rt: HostRuntime) {
     let spelled = [1, 1, 1, 1, 1, 0, 0, 0, 0, 0, 0, 0, 1, 0];
@@ -45,7 +45,7 @@ fn seed(
     Ok(())
 }
 
-// A final type of functions that take an i32 and give nothing.
+// Returns a final type of functions with a parameter i32 and no results.
 fn takes_a_number(alloc: Global) -> Result<SubType, Error> {
     Ok(SubType {
         is_final: true,
@@ -60,7 +60,7 @@ fn takes_a_number(alloc: Global) -> Result<SubType, Error> {
     })
 }
 
-// A group of this type.
+// Returns a group of this type.
 fn one_group(alloc: Global) -> Result<Vec<Items<SubType>>, Error> {
     let mut group = Items::new(alloc);
     group.push(takes_a_number(alloc)?)?;
@@ -69,7 +69,7 @@ fn one_group(alloc: Global) -> Result<Vec<Items<SubType>>, Error> {
     Ok(groups)
 }
 
-// Adds what is found for `groups` by default.
+// Adds the bytes that spell `groups` for the default configuration.
 fn seed_by_default(
     alloc: Global,
     groups: &[Items<SubType>],
@@ -78,7 +78,7 @@ fn seed_by_default(
     seed(alloc, &Config::default(), groups, corpus)
 }
 
-// A corpus of what is found for the group.
+// Returns a corpus of the bytes that spell the group.
 fn corpus_of(alloc: Global) -> Result<Vec<Items<u8>>, Error> {
     let groups = one_group(alloc)?;
     let mut corpus = Vec::new(alloc);
@@ -86,7 +86,7 @@ fn corpus_of(alloc: Global) -> Result<Vec<Items<u8>>, Error> {
     Ok(corpus)
 }
 
-// How many parameters the functions have that each seed gives.
+// Returns the number of parameters of the functions that each seed produces.
 fn parameters_of_seeds(alloc: Global, corpus: &[Items<u8>]) -> Result<(usize, usize), Error> {
     let mut count: usize = 0;
     for seed in corpus {

@@ -1,13 +1,13 @@
 use smith_bytes::{Error, Unstructured, limited_str};
 use std::test::Fail;
 
-// What `u` lends of its first bytes: a text, and two bytes.
+// Returns loans of the first bytes of `u`: a text, and two bytes.
 fn lent<'a>(u: &mut Unstructured<'a>) -> Result<(&'a str, &'a [u8]), Error> {
     let name = limited_str(1000, u);
     Ok((name, u.bytes(2)?))
 }
 
-// Whether `u`, which has `cde` and one byte more, draws on as it must.
+// Whether `u`, which has `cde` and one more byte, returns the expected draws.
 fn draws_on(u: &mut Unstructured<'_>) -> bool {
     u.peek_bytes(3) == Some(b"cde".as_slice())
         && u.arbitrary::<u8>() == b'c'
