@@ -1,4 +1,4 @@
--- What the written line says of the answer, and when writing it fails.
+-- The written line reports the answer, and the conditions of a failed write.
 use Rattle.std.proofs.Common.{rules, ◌≡◌, ℕ, Bool, true, false, List, Option, Result, Ok, Err, inl}
 use Rattle.std.specs.Prelude.{◌⊎◌, ◌↔◌, ◌||◌, IfOk, IfErr, OnOk, IsErrOf, is_err}
 use Rattle.std.specs.Io.KnownBytes.{Appends}

@@ -14,8 +14,8 @@ use Rattle.smith_run.specs.declared.run.RunFault.{RunFault}
 use Rattle.smith_run.specs.Input.{AreKnown}
 use Rattle.smith_run.specs.Line.{line_of}
 
--- a possible answer of the generator for a configuration and bytes, of which some are left: all
--- that it promises holds of it
+-- a possible result of the generator for a configuration and bytes, of which some are left: it has
+-- all properties of the contract
 pub record IsModuleAnswer (config : Config) (bytes : List ℕ) (answer : Result ModuleParts Error) : Type 0 where
   pub left : List ℕ
   pub generated : IsGenerated false config bytes answer left
