@@ -21,12 +21,12 @@ checks_last [] last = append-nil (check_bytes last)
 checks_last (counter ∷ counters) last =
     sym (append_assoc (check_bytes last) (checks_bytes counters) (check_bytes counter)) ∙ ap (λ (bytes : List ℕ). bytes ++ check_bytes counter) (checks_last counters last)
 
--- one check more
+-- one more check
 pub checks_step : {Whole : List ℕ → Type 0} {start now later : List ℕ} (counters before : List ℕ) (last : ℕ) → counters ≡ before ++ last ∷ [] → Leads (Is (checks_bytes counters)) Whole start now
     → Writes (Is (check_bytes last)) now later → Leads (Is (checks_bytes before)) Whole start later
 checks_step counters before last split so_far one =
     record { to = λ final more. so_far.to final (written_as (λ piece h. h ∙ checks_last before last ∙ ap (λ (cs : List ℕ). checks_bytes cs) (sym split)) (is_joined one more)) }
 
--- no check more
+-- no check is left
 pub checks_end : {Whole : List ℕ → Type 0} {start now : List ℕ} (counters : List ℕ) → length counters ≡ 0 → Leads (Is (checks_bytes counters)) Whole start now → Writes Whole start now
 checks_end counters none so_far = so_far.to _ (rw (nil_from_length counters none) (nothing_written refl))

@@ -36,7 +36,7 @@ in_form {old = old} {new = new} e same one = subst (λ (f : Form). Writes (IsEle
 not_first : {A : Type 0} (n : ℕ) (x y : A) → (n ≡ 0 → ⊥) → cond (eqb n 0) x y ≡ y
 not_first n x y other = ap (λ (b : Bool). cond b x y) (ne_eqb n 0 other)
 
--- a type that is that of references to functions that may be null
+-- a type that is that of nullable references to functions
 func_is : (heap_type : HeapType) → is_func heap_type ≡ true → heap_type ≡ Abstract false abstract.Func
 func_is (Abstract false abstract.Func) on = refl
 func_is (Abstract true abstract.Func) on = cc

@@ -1,4 +1,4 @@
--- What is written in one form is spelled as the grammar says.
+-- A segment that is written in one form is spelled by the grammar.
 use Rattle.std.proofs.Common.{ℕ, Option, Some, None, List, refl}
 use Rattle.smith_types.specs.declared.const_instr.ConstInstr.{ConstInstr}
 use Rattle.smith_types.specs.declared.entity_type.TableType.{TableType}

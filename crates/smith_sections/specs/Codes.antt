@@ -27,7 +27,7 @@ pub record IsLocals (locals : List ValType) (piece : List ℕ) : Type 0 where
 abbrev pub IsBody : List ValType × List ℕ → List ℕ → Type 0
 IsBody body = IsSized (Joined (IsLocals body.0) (Is body.1))
 
--- the shortest spelling of an index, of which there are five bytes at most
+-- the shortest spelling of an index, of at most five bytes
 abbrev pub index_bytes : ℕ → List ℕ
 index_bytes index = shortest_bytes 5 index
 

@@ -56,7 +56,7 @@ data_mode (Active memory offset) = active memory (offset_of offset)
 abbrev pub data_of : DataSegment → Data
 data_of segment = record { bytes = segment.init; mode = data_mode segment.kind }
 
--- the form that is written of a segment: that without the memory where it is the first
+-- the written form of a segment: without the memory if it is the first
 abbrev pub active_data_form : ℕ → DataForm
 active_data_form memory = if memory == 0 then first_memory else named_memory
 

@@ -18,7 +18,7 @@ null_of reference = RefNull reference.heap_type ∷ []
 abbrev pub IsInitialisedTable : TableType → List ConstInstr → List ℕ → Type 0
 IsInitialisedTable ty initial = Joined (Is (0x40 ∷ 0x00 ∷ [])) (Joined (IsTableType ty) (IsExpression initial))
 
--- a table: with the expression of its elements; or its type alone, where they are null (Table Section)
+-- a table: with the expression of its elements; or its type alone, if they are null (Table Section)
 pub data IsTable (table : TableType × List ConstInstr) (piece : List ℕ) : Type 0 where
   initialised : IsInitialisedTable table.0 table.1 piece → IsTable table piece
   null : table.1 ≡ null_of table.0.element_type → IsTableType table.0 piece → IsTable table piece
@@ -27,7 +27,7 @@ pub data IsTable (table : TableType × List ConstInstr) (piece : List ℕ) : Typ
 abbrev pub IsGlobal : GlobalType × List ConstInstr → List ℕ → Type 0
 IsGlobal global = Joined (IsGlobalType global.0) (IsExpression global.1)
 
--- a table of a type with an initialiser, or with null references where it has none
+-- a table of a type with an initialiser, or with null references if it has none
 abbrev pub initialised_table : TableType × Option (List ConstInstr) → TableType × List ConstInstr
 initialised_table table = (table.0, unwrap_or table.1 (null_of table.0.element_type))
 
@@ -35,7 +35,7 @@ initialised_table table = (table.0, unwrap_or table.1 (null_of table.0.element_t
 abbrev pub initialised_global : GlobalType × (ℕ × List ConstInstr) → GlobalType × List ConstInstr
 initialised_global global = (global.0, global.1.1)
 
--- a table as it is written: its type alone where it has no initialiser
+-- a table as it is written: its type alone if it has no initialiser
 abbrev pub IsTableAs : TableType → Option (List ConstInstr) → List ℕ → Type 0
 IsTableAs ty None = IsTableType ty
 IsTableAs ty (Some initial) = IsInitialisedTable ty initial

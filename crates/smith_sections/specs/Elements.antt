@@ -22,13 +22,14 @@ pub data Mode : Type 0 where
   declared : Mode
   active : ℕ → List ConstInstr → Mode
 
--- a segment in the abstract syntax, where functions are expressions too (Structure, Element Segments)
+-- a segment in the abstract syntax, in which functions are expressions too (Structure, Element
+-- Segments)
 pub record Element : Type 0 where
   pub ty : RefType
   pub items : List (List ConstInstr)
   pub mode : Mode
 
--- the type of references to functions, which may be null or not
+-- the type of references to functions, nullable or not
 abbrev pub func_ref : Bool → RefType
 func_ref nullable = record { nullable = nullable; heap_type = Abstract false abstract.Func }
 
@@ -111,7 +112,7 @@ element_of segment = record {
   mode = element_mode segment.kind;
 }
 
--- whether a type is that of references to functions that may be null
+-- whether a type is that of nullable references to functions
 abbrev pub is_func : HeapType → Bool
 is_func (Abstract shared abstract.Func) = not shared
 is_func _ = false
@@ -119,15 +120,15 @@ is_func _ = false
 abbrev pub is_func_ref : RefType → Bool
 is_func_ref ty = ty.nullable && is_func ty.heap_type
 
--- the form that is written of a segment that is copied into a table: that without the table where it is the first, and the items are
--- functions or of the one type that this form states
+-- the written form of a segment that is copied into a table: without the table if it is the first,
+-- and the items are functions or have the only type that this form states
 abbrev pub active_funcs_form : ℕ → Form
 active_funcs_form table = if table == 0 then first_funcs else table_funcs
 
 abbrev pub active_items_form : ℕ → RefType → Form
 active_items_form table ty = if (table == 0) && is_func_ref ty then first_items else table_items
 
--- the form that is written of a segment: a list of functions where it is one
+-- the written form of a segment: a list of functions if it is one
 abbrev pub funcs_form : ElementKind → Form
 funcs_form Passive = passive_funcs
 funcs_form Declared = declared_funcs

@@ -21,7 +21,7 @@ abbrev pub is_there : Option ℕ → Bool
 is_there (Some n) = true
 is_there None = false
 
--- an integer of 64 bits, or of 32 bits; no byte where there is none
+-- an integer of 64 bits, or of 32 bits; no byte if there is none
 abbrev pub IsMaximum : Option ℕ → List ℕ → Type 0
 IsMaximum (Some n) piece = IsUnsigned 64 n piece
 IsMaximum None piece = Is [] piece
@@ -30,7 +30,7 @@ abbrev pub IsPageSize : Option ℕ → List ℕ → Type 0
 IsPageSize (Some log2) piece = IsUnsigned 32 log2 piece
 IsPageSize None piece = Is [] piece
 
--- whether a global may be set, and whether it is shared, a flag of the proposal (Global Types)
+-- whether a global is mutable, and whether it is shared, a flag of the proposal (Global Types)
 abbrev pub global_byte : Bool → Bool → ℕ
 global_byte mutable shared = flag mutable 0x01 + flag shared 0x02
 
@@ -43,11 +43,12 @@ IsGlobalType global = Joined (IsValType global.val_type) (IsByte (global_byte gl
 abbrev pub limits_byte : Option ℕ → Bool → Bool → Option ℕ → ℕ
 limits_byte maximum shared wide page = flag (is_there maximum) 0x01 + flag shared 0x02 + flag wide 0x04 + flag (is_there page) 0x08
 
--- limits after their flags: a minimum, and a maximum where there is one (Limits)
+-- limits after their flags: a minimum, and a maximum if there is one (Limits)
 abbrev pub IsRange : ℕ → Option ℕ → List ℕ → Type 0
 IsRange minimum maximum = Joined (IsUnsigned 64 minimum) (IsMaximum maximum)
 
--- a memory type: its flags and its limits (Memory Types), then the logarithm of its page size where it states one (of the proposal)
+-- a memory type: its flags and its limits (Memory Types), then the logarithm of its page size if it
+-- states one (of the proposal)
 abbrev pub IsMemoryType : MemoryType → List ℕ → Type 0
 IsMemoryType memory =
     Joined (IsByte (limits_byte memory.maximum memory.shared memory.memory64 memory.page_size_log2))

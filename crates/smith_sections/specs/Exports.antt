@@ -13,6 +13,6 @@ kind_byte Memory = 0x02
 kind_byte Global = 0x03
 kind_byte Tag = 0x04
 
--- an export: its name, then the index space and the index of what it exports
+-- an export: its name, then the index space and the index of its item
 abbrev pub IsExport : List ℕ × ExportKind × ℕ → List ℕ → Type 0
 IsExport item = Joined (IsName item.0) (Joined (IsByte (kind_byte item.1)) (IsUnsigned 32 item.2))

@@ -1,4 +1,5 @@
--- What the numbers of the format are too short for: a list of 2^32 items or more, or a content of 2^32 bytes or more.
+-- Values that are too long for the numbers of the format: a list of 2^32 items or more, or a
+-- content of 2^32 bytes or more.
 use Rattle.std.specs.Prelude.{ℕ, ◌^◌, ◌≤◌, List, length, Any, ◌⊎◌}
 use Rattle.smith_binary.specs.Pieces.{Is, Joined, IsList}
 use Rattle.smith_types.specs.declared.value_type.ValType.{ValType}
@@ -26,7 +27,7 @@ pub record IsLongContent (Content : List ℕ → Type 0) : Type 0 where
   pub spelled : Content piece
   pub long : 2 ^ 32 ≤ length piece
 
--- what has no list is never too long
+-- a value without lists is never too long
 abbrev pub IsNeverLong : {A : Type 0} → A → Type 0
 IsNeverLong x = ⊥
 

@@ -35,8 +35,8 @@ abstract_byte abstract.NoExtern = 0x72
 abstract_byte abstract.NoFunc = 0x73
 abstract_byte abstract.NoExn = 0x74
 
--- a heap type (Heap Types): a byte, or the index of a type, as a signed integer that is not negative; where it is shared or exact,
--- after a byte of the proposal
+-- a heap type (Heap Types): a byte, or the index of a type, as a signed integer that is not
+-- negative; if it is shared or exact, after a byte of the proposal
 abbrev pub IsHeapType : HeapType → List ℕ → Type 0
 IsHeapType (Abstract false ty) piece = IsByte (abstract_byte ty) piece
 IsHeapType (Abstract true ty) piece = Joined (IsByte 0x65) (IsByte (abstract_byte ty)) piece
@@ -52,7 +52,8 @@ abbrev pub null_byte : Bool → ℕ
 null_byte true = 0x63
 null_byte false = 0x64
 
--- a reference type (Reference Types): whether it may be null, then its heap type; or the abstract heap type alone, where it may
+-- a reference type (Reference Types): whether it is nullable, then its heap type; or the abstract
+-- heap type alone, if it is nullable
 pub data IsRefType (reference : RefType) (piece : List ℕ) : Type 0 where
   full : Joined (IsByte (null_byte reference.nullable)) (IsHeapType reference.heap_type) piece → IsRefType reference piece
   short : reference.nullable ≡ true → IsAbstractAlone reference.heap_type piece → IsRefType reference piece
@@ -66,7 +67,7 @@ IsValType F64 piece = IsByte 0x7C piece
 IsValType V128 piece = IsByte 0x7B piece
 IsValType (Ref reference) piece = IsRefType reference piece
 
--- what a field stores (Composite Types)
+-- a storage type (Composite Types)
 abbrev pub IsStorageType : StorageType → List ℕ → Type 0
 IsStorageType storage.I8 piece = IsByte 0x78 piece
 IsStorageType storage.I16 piece = IsByte 0x77 piece
@@ -76,7 +77,7 @@ abbrev pub mutability_byte : Bool → ℕ
 mutability_byte false = 0x00
 mutability_byte true = 0x01
 
--- a field: what it stores, and whether it may be set (Composite Types)
+-- a field: its storage type, and whether it is mutable (Composite Types)
 abbrev pub IsFieldType : FieldType → List ℕ → Type 0
 IsFieldType field = Joined (IsStorageType field.element_type) (IsByte (mutability_byte field.mutable))
 
@@ -90,7 +91,7 @@ IsInnerType (inner.Array array) piece = Joined (IsByte 0x5E) (IsFieldType array.
 IsInnerType (inner.Struct structure) piece = Joined (IsByte 0x5F) (IsList IsFieldType structure.fields) piece
 IsInnerType (inner.Func function) piece = Joined (IsByte 0x60) (IsFuncType function) piece
 
--- the byte of a shared type, of the proposal; no byte where a type is not shared
+-- the byte of a shared type, of the proposal; no byte if a type is not shared
 abbrev pub shared_bytes : Bool → List ℕ
 shared_bytes true = 0x65 ∷ []
 shared_bytes false = []
@@ -102,8 +103,8 @@ abbrev pub final_byte : Bool → ℕ
 final_byte true = 0x4F
 final_byte false = 0x50
 
--- a sub type (Recursive Types): whether it is final, its supertypes and its composite type; or the composite type alone, where it
--- is final and has no supertype
+-- a sub type (Recursive Types): whether it is final, its supertypes and its composite type; or the
+-- composite type alone, if it is final and has no supertype
 pub data IsSubType (t : SubType) (piece : List ℕ) : Type 0 where
   full : Joined (IsByte (final_byte t.is_final)) (Joined (IsList (IsUnsigned 32) (option_to_list t.supertype)) (IsCompositeType t.composite_type)) piece → IsSubType t piece
   short : t.is_final ≡ true → t.supertype ≡ None → IsCompositeType t.composite_type piece → IsSubType t piece

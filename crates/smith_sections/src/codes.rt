@@ -9,7 +9,7 @@ use crate::lists::{Encode, EncodeItem, write_each};
 use smith_binary::{EncodeError, Sink};
 use smith_types::{Code, Instructions, ValType};
 
-// The way to write a local: as a run of its own.
+// Writes a local as a run of its own.
 #[derive(Clone, Copy)]
 struct Runs;
 
@@ -42,7 +42,7 @@ fn write_indexed(byte: u8, index: u32, sink: &mut Sink) -> Result<(), EncodeErro
     sink.write_unsigned(u64::from(index))
 }
 
-// Writes the check of the counter of fuel `counter`: it traps at 0, and else takes 1 off.
+// Writes the check of the counter of fuel `counter`: it traps at 0, else subtracts 1.
 fn write_check(counter: u32, sink: &mut Sink) -> Result<(), EncodeError>
     ensures writes { OnOk result (Writes (Is (check_bytes counter)) sink.old sink.new) }
     ensures memory { IfErr result (λ e. e ≡ Memory) }
@@ -85,10 +85,11 @@ fn write_instructions(
     }
 }
 
-/// The way to write a body in a module with counters of fuel.
+/// Writes a body in a module with counters of fuel.
 #[derive(Clone, Copy)]
 pub struct Bodies<'a> {
-    /// The indices of the globals that count fuel. A body that is not raw checks each before it does anything, the last one first.
+    /// The indices of the globals that count fuel. A body that is not raw begins with a check of
+    /// each, the last one first.
     pub counters: &'a [u32],
 }
 

@@ -19,7 +19,7 @@ fn write_byte_list(bytes: &[u8], sink: &mut Sink) -> Result<(), EncodeError>
     sink.write_bytes(bytes)
 }
 
-// Writes a segment that copies `bytes` into a memory. The form that names the memory is for other memories than the first.
+// Writes a segment that copies `bytes` into a memory. Names the memory unless it is the first.
 fn write_active_data(
     memory: u32,
     offset: Offset,

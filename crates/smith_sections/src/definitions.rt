@@ -10,7 +10,8 @@ use crate::lists::{Encode, EncodeItem, EncodePair};
 use smith_binary::{EncodeError, Sink};
 use smith_types::{ConstInstr, GlobalType, Items, TableType};
 
-/// The way to write a table, by its type and its initialiser. One without initialiser is written as its type alone.
+/// Writes a table, by its type and its initialiser. A table without an initialiser is written as
+/// its type alone.
 #[derive(Clone, Copy)]
 pub struct Tables;
 
@@ -34,7 +35,7 @@ impl EncodePair<TableType, Option<Items<ConstInstr>>> for Tables {
     }
 }
 
-/// The way to write a global, by its type and its definition.
+/// Writes a global, by its type and its definition.
 #[derive(Clone, Copy)]
 pub struct Globals;
 
@@ -52,7 +53,7 @@ impl EncodePair<GlobalType, (u32, Items<ConstInstr>)> for Globals {
     }
 }
 
-/// The way to write a tag, by the index of its function type.
+/// Writes a tag, by the index of its function type.
 #[derive(Clone, Copy)]
 pub struct Tags;
 

@@ -36,7 +36,7 @@ fn write_kind_funcs(funcs: &[u32], sink: &mut Sink) -> Result<(), EncodeError>
     write_list(funcs, sink)
 }
 
-// Writes a segment that copies the functions `funcs` into a table. The form that names the table is for other tables than the
+// Writes a segment that copies the functions `funcs` into a table. Names the table unless it is the
 // first.
 fn write_active_funcs(
     table: u32,
@@ -78,7 +78,7 @@ fn write_funcs(kind: ElementKind, funcs: &[u32], sink: &mut Sink) -> Result<(), 
     }
 }
 
-// Whether `heap_type` is that of functions.
+// Whether `heap_type` is `func`.
 fn is_func(heap_type: HeapType) -> bool
     ensures { result ≡ is_func heap_type }
 {
@@ -91,15 +91,16 @@ fn is_func(heap_type: HeapType) -> bool
     }
 }
 
-// Whether the form without a table and a type is right for a segment of the type `ty` that is copied into the table `table`.
+// Whether a segment of the type `ty` that is copied into the table `table` has the form without a
+// table and a type.
 fn is_short(table: u32, ty: RefType) -> bool
     ensures { result ≡ ((table == 0) && is_func_ref ty) }
 {
     table == 0 && ty.nullable && is_func(ty.heap_type)
 }
 
-// Writes a segment that copies `items` of the type `ty` into a table. The form that names the table is for other tables than the
-// first, and for types that the short form can't state.
+// Writes a segment that copies `items` of the type `ty` into a table. Names the table unless it is
+// the first and the short form can state the type.
 fn write_active_items(
     table: u32,
     offset: Offset,

@@ -9,7 +9,7 @@ use crate::lists::Encode;
 use smith_binary::{EncodeError, Sink};
 use smith_types::{EntityType, GlobalType, MemoryType, TableType};
 
-// The flag `bit` where it is set, and 0 elsewhere.
+// Returns the flag `bit` if `is_set` is set, else 0.
 fn flag(is_set: bool, bit: u8) -> u8
     ensures { result ≡ flag is_set bit }
 {
@@ -27,7 +27,7 @@ impl Encode for GlobalType {
     }
 }
 
-// The byte of the flags of limits.
+// Returns the byte of the flags of limits.
 fn limits_byte(maximum: Option<u64>, shared: bool, wide: bool, page: Option<u32>) -> u8
     ensures { result ≡ limits_byte maximum shared wide page }
 {
@@ -49,7 +49,7 @@ fn write_range(minimum: u64, maximum: Option<u64>, sink: &mut Sink) -> Result<()
     }
 }
 
-// Writes the logarithm of a page size where one is stated.
+// Writes the logarithm of a page size, if one is stated.
 fn write_page_size(log2: Option<u32>, sink: &mut Sink) -> Result<(), EncodeError>
     ensures writes { OnOk result (Writes (IsPageSize log2) sink.old sink.new) }
     ensures memory { IfErr result (λ e. e ≡ OutOfMemory) }

@@ -8,7 +8,7 @@ use crate::lists::Encode;
 use smith_binary::{EncodeError, Sink};
 use smith_types::{ExportKind, Name};
 
-// The byte of `kind`.
+// Returns the byte of `kind`.
 fn kind_byte(kind: ExportKind) -> u8
     ensures { result ≡ kind_byte kind }
 {

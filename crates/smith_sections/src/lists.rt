@@ -7,30 +7,30 @@ ghost use Rattle.smith_sections.specs.Long.{IsLongList};
 
 use smith_binary::{EncodeError, Sink};
 
-/// A value that a production of the binary format is for.
+/// Value that a production of the binary format spells.
 pub trait Encode {
     /// The bytes that spell a value.
     ghost spells: { Self → List ℕ → Type 0 };
 
-    /// The values that have a list of too many items.
+    /// The values with a list of too many items.
     ghost is_long: { Self → Type 0 };
 
     /// Writes the value at the end of `sink`.
     ///
     /// # Errors
     ///
-    /// `TooLong` where a list of the value has 2^32 items or more, or a content 2^32 bytes or more.
+    /// `TooLong` if a list of the value has 2^32 items or more, or a content 2^32 bytes or more.
     fn encode(&self, sink: &mut Sink) -> Result<(), EncodeError>
         ensures writes { OnOk result (Writes (Self.spells self.now) sink.old sink.new) }
         ensures fault { IfErr result (IsFault (Self.is_long self.now)) };
 }
 
-/// A way to write items, by what they mean in a module.
+/// Writer of items, by their meaning in a module.
 pub trait EncodeItem<T> {
     /// The bytes that spell an item.
     ghost spells: { Self → T → List ℕ → Type 0 };
 
-    /// The items that have a list of too many items.
+    /// The items with a list of too many items.
     ghost is_long: { Self → T → Type 0 };
 
     /// Writes `item` at the end of `sink`.
@@ -43,7 +43,7 @@ pub trait EncodeItem<T> {
         ensures fault { IfErr result (IsFault (Self.is_long self.now item.now)) };
 }
 
-/// A way to write items that are in two lists, a part of each item in either.
+/// Writer of items in two lists, each of which has a part of each item.
 pub trait EncodePair<A, B> {
     /// The bytes that spell an item.
     ghost spells: { Self → A × B → List ℕ → Type 0 };
@@ -54,7 +54,7 @@ pub trait EncodePair<A, B> {
         ensures memory { IfErr result (λ e. e ≡ Memory) };
 }
 
-/// The way to write items that mean the same in every module.
+/// Writer of items that mean the same in every module.
 #[derive(Clone, Copy)]
 pub struct Plain;
 
@@ -86,7 +86,7 @@ pub(crate) fn write_each<T, W: EncodeItem<T>>(
 /// A list, whose items `writer` writes.
 #[derive(Drop)]
 pub struct Listed<'a, T, W> {
-    /// The way to write an item.
+    /// The writer of an item.
     pub writer: W,
     /// The items, in order.
     pub items: &'a [T],
@@ -112,10 +112,11 @@ pub(crate) fn write_list<T: Encode>(items: &[T], sink: &mut Sink) -> Result<(), 
     write_each(&Plain, items, sink)
 }
 
-/// A list of items in two lists, which `writer` writes. An item that one of the lists lacks is left out.
+/// A list of items in two lists, which `writer` writes. An item without one of its parts is left
+/// out.
 #[derive(Drop)]
 pub struct Zipped<'a, A, B, W> {
-    /// The way to write an item.
+    /// The writer of an item.
     pub writer: W,
     /// The first part of each item, in order.
     pub firsts: &'a [A],

@@ -18,11 +18,11 @@ pub fn write_preamble(sink: &mut Sink) -> Result<(), EncodeError>
     sink.write_bytes(&[0x00, 0x61, 0x73, 0x6D, 0x01, 0x00, 0x00, 0x00])
 }
 
-/// Writes the section `id` with `content` where `is_written` is true, and no byte elsewhere.
+/// Writes the section `id` with `content` if `is_written` is set, else nothing.
 ///
 /// # Errors
 ///
-/// `TooLong` where a list of `content` has 2^32 items or more, or `content` 2^32 bytes or more.
+/// `TooLong` if a list of `content` has 2^32 items or more, or `content` 2^32 bytes or more.
 pub fn write_section_if<C: Encode>(
     is_written: bool,
     id: u8,

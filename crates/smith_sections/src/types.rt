@@ -31,7 +31,7 @@ use smith_types::{
 };
 use std::ops::Range;
 
-// The byte of `ty`.
+// Returns the byte of `ty`.
 fn abstract_byte(ty: AbstractHeapType) -> u8
     ensures { result ≡ abstract_byte ty }
 {
@@ -72,7 +72,7 @@ impl Encode for HeapType {
     }
 }
 
-// The byte of a reference that may be null, or may not.
+// Returns the byte of a reference type, nullable if `nullable` is set.
 fn null_byte(nullable: bool) -> u8
     ensures { result ≡ null_byte nullable }
 {
@@ -124,7 +124,7 @@ impl Encode for StorageType {
     }
 }
 
-// The byte of a field that may be set, or may not.
+// Returns the byte of a field, mutable if `mutable` is set.
 fn mutability_byte(mutable: bool) -> u8
     ensures { result ≡ mutability_byte mutable }
 {
@@ -176,7 +176,7 @@ impl Encode for CompositeInnerType {
     }
 }
 
-// Writes the byte of a shared type, where it is one.
+// Writes the byte of a shared type, if it is shared.
 fn write_shared(shared: bool, sink: &mut Sink) -> Result<(), EncodeError>
     ensures writes { OnOk result (Writes (Is (shared_bytes shared)) sink.old sink.new) }
     ensures memory { IfErr result (λ e. e ≡ Memory) }
@@ -212,7 +212,7 @@ fn write_supertype(supertype: Option<u32>, sink: &mut Sink) -> Result<(), Encode
     }
 }
 
-// The byte of a type that is final, or is not.
+// Returns the byte of a type, final if `is_final` is set.
 fn final_byte(is_final: bool) -> u8
     ensures { result ≡ final_byte is_final }
 {
@@ -246,7 +246,7 @@ fn write_group(group: &[SubType], sink: &mut Sink) -> Result<(), EncodeError>
     write_list(group, sink)
 }
 
-// The types of `types` at the indices `range`.
+// Returns the types of `types` at the indices `range`.
 fn group_at<'a>(types: &'a [SubType], range: &Range<usize>) -> &'a [SubType]
     ensures { result.now ≡ group_at types.now range.now }
 {
@@ -255,7 +255,7 @@ fn group_at<'a>(types: &'a [SubType], range: &Range<usize>) -> &'a [SubType]
     group
 }
 
-/// The way to write a recursive group that is given by the indices of its types.
+/// Writes a recursive group, by the indices of its types.
 #[derive(Clone, Copy)]
 pub struct Groups<'a> {
     /// The types of the module.
