@@ -5,7 +5,7 @@ use crate::text_form::TextForm;
 use smith_types::{EntityType, ExportKind, GlobalType, MemoryType, TableType};
 use std::fmt;
 
-// A size at first, and the most that it may become.
+// Initial size, and its maximum.
 #[derive(Drop)]
 struct Limits {
     minimum: u64,
@@ -22,7 +22,8 @@ impl TextForm for Limits {
     }
 }
 
-// The address type of 64 bits, with a space after it, or nothing for the address type of 32 bits, which is left out.
+// Returns the address type of 64 bits, with a space after it, or nothing for the address type of 32
+// bits, which is left out.
 fn address_type(is_wide: bool) -> &'static str {
     if is_wide { "i64 " } else { "" }
 }
@@ -40,8 +41,8 @@ impl TextForm for TableType {
     }
 }
 
-// Writes the size of a page in bytes, by its binary logarithm: as the custom page sizes proposal does. No type has a page of
-// more than 64 bits' bytes, so that such a size is written as a power.
+// Writes the size of a page in bytes, by its binary logarithm: the form of the custom page sizes
+// proposal. No valid type has a page of 2^64 bytes or more; such a size is written as a power.
 fn write_page_size<S: Sink>(log2: u32, sink: &mut S) -> fmt::Result
     requires open { S.failed sink.old ≡ false }
     ensures fault { S.failed sink.new ≡ is_err result }
@@ -92,7 +93,7 @@ fn keyword_of(entity: &EntityType) -> &'static str {
     }
 }
 
-// What comes after the keyword of an external type.
+// The text after the keyword of an external type.
 #[derive(Drop)]
 struct Details<'a>(&'a EntityType);
 

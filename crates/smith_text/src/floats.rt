@@ -10,7 +10,7 @@ struct Float {
     // The exponent as it is stored, and the one of infinities and NaNs.
     exponent: i32,
     greatest: i32,
-    // What the stored exponent of 1 is too high.
+    // The bias of the stored exponent.
     bias: i32,
     // The stored bits of the significand.
     significand: u64,

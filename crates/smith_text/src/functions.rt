@@ -5,7 +5,7 @@ use crate::text_form::{Listed, Shown, TextForm};
 use smith_types::{Code, Instructions};
 use std::fmt;
 
-// Writes the check of a counter of fuel: a trap at 0, else 1 is taken off.
+// Writes the check of a counter of fuel: a trap at 0, else 1 is subtracted.
 fn write_check<S: Sink>(global: u32, sink: &mut S) -> fmt::Result
     requires open { S.failed sink.old ≡ false }
     ensures fault { S.failed sink.new ≡ is_err result }

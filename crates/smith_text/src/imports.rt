@@ -6,7 +6,7 @@ use crate::text_form::TextForm;
 use smith_types::{EntityType, Import, ImportItem, Imports, Items, Name};
 use std::fmt;
 
-/// How many imports of each kind came so far: the index that the next one has.
+/// Numbers of imports of each kind so far: the index of the next one.
 #[derive(Default, Drop)]
 struct NextIndices {
     globals: u32,
@@ -17,7 +17,7 @@ struct NextIndices {
 }
 
 impl NextIndices {
-    // Gives `entity` with the next index of its kind, and counts that index.
+    // Returns `entity` with the next index of its kind, and counts that index.
     fn take<'a>(&mut self, entity: &'a EntityType) -> Indexed<'a> {
         let next = match entity {
             EntityType::Global(_) => &mut self.globals,

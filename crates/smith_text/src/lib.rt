@@ -1,5 +1,5 @@
-//! Modules in the text format of the WebAssembly Core Specification 3.0, chapter Text Format. What proposals add is written in
-//! their own text forms.
+//! Modules in the text format of the WebAssembly Core Specification 3.0, chapter Text Format.
+//! Additions of proposals are written in the text forms of the proposals.
 #![tactic(auto)]
 
 mod constants;

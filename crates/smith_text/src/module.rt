@@ -95,8 +95,8 @@ fn write_exports<S: Sink>(
     }
 }
 
-/// Writes `module` as [`TextForm::write_text`] does, to `sink`, of which no write has failed, but for the instructions of its bodies,
-/// which `bodies` writes.
+/// Writes `module` as [`TextForm::write_text`] does, to `sink`, of which no write has failed.
+/// `bodies` writes the instructions of its bodies.
 ///
 /// # Errors
 ///
@@ -125,19 +125,20 @@ pub fn write_with_bodies<B: BodyText, S: Sink>(
     write_notes(module, sink)
 }
 
-/// The section Text Format, Modules: a field a line, in the order of the sections of the binary format, functions where their
-/// bodies stand. Lines of comments follow for what the text format has no form for.
+/// The section Text Format, Modules: a field a line, in the order of the sections of the binary
+/// format, functions in the place of their bodies. Lines of comments follow for values that the
+/// text format cannot express.
 impl TextForm for Module {
     fn write_text<S: Sink>(&self, sink: &mut S) -> fmt::Result {
         write_with_bodies(self, &OwnBodies, sink)
     }
 }
 
-/// Gives the text of `module`, as [`TextForm::write_text`] writes it, in memory of `alloc`.
+/// Returns the text of `module`, as [`TextForm::write_text`] writes it, in new memory from `alloc`.
 ///
 /// # Errors
 ///
-/// `Memory` for want of memory.
+/// `Memory` for lack of memory.
 pub fn text(alloc: Global, module: &Module) -> Result<String, Error>
     ensures memory { IfErr result (λ e. e ≡ Error.Memory) }
 {

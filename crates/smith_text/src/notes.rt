@@ -39,7 +39,7 @@ fn write_raw_bodies<S: Sink>(start: usize, code: &[Code], sink: &mut S) -> fmt::
     Ok(())
 }
 
-/// Writes what the text format has no form for, in lines of comments: a name, and values.
+/// Writes values that the text format cannot express, in lines of comments: a name, and values.
 pub(crate) fn write_notes<S: Sink>(module: &Module, sink: &mut S) -> fmt::Result
     requires open { S.failed sink.old ≡ false }
     ensures fault { S.failed sink.new ≡ is_err result }

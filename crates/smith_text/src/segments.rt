@@ -48,7 +48,8 @@ impl TextForm for ElementKind {
     }
 }
 
-// Writes functions by their indices. The standard has this form for the type `funcref` alone: another type is told by a comment.
+// Writes functions by their indices. The standard has this form only for the type `funcref`; a
+// comment states any other type.
 fn write_functions<S: Sink>(ty: &RefType, functions: &[u32], sink: &mut S) -> fmt::Result
     requires open { S.failed sink.old ≡ false }
     ensures fault { S.failed sink.new ≡ is_err result }
@@ -74,7 +75,7 @@ fn write_expressions<S: Sink>(
     Ok(())
 }
 
-// What follows the index of an element segment.
+// The text after the index of an element segment.
 #[derive(Drop)]
 struct ElementDetails<'a>(&'a ElementSegment);
 
@@ -118,7 +119,7 @@ impl TextForm for DataSegmentKind {
     }
 }
 
-// What follows the index of a data segment.
+// The text after the index of a data segment.
 #[derive(Drop)]
 struct DataDetails<'a>(&'a DataSegment);
 

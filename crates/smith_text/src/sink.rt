@@ -3,12 +3,12 @@ ghost use Rattle.std.specs.Prelude.{◌≡◌, Bool, false, is_err};
 use std::fmt;
 use std::fmt::Display;
 
-/// A destination of text that is written to until a write fails.
+/// Destination of text. It is written to until a write fails.
 pub trait Sink {
     // Whether a write has failed.
     ghost failed: { Self → Bool };
 
-    /// Writes `text`, where no write of the sink has failed so far.
+    /// Writes `text`. No write of the sink has failed before.
     ///
     /// # Errors
     ///
@@ -17,14 +17,14 @@ pub trait Sink {
         requires open { failed self.old ≡ false }
         ensures fault { failed self.new ≡ is_err result };
 
-    /// Writes what `text` prints. The macros `write!` and `writeln!` call it, and it is as
-    /// [`Sink::write_str`] is.
+    /// Writes the output of `text`, as [`Sink::write_str`] does. The macros `write!` and `writeln!`
+    /// call it.
     fn write_fmt<D: Display + Drop>(&mut self, text: D) -> fmt::Result
         requires open { failed self.old ≡ false }
         ensures fault { failed self.new ≡ is_err result };
 }
 
-/// A sink that writes to any writer of text.
+/// Sink that writes to any writer of text.
 #[derive(Drop)]
 pub struct FromFmt<W> {
     writer: W,
@@ -32,7 +32,7 @@ pub struct FromFmt<W> {
 }
 
 impl<W: fmt::Write> FromFmt<W> {
-    /// Makes a sink that adds to what `writer` holds. Takes no memory.
+    /// Makes a sink that appends to the contents of `writer`. Takes no memory.
     pub fn new(writer: W) -> Self
         ensures open { ⟦<FromFmt<W> as Sink>⟧.failed result ≡ false }
     {

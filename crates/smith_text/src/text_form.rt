@@ -5,7 +5,7 @@ use smith_types::Items;
 use std::fmt;
 use std::fmt::Display;
 
-/// Plain data that the text format of the standard has a form for, and texts that are made of such parts.
+/// Plain data with a form in the text format of the standard, and texts made of such parts.
 pub trait TextForm {
     /// Writes the value in the text format, to `sink`, of which no write has failed.
     ///
@@ -48,7 +48,7 @@ impl<A: TextForm, B: TextForm, C: TextForm> TextForm for (A, B, C) {
     }
 }
 
-/// Nothing where there is no value.
+/// The value, or nothing if there is none.
 impl<T: TextForm> TextForm for Option<T> {
     fn write_text<S: Sink>(&self, sink: &mut S) -> fmt::Result {
         match self {
@@ -84,7 +84,7 @@ impl<T: TextForm> TextForm for Items<T> {
     }
 }
 
-/// What a value prints.
+/// The printed form of a value.
 #[derive(Clone, Copy)]
 pub(crate) struct Shown<D>(pub(crate) D);
 
@@ -108,7 +108,8 @@ impl TextForm for u64 {
     }
 }
 
-/// A text that opens a list, the values of the list, and a text that closes it, or nothing where there are no values.
+/// A text that opens a list, the values of the list, and a text that closes it, or nothing if there
+/// are no values.
 #[derive(Drop)]
 pub(crate) struct Listed<'a, T>(
     pub(crate) &'static str,

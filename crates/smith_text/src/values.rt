@@ -20,7 +20,7 @@ fn keyword_of(ty: AbstractHeapType) -> &'static str {
     }
 }
 
-// The abbreviation of the nullable references to `ty`, which is not shared.
+// Returns the abbreviation of the nullable references to `ty`, which is not shared.
 fn abbreviation_of(ty: AbstractHeapType) -> &'static str {
     match ty {
         AbstractHeapType::Func => "funcref",
