@@ -11,21 +11,21 @@ use smith_output::{Form, Manner, output};
 use std::alloc::Global;
 use std::mem;
 
-// The number of calls that are allowed where none is given.
+// The default number of allowed calls.
 const DEFAULT_FUEL: u32 = 100;
 
-/// What the program is to make.
+/// Request of the command line.
 #[derive(Drop)]
 pub(crate) struct Asked<'m, 'w> {
     /// The words of the command line.
     pub(crate) matches: &'m ArgMatches<'w>,
-    /// The text of the configuration file, where there is one.
+    /// The text of the configuration file, if there is one.
     pub(crate) config: Option<String>,
-    /// How modules are written.
+    /// The manner of writing modules.
     pub(crate) manner: Manner,
 }
 
-/// Does what `matches` asks for, and returns the status.
+/// Makes the modules that `matches` requests. Returns the status.
 pub(crate) fn answer(rt: &HostRuntime, matches: &ArgMatches<'_>) -> Result<u8, Failure> {
     let asked = Asked {
         matches,

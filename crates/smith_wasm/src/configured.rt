@@ -9,9 +9,9 @@ use smith_types::InstructionKinds;
 use std::alloc::Global;
 use std::str::FromStr;
 
-/// Sets `config`, the default, to the configuration that `asked` requests: a drawn one from the first
-/// bytes of `u` if a word says so, overridden by the fields of the configuration file, and these by
-/// the fields that are words.
+/// Sets `config`, the default, to the configuration that `asked` requests: the default, or one
+/// drawn from the first bytes of `u` if a word selects it, then the fields of the configuration
+/// file, then the fields that are words.
 pub(crate) fn set_config(
     alloc: Global,
     asked: &Asked<'_, '_>,
@@ -64,7 +64,7 @@ fn set_from_words(
     Ok(())
 }
 
-/// Sets `field` to what the word `value` denotes.
+/// Sets `field` to the value that the word `value` denotes.
 fn set_from_word(
     alloc: Global,
     field: &'static Field,
@@ -77,7 +77,8 @@ fn set_from_word(
     Err(Failure::Word(field.name, String::from_str(alloc, value)?))
 }
 
-/// Sets `field` to what the word `value` denotes, and returns whether it denotes a value of the field.
+/// Sets `field` to the value that the word `value` denotes. Returns whether it denotes a value of
+/// the field.
 fn is_set(
     alloc: Global,
     field: &'static Field,

@@ -9,14 +9,15 @@ use smith_output::{Form, OutputFault};
 use std::fs;
 use std::io::IsTerminal;
 
-// The length of an input where none is given.
+// The default length of an input.
 const DEFAULT_SIZE: u32 = 1024;
 
 // The number of modules from one line of progress to the next.
 const STRIDE: u32 = 256;
 
-/// Writes the modules of as many random inputs as are wanted into the folder `folder`, each named by its number. An input that is
-/// refused has no file. At the end standard error has a line for each refused input, and a last line that counts.
+/// Writes the modules of the requested number of random inputs into the folder `folder`, each named
+/// by its number. An input that is refused has no file. At the end standard error has a line for
+/// each refused input, and a last line that counts.
 pub(crate) fn make_corpus(
     rt: &HostRuntime,
     asked: &Asked<'_, '_>,
@@ -49,13 +50,14 @@ fn show_refusals(rt: &HostRuntime, count: u32, refusals: &[(u32, Error)]) -> Res
     Ok(())
 }
 
-/// Room for an input of the length that is asked for.
+/// Makes room for an input of the requested length.
 fn empty_input(rt: &HostRuntime, asked: &Asked<'_, '_>) -> Result<Vec<u8>, Failure> {
     let size = asked.matches.get_one::<u32>(SIZE).unwrap_or(DEFAULT_SIZE);
     Ok(vec![in rt.alloc(); 0; size as usize]?)
 }
 
-/// Writes the module of `input` as the file of the number `number`, or returns why `input` is refused. Want of memory is a failure.
+/// Writes the module of `input` as the file of the number `number`, or returns why `input` is
+/// refused. Lack of memory is a failure.
 fn refusal_of(
     rt: &HostRuntime,
     asked: &Asked<'_, '_>,

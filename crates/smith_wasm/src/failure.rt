@@ -3,7 +3,7 @@ use smith_output::OutputFault;
 use std::alloc::{AllocError, AllocFailed};
 use std::{fmt, io};
 
-/// The reason why the program ends without what was to be written.
+/// Reason why the program ends without its output.
 #[derive(Debug, Drop)]
 pub(crate) enum Failure {
     /// A file or a stream was not read or written: its path, and why.
@@ -23,7 +23,8 @@ pub(crate) enum Failure {
 }
 
 impl Failure {
-    /// The status that the program ends with: 2 where its words or its configuration file are wrong, else 1.
+    /// Returns the status that the program ends with: 2 if its words or its configuration file are
+    /// wrong, else 1.
     pub(crate) fn status(&self) -> u8 {
         match self {
             Failure::Config(..) | Failure::Word(..) | Failure::Terminal => 2,

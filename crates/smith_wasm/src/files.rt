@@ -54,7 +54,7 @@ pub(crate) fn shows_output(rt: &HostRuntime) -> bool {
     rt.stdout().is_terminal()
 }
 
-/// The failure `error` of the file or stream `path`.
+/// Returns the failure `error` of the file or stream `path`.
 fn failed<T: Drop>(rt: &HostRuntime, path: &str, error: io::Error) -> Result<T, Failure> {
     Err(Failure::File(String::from_str(rt.alloc(), path)?, error))
 }

@@ -27,7 +27,7 @@ fn main(rt: HostRuntime) -> ExitCode {
     }
 }
 
-/// Does what the words after the program's name say, and returns the status.
+/// Runs the program with the words after its name. Returns the status.
 fn run(rt: &HostRuntime) -> Result<u8, Failure> {
     let words: Vec<String> = env::args(rt)?.collect(rt.alloc())?;
     let command = command(rt.alloc())?;

@@ -1,7 +1,8 @@
 use crate::asked::Asked;
 use crate::failure::Failure;
 
-// The fields by which the Rust crate chooses NaNs in bodies, and makes custom sections and components, of which there is none here.
+// The fields of the Rust crate for NaNs in bodies, custom sections and components, none of which
+// exist here.
 const WITHOUT_EFFECT: [&str; 9] = [
     "canonicalize-nans",
     "generate-custom-sections",

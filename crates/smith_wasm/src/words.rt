@@ -27,7 +27,7 @@ pub(crate) const SIZE: &str = "size";
 /// The word of the folder of a corpus.
 pub(crate) const OUTPUT_DIR: &str = "output-dir";
 
-/// What follows a word.
+/// Value of a word.
 #[derive(Clone, Copy)]
 enum Takes {
     /// Nothing.
@@ -38,14 +38,14 @@ enum Takes {
     Number,
 }
 
-/// A word of the command line that is no field of the configuration.
+/// Word of the command line that is not a field of the configuration.
 struct Word {
     name: &'static str,
     short: Option<char>,
     takes: Takes,
-    // The word that has to be there too.
+    // The word that it requires.
     needs: Option<&'static str>,
-    // The words that may not be there too.
+    // The words that it excludes.
     excludes: &'static [&'static str],
     about: &'static str,
 }
@@ -144,7 +144,7 @@ pub(crate) fn command<'a>(alloc: Global) -> Result<Command<'a>, Failure> {
     with_fields(alloc, with_words(alloc, command.arg(input)?)?)
 }
 
-/// Adds the words that are no fields.
+/// Adds the words that are not fields.
 fn with_words<'a>(alloc: Global, command: Command<'a>) -> Result<Command<'a>, Failure> {
     let mut command = command;
     for word in &WORDS {
@@ -199,7 +199,7 @@ fn field_arg<'a>(alloc: Global, field: &'static Field) -> Arg<'a> {
         .action(ArgAction::Set)
 }
 
-/// The group of the field `name` in the help.
+/// Returns the group of the field `name` in the help.
 fn heading_of(name: &str) -> &'static str {
     if has_no_effect(name) {
         return "Without effect here";
@@ -213,7 +213,7 @@ fn heading_of(name: &str) -> &'static str {
     "Rules of the configuration"
 }
 
-/// The name of the values of a field.
+/// Returns the name of the values of a field.
 fn kind_name(kind: FieldKind) -> &'static str {
     match kind {
         FieldKind::Whole(_) => "NUMBER",
