@@ -2,7 +2,7 @@
 use Rattle.std.specs.Prelude.{ℕ, zero, suc, Bool, true, false, List, [], ◌∷◌, ◌++◌, length, nat_lt, if◌then◌else◌}
 use Rattle.smith_bytes.specs.Draws.{bool_at}
 
--- whether a list continues: always if it has too few items, otherwise as a drawn bool says
+-- whether a list continues: always if it has too few items, otherwise if a drawn bool is true
 abbrev pub goes_at : Bool → List ℕ → Bool × List ℕ
 goes_at true bytes = (true, bytes)
 goes_at false bytes = bool_at bytes

@@ -4,7 +4,7 @@ use Rattle.smith_bytes.specs.Draws.{bool_at, range_at, ratio_at}
 use Rattle.smith_bytes.specs.Growth.{grow_at}
 use Rattle.smith_bytes.specs.Spelling.{SpellsBool, SpellsNumber, SpellsRefusal, Each, Listed}
 
--- draws of bools, numbers and refusals read what is spelled
+-- draws of bools, numbers and refusals read the spelled values
 pub record DrawsReadWhatIsSpelled : Type 0 where
   pub bool : (value : Bool) (piece after : List ℕ) → SpellsBool value piece → bool_at (piece ++ after) ≡ (value, after)
   pub number : (value lo hi : ℕ) (piece after : List ℕ) → SpellsNumber value lo hi piece → range_at lo hi (piece ++ after) ≡ (value, after)

@@ -1,5 +1,5 @@
--- Pieces of bytes that spell a value to be drawn. A rule of this project. A spelling describes bytes and mentions no draw;
--- that a draw reads what is spelled is a law.
+-- Pieces of bytes that spell a value to be drawn. A rule of this project. A spelling describes
+-- bytes and mentions no draw; a law states that a draw reads the spelled value.
 use Rattle.std.specs.Prelude.{◌≡◌, ℕ, zero, suc, ◌+◌, ◌-◌, ◌%◌, ◌<◌, nat_lt, Bool, true, false, List, [], ◌∷◌, ◌++◌, length, if◌then◌else◌}
 use Rattle.smith_bytes.specs.Draws.{big_endian, digit_count}
 

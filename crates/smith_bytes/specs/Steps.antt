@@ -6,7 +6,7 @@ use Rattle.smith_bytes.specs.declared.error.Error.{Error}
 use Rattle.smith_bytes.specs.declared.error.Error.TheVariants as errors
 use Rattle.smith_bytes.specs.declared.error.Why.{Why}
 
--- nothing is said of what is left open
+-- a property holds, unless the refusal is left open
 abbrev pub Unless : Bool → Type 0 → Type 0
 Unless true Holds = Unit {0}
 Unless false Holds = Holds
@@ -43,6 +43,6 @@ abbrev pub ◌>>=◌ : {A B E : Type 0} → Result A E → (A → Result B E) �
 (Ok x) >>= f = f x
 (Err why) >>= f = Err why
 
--- a section of types or of imports is written if it is not empty, else if a drawn bool says so
+-- a type or import section is written if it is not empty, else if a drawn bool is true
 unfoldable pub section_flag_at : ℕ → List ℕ → Bool × List ℕ
 section_flag_at count bytes = if count == 0 then bool_at bytes else (true, bytes)

@@ -1,4 +1,4 @@
--- Draws that read what is spelled.
+-- Draws that read spelled values.
 use Rattle.std.specs.Prelude.{◌≡◌, List, ◌++◌, ℕ}
 
 -- if the source starts with a piece that spells a value, that value is drawn and the bytes after the piece remain
