@@ -138,7 +138,7 @@ pub struct Config {
     pub allow_floats: bool,
 
     /// Whether active segments lie within their tables and memories, so that they never trap, and
-    /// no instruction of a generated body traps except `unreachable`, which is then used only where
+    /// no instruction of a generated body traps except `unreachable`, which is then used only if
     /// fuel is exhausted or no other instruction without operands produces the type. Imported
     /// functions and raw bytes may still trap. Defaults to `false`. If `true`, a table may have one
     /// element and a memory one page even if `max_table_elements`, `max_memory32_bytes` or
@@ -193,20 +193,23 @@ pub struct Config {
     pub compact_imports_enabled: bool,
 
     /// Relaxed vector instructions. Defaults to `true`; off without `simd_enabled`. Affects only
-    /// the features of the module, since bodies have no such instructions.
+    /// the features of a module, and the bodies of a program.
     pub relaxed_simd_enabled: bool,
 
     /// Saturating conversions from floats to integers. Defaults to `true`. Affects only the
-    /// features of the module.
+    /// features of a module, and the bodies of a program.
     pub saturating_float_to_int_enabled: bool,
 
-    /// Sign-extension instructions. Defaults to `true`. Affects only the features of the module.
+    /// Sign-extension instructions. Defaults to `true`. Affects only the features of a module, and
+    /// the bodies of a program.
     pub sign_extension_ops_enabled: bool,
 
-    /// Tail calls. Defaults to `true`. Affects only the features of the module.
+    /// Tail calls. Defaults to `true`. Affects only the features of a module, and the bodies of a
+    /// program.
     pub tail_call_enabled: bool,
 
-    /// 128-bit arithmetic. Defaults to `true`. Affects only the features of the module.
+    /// 128-bit arithmetic. Defaults to `true`. Affects only the features of a module, and the
+    /// bodies of a program.
     pub wide_arithmetic_enabled: bool,
 
     /// Atomic accesses with acquire and release ordering. Defaults to `false`; off without
