@@ -1,4 +1,4 @@
--- How deep types are that stand each below the one before it.
+-- The depths of types, each a subtype of the one before.
 use Rattle.std.proofs.Common.{◌≡◌, ◌⊎◌, ℕ, zero, suc, ◌<◌, ◌≤◌, List, [], ◌∷◌, Option, Some, None, length, length-append, refl, sym, ap, subst, ◌∙◌, true, false, IsTrue, inl, inr, arith}
 use Rattle.std.specs.Prelude.{slice_get}
 use Rattle.std.specs.List.{All}
@@ -15,7 +15,7 @@ use Rattle.smith_types.proofs.SpaceLemmas.{IsOrderly-push, HasDepth-le}
 use Rattle.smith_config.specs.Shapes.{IsShallow}
 use Rattle.smith_config.specs.ExampleShapes.{before, chain}
 
--- what has a depth stands
+-- a type with a depth exists
 stands : (types : List SubType) {index depth : ℕ} → HasDepth types index depth → index < length types
 stands types (root {i = i} {t = t} at none) = slice_get_within types i t at
 stands types (deeper {i = i} {t = t} at up above) = slice_get_within types i t at
@@ -26,7 +26,7 @@ less_or_last (suc i) zero h = absurd (omega (arith, h))
 less_or_last zero (suc n) h = inl (omega arith)
 less_or_last (suc i) (suc n) h = elim (less_or_last i n (omega (arith, h))) [ inl less ↦ inl (omega (arith, less)) | inr same ↦ inr (ap suc same) ]
 
--- few types are not deep
+-- a list of at most 63 types is shallow
 pub shallow_if_few : (types : List SubType) → IsOrderly types → length types ≤ 63 → IsShallow types
 shallow_if_few types orderly few = record {
   each = λ index depth deep.
@@ -53,7 +53,7 @@ pub chain_deep : (count index : ℕ) → index < count → HasDepth (chain count
 chain_deep count zero inside = root {t = open_type None empty_struct} (chain_at count zero inside) refl
 chain_deep count (suc index) inside = deeper {t = open_type (Some index) empty_struct} (chain_at count (suc index) inside) refl (chain_deep count index (omega (arith, inside)))
 
--- the type before the next one of a chain stands, and is like it
+-- the type before a type of a chain exists, and has the same kind and sharedness
 above : (count s : ℕ) → before count ≡ Some s → (u : SubType) × (slice_get (chain count) s ≡ Some u) × IsAlike (open_type (before count) empty_struct) u
 above zero s up = cc
 above (suc count) s up =
@@ -70,7 +70,7 @@ chain_orderly (suc count) = IsOrderly-push (chain count) (open_type (before coun
 pub chain_shallow : (count : ℕ) → count ≤ 63 → IsShallow (chain count)
 chain_shallow count few = shallow_if_few (chain count) (chain_orderly count) (let e = chain_length count in omega (arith, e, few))
 
--- each type of a chain is valid where struct types are
+-- each type of a chain is valid if struct types are enabled
 chain_type_valid : (features : Features) → IsTrue features.gc → (count index : ℕ) → index < count → IsTypeValid features (chain count) count (open_type (before index) empty_struct)
 chain_type_valid features gc count zero inside = record {
   enabled = record { inner = gc; not_final = λ _. gc; supertype = λ never. cc; shared = λ never. cc never };
@@ -104,7 +104,7 @@ chain_valid features gc count =
       groups = All-cons (IsGroupValid features (chain count)) (range 0 count) [] group (All-nil (IsGroupValid features (chain count)));
     }
 
--- what holds of each struct type without fields holds of a chain
+-- a property of each struct type without fields holds for all types of a chain
 pub chain_all : (P : SubType → Type 0) → ((supertype : Option ℕ) → P (open_type supertype empty_struct)) → (count : ℕ) → All P (chain count)
 chain_all P each zero = All-nil P
 chain_all P each (suc count) = All-push P (chain count) (open_type (before count) empty_struct) (chain_all P each count) (each (before count))

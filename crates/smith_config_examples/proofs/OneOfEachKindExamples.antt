@@ -26,7 +26,7 @@ use Rattle.smith_config_examples.proofs.ChainExamples.{shallow_if_few}
 abbrev features : Features
 features = features_of (record default_config { max_memories = 2 })
 
--- the types of its function and of its tag
+-- the types of the function and of the tag of the shape
 abbrev first : SubType
 first = final_type (Func (func I32 I64))
 

@@ -1,4 +1,4 @@
--- What the examples of shapes come to.
+-- Lemmas for the examples of shapes.
 use Rattle.std.proofs.Common.{rules, ℕ, List, [], ◌∷◌, refl, arith}
 use Rattle.std.specs.Prelude.{codes}
 use Rattle.std.proofs.lemmas.List.Elements.{All-cons, All-nil}
@@ -18,11 +18,11 @@ use Rattle.smith_types.proofs.ValidityLemmas.{AreTypesValid-single, no_types}
 use Rattle.smith_config.specs.Shapes.{IsShallow}
 use Rattle.smith_config_examples.proofs.ChainExamples.{shallow_if_few}
 
--- the type of the function that is passed on
+-- the type of the imported function that is exported
 abbrev one_type : List SubType
 one_type = final_type plain_func ∷ []
 
--- the space of functions with it alone
+-- index spaces of one function
 abbrev one_func : IndexSpaces
 one_func = record { tags = []; funcs = 0 ∷ []; tables = []; memories = []; globals = [] }
 
@@ -48,7 +48,7 @@ module _ (features : Features) where
     globals = search rules;
   }
 
--- the one export stands
+-- a single export of an existing entity is valid
 pub stand_alone : (spaces : IndexSpaces) (one : List ℕ × ExportKind × ℕ) (ty : EntityType) → IsEntityAt spaces one.1 one.2 ty → AreExportsStanding spaces (one ∷ [])
 stand_alone spaces one ty h =
     let P : List ℕ × ExportKind × ℕ → Type 0 = λ one. (ty : EntityType) × IsEntityAt spaces one.1 one.2 ty in

@@ -1,4 +1,4 @@
--- What the examples of faulty shapes come to: types that are wrong.
+-- Lemmas for the examples of faulty shapes: types that are not valid.
 use Rattle.std.proofs.Common.{◌≡◌, ◌<◌, true, false, List, [], ◌∷◌, Some, None, refl, sym, subst, arith}
 use Rattle.std.proofs.lemmas.List.Elements.{All-head}
 use Rattle.std.proofs.lemmas.Option.{same_Some}
@@ -43,7 +43,7 @@ module _ (features : Features) where
       let never : false ≡ true = All-head (IsShareable (shared ∷ [])) anyref [] (first.shareable refl) in
       cc never
 
--- a type that is not final needs garbage collection
+-- a type that is not final requires garbage collection
 pub not_final_without_gc : (features : Features) → features.gc ≡ false → ¬ AreTypesValid features (space_of ((open_type None plain_func ∷ []) ∷ []))
 not_final_without_gc features off valid =
     let types : List SubType = open_type None plain_func ∷ [] in

@@ -1,4 +1,4 @@
-// Every field of the configuration that is asked for where nothing else is said.
+// Every field of the default configuration.
 
 ghost use Rattle.std.specs.Prelude.{◌≡◌, ◌^◌, [], ◌∷◌, true, false, None, replicate, All};
 ghost use Rattle.smith_types.specs.Instructions.{every_kind};

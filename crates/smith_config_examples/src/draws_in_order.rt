@@ -1,4 +1,4 @@
-// The order of the draws of a configuration, by bytes in which no two bools drawn one after the other agree.
+// The order of the draws of a configuration, by bytes in which consecutive bools differ.
 
 ghost use Rattle.std.specs.Prelude.{◌≡◌, []};
 ghost use Rattle.smith_config.specs.Arbitrary.{config_at};

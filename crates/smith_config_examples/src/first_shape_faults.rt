@@ -1,4 +1,4 @@
-// Which fault of a shape is told, and when want of memory may be.
+// The fault of a shape that is reported, and the conditions of lack of memory.
 
 ghost use Rattle.std.specs.Prelude.{◌≡◌, ℕ, ◌+◌, ◌^◌, List, [], ◌∷◌, length, Some};
 ghost use Rattle.smith_bytes.specs.declared.error.Error.TheVariants.{Memory, Shape, EmptyChoose};

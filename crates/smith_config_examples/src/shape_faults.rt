@@ -1,4 +1,4 @@
-// What is wrong with shapes, and what isn't.
+// Faults of shapes, and shapes without them.
 
 ghost use Rattle.std.specs.Prelude.{◌≡◌, ℕ, ◌+◌, ◌^◌, List, [], ◌∷◌, length, true, false, Some, None, codes};
 ghost use Rattle.smith_bytes.specs.declared.error.Which.TheVariants.{AvailableImports, Exports, ModuleShape};

@@ -1,4 +1,4 @@
-// Shapes, and which may be handed in for which use.
+// Shapes, and the uses for which they are accepted.
 
 ghost use Rattle.std.specs.Prelude.{◌≡◌, ℕ, ◌+◌, ◌^◌, List, [], ◌∷◌, length, true, false, Some, None, codes};
 ghost use Rattle.smith_bytes.specs.declared.error.Which.TheVariants.{AvailableImports, Exports, ModuleShape};

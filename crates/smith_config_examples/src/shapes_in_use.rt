@@ -1,4 +1,4 @@
-// Configurations that hold shapes: which of them are used, sanitised, checked.
+// Configurations with shapes: the shapes in effect, sanitised configurations, and their checks.
 
 ghost use Rattle.std.specs.Prelude.{◌≡◌, true, Some, None};
 ghost use Rattle.smith_bytes.specs.declared.error.Count.TheVariants as counts;

@@ -14,7 +14,7 @@ use Rattle.smith_config.proofs.FirstFaultLemmas.{first_too_long, first_bad_type}
 use Rattle.smith_config_examples.proofs.ShapeFaultExamples as wrong
 use Rattle.smith_config_examples.proofs.first_shape_faults.first_faults.Goals as goal
 
--- a type below itself, and a function of no type
+-- a type declared as its own subtype, and a function without a type
 abbrev twice_wrong : Shape
 twice_wrong = record (of_types (open_type (Some 0) empty_struct ∷ [])) { funcs = 5 ∷ [] }
 

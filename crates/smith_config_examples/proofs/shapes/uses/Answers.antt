@@ -97,7 +97,7 @@ returns-clause-table_without_references c =
       plain = λ _. search rules;
     }
 
--- the type of a tag that takes a number
+-- the type of a tag with a number as its parameter
 abbrev tag_types : List SubType
 tag_types = final_type (taking (I32 ∷ [])) ∷ []
 
