@@ -1,4 +1,4 @@
--- What may be kept of globals and functions, on which the definitions are tried.
+-- Records of the offered globals and functions, for the examples.
 use Rattle.std.specs.Prelude.{ℕ, List, [], ◌∷◌}
 use Rattle.smith_types.specs.declared.value_type.ValType.{ValType}
 use Rattle.smith_types.specs.declared.value_type.ValType.TheVariants.{I32, Ref}
@@ -6,7 +6,7 @@ use Rattle.smith_types.specs.declared.value_type.AbstractHeapType.TheVariants as
 use Rattle.smith_types.specs.ExampleTypes.{plain, nullable}
 use Rattle.smith_draw.specs.declared.const_expr.kept_offers.KeptOffer.{KeptOffer}
 
--- what is kept for a type: how many globals and functions were looked at, and those that are offered
+-- the entry for a type: the numbers of globals and functions read, and those that are offered
 abbrev pub kept_for : ValType → ℕ → List ℕ → ℕ → List ℕ → KeptOffer
 kept_for wanted globals_seen globals funcs_seen funcs = record { wanted = wanted; globals_seen = globals_seen; globals = globals; funcs_seen = funcs_seen; funcs = funcs }
 
@@ -14,13 +14,13 @@ kept_for wanted globals_seen globals funcs_seen funcs = record { wanted = wanted
 abbrev pub to_functions : ValType
 to_functions = Ref (nullable (plain heap.Func))
 
--- what is right of two immutable globals with a mutable one between them, and of two functions
+-- correct entries for two immutable globals with a mutable one between them, and for two functions
 abbrev pub numbers : KeptOffer
 numbers = kept_for I32 3 (0 ∷ 2 ∷ []) 2 []
 
 abbrev pub functions : KeptOffer
 functions = kept_for to_functions 3 [] 2 (0 ∷ 1 ∷ [])
 
--- one function is left out
+-- an entry without one of the functions
 abbrev pub too_few_functions : KeptOffer
 too_few_functions = kept_for to_functions 3 [] 2 (0 ∷ [])

@@ -25,7 +25,8 @@ fn shared_heap_types()
     ensures of_no_type { is_heap_type_shared of_each_kind (Concrete 8) ≡ false }
 {}
 
-// The value type, whether it is shared where that is open, and whether it is mutable.
+// A global type takes its value type, whether it is shared unless that is determined, and whether
+// it is mutable.
 #[tactic(auto, unfolding(smith_draw::specs::GlobalTypes::global_type_at, smith_draw::specs::Choices::chosen_at, smith_draw::specs::ValueTypes::val_type_at, smith_draw::specs::ValueTypes::ref_type_at, smith_draw::specs::ValueTypes::granted_at, smith_draw::specs::ValueTypes::heap_type_at, smith_draw::specs::ValueTypes::type_index_at, smith_draw::specs::ValueTypes::abstract_heap_type_at, smith_draw::specs::ValueTypes::sharedness_at, smith_bytes::specs::Draws::bool_at, smith_bytes::specs::Draws::range_at, smith_bytes::specs::Draws::digit_count, smith_bytes::specs::Draws::ratio_at))]
 fn globals()
     ensures of_nothing { global_type_at default_config (context_of_types []) [] ≡ (constant_global I32, []) }
@@ -47,7 +48,7 @@ fn elements()
     ensures configured_of_wide_addresses { drawn_elements (record default_config { max_table_elements = 2 ^ 32 }) true ≡ 2 ^ 32 }
 {}
 
-// The width of its addresses, its minimum and maximum, and its element type.
+// A table type takes the width of its addresses, its minimum and maximum, and its element type.
 #[tactic(auto, unfolding(smith_draw::specs::TableTypes::table_type_at, smith_draw::specs::TableTypes::drawn_elements, smith_draw::specs::Memories::memory64_at, smith_draw::specs::Choices::chosen_at, smith_draw::specs::ValueTypes::ref_type_at, smith_draw::specs::ValueTypes::granted_at, smith_draw::specs::ValueTypes::heap_type_at, smith_draw::specs::ValueTypes::type_index_at, smith_draw::specs::ValueTypes::abstract_heap_type_at, smith_draw::specs::ValueTypes::sharedness_at, smith_draw::specs::Limits::limits64_at, smith_draw::specs::Limits::gradually_at, smith_draw::specs::Limits::gradual, smith_draw::specs::Limits::sixth_power, smith_draw::specs::Limits::scaled, smith_bytes::specs::Draws::whole_at, smith_bytes::specs::Draws::bool_at, smith_bytes::specs::Draws::range_at, smith_bytes::specs::Draws::digit_count, smith_bytes::specs::Draws::ratio_at))]
 fn tables()
     ensures of_nothing { table_type_at default_config (context_of_types []) [] ≡ (table funcref 0 None, []) }

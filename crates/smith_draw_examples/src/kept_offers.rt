@@ -1,4 +1,5 @@
-// What is kept of what globals and functions offer, and what isn't that. The clauses are proved; nothing calls these functions.
+// Records of the offered globals and functions: correct ones, and others. The clauses are proved;
+// nothing calls these functions.
 
 ghost use Rattle.std.specs.Prelude.{◌≡◌, [], ◌∷◌};
 ghost use Rattle.smith_types.specs.declared.value_type.ValType.TheVariants.{I32, I64, Ref};

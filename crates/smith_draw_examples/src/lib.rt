@@ -1,5 +1,5 @@
-//! What the definitions of draws give on given bytes, and what they do not. The clauses are proved, and
-//! nothing calls these functions.
+//! Results of the definitions of draws on bytes, and results that they do not have. The clauses are
+//! proved, and nothing calls these functions.
 #![tactic(auto)]
 
 mod bounds;

@@ -1,4 +1,5 @@
-// Lists of what is offered, a law of them, and draws from them. The clauses are proved; nothing calls these functions.
+// Lists of offered types, a law about them, and draws from them. The clauses are proved; nothing
+// calls these functions.
 
 ghost use Rattle.std.specs.Prelude.{◌≡◌, [], ◌∷◌, true, false, None};
 ghost use Rattle.smith_types.specs.declared.value_type.AbstractHeapType.TheVariants as heap;

@@ -1,4 +1,5 @@
-// What is offered below and above each heap type. The clauses are proved; nothing calls these functions.
+// The subtypes and supertypes that are offered for each heap type. The clauses are proved; nothing
+// calls these functions.
 
 ghost use Rattle.std.specs.Prelude.{◌≡◌, [], ◌∷◌, true};
 ghost use Rattle.smith_types.specs.declared.value_type.AbstractHeapType.TheVariants as heap;

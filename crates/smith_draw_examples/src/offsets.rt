@@ -3,7 +3,7 @@
 ghost use Rattle.std.specs.Prelude.{◌≡◌, [], ◌∷◌};
 ghost use Rattle.smith_draw.specs.Offsets.{offset_at};
 
-// Of a segment that does not fit into 10, up to a thousand.
+// The offset of a segment that does not fit into 10, up to a thousand.
 #[tactic(auto, unfolding(smith_draw::specs::Offsets::offset_at, smith_bytes::specs::Draws::range_at, smith_bytes::specs::Draws::digit_count))]
 fn too_large()
     ensures anywhere { offset_at 10 1000 11 (3 ∷ 232 ∷ 9 ∷ []) ≡ (1000, 9 ∷ []) }
@@ -12,7 +12,7 @@ fn too_large()
     ensures without_a_choice { offset_at 0 0 1 (9 ∷ []) ≡ (0, 9 ∷ []) }
 {}
 
-// Of a segment that fits: inside, and for the greatest numbers anywhere.
+// The offset of a segment that fits: inside, and anywhere for the greatest numbers.
 #[tactic(auto, unfolding(smith_draw::specs::Offsets::offset_at, smith_draw::specs::Limits::gradually_at, smith_draw::specs::Limits::gradual, smith_draw::specs::Limits::sixth_power, smith_draw::specs::Limits::scaled, smith_bytes::specs::Draws::whole_at))]
 fn fitting()
     ensures at_the_start { offset_at 10000 1000000 0 [] ≡ (0, []) }

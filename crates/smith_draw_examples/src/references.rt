@@ -1,4 +1,5 @@
-// References that aren't nullable, drawn where the configuration has them. The clauses are proved; nothing calls these functions.
+// Drawn non-nullable references, if the configuration enables them. The clauses are proved; nothing
+// calls these functions.
 
 ghost use Rattle.std.specs.Prelude.{◌≡◌, [], ◌∷◌, true, false};
 ghost use Rattle.smith_types.specs.declared.value_type.ValType.TheVariants.{I32, Ref};
@@ -29,7 +30,7 @@ fn grounded()
     ensures a_function_of_no_type { is_grounded (context_of usual_features [] (0 ∷ []) 0) (plain heap.Func) ≡ false }
 {}
 
-// A bool, where there are such references, asks for one.
+// A drawn bool decides whether a reference is non-nullable, if such references are enabled.
 #[tactic(auto, unfolding(smith_draw::specs::ValueTypes::granted_at, smith_draw::specs::Grounding::is_grounded, smith_draw::specs::Below::is_heap_below, smith_draw::specs::Offered::ancestors, smith_bytes::specs::Draws::bool_at))]
 fn granted()
     ensures wanted { granted_at (record default_config { non_nullable_enabled = true }) (context_of_types struct_and_below) (Concrete 0) (1 ∷ 7 ∷ []) ≡ (true, 7 ∷ []) }
@@ -46,7 +47,8 @@ fn references()
     ensures without_references { ref_type_at (record default_config { reference_types_enabled = false; non_nullable_enabled = true }) (context_of_types []) false 0 (1 ∷ []) ≡ (nullable (plain heap.Func), 1 ∷ []) }
 {}
 
-// Of one that isn't nullable itself first, and of the others, also where they are the same, those that are grounded.
+// The subtypes offered for a non-nullable reference: its own heap type first, then the grounded
+// ones among all offered subtypes, possibly its own again.
 #[tactic(auto, unfolding(smith_draw::specs::MatchingTypes::references_offered, smith_draw::specs::MatchingTypes::matching_ref_type_at, smith_draw::specs::Offered::subtypes_offered, smith_draw::specs::Choices::chosen_at, smith_draw::specs::Grounding::is_grounded, smith_draw::specs::Below::is_heap_below, smith_draw::specs::Offered::ancestors, smith_bytes::specs::Draws::range_at, smith_bytes::specs::Draws::digit_count))]
 fn offered()
     ensures below_any { references_offered (record default_config { non_nullable_enabled = true }) (context_of_types struct_and_below) (not_null (plain heap.Any))

@@ -6,7 +6,7 @@ ghost use Rattle.smith_config.specs.Config.{default_config};
 ghost use Rattle.smith_draw.specs.Limits.{gradually_at, limits64_at};
 ghost use Rattle.smith_draw.specs.Memories.{shared_memory_at, stated_page_at, page_size_at, drawn_pages, likely_pages, memtype_at};
 
-// Growth from 0, inside 10,000 and at most a million.
+// Numbers that grow from 0, mostly at most 10,000, and at most a million.
 #[tactic(auto, unfolding(smith_draw::specs::Limits::gradually_at, smith_draw::specs::Limits::gradual, smith_draw::specs::Limits::sixth_power, smith_draw::specs::Limits::scaled, smith_bytes::specs::Draws::whole_at))]
 fn growth()
     ensures of_nothing { gradually_at 0 10000 1000000 [] ≡ (0, []) }
@@ -45,7 +45,7 @@ fn page_sizes()
     ensures not_enabled { page_size_at default_config (1 ∷ 1 ∷ []) ≡ (None, 1 ∷ 1 ∷ []) }
 {}
 
-// Likely is a gibibyte for all memories together.
+// The likely sizes of all memories together are at most 1 GiB.
 #[tactic(auto, unfolding(smith_draw::specs::Memories::likely_pages, smith_draw::specs::Memories::drawn_pages))]
 fn pages()
     ensures likely { likely_pages default_config false None ≡ 16384 }

@@ -2,7 +2,7 @@
 
 ghost use Rattle.smith_draw.specs.ExampleSpellings.{OneFunctionIsSpelled, MoreIsAskedFor};
 
-/// A list of groups, and a byte that spells none.
+/// Bytes that spell a list of groups, and a byte that does not.
 fn spelled_groups()
     ensures one_function { OneFunctionIsSpelled }
     ensures asks_for_more { MoreIsAskedFor }

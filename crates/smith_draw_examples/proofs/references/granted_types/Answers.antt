@@ -51,7 +51,7 @@ returns-clause-taking_what_nothing_grounds c = λ all. any_not_granted (All-head
 pub returns-clause-holding_it : goal.returns-clause-holding_it
 returns-clause-holding_it c = λ all. any_not_granted (All-head (IsGranted not_nullable (context_of_types [])) to_any [] all)
 
--- a struct type, and a function type that gives a reference to it
+-- a struct type, and a function type whose result is a reference to it
 abbrev beside : List SubType
 beside = final_type empty_struct ∷ final_type (giving (to_struct ∷ [])) ∷ []
 
@@ -61,7 +61,7 @@ returns-clause-beside_the_struct c =
     let grounded : Granted to_struct = λ h. h.1 refl (inl (0, grounded_at beside false (Concrete 0) 0 (final_type empty_struct) refl refl itself)) in
     All-from_recursion (HasGranted not_nullable (context_of_types beside)) beside (All-nil Granted, (All-from_recursion Granted (to_struct ∷ []) (grounded, tt), tt))
 
--- a function type alone that takes a reference to anything
+-- a function type alone, with a parameter that is a reference to anything
 abbrev alone : List SubType
 alone = final_type (taking (to_any ∷ [])) ∷ []
 
