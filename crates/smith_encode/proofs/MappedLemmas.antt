@@ -22,7 +22,7 @@ section_mapped true id P f xs piece h = record {
 }
 section_mapped false id P f xs piece h = h
 
--- another reason
+-- a fault for another reason
 pub fault_as : {P Q : Type 0} (e : EncodeError) → (P → Q) → IsFault P e → IsFault Q e
 fault_as Memory weaker h = tt
 fault_as TooLong weaker h = weaker h
