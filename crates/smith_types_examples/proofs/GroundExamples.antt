@@ -1,4 +1,4 @@
--- What grounds a heap type, and what does not, as the examples need it.
+-- Types that ground a heap type, and types that do not, for the examples.
 use Rattle.std.proofs.Common.{◌≡◌, ℕ, zero, suc, Bool, true, false, List, [], ◌∷◌, Some, None, IsTrue, refl, sym, ◌∙◌, inl, inr, ap, arith, rules, lit<}
 use Rattle.std.specs.Prelude.{slice_get, ◌&&◌}
 use Rattle.std.specs.List.{list_any}
@@ -48,7 +48,7 @@ pub not_exact : ¬ IsGrounded (context_of usual_features (final_type empty_struc
 not_exact (inl (index, g)) = concrete_not_below_exact (final_type empty_struct ∷ []) index 0 g.below
 not_exact (inr (function, index, at, below)) = cc at
 
--- a struct type, and one below it with a field that has no default
+-- a struct type, and a subtype of it with a field without a default
 abbrev closed_field : SubType
 closed_field = open_type (Some 0) (struct (constant (Val (Ref (not_null (plain heap.Func)))) ∷ []))
 

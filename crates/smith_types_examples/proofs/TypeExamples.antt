@@ -1,4 +1,4 @@
--- Facts that several examples come to.
+-- Lemmas for several examples.
 use Rattle.std.proofs.Common.{rules, false, List, [], Some, None, IsTrue, ◌≡◌, ◌∙◌, ◌∷◌, ℕ, zero, suc, lit<, refl, sym, subst, arith}
 use Rattle.std.specs.Prelude.{slice_get}
 use Rattle.std.proofs.lemmas.List.Elements.{All-nil, All-cons, All-head}
@@ -27,7 +27,7 @@ abstract_apart a b apart below = let (shares, never) = by_cases_from_below [] (s
 pub struct_orderly : IsOrderly struct_and_below
 struct_orderly = search rules
 
--- a type does not stand before itself
+-- a type does not precede itself
 pub itself_not_before : ¬ IsOrderly below_itself
 itself_not_before orderly = let (before, alike) = orderly.under 0 0 (open_type (Some 0) empty_struct) refl refl in omega (arith, before)
 
@@ -37,7 +37,7 @@ upper_not_below below = below_alone struct_and_below struct_orderly 0 1 (open_ty
 pub eq_below_any : (types : List SubType) → IsValBelow types eqref anyref
 eq_below_any types = record { heap = below_abstract types false heap.Eq heap.Any refl; nullable = λ _. refl }
 
--- a type that refers behind its group
+-- a type that refers past its group
 pub referring_alone : (features : Features) (types : List SubType) → ¬ IsTypeValid features types 1 referring_type
 referring_alone features types first =
     let (on, held) = All-head (IsValTypeValid features 1) (Ref (nullable (Concrete 1))) [] first.values in
@@ -47,7 +47,7 @@ referring_alone features types first =
 pub referring_behind : (features : Features) → ¬ IsGroupValid features referring (range 0 1)
 referring_behind features valid = referring_alone features referring (valid.members 0 referring_type (omega arith) (omega arith) refl)
 
--- what holds of two types holds of each of them
+-- a property of two types holds for each type of their list
 of_both : (P : SubType → Type 0) (t u v : SubType) (i : ℕ) → P t → P u → slice_get (t ∷ u ∷ []) i ≡ Some v → P v
 of_both P t u v zero p q at = subst P (same_Some t v at) p
 of_both P t u v (suc zero) p q at = subst P (same_Some u v at) q
@@ -64,7 +64,7 @@ two_valid t u orderly first second =
       groups = All-cons (IsGroupValid usual_features (t ∷ u ∷ [])) (range 0 2) [] group (All-nil (IsGroupValid usual_features (t ∷ u ∷ [])));
     }
 
--- the second of two types is declared below the first, where it may be
+-- the second of two types is a declared subtype of the first, if that is allowed
 pub below_first : (t u : SubType) → u.supertype ≡ Some 0 → IsSupertypeValid (t ∷ u ∷ []) u t → (s : ℕ) → u.supertype ≡ Some s → (v : SubType) × (slice_get (t ∷ u ∷ []) s ≡ Some v) × IsSupertypeValid (t ∷ u ∷ []) u v
 below_first t u up valid s up' = (t, subst (λ n. slice_get (t ∷ u ∷ []) n ≡ Some t) (same_Some 0 s (sym up ∙ up')) refl, valid)
 

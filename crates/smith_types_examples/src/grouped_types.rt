@@ -1,4 +1,4 @@
-// Types in groups, index spaces that grow, and the value types that both name.
+// Types in groups, index spaces that grow, and the value types in both.
 
 ghost use Rattle.std.specs.Prelude.{◌≡◌, [], ◌∷◌, Some, None, codes};
 ghost use Rattle.smith_types.specs.declared.entity_type.EntityType.TheVariants as entity;

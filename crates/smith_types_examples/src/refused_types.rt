@@ -1,4 +1,4 @@
-// Types that one rule alone refuses: the other rules hold of them, and of each a neighbour is valid.
+// Types that only one rule refuses: they satisfy the other rules, and a neighbour of each is valid.
 ghost use Rattle.std.specs.Prelude.{◌≡◌, [], ◌∷◌, false, Some};
 ghost use Rattle.smith_types.specs.declared.value_type.HeapType.TheVariants.{Concrete};
 ghost use Rattle.smith_types.specs.Types.{IsOrderly, AreCovered};

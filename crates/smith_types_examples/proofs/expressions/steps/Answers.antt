@@ -21,7 +21,7 @@ pub returns-clause-of_a_subtype : goal.returns-clause-of_a_subtype
 returns-clause-of_a_subtype c = one_step (context_with usual_features 2) ExternConvertAny (Ref (not_null (plain heap.Any)) ∷ []) (Ref (not_null (plain heap.Extern))) [] (Ref (not_null (plain heap.I31)) ∷ [])
     (record { shared = false; nullable = false; taken = refl; given = refl }) (record { heap = below_abstract context_types false heap.I31 heap.Any refl; nullable = λ never. never }, tt)
 
--- of two values the one on top is taken
+-- an instruction takes the value on top of two
 top_taken : (rest taken : List ValType) → I32 ∷ I64 ∷ [] ≡ rest ++ taken → AllZip (IsValBelow context_types) taken (I32 ∷ []) → ⊥
 top_taken [] [] e accepted = accepted
 top_taken [] (a ∷ []) e accepted = cc e

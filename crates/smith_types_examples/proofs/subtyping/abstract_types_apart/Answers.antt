@@ -7,7 +7,7 @@ use Rattle.smith_types.specs.ExampleTypes.{plain, tops, kinds_of_values}
 use Rattle.smith_types_examples.proofs.TypeExamples.{abstract_apart}
 use Rattle.smith_types_examples.proofs.subtyping.abstract_types_apart.Goals as goal
 
--- one is below the other only if they are one
+-- an abstract type is a subtype of another only if they are equal
 abbrev IsApart : AbstractHeapType → AbstractHeapType → Type 0
 IsApart a b = IsBelow [] (plain a) (plain b) → a ≡ b
 
