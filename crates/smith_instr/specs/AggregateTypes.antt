@@ -58,7 +58,8 @@ value_of element = unpacked element.element_type
 abbrev pub Converts : List ValType → List ValType → (from into : Bool → ValType) → Type 0
 Converts operands results from into = (nullable : Bool) × To operands results (from nullable ∷ []) (into nullable ∷ [])
 
--- a reference to an abstract heap type, of either sharedness
+-- a reference to an external or an internal value (Structure, Heap Types), of either sharedness
+-- (own rule)
 abbrev pub external : Bool → Bool → ValType
 external shared nullable = Ref (record { nullable = nullable; heap_type = Abstract shared abstract.Extern })
 

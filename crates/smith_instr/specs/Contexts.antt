@@ -82,7 +82,7 @@ abbrev pub IsTag : BodyContext → ℕ → List ValType → Type 0
 IsTag context index values =
     (ty : ℕ) × (slice_get context.tags index ≡ Some ty) × IsFuncAt context.types ty (record { params = values; results = [] })
 
--- the type of nullable references to a heap type
+-- the type of nullable references to a heap type (Structure, Reference Types)
 abbrev pub nullable_to : HeapType → ValType
 nullable_to heap_type = Ref (record { nullable = true; heap_type = heap_type })
 
@@ -109,7 +109,7 @@ IsBlockTypeOver features types (block.Value value) params results =
 IsBlockTypeOver features types (block.Func index) params results =
     (function : FuncType) × IsFuncAt types index function × (params ≡ function.params) × (results ≡ function.results)
 
--- the parameters and the results of a block
+-- the parameters and the results of a block (Validation, Block Types)
 abbrev pub IsBlockType : BodyContext → BlockType → List ValType → List ValType → Type 0
 IsBlockType context ty params results = IsBlockTypeOver context.features context.types ty params results
 

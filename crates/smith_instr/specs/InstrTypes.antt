@@ -75,8 +75,8 @@ IsCatch context (catch.AllRef label) = IsTaken context (reference_to (Abstract f
 abbrev pub difference : RefType → RefType → RefType
 difference from to = record from { nullable = if to.nullable then false else from.nullable }
 
--- the types of a cast are valid, and the label takes the other values, then a type that `branches`
--- matches (Validation, Control Instructions, br_on_cast and br_on_cast_fail)
+-- the types of a cast are valid, and the label takes the values `others`, then a reference whose
+-- type `branches` matches (Validation, Control Instructions, br_on_cast and br_on_cast_fail)
 pub record IsBranchCast (context : BodyContext) (cast : BranchCast) (branches : RefType) (others : List ValType) : Type 0 where
   pub from_valid : IsRefValid context cast.from
   pub to_valid : IsRefValid context cast.to
@@ -86,9 +86,10 @@ pub record IsBranchCast (context : BodyContext) (cast : BranchCast) (branches : 
   pub arrives : IsRefBelow context.types branches wanted
 
 -- an instruction takes operands of these types, the last on top, and leaves results of those, if
--- these locals are set. Blocks, loops, ifs and try_tables are typed with their bodies (`AreTyped`).
--- There is no bottom type, so br_table and select in unreachable code are typed more strictly than
--- in the standard, which has unreachable and nop among the parametric instructions
+-- these locals are set (Validation, Instructions). Blocks, loops, ifs and try_tables are typed with
+-- their bodies (`AreTyped`). There is no bottom type, so br_table and select in unreachable code
+-- are typed more strictly than in the standard, which has unreachable and nop among the parametric
+-- instructions
 abbrev pub HasInstrType : BodyContext → List ℕ → Instr → List ValType → List ValType → Type 0
 HasInstrType context set instr.Unreachable operands results = Leaves context operands results []
 HasInstrType context set instr.Nop operands results = To operands results [] []

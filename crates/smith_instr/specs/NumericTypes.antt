@@ -14,7 +14,7 @@ use Rattle.smith_instr.specs.declared.numeric.WideArithmetic.TheVariants as wide
 use Rattle.smith_instr.specs.declared.numeric.NumericInstr.{NumericInstr}
 use Rattle.smith_instr.specs.declared.numeric.NumericInstr.TheVariants as numeric
 
--- the operands of an instruction, the last on top, and its results
+-- the operands of an instruction, the last on top, and its results (Validation, Instruction Types)
 pub record Signature : Type 0 where
   pub operands : List ValType
   pub results : List ValType
@@ -27,7 +27,7 @@ to operands result = record { operands = operands; results = result ∷ [] }
 abbrev pub of : ValType → ValType → Signature
 of operand result = to (operand ∷ []) result
 
--- t2.cvtop_t1_sx? : [t1] → [t2]
+-- t2.cvtop_t1_sx? : [t1] → [t2] (Validation, Numeric Instructions)
 abbrev pub conversion : Conversion → Signature
 conversion convert.I32WrapI64 = of I64 I32
 conversion convert.I64ExtendI32S = of I32 I64
@@ -55,7 +55,7 @@ conversion convert.I64ReinterpretF64 = of F64 I64
 conversion convert.F32ReinterpretI32 = of I32 F32
 conversion convert.F64ReinterpretI64 = of I64 F64
 
--- conversions that saturate: t2.cvtop_t1_sx? : [t1] → [t2]
+-- conversions that saturate: t2.cvtop_t1_sx? : [t1] → [t2] (Validation, Numeric Instructions)
 abbrev pub saturating_conversion : SaturatingConversion → Signature
 saturating_conversion saturate.I32TruncSatF32S = of F32 I32
 saturating_conversion saturate.I32TruncSatF32U = of F32 I32
@@ -66,7 +66,8 @@ saturating_conversion saturate.I64TruncSatF32U = of F32 I64
 saturating_conversion saturate.I64TruncSatF64S = of F64 I64
 saturating_conversion saturate.I64TruncSatF64U = of F64 I64
 
--- extensions of a sign, which are unary operators: t.unop : [t] → [t]
+-- extensions of a sign, which are unary operators: t.unop : [t] → [t] (Validation, Numeric
+-- Instructions)
 abbrev pub sign_extension : SignExtension → Signature
 sign_extension extend.I32From8 = of I32 I32
 sign_extension extend.I32From16 = of I32 I32
@@ -82,6 +83,7 @@ wide_arithmetic wide.MulWideS = record { operands = I64 ∷ I64 ∷ []; results 
 wide_arithmetic wide.MulWideU = record { operands = I64 ∷ I64 ∷ []; results = I64 ∷ I64 ∷ [] }
 
 -- t.unop : [t] → [t], t.binop : [t t] → [t], t.testop : [t] → [i32], t.relop : [t t] → [i32]
+-- (Validation, Numeric Instructions)
 abbrev pub signature : NumericInstr → Signature
 signature (numeric.I32Unary op) = of I32 I32
 signature (numeric.I64Unary op) = of I64 I64

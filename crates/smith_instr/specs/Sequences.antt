@@ -38,7 +38,7 @@ pub record IsFramed (context : BodyContext) (operands results : List ValType) (s
   pub over : after.stack ≡ rest ++ given
   pub set_then : after.set ≡ before.set ++ set
 
--- an instruction, blocks aside, takes one stack to another
+-- an instruction, blocks aside, takes one stack to another (Validation, Instruction Sequences)
 pub record IsStep (context : BodyContext) (instruction : Instr) (before after : Stacked) : Type 0 where
   pub operands : List ValType
   pub results : List ValType
