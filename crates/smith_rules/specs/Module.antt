@@ -27,7 +27,8 @@ use Rattle.smith_config.specs.declared.config.Config.{Config}
 use Rattle.smith_config.specs.Features.{features_of}
 use Rattle.smith_config.specs.Sanitized.{sanitized}
 
--- The parts of a module. Each index space is complete, with imported items first.
+-- The parts of a module. Each index space is complete, with imported items first (Structure,
+-- Modules; Structure, Indices).
 pub record ModuleParts : Type 0 where
   pub config : Config
   pub types : List SubType
@@ -57,27 +58,27 @@ pub record ModuleParts : Type 0 where
   pub interesting_values64 : List ℕ
 
 -- the configuration that a module returns: the one of the caller, sanitised, and without its
--- available imports
+-- available imports (own rule)
 abbrev pub shown_config : Config → Config
 shown_config config = record (sanitized config) { available_imports = None }
 
--- the features of a module's configuration
+-- the features of a module's configuration (own rule)
 abbrev pub module_features : ModuleParts → Features
 module_features m = features_of m.config
 
--- a module's types in their groups
+-- a module's types in their groups (Structure, Recursive Types)
 abbrev pub module_types : ModuleParts → Space
 module_types m = record { types = m.types; groups = m.groups }
 
--- a module's index spaces
+-- a module's index spaces (Structure, Indices)
 abbrev pub module_spaces : ModuleParts → IndexSpaces
 module_spaces m = record { tags = m.tags; funcs = m.funcs; tables = m.tables; memories = m.memories; globals = m.globals }
 
--- the index spaces of a module's imports, which come first in its index spaces
+-- the index spaces of a module's imports, which come first in its index spaces (Structure, Indices)
 abbrev pub module_imports : ModuleParts → IndexSpaces
 module_imports m = imported_spaces (flattened m.imports)
 
--- the context of a module's expressions with no global visible
+-- the context of a module's expressions with no global visible (Validation, Modules)
 abbrev pub module_context : ModuleParts → Context
 module_context m = record {
   features = module_features m;
@@ -89,14 +90,14 @@ module_context m = record {
   visible = 0;
 }
 
--- the context of the initialiser of a table, and of the global of this index
+-- the context of the initialiser of a table, and of the global of this index (Validation, Modules)
 abbrev pub table_context : ModuleParts → Context
 table_context m = seeing (module_context m) (seen_by_tables (module_context m))
 
 abbrev pub global_context : ModuleParts → ℕ → Context
 global_context m index = seeing (module_context m) (seen_by_global (module_context m) index)
 
--- the context of the offset or an item of a segment
+-- the context of the offset or an item of a segment (Validation, Modules)
 abbrev pub segment_context : ModuleParts → Context
 segment_context m = seeing (module_context m) (seen_by_segments (module_context m))
 
@@ -115,7 +116,7 @@ abbrev pub IsTableInitialised : Context → TableType → Option (List ConstInst
 IsTableInitialised context table None = IsTrue table.element_type.nullable
 IsTableInitialised context table (Some expression) = IsTrue context.features.gc × IsConstExpr context (Ref table.element_type) expression
 
--- a definition of a table
+-- a definition of a table (Validation, Tables)
 abbrev pub IsTableDefined : ModuleParts → ℕ → Option (List ConstInstr) → Type 0
 IsTableDefined m place initial =
     (table : TableType) × (slice_get m.tables (length (module_imports m).tables + place) ≡ Some table) × IsTableInitialised (table_context m) table initial
@@ -127,7 +128,7 @@ pub record IsGlobalDefined (m : ModuleParts) (place index : ℕ) (initial : List
   pub stands : slice_get m.globals index ≡ Some global
   pub initialised : IsConstExpr (global_context m index) global.val_type initial
 
--- definitions of tables and globals
+-- definitions of tables and globals (Validation, Tables; Globals)
 pub record AreDefinitionsValid (m : ModuleParts) : Type 0 where
   pub tables : (place : ℕ) (initial : Option (List ConstInstr)) → slice_get m.defined_tables place ≡ Some initial → IsTableDefined m place initial
   pub globals : (place index : ℕ) (initial : List ConstInstr) → slice_get m.defined_globals place ≡ Some (index, initial) → IsGlobalDefined m place index initial
