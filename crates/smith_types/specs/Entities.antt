@@ -18,12 +18,13 @@ pub record AreLimitsValid (most minimum : ℕ) (maximum : Option ℕ) : Type 0 w
   pub minimum_fits : minimum ≤ most
   pub maximum_fits : IfSome maximum (λ n. (minimum ≤ n) × (n ≤ most))
 
--- the binary logarithm of the page size in bytes: 64 KiB unless stated
+-- the binary logarithm of the page size in bytes: 64 KiB (Execution, Memory Instances), unless
+-- stated (own rule)
 abbrev pub page_log2 : Option ℕ → ℕ
 page_log2 (Some stated) = stated
 page_log2 None = 16
 
--- the number of bytes that a memory can address
+-- the number of bytes that a memory can address (Structure, Address Types)
 abbrev pub addresses : Bool → ℕ
 addresses memory64 = if memory64 then 2 ^ 64 else 2 ^ 32
 
@@ -57,7 +58,7 @@ pub record IsGlobalValid (features : Features) (types : List SubType) (global : 
   pub value : IsValTypeValid features (length types) global.val_type
   pub shared : IsTrue global.shared → IsTrue features.shared_everything_threads × IsShareable types global.val_type
 
--- the type at this index is this function type
+-- the type at this index is this function type (Structure, Composite Types)
 abbrev pub IsFuncAt : List SubType → ℕ → FuncType → Type 0
 IsFuncAt types index function = (t : SubType) × (slice_get types index ≡ Some t) × (t.composite_type.inner ≡ Func function)
 

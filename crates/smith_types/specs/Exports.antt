@@ -20,7 +20,7 @@ IsEntityAt spaces kind.Memory index ty = (memory : MemoryType) × (slice_get spa
 IsEntityAt spaces kind.Global index ty = (global : GlobalType) × (slice_get spaces.globals index ≡ Some global) × (ty ≡ entity.Global global)
 IsEntityAt spaces kind.Tag index ty = (tag : ℕ) × (slice_get spaces.tags index ≡ Some tag) × (ty ≡ entity.Tag tag)
 
--- no item occurs at two positions of the list
+-- no item occurs at two positions of the list (Validation, Modules, for the names of exports)
 pub record AreDistinct {A : Type 0} (items : List A) : Type 0 where
   pub once : (i j : ℕ) (item : A) → slice_get items i ≡ Some item → slice_get items j ≡ Some item → i ≡ j
 
@@ -39,7 +39,7 @@ IsStartValid types funcs None = Unit {0}
 IsStartValid types funcs (Some function) =
     (index : ℕ) × (slice_get funcs function ≡ Some index) × IsFuncAt types index (record { params = []; results = [] })
 
--- the kind of an entity
+-- the kind of an entity (Structure, External Types)
 abbrev pub entity_kind : EntityType → ExportKind
 entity_kind (entity.Tag index) = kind.Tag
 entity_kind (entity.Func index) = kind.Func

@@ -32,7 +32,7 @@ pub record Context : Type 0 where
   pub imported_globals : ℕ
   pub visible : ℕ
 
--- a non-nullable reference
+-- a non-nullable reference (Structure, Reference Types)
 abbrev pub reference_to : HeapType → ValType
 reference_to heap_type = Ref (record { nullable = false; heap_type = heap_type })
 
@@ -60,11 +60,11 @@ IsDefaultable _ = Unit {0}
 abbrev pub field_values : List FieldType → List ValType
 field_values fields = map (λ (field : FieldType). unpacked field.element_type) fields
 
--- the type at this index is the struct type with these fields
+-- the type at this index is the struct type with these fields (Structure, Composite Types)
 abbrev pub IsStructAt : List SubType → ℕ → List FieldType → Type 0
 IsStructAt types index fields = (t : SubType) × (slice_get types index ≡ Some t) × (t.composite_type.inner ≡ inner.Struct (record { fields = fields }))
 
--- the type at this index is the array type with this element
+-- the type at this index is the array type with this element (Structure, Composite Types)
 abbrev pub IsArrayAt : List SubType → ℕ → FieldType → Type 0
 IsArrayAt types index element = (t : SubType) × (slice_get types index ≡ Some t) × (t.composite_type.inner ≡ inner.Array (record { 0 = element }))
 
@@ -155,6 +155,6 @@ seen_by_global context index = if context.features.gc then index else context.im
 abbrev pub seen_by_segments : Context → ℕ
 seen_by_segments context = if context.features.gc then length context.globals else context.imported_globals
 
--- the context with another end of the visible globals
+-- the context with another end of the visible globals (Validation, Modules)
 abbrev pub seeing : Context → ℕ → Context
 seeing context visible = record context { visible = visible }

@@ -14,6 +14,7 @@ abbrev pub is_directly_below : ℕ → SubType → Bool
 is_directly_below index t = is_index index t.supertype
 
 -- the indices, in order, of the types that declare the type at this index as their supertype
+-- (Structure, Recursive Types)
 abbrev pub direct_subtypes : List SubType → ℕ → List ℕ
 direct_subtypes types index = indices_from (is_directly_below index) 0 types
 

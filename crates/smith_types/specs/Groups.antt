@@ -7,12 +7,12 @@ use Rattle.smith_types.specs.Space.{Space}
 use Rattle.smith_types.specs.Types.{IsAlike}
 use Rattle.smith_types.specs.declared.composite_type.SubType.{SubType}
 
--- the ranges of consecutive groups
+-- the ranges of consecutive groups (Structure, Recursive Types)
 abbrev pub ranges_from : ℕ → List (List SubType) → List (Range ℕ)
 ranges_from start [] = []
 ranges_from start (group ∷ groups) = record { start = start; end = start + length group } ∷ ranges_from (start + length group) groups
 
--- the types of the groups, and the groups as ranges
+-- the types of the groups, and the groups as ranges (Structure, Recursive Types)
 abbrev pub space_of : List (List SubType) → Space
 space_of groups = record { types = flat_map (λ group. group) groups; groups = ranges_from 0 groups }
 

@@ -9,7 +9,7 @@ use Rattle.smith_types.specs.declared.composite_type.SubType.{SubType}
 use Rattle.smith_types.specs.declared.entity_type.GlobalType.{GlobalType}
 use Rattle.smith_types.specs.declared.entity_type.TableType.{TableType}
 
--- the value types in types, tables and globals, in this order
+-- the value types in types, tables and globals, in this order (Structure, Types)
 abbrev pub values_in : List SubType → IndexSpaces → List ValType
 values_in types spaces =
     flat_map (λ (t : SubType). values_of t.composite_type.inner) types

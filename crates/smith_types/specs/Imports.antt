@@ -14,7 +14,7 @@ use Rattle.smith_types.specs.declared.imports.ImportItem.{ImportItem}
 use Rattle.smith_types.specs.declared.imports.Imports.{Imports}
 use Rattle.smith_types.specs.declared.imports.Imports.TheVariants.{Single, Compact1, Compact2}
 
--- an import with these names and this type
+-- an import with these names and this type (Structure, Imports)
 abbrev pub import_of : List ℕ → List ℕ → EntityType → Import
 import_of from name entity_type = record { «module» = from; name = name; entity_type = entity_type }
 
@@ -49,7 +49,7 @@ abbrev pub global_of : EntityType → List GlobalType
 global_of (entity.Global global) = global ∷ []
 global_of _ = []
 
--- the imported entities of one kind, in order
+-- the imported entities of one kind, in order (Validation, Modules)
 abbrev pub imported : {A : Type 0} → (EntityType → List A) → List Import → List A
 imported of_kind imports = flat_map (λ (one : Import). of_kind one.entity_type) imports
 
@@ -82,6 +82,6 @@ pub record IsImportsValid (features : Features) (group : Imports) : Type 0 where
   pub filled : 0 < length (imports_of group)
   pub enabled : IsImportsEnabled features group
 
--- the index spaces of a single entity
+-- the index spaces of a single entity (Structure, Indices)
 abbrev pub entity_spaces : EntityType → IndexSpaces
 entity_spaces one = record { tags = tag_of one; funcs = func_of one; tables = table_of one; memories = memory_of one; globals = global_of one }

@@ -18,11 +18,11 @@ bottom_of (Array a) = heap.None
 bottom_of (Func f) = heap.NoFunc
 bottom_of (Struct s) = heap.None
 
--- the kind of a subtype's composite type
+-- the kind of a subtype's composite type (Validation, Matching, Heap Types)
 abbrev pub kind : SubType → AbstractHeapType
 kind t = kind_of t.composite_type.inner
 
--- the bottom of a subtype's kind
+-- the bottom of a subtype's kind (Validation, Matching, Heap Types)
 abbrev pub bottom : SubType → AbstractHeapType
 bottom t = bottom_of t.composite_type.inner
 

@@ -35,7 +35,7 @@ IsOffsetValid context wide (Const32 value) = wide ≡ false
 IsOffsetValid context wide (Const64 value) = wide ≡ true
 IsOffsetValid context wide (Global index) = IsVisible context index (address_type wide)
 
--- a function whose reference is a subtype of the item type
+-- a function whose reference is a subtype of the item type (Validation, Element Segments)
 abbrev pub IsItem : Context → RefType → ℕ → Type 0
 IsItem context ty function = (index : ℕ) × (slice_get context.funcs function ≡ Some index) × IsValBelow context.types (function_reference context function index) (Ref ty)
 
@@ -81,7 +81,7 @@ IsDataKindValid context memories (data_kind.Active index offset) =
 abbrev pub IsDataValid : Context → List MemoryType → DataSegment → Type 0
 IsDataValid context memories segment = IsDataKindValid context memories segment.kind
 
--- the number of items of a segment
+-- the number of items of a segment (Structure, Element Segments)
 abbrev pub item_count : Elements → ℕ
 item_count (Functions functions) = length functions
 item_count (Expressions expressions) = length expressions
@@ -92,14 +92,16 @@ IsOffsetInside (Const32 value) count most = cast_unsigned w32 value + count ≤ 
 IsOffsetInside (Const64 value) count most = cast_unsigned w64 value + count ≤ most
 IsOffsetInside (Global index) count most = ⊥
 
--- the copied items end within the minimum number of elements of their table
+-- the copied items end within the minimum number of elements of their table (Execution,
+-- Instantiation)
 abbrev pub AreElementsInside : List TableType → ElementKind → ℕ → Type 0
 AreElementsInside tables element.Passive count = Unit {0}
 AreElementsInside tables element.Declared count = Unit {0}
 AreElementsInside tables (element.Active index offset) count =
     (table : TableType) × (slice_get tables (table_index index) ≡ Some table) × IsOffsetInside offset count table.minimum
 
--- the copied bytes end within the minimum number of bytes of their memory
+-- the copied bytes end within the minimum number of bytes of their memory (Execution,
+-- Instantiation)
 abbrev pub AreBytesInside : List MemoryType → DataSegmentKind → ℕ → Type 0
 AreBytesInside memories data_kind.Passive count = Unit {0}
 AreBytesInside memories (data_kind.Active index offset) count =

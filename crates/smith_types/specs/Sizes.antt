@@ -7,7 +7,7 @@ use Rattle.smith_types.specs.declared.composite_type.SubType.{SubType}
 use Rattle.smith_types.specs.declared.entity_type.EntityType.{EntityType}
 use Rattle.smith_types.specs.declared.entity_type.EntityType.TheVariants.{Func}
 
--- the number of parameters and results of a function type, and 0 for other types
+-- the number of parameters and results of a function type, and 0 for other types (own rule)
 abbrev pub value_count : CompositeInnerType → ℕ
 value_count (inner.Func f) = length f.params + length f.results
 value_count _ = 0

@@ -15,8 +15,8 @@ pub record IsSound (space : Space) : Type 0 where
   pub within : next_start space.groups ≤ length space.types
   pub few : length space.types < 2 ^ 32
 
--- a type may be appended to these: its supertype, if any, exists and is of the same kind and sharedness, and an index is
--- available
+-- a type may be appended to these: its supertype, if any, exists and is of the same kind and
+-- sharedness (Validation, Recursive Types; sharedness: own rule), and an index is available
 pub record MayFollow (types : List SubType) (t : SubType) : Type 0 where
   pub below : (s : ℕ) → t.supertype ≡ Some s → (u : SubType) × (slice_get types s ≡ Some u) × IsAlike t u
   pub room : length types + 1 < 2 ^ 32

@@ -74,6 +74,7 @@ IsValInRange types (Ref r) = IsInRange types r.heap_type
 IsValInRange types _ = Unit {0}
 
 -- whether one abstract heap type is a subtype of another: the closure of the steps, as a table
+-- (Validation, Matching, Heap Types)
 abbrev pub is_abstract_below : AbstractHeapType → AbstractHeapType → Bool
 is_abstract_below Func Func = true
 is_abstract_below Extern Extern = true

@@ -14,21 +14,22 @@ pub record IsAlike (t u : SubType) : Type 0 where
 pub record IsOrderly (types : List SubType) : Type 0 where
   pub under : (i s : ℕ) (t : SubType) → slice_get types i ≡ Some t → t.supertype ≡ Some s → (s < i) × ((u : SubType) → slice_get types s ≡ Some u → IsAlike t u)
 
--- the end of the last of these groups, or `start` if there is none
+-- the end of the last of these groups, or `start` if there is none (Structure, Recursive Types)
 abbrev pub end_from : ℕ → List (Range ℕ) → ℕ
 end_from start [] = start
 end_from start (group ∷ groups) = end_from group.end groups
 
--- the start of the group after these
+-- the start of the group after these (Structure, Recursive Types)
 abbrev pub next_start : List (Range ℕ) → ℕ
 next_start groups = end_from 0 groups
 
 -- each group starts where the group before it ends, the first at `start`; groups may be empty
+-- (Structure, Recursive Types)
 abbrev pub AreConsecutive : ℕ → List (Range ℕ) → Type 0
 AreConsecutive start [] = Unit {0}
 AreConsecutive start (group ∷ groups) = (group.start ≡ start) × (start ≤ group.end) × AreConsecutive group.end groups
 
--- the group of the types after these groups
+-- the group of the types after these groups (Structure, Recursive Types)
 abbrev pub next_group : List SubType → List (Range ℕ) → Range ℕ
 next_group types groups = record { start = next_start groups; end = length types }
 

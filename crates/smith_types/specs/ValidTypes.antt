@@ -41,13 +41,13 @@ IsValTypeValid features end F64 = Unit {0}
 IsValTypeValid features end V128 = IsTrue features.simd
 IsValTypeValid features end (Ref reference) = IsTrue features.reference_types × IsRefTypeValid features end reference
 
--- the value type that a field stores, unless it is packed
+-- the value type that a field stores, unless it is packed (Structure, Composite Types)
 abbrev pub values_of_storage : StorageType → List ValType
 values_of_storage I8 = []
 values_of_storage I16 = []
 values_of_storage (Val value) = value ∷ []
 
--- the value types in a composite type
+-- the value types in a composite type (Structure, Composite Types)
 abbrev pub values_of : CompositeInnerType → List ValType
 values_of (Array array) = values_of_storage array.0.element_type
 values_of (Func function) = function.params ++ function.results
