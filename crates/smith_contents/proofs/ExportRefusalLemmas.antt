@@ -1,4 +1,4 @@
--- When exports end, when they are refused, and which bytes no export takes.
+-- The end of exports, their refusals, and the bytes that no export takes.
 use Rattle.std.proofs.Common.{◌≡◌, ℕ, zero, suc, ◌+◌, ◌*◌, ◌-◌, ◌<◌, ◌≤◌, Bool, true, false, List, [], ◌∷◌, ◌++◌, length, refl, ap, arith, nat_lt, lt-ltb, inl, inr, ◌∙◌}
 use Rattle.std.specs.Prelude.{Result, Ok, IfOk, All, Option, Some, None, slice_get, if◌then◌else◌}
 use Rattle.std.specs.Option.{option_map, unwrap_or}
