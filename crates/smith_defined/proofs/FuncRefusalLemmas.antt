@@ -1,4 +1,4 @@
--- When functions are refused: without garbage collection only if `min_types` is 0.
+-- The refusals of functions: without garbage collection only if `min_types` is 0.
 use Rattle.std.proofs.Common.{◌≡◌, ◌⊎◌, ℕ, zero, suc, ◌<◌, ◌≤◌, Bool, true, false, not, ◌&&◌, cond, List, [], ◌∷◌, length, refl, sym, ap, subst, arith, inl, inr}
 use Rattle.std.specs.Prelude.{slice_get, Result, Ok, Err, IfErr}
 use Rattle.smith_types.specs.Space.{Space}

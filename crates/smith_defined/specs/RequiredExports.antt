@@ -111,7 +111,7 @@ with_type_of theirs space (entity.Func index) = with_own_group space (slice_get 
 with_type_of theirs space (entity.Tag index) = with_own_group space (slice_get theirs index)
 with_type_of theirs space _ = space
 
--- that entity, of its own type
+-- an entity of a shape, with a type of its own
 abbrev pub of_own_type : Space → EntityType → EntityType
 of_own_type space (entity.Func index) = entity.Func (length space.types)
 of_own_type space (entity.Tag index) = entity.Tag (length space.types)
