@@ -96,7 +96,7 @@ short_inner (inners.Func function) (params, results) = record { params = params;
 short_inner (inners.Array array) short = tt
 short_inner (inners.Struct structure) short = tt
 
--- and the types of a shape whose lists are short
+-- the types of a shape have such a bound if its lists are short
 pub shape_few : (shape : Shape) → IsShort shape → All (HasFewValues most_listed) (shape_types shape)
 shape_few shape short = All-weaker (λ (t : SubType). IsInnerShort t.composite_type.inner) (HasFewValues most_listed) (λ t h. short_inner t.composite_type.inner h) (shape_types shape) short.inner
 

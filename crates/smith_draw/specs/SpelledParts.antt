@@ -1,5 +1,5 @@
--- Which bytes spell tags, functions, globals and data of a module. Rules of this project, for a sanitised
--- configuration.
+-- The bytes that spell tags, functions, globals and data of a module. Rules of this project, for a
+-- sanitised configuration.
 use Rattle.std.specs.Prelude.{◌≡◌, ℕ, ◌&&◌, nat_lt, true, false, if◌then◌else◌, ℤ, List, ◌∷◌, length}
 use Rattle.std.specs.List.{list_any}
 use Rattle.smith_bytes.specs.Spelling.{SpellsBool, Where, Joined, Listed}
@@ -10,7 +10,7 @@ use Rattle.smith_draw.specs.SpelledConstants.{SpellsConstant}
 use Rattle.smith_draw.specs.SpelledGlobals.{SpellsMutableI32}
 use Rattle.smith_draw.specs.TypeUses.{is_tag_type, func_types, is_start_type}
 
--- that there is no tag, if one is possible
+-- bytes that spell that there is no tag, if one is possible
 abbrev pub SpellsNoTag : Config → List SubType → List ℕ → Type 0
 SpellsNoTag config types = Where (config.exceptions_enabled && nat_lt 0 config.max_tags && list_any is_tag_type types) (SpellsBool false)
 
@@ -29,6 +29,6 @@ unfoldable pub SpellsBytes : List ℕ → List ℕ → Type 0
 SpellsBytes [] piece = SpellsBool false piece
 SpellsBytes (byte ∷ bytes) piece = Joined (SpellsBool true) (Joined (λ one. one ≡ byte ∷ []) (SpellsBytes bytes)) piece
 
--- that no function starts the module, if one may
+-- bytes that spell that no function starts the module, if one may
 abbrev pub SpellsNoStart : Config → List SubType → List ℕ → List ℕ → Type 0
 SpellsNoStart config types funcs = Where (config.allow_start_export && list_any (is_start_type types) funcs) (SpellsBool false)

@@ -111,7 +111,7 @@ abbrev pub SpellsPlainFunction : Config → ℕ → CompositeInnerType → List 
 SpellsPlainFunction config limit (Func function) piece = SpellsFuncType config limit function piece
 SpellsPlainFunction config limit _ piece = ⊥
 
--- with or without garbage collection
+-- a composite type without its sharedness, with garbage collection or without
 abbrev pub SpellsKind : Bool → Config → ℕ → CompositeInnerType → List ℕ → Type 0
 SpellsKind true config limit inner piece = SpellsInner config limit inner piece
 SpellsKind false config limit inner piece = SpellsPlainFunction config limit inner piece
@@ -132,7 +132,7 @@ SpellsDeclared config before limit t =
     Joined (Where (list_any is_open before) (SpellsRefusal 32))
     (Joined (SpellsBool t.is_final) (Joined (SpellsUnshared config) (SpellsInner config limit t.composite_type.inner)))
 
--- with or without garbage collection
+-- a type after others, with garbage collection or without
 abbrev pub SpellsForm : Bool → Config → List SubType → ℕ → SubType → List ℕ → Type 0
 SpellsForm true config before limit t piece = SpellsDeclared config before limit t piece
 SpellsForm false config before limit t piece = IsTrue t.is_final × SpellsPlainFunction config limit t.composite_type.inner piece
