@@ -2,7 +2,8 @@ use Rattle.std.proofs.Common.{[], map, length}
 use Rattle.smith_json.specs.Objects.{Reading, ReadsMembers}
 use Rattle.smith_json.proofs.read.read_members.Given as goal
 
--- the members from here on make of the present configuration what all members make of the first
+-- the result of the members from here on, for the present configuration, is that of all members for
+-- the first
 abbrev pub invariant-loop-key : goal.invariant-loop-key
 invariant-loop-key l = (r : Reading) → ReadsMembers (map (λ name. name.now) l.given.items) l.config l.reader r → ReadsMembers [] l.initial.config l.initial.reader r
 
