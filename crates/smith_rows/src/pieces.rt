@@ -20,7 +20,7 @@ fn is_written<T: TextForm>(alloc: Global, value: &T, wanted: &str) -> Result<(),
     }
 }
 
-// Fails unless each value is written as the text beside it.
+// Fails unless each value is written as the text after it.
 fn are_written<T: TextForm>(alloc: Global, cases: &[(T, &str)]) -> Result<(), Fail> {
     for (value, wanted) in cases {
         is_written(alloc, value, wanted)?;
