@@ -1,4 +1,4 @@
--- Minimums one by one, and what sanitising keeps of minimums, shapes and export-everything.
+-- Minimums one by one, and the minimums, shapes and export-everything that sanitising keeps.
 use Rattle.std.proofs.Common.{◌≡◌, ℕ, ◌∙◌, sym, map, rules}
 use Rattle.std.specs.Prelude.{All, slice_index_or}
 use Rattle.std.proofs.lemmas.List.Elements.{All-map, recursion_from_All}

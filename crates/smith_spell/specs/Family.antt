@@ -1,6 +1,6 @@
 -- The lists of types and functions that a generator must reach, for a sanitised configuration. A
--- rule of this project, about the contents of lists alone: theorems say that each member has bytes
--- that produce it.
+-- rule of this project, about the contents of lists alone: theorems state that each member has
+-- bytes that produce it.
 use Rattle.std.specs.Prelude.{◌≡◌, ℕ, ◌<◌, ◌≤◌, ◌⊎◌, false, IsTrue, List, Some, None, length, slice_get, take, All}
 use Rattle.std.specs.List.{Contains}
 use Rattle.smith_types.specs.Entities.{IsFuncTypeIndex}
