@@ -94,7 +94,7 @@ module _ (old new : Context) (index : ℕ) (exact : Bool) (added : IsFunctionAdd
         (subst (λ (v : ValType). IsValBelow old.types v (reference_to ty)) (sym added.added) (record { heap = below; nullable = λ no. no })),
   )
 
--- the record decides what functions ground, in the form of the code
+-- the record decides which heap types functions ground, in the form of the code
 pub decided : (grounds : FuncGrounds) (ty : HeapType) (r : Bool) → r ≡ is_noted grounds ty → (context : Context) → AreFuncGrounds context grounds → IsInRange context.types ty → IsTrue r ↔ IsGroundedByFuncs context ty
 decided grounds ty r is context h inside = subst (λ (b : Bool). IsTrue b ↔ IsGroundedByFuncs context ty) (sym is) (h.each ty inside)
 

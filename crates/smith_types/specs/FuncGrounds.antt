@@ -36,7 +36,7 @@ abbrev pub noted_with : Bool → CompositeInnerType → NotedKinds → NotedKind
 noted_with false inner kinds = record kinds { plain = kinds_with inner kinds.plain }
 noted_with true inner kinds = record kinds { shared = kinds_with inner kinds.shared }
 
--- whether the record says that a heap type is grounded
+-- whether a heap type is grounded by the record
 abbrev pub is_noted : FuncGrounds → HeapType → Bool
 is_noted grounds (Abstract s b) = are_below (kinds_of grounds.kinds s) b
 is_noted grounds (Concrete j) = below_at grounds.marks.items j

@@ -14,7 +14,7 @@ pub struct ElementSegment {
     pub items: Elements,
 }
 
-/// The mode of an element segment: what happens to it at instantiation.
+/// The mode of an element segment: its effect at instantiation.
 #[derive(Clone, Copy, Debug)]
 pub enum ElementKind {
     /// Keeps the segment for instructions that refer to it.
@@ -44,7 +44,7 @@ pub struct DataSegment {
     pub init: Items<u8>,
 }
 
-/// The mode of a data segment: what happens to it at instantiation.
+/// The mode of a data segment: its effect at instantiation.
 #[derive(Clone, Copy, Debug)]
 pub enum DataSegmentKind {
     /// Keeps the segment for instructions that refer to it.
