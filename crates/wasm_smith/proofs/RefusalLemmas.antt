@@ -1,4 +1,4 @@
--- When imports, exports and contents are refused.
+-- The refusals of imports, exports and contents.
 use Rattle.std.proofs.Common.{◌≡◌, ◌⊎◌, List, refl, sym, subst, inl, inr}
 use Rattle.std.specs.Prelude.{Option, Some, None, Result, Ok, Err, IfErr, All}
 use Rattle.smith_types.specs.Expressions.{Context}
