@@ -420,9 +420,19 @@ static CALLS: [(&str, Call); 81] = [
     (RECORDED, Call::Recorded),
 ];
 
+// Returns each call by its name.
+fn calls() -> &'static [(&'static str, Call)] {
+    &CALLS
+}
+
 /// Finds the call of the name `name`, if there is one.
 pub(crate) fn call_named(name: &str) -> Option<Call> {
-    CALLS
+    call_among(calls(), name)
+}
+
+// Finds the call of the name `name` among `calls`.
+fn call_among(calls: &[(&str, Call)], name: &str) -> Option<Call> {
+    calls
         .iter()
         .find(|(other, _)| *other == name)
         .map(|(_, call)| *call)

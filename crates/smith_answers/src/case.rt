@@ -15,6 +15,17 @@ pub(crate) struct Case {
     pub(crate) input: Option<String>,
     /// The value of `inputs`.
     pub(crate) inputs: Option<String>,
+    /// The value of `args`.
+    pub(crate) args: Option<Vec<String>>,
+    /// The names of shapes.
+    pub(crate) shapes: ShapeNames,
+    /// The properties that the answer must have.
+    pub(crate) wanted: Wanted,
+}
+
+/// Names of the shapes of a case.
+#[derive(Default, Drop)]
+pub(crate) struct ShapeNames {
     /// The value of `types`.
     pub(crate) types: Option<String>,
     /// The value of `shape`.
@@ -25,8 +36,11 @@ pub(crate) struct Case {
     pub(crate) exports: Option<String>,
     /// The value of `module-shape`.
     pub(crate) module_shape: Option<String>,
-    /// The value of `args`.
-    pub(crate) args: Option<Vec<String>>,
+}
+
+/// Properties that a case wants of its answer.
+#[derive(Default, Drop)]
+pub(crate) struct Wanted {
     /// The value of `answer`.
     pub(crate) answer: Option<Vec<String>>,
     /// The value of `lines`.
@@ -52,6 +66,23 @@ impl Case {
             "call" => Some(&mut self.call),
             "input" => Some(&mut self.input),
             "inputs" => Some(&mut self.inputs),
+            _ => self.shapes.text_under(key),
+        }
+    }
+
+    // Returns the list of texts of the key `key`, if that key has a list.
+    fn list_under<'c>(&'c mut self, key: &str) -> Option<&'c mut Option<Vec<String>>> {
+        match key {
+            "args" => Some(&mut self.args),
+            _ => self.wanted.list_under(key),
+        }
+    }
+}
+
+impl ShapeNames {
+    // Returns the name of the key `key`, if that key names a shape.
+    fn text_under<'c>(&'c mut self, key: &str) -> Option<&'c mut Option<String>> {
+        match key {
             "types" => Some(&mut self.types),
             "shape" => Some(&mut self.shape),
             "available-imports" => Some(&mut self.available_imports),
@@ -60,11 +91,12 @@ impl Case {
             _ => None,
         }
     }
+}
 
-    // Returns the list of texts of the key `key`, if that key has a list.
+impl Wanted {
+    // Returns the list of texts of the key `key`, if that key has one.
     fn list_under<'c>(&'c mut self, key: &str) -> Option<&'c mut Option<Vec<String>>> {
         match key {
-            "args" => Some(&mut self.args),
             "answer" => Some(&mut self.answer),
             "lines" => Some(&mut self.lines),
             "pieces" => Some(&mut self.pieces),
@@ -88,16 +120,26 @@ pub(crate) fn list(texts: &Option<Vec<String>>) -> &[String] {
 pub(crate) fn read_case(alloc: Global, line: &str, case: &mut Case) -> Result<(), Fault> {
     let mut scratch = Scratch::new(alloc);
     let mut reader = Reader::new(line, &mut scratch)?;
+    read_members(alloc, line.len(), &mut reader, case)
+}
+
+// Reads the object that `reader` is at, of at most `most` keys.
+fn read_members(
+    alloc: Global,
+    most: usize,
+    reader: &mut Reader<'_>,
+    case: &mut Case,
+) -> Result<(), Fault> {
     if !matches!(reader.next(), Some(Token::BeginObject)) {
         return Err(Fault::Syntax(reader.offset()));
     }
-    for _ in 0..line.len() {
+    for _ in 0..most {
         let Ok(found) = reader.next_key() else {
             return Err(Fault::Syntax(reader.offset()));
         };
         match found {
-            Some(key) => read_member(alloc, key, &mut reader, case)?,
-            None => return ended(&mut reader),
+            Some(key) => read_member(alloc, key, reader, case)?,
+            None => return ended(reader),
         }
     }
     Err(Fault::Syntax(reader.offset()))

@@ -1,8 +1,14 @@
 //! Shapes that are checked, copied or drawn over, each by its name, with its parts in the form that
 //! `add_part` reads.
 
-/// The shapes besides those of `shapes.rt`.
-pub(crate) static CHECKED_SHAPES: [(&str, &[&str]); 43] = [
+use crate::shapes::NamedShape;
+
+/// Returns the shapes besides those of `shapes.rt`.
+pub(crate) fn checked_shapes() -> &'static [NamedShape] {
+    &CHECKED_SHAPES
+}
+
+static CHECKED_SHAPES: [NamedShape; 43] = [
     (
         "an open array below an open array",
         &["group open array i8; open below 0 array i8"],

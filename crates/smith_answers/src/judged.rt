@@ -11,33 +11,83 @@ use std::alloc::{AllocError, Global};
 /// as the case wants.
 pub fn judge(alloc: Global, line: &str, report: &mut String) -> Result<bool, AllocError> {
     let mut case = Case::default();
-    let judged = judged(alloc, line, &mut case);
-    let name = case.name.as_ref().map_or("", |name| name.as_str());
-    match &judged {
-        Ok(None) => writeln!(report, "ok {name}")?,
-        Ok(Some(difference)) => writeln!(report, "not ok {name}: {difference}")?,
-        Err(fault) => writeln!(report, "not ok {name}: {fault}")?,
-    }
+    judge_into(alloc, line, &mut case, report)
+}
+
+// Judges the case of `line`, which is read into `case`.
+fn judge_into(
+    alloc: Global,
+    line: &str,
+    case: &mut Case,
+    report: &mut String,
+) -> Result<bool, AllocError> {
+    let judged = judged(alloc, line, case);
+    tell_judged(text_or_empty(&case.name), &judged, report)?;
     Ok(matches!(judged, Ok(None)))
+}
+
+// Appends the line of the case `name`.
+fn tell_judged(
+    name: &str,
+    judged: &Result<Option<String>, Fault>,
+    report: &mut String,
+) -> Result<(), AllocError> {
+    match judged {
+        Ok(None) => writeln!(report, "ok {name}"),
+        Ok(Some(difference)) => writeln!(report, "not ok {name}: {difference}"),
+        Err(fault) => writeln!(report, "not ok {name}: {fault}"),
+    }
+}
+
+// Returns the text `text`, or an empty one if there is none.
+fn text_or_empty(text: &Option<String>) -> &str {
+    match text {
+        Some(text) => text.as_str(),
+        None => "",
+    }
 }
 
 // Returns the first difference between the answers to the case of `line`, which is read into
 // `case`, and those that the case wants.
 fn judged(alloc: Global, line: &str, case: &mut Case) -> Result<Option<String>, Fault> {
     read_case(alloc, line, case)?;
-    if case.name.as_ref().is_none_or(|name| name.is_empty()) {
+    of_case(alloc, line, case)
+}
+
+// Returns the first difference between the answers to `case`, which `line` holds, and those that it
+// wants.
+fn of_case(alloc: Global, line: &str, case: &Case) -> Result<Option<String>, Fault> {
+    if text_or_empty(&case.name).is_empty() {
         return Err(Fault::NoName);
     }
     check_wanted(case)?;
-    let input = case.input.as_ref().map_or("", |input| input.as_str());
-    let input = bytes_of(alloc, input)?;
-    match case.inputs.as_ref().map(|inputs| inputs.as_str()) {
-        None => of_input(alloc, line, case, input.as_slice()),
-        Some("each byte") => of_each_byte(alloc, line, case, Bytes::All),
-        Some("each even byte") => of_each_byte(alloc, line, case, Bytes::Even),
-        Some("each odd byte") => of_each_byte(alloc, line, case, Bytes::Odd),
-        Some("each cut") => of_each_cut(alloc, line, case, input.as_slice()),
-        Some(_) => Err(Fault::UnknownInputs),
+    let input = bytes_of(alloc, text_or_empty(&case.input))?;
+    of_inputs(alloc, line, case, input.as_slice())
+}
+
+// Returns the first difference over the inputs that `case` makes of `input`.
+fn of_inputs(
+    alloc: Global,
+    line: &str,
+    case: &Case,
+    input: &[u8],
+) -> Result<Option<String>, Fault> {
+    let Some(inputs) = &case.inputs else {
+        return of_input(alloc, line, case, input);
+    };
+    if inputs.as_str() == "each cut" {
+        return of_each_cut(alloc, line, case, input);
+    }
+    of_each_byte(alloc, line, case, bytes_named(inputs.as_str())?)
+}
+
+// Returns the bytes that `name` names.
+fn bytes_named(name: &str) -> Result<Bytes, Fault> {
+    match name {
+        "each byte" => Ok(Bytes::All),
+        "each even byte" => Ok(Bytes::Even),
+        "each odd byte" => Ok(Bytes::Odd),
+        _ => Err(Fault::UnknownInputs),
     }
 }
 
@@ -45,9 +95,26 @@ fn judged(alloc: Global, line: &str, case: &mut Case) -> Result<Option<String>, 
 fn of_input(alloc: Global, line: &str, case: &Case, input: &[u8]) -> Result<Option<String>, Fault> {
     let given = answer(alloc, line, case, input)?;
     if !is_recorded(case) {
-        check_steady(given.as_str(), answer(alloc, line, case, input)?.as_str())?;
+        check_again(alloc, line, case, input, given.as_str())?;
     }
-    match first_difference(given.as_str(), case) {
+    difference_of(alloc, given.as_str(), case)
+}
+
+// Checks that a second answer to `case`, which `line` holds, over `input` is `first`.
+fn check_again(
+    alloc: Global,
+    line: &str,
+    case: &Case,
+    input: &[u8],
+    first: &str,
+) -> Result<(), Fault> {
+    let second = answer(alloc, line, case, input)?;
+    check_steady(first, second.as_str())
+}
+
+// Returns the first difference of the answer `given` from the one that `case` wants.
+fn difference_of(alloc: Global, given: &str, case: &Case) -> Result<Option<String>, Fault> {
+    match first_difference(given, case) {
         Some(difference) => Ok(Some(format!(in alloc; "{difference}")?)),
         None => Ok(None),
     }

@@ -25,14 +25,14 @@ const NONE: Keys = Keys {
 /// Checks that `call` reads each key that `case` has.
 pub(crate) fn check_keys(case: &Case, call: Call) -> Result<(), Fault> {
     let keys = keys_of(call);
-    let has_shapes = case.available_imports.is_some()
-        || case.exports.is_some()
-        || case.module_shape.is_some();
+    let has_shapes = case.shapes.available_imports.is_some()
+        || case.shapes.exports.is_some()
+        || case.shapes.module_shape.is_some();
     let useless = [
         case.config.is_some() && !keys.config,
         has_shapes && !keys.shapes,
-        case.shape.is_some() && !keys.shape,
-        case.types.is_some() && !keys.types,
+        case.shapes.shape.is_some() && !keys.shape,
+        case.shapes.types.is_some() && !keys.types,
         case.args.is_some() && !keys.args,
         (case.input.is_some() || case.inputs.is_some()) && !keys.input,
     ];

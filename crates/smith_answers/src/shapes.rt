@@ -1,12 +1,19 @@
-use crate::checked_shapes::CHECKED_SHAPES;
+use crate::checked_shapes::checked_shapes;
 use crate::fault::Fault;
 use crate::shape_parts::add_part;
 use smith_config::Shape;
 use smith_types::Items;
 use std::alloc::Global;
 
-// Each shape by its name, with its parts in the form that `add_part` reads.
-static SHAPES: [(&str, &[&str]); 47] = [
+/// Name of a shape, and its parts in the form that `add_part` reads.
+pub(crate) type NamedShape = (&'static str, &'static [&'static str]);
+
+// Returns the shapes of this file.
+fn own_shapes() -> &'static [NamedShape] {
+    &SHAPES
+}
+
+static SHAPES: [NamedShape; 47] = [
     ("nothing", &[]),
     (
         "a function without parameters and results",
@@ -238,22 +245,31 @@ static SHAPES: [(&str, &[&str]); 47] = [
 ];
 
 // Finds the parts of the shape of the name `name` among `shapes`.
-fn parts_in(
-    shapes: &[(&'static str, &'static [&'static str])],
-    name: &str,
-) -> Option<&'static [&'static str]> {
+fn parts_among(shapes: &[NamedShape], name: &str) -> Option<&'static [&'static str]> {
     shapes
         .iter()
         .find(|(other, _)| *other == name)
         .map(|(_, parts)| *parts)
 }
 
+// Finds the parts of the shape of the name `name`.
+fn parts_of(name: &str) -> Option<&'static [&'static str]> {
+    match parts_among(own_shapes(), name) {
+        Some(parts) => Some(parts),
+        None => parts_among(checked_shapes(), name),
+    }
+}
+
 /// Makes the shape of the name `name`.
 pub(crate) fn shape_named(alloc: Global, name: &str) -> Result<Shape, Fault> {
+    match parts_of(name) {
+        Some(parts) => shape_of_parts(alloc, parts),
+        None => Err(Fault::UnknownShape),
+    }
+}
+
+fn shape_of_parts(alloc: Global, parts: &[&str]) -> Result<Shape, Fault> {
     let mut shape = nothing(alloc);
-    let Some(parts) = parts_in(&SHAPES, name).or_else(|| parts_in(&CHECKED_SHAPES, name)) else {
-        return Err(Fault::UnknownShape);
-    };
     for part in parts {
         add_part(alloc, part, &mut shape)?;
     }

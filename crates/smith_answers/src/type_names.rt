@@ -1,7 +1,7 @@
 use smith_types::{AbstractHeapType, FieldType, HeapType, RefType, StorageType, ValType};
 
 // Each abstract heap type by its name in the text format.
-const ABSTRACT: [(&str, AbstractHeapType); 12] = [
+static ABSTRACT: [(&str, AbstractHeapType); 12] = [
     ("func", AbstractHeapType::Func),
     ("extern", AbstractHeapType::Extern),
     ("any", AbstractHeapType::Any),
@@ -16,11 +16,21 @@ const ABSTRACT: [(&str, AbstractHeapType); 12] = [
     ("noexn", AbstractHeapType::NoExn),
 ];
 
+fn abstract_types() -> &'static [(&'static str, AbstractHeapType)] {
+    &ABSTRACT
+}
+
 fn abstract_of(shared: bool, text: &str) -> Option<HeapType> {
-    ABSTRACT
+    let ty = abstract_among(abstract_types(), text)?;
+    Some(HeapType::Abstract { shared, ty })
+}
+
+// Finds the abstract heap type that `text` names among `types`.
+fn abstract_among(types: &[(&str, AbstractHeapType)], text: &str) -> Option<AbstractHeapType> {
+    types
         .iter()
         .find(|(name, _)| *name == text)
-        .map(|(_, ty)| HeapType::Abstract { shared, ty: *ty })
+        .map(|(_, ty)| *ty)
 }
 
 // Returns the text in parentheses after `keyword` in `text`. `keyword` includes the opening one.

@@ -42,16 +42,23 @@ impl fmt::Display for Difference<'_> {
 
 /// Checks that `case` wants something that not every answer has, and no list that is empty.
 pub(crate) fn check_wanted(case: &Case) -> Result<(), Fault> {
-    let wanted = [&case.answer, &case.lines, &case.pieces, &case.may];
-    if wanted.iter().all(|texts| texts.is_none()) || begins_with_anything(list(&case.answer)) {
+    let wanted = [
+        &case.wanted.answer,
+        &case.wanted.lines,
+        &case.wanted.pieces,
+        &case.wanted.may,
+    ];
+    if wanted.iter().all(|texts| texts.is_none())
+        || begins_with_anything(list(&case.wanted.answer))
+    {
         return Err(Fault::WantsNothing);
     }
     for texts in [
-        &case.answer,
-        &case.lines,
-        &case.pieces,
-        &case.absent,
-        &case.may,
+        &case.wanted.answer,
+        &case.wanted.lines,
+        &case.wanted.pieces,
+        &case.wanted.absent,
+        &case.wanted.may,
     ] {
         if texts.as_ref().is_some_and(|texts| texts.is_empty()) {
             return Err(Fault::WantsNothing);
@@ -77,18 +84,22 @@ fn has_blank(texts: &[String]) -> bool {
 /// then of all of its lines, then of single lines, of pieces, and of absent pieces.
 pub(crate) fn first_difference<'a>(answer: &'a str, case: &'a Case) -> Option<Difference<'a>> {
     let kind = kind_of(answer);
-    if case.may.is_some() && !list(&case.may).iter().any(|may| may.as_str() == kind) {
+    if case.wanted.may.is_some()
+        && !list(&case.wanted.may)
+            .iter()
+            .any(|may| may.as_str() == kind)
+    {
         return Some(Difference::Kind(kind));
     }
-    if case.answer.is_some() {
-        let other = other_line(answer, list(&case.answer));
+    if case.wanted.answer.is_some() {
+        let other = other_line(answer, list(&case.wanted.answer));
         if other.is_some() {
             return other;
         }
     }
-    missing_line(answer, list(&case.lines))
-        .or_else(|| missing_piece(answer, list(&case.pieces)))
-        .or_else(|| stray_piece(answer, list(&case.absent)))
+    missing_line(answer, list(&case.wanted.lines))
+        .or_else(|| missing_piece(answer, list(&case.wanted.pieces)))
+        .or_else(|| stray_piece(answer, list(&case.wanted.absent)))
 }
 
 /// Returns the kind of an answer: its refusal, or `Ok`.

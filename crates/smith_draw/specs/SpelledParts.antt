@@ -1,6 +1,6 @@
 -- The bytes that spell tags, functions, globals and data of a module. Rules of this project, for a
 -- sanitised configuration.
-use Rattle.std.specs.Prelude.{◌≡◌, ℕ, ◌&&◌, nat_lt, true, false, if◌then◌else◌, ℤ, List, ◌∷◌, length}
+use Rattle.std.specs.Prelude.{◌≡◌, ℕ, ◌&&◌, nat_lt, true, false, if◌then◌else◌, ℤ, List, [], ◌∷◌, length}
 use Rattle.std.specs.List.{list_any}
 use Rattle.smith_bytes.specs.Spelling.{SpellsBool, Where, Joined, Listed}
 use Rattle.smith_types.specs.declared.composite_type.SubType.{SubType}

@@ -4,7 +4,7 @@ ghost use Rattle.smith_types.specs.Types.{IsOrderly};
 use smith_types::{GlobalType, MemoryType, TableType, TypeSpace};
 
 /// The index spaces defined so far, except that of types. Imported entities come first in each.
-#[derive(Clone, Copy)]
+#[derive(Clone, Copy, Debug)]
 pub struct Entities<'a> {
     /// The type index of each tag.
     pub tags: &'a [u32],
@@ -46,7 +46,7 @@ impl<'a> Entities<'a> {
 }
 
 /// The types and entities that a drawn type or expression may refer to.
-#[derive(Clone, Copy)]
+#[derive(Clone, Copy, Debug)]
 pub struct Spaces<'a> {
     /// The types defined so far.
     pub types: &'a TypeSpace,

@@ -12,7 +12,7 @@ use smith_types::{CompositeInnerType, Items, SubType};
 use std::alloc::Global;
 
 /// A use of a function type.
-#[derive(Clone, Copy)]
+#[derive(Clone, Copy, Debug)]
 pub enum TypeUse {
     /// A tag, which requires a function type without results.
     Tag,

@@ -112,7 +112,7 @@ fn tell_features(features: WasmFeatures, answer: &mut String) -> Result<(), Faul
 
 /// Returns the shape under the key `shape` of `case`.
 pub(crate) fn shape_of(alloc: Global, case: &Case) -> Result<Shape, Fault> {
-    match &case.shape {
+    match &case.shapes.shape {
         Some(name) => shape_named(alloc, name.as_str()),
         None => Err(Fault::UnknownShape),
     }

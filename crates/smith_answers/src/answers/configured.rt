@@ -28,10 +28,20 @@ pub(crate) fn taken(config: &mut Config) -> Config {
 fn set_fields(alloc: Global, line: &str, config: &mut Config) -> Result<(), Fault> {
     let mut scratch = Scratch::new(alloc);
     let mut reader = Reader::new(line, &mut scratch)?;
-    if !goes_to_config(&mut reader, line.len()) {
-        return Ok(());
+    if goes_to_config(&mut reader, line.len()) {
+        return read_fields(alloc, line, &mut reader, config);
     }
-    match read_config(alloc, &mut reader, config) {
+    Ok(())
+}
+
+// Sets the fields of the object that `reader`, which reads `line`, is at.
+fn read_fields(
+    alloc: Global,
+    line: &str,
+    reader: &mut Reader<'_>,
+    config: &mut Config,
+) -> Result<(), Fault> {
+    match read_config(alloc, reader, config) {
         Ok(()) => Ok(()),
         Err(refusal) if refusal.fault == smith_json::Fault::OutOfMemory => Err(Fault::Memory),
         Err(refusal) => Err(fault_of(refusal, line)),
@@ -55,13 +65,25 @@ fn fault_of(refusal: Refusal, line: &str) -> Fault {
 
 // Sets the shapes that `case` names.
 fn set_shapes(alloc: Global, case: &Case, config: &mut Config) -> Result<(), Fault> {
-    set_shape(
-        alloc,
-        &case.available_imports,
-        &mut config.available_imports,
-    )?;
-    set_shape(alloc, &case.exports, &mut config.exports)?;
-    set_shape(alloc, &case.module_shape, &mut config.module_shape)
+    set_imports(alloc, &case.shapes.available_imports, config)?;
+    set_exports(alloc, &case.shapes.exports, config)?;
+    set_module_shape(alloc, &case.shapes.module_shape, config)
+}
+
+fn set_imports(alloc: Global, name: &Option<String>, config: &mut Config) -> Result<(), Fault> {
+    set_shape(alloc, name, &mut config.available_imports)
+}
+
+fn set_exports(alloc: Global, name: &Option<String>, config: &mut Config) -> Result<(), Fault> {
+    set_shape(alloc, name, &mut config.exports)
+}
+
+fn set_module_shape(
+    alloc: Global,
+    name: &Option<String>,
+    config: &mut Config,
+) -> Result<(), Fault> {
+    set_shape(alloc, name, &mut config.module_shape)
 }
 
 // Puts the shape of the name `name` into `slot`, if there is a name.

@@ -82,7 +82,7 @@ fn answer_contains(case: &Case, answer: &mut String) -> Result<(), Fault> {
 }
 
 // The kinds in the order of their bits.
-const KINDS: [InstructionKind; 12] = [
+static KINDS: [InstructionKind; 12] = [
     InstructionKind::NumericInt,
     InstructionKind::Numeric,
     InstructionKind::VectorInt,
@@ -107,8 +107,21 @@ fn tell_kinds(kinds: InstructionKinds, answer: &mut String) -> Result<(), Fault>
     if kinds == InstructionKinds::none() {
         writeln!(answer, "no kinds")?;
     }
-    for kind in KINDS {
-        if kinds.contains(kind) {
+    tell_contained(every_kind(), kinds, answer)
+}
+
+fn every_kind() -> &'static [InstructionKind] {
+    &KINDS
+}
+
+// Appends a line for each of `listed` that `kinds` contains.
+fn tell_contained(
+    listed: &[InstructionKind],
+    kinds: InstructionKinds,
+    answer: &mut String,
+) -> Result<(), Fault> {
+    for kind in listed {
+        if kinds.contains(*kind) {
             writeln!(answer, "{kind:?}")?;
         }
     }

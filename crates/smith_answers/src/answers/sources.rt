@@ -17,17 +17,34 @@ pub(crate) fn answer_source(
     answer: &mut String,
 ) -> Result<(), Fault> {
     let mut u = Unstructured::new(input);
-    match call {
-        SourceCall::Arbitrary => answer_value(case, &mut u, answer)?,
-        SourceCall::IntInRange => answer_in_range(case, &mut u, answer)?,
-        SourceCall::Ratio => answer_ratio(case, &mut u, answer)?,
-        SourceCall::Choose => answer_choice(case, &mut u, answer)?,
-        SourceCall::Bytes => answer_bytes(case, &mut u, answer)?,
-        SourceCall::PeekBytes => answer_peeked(case, &u, answer)?,
-        SourceCall::ArbitraryLen => writeln!(answer, "{}", u.arbitrary_len())?,
-        SourceCall::ArbitraryLoop => answer_loop(alloc, case, &mut u, answer)?,
-    }
+    answer_from(alloc, case, call, &mut u, answer)?;
     tell_rest(&u, answer)
+}
+
+// Appends the result of the draw `call` from `u`.
+fn answer_from(
+    alloc: Global,
+    case: &Case,
+    call: SourceCall,
+    u: &mut Unstructured<'_>,
+    answer: &mut String,
+) -> Result<(), Fault> {
+    match call {
+        SourceCall::Arbitrary => answer_value(case, u, answer),
+        SourceCall::IntInRange => answer_in_range(case, u, answer),
+        SourceCall::Ratio => answer_ratio(case, u, answer),
+        SourceCall::Choose => answer_choice(case, u, answer),
+        SourceCall::Bytes => answer_bytes(case, u, answer),
+        SourceCall::PeekBytes => answer_peeked(case, u, answer),
+        SourceCall::ArbitraryLen => answer_length(u, answer),
+        SourceCall::ArbitraryLoop => answer_loop(alloc, case, u, answer),
+    }
+}
+
+// Appends a drawn length.
+fn answer_length(u: &mut Unstructured<'_>, answer: &mut String) -> Result<(), Fault> {
+    writeln!(answer, "{}", u.arbitrary_len())?;
+    Ok(())
 }
 
 fn tell<T: Arbitrary + Display + Drop>(

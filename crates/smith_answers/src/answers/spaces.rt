@@ -66,7 +66,7 @@ pub(crate) fn with_globals<'a>(types: &'a TypeSpace, globals: &'a [GlobalType]) 
 
 /// Returns the types under the key `types` of `case`: those of a shape, or none without the key.
 pub(crate) fn types_of(alloc: Global, case: &Case) -> Result<TypeSpace, Fault> {
-    let Some(name) = &case.types else {
+    let Some(name) = &case.shapes.types else {
         return Ok(TypeSpace::new(alloc));
     };
     let shape = shape_named(alloc, name.as_str())?;

@@ -18,14 +18,27 @@ pub(crate) fn answer_subtype(
     answer: &mut String,
 ) -> Result<(), Fault> {
     at_most(case, 2)?;
-    let types = types_of(alloc, case)?;
-    let is_below = match call {
-        SubtypeCall::HeapType => is_heap_below(&types, case)?,
-        SubtypeCall::RefType => is_ref_below(&types, case)?,
-        SubtypeCall::ValType => is_val_below(&types, case)?,
-    };
+    answer_over(&types_of(alloc, case)?, case, call, answer)
+}
+
+fn answer_over(
+    types: &TypeSpace,
+    case: &Case,
+    call: SubtypeCall,
+    answer: &mut String,
+) -> Result<(), Fault> {
+    let is_below = is_below(types, case, call)?;
     writeln!(answer, "{}", if is_below { "yes" } else { "no" })?;
     Ok(())
+}
+
+// Whether the first argument is a subtype of the second.
+fn is_below(types: &TypeSpace, case: &Case, call: SubtypeCall) -> Result<bool, Fault> {
+    match call {
+        SubtypeCall::HeapType => is_heap_below(types, case),
+        SubtypeCall::RefType => is_ref_below(types, case),
+        SubtypeCall::ValType => is_val_below(types, case),
+    }
 }
 
 // Whether the type that `heap_type` names exists.

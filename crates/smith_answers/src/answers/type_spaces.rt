@@ -135,7 +135,7 @@ fn answer_pushed(
     answer: &mut String,
 ) -> Result<(), Fault> {
     at_most(case, 0)?;
-    let Some(name) = &case.types else {
+    let Some(name) = &case.shapes.types else {
         return Err(Fault::UnknownTypes);
     };
     let shape = shape_named(alloc, name.as_str())?;

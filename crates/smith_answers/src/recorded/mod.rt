@@ -77,20 +77,40 @@ fn feed(
     hasher: &mut Sha256,
 ) -> Result<String, Error> {
     let mut u = Unstructured::new(input);
-    let kind = match drawn(alloc, config, &mut u) {
-        Ok(module) => {
-            hasher.update(text(alloc, &module)?.as_str());
-            String::from_str(alloc, "Ok")?
-        }
-        Err(refusal) => {
-            hasher.update(format!(in alloc; "refused: {refusal:?}\n")?.as_str());
-            format!(in alloc; "{refusal:?}")?
-        }
-    };
+    let kind = feed_drawn(alloc, drawn(alloc, config, &mut u), hasher)?;
+    feed_left(alloc, &u, hasher)?;
+    Ok(kind)
+}
+
+// Feeds `hasher` with the text of the module that is drawn, or a line of the refusal. Returns the
+// kind of the answer.
+fn feed_drawn(
+    alloc: Global,
+    drawn: Result<Module, Error>,
+    hasher: &mut Sha256,
+) -> Result<String, Error> {
+    match drawn {
+        Ok(module) => feed_module(alloc, &module, hasher),
+        Err(refusal) => feed_refusal(alloc, refusal, hasher),
+    }
+}
+
+fn feed_module(alloc: Global, module: &Module, hasher: &mut Sha256) -> Result<String, Error> {
+    hasher.update(text(alloc, module)?.as_str());
+    Ok(String::from_str(alloc, "Ok")?)
+}
+
+fn feed_refusal(alloc: Global, refusal: Error, hasher: &mut Sha256) -> Result<String, Error> {
+    hasher.update(format!(in alloc; "refused: {refusal:?}\n")?.as_str());
+    Ok(format!(in alloc; "{refusal:?}")?)
+}
+
+// Feeds `hasher` with a line of the number of bytes that `u` has left, and with these bytes.
+fn feed_left(alloc: Global, u: &Unstructured<'_>, hasher: &mut Sha256) -> Result<(), Error> {
     let left = u.len();
     hasher.update(format!(in alloc; "left {left}\n")?.as_str());
     if let Some(bytes) = u.peek_bytes(left) {
         hasher.update(bytes);
     }
-    Ok(kind)
+    Ok(())
 }
