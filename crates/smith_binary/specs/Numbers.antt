@@ -1,9 +1,9 @@
--- Numbers: the sections Binary Format, Values, Integers and Floating-Point, of the WebAssembly Core Specification 3.0. A number
--- may have several spellings.
+-- Numbers: the sections Binary Format, Values, Integers and Floating-Point, of the WebAssembly Core
+-- Specification 3.0. A number may have several spellings.
 use Rattle.std.specs.Prelude.{◌≡◌, ℕ, zero, suc, ◌+◌, ◌-◌, ◌*◌, ◌/◌, ◌%◌, ◌^◌, ◌<◌, ◌≤◌, ◌⊎◌, List, [], ◌∷◌, nat_lt, if◌then◌else◌, ℤ, pos, negsuc, ◌+ℤ◌, ◌*ℤ◌}
 
--- an unsigned integer uN of N bits in LEB128: a byte below 2^7 is the integer; a byte from 2^7 on holds its seven lowest bits,
--- and the bytes after it spell the others, an integer of N - 7 bits
+-- an unsigned integer uN of N bits in LEB128: a byte below 2^7 is the integer; a byte from 2^7 on
+-- holds its seven lowest bits, and the bytes after it spell the others, an integer of N - 7 bits
 unfoldable pub IsUnsigned : ℕ → ℕ → List ℕ → Type 0
 IsUnsigned bits n [] = ⊥
 IsUnsigned bits n (byte ∷ []) = (n ≡ byte) × (byte < 2 ^ 7) × (byte < 2 ^ bits)

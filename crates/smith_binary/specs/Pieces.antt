@@ -1,4 +1,5 @@
--- Pieces of bytes: the sections Binary Format, Conventions, Values and Modules, of the WebAssembly Core Specification 3.0.
+-- Pieces of bytes: the sections Binary Format, Conventions, Values and Modules, of the WebAssembly
+-- Core Specification 3.0.
 use Rattle.std.specs.Prelude.{◌≡◌, ℕ, ◌≤◌, List, [], ◌∷◌, ◌++◌, length, IsUtf8}
 use Rattle.smith_binary.specs.Numbers.{IsUnsigned}
 

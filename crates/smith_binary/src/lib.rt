@@ -1,4 +1,5 @@
-//! Numbers, names, lists and sections in the binary format of the WebAssembly Core Specification 3.0.
+//! Numbers, names, lists and sections in the binary format of the WebAssembly Core Specification
+//! 3.0.
 #![tactic(auto)]
 
 mod error;
