@@ -1,4 +1,5 @@
--- A name that is being made new grows at each turn, and is new once it is longer than every name in the set.
+-- A name that is being made new grows at each turn, and is new once it is longer than every name in
+-- the set.
 use Rattle.std.proofs.Common.{◌≡◌, ℕ, suc, ◌+◌, ◌≤◌, ◌<◌, Bool, true, false, List, [], ◌∷◌, ◌++◌, length, max, refl, sym, ap, ◌||◌, not, ◌∙◌, arith, below_more, string_bytes}
 use Rattle.std.specs.Prelude.{if◌then◌else◌}
 use Rattle.std.specs.Str.{bytes_eq}

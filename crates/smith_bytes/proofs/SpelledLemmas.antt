@@ -1,4 +1,5 @@
--- From a source that starts with a piece, a draw returns the value that the piece spells and leaves the bytes after it.
+-- From a source that starts with a piece, a draw returns the value that the piece spells and leaves
+-- the bytes after it.
 use Rattle.std.proofs.Common.{◌≡◌, ℕ, zero, suc, ◌+◌, ◌-◌, ◌<◌, Bool, true, false, List, [], ◌∷◌, ◌++◌, length, take, drop, refl, sym, ap, ◌∙◌, arith, append_assoc, length-append}
 use Rattle.std.specs.List.{AllByRecursion as ByRecursion}
 use Rattle.std.proofs.lemmas.Bool.{le-ltb, lt-ltb, lt-leb}

@@ -67,7 +67,8 @@ longer_text bs n m size some within front part =
     let begun = subst IsUtf8 (sym (take-take n m bs (omega arith))) front in
     subst IsUtf8 (take-take (n + size) m bs within) (front_and_part (take m bs) n some begun size part)
 
--- if the first n bytes and the first m > n bytes are UTF-8, some UTF-8 prefix is longer than n by at most one character
+-- if the first n bytes and the first m > n bytes are UTF-8, some UTF-8 prefix is longer than n by
+-- at most one character
 record ReachesFurther (bs : List ℕ) (n m : ℕ) : Type 0 where
   pub to : ℕ
   pub further : n < to
@@ -98,7 +99,8 @@ part_longest : (bs : List ℕ) (part n : ℕ) → part ≤ length bs → n ≤ p
 part_longest bs part n within inside text =
     valid_len_longest (take part bs) n (omega (arith, length-take part bs)) (subst IsUtf8 (sym (take-take n part bs inside)) text)
 
--- if the longest UTF-8 prefix ends within a prefix of the bytes, the longest UTF-8 prefix of that part is the same
+-- if the longest UTF-8 prefix ends within a prefix of the bytes, the longest UTF-8 prefix of that
+-- part is the same
 pub valid_len_by_part : (bs : List ℕ) (part : ℕ) → part ≤ length bs → utf8_valid_len bs ≤ part → utf8_valid_len bs ≡ utf8_valid_len (take part bs)
 valid_len_by_part bs part within inside =
     let most = utf8_valid_len_le (take part bs) in
@@ -106,7 +108,8 @@ valid_len_by_part bs part within inside =
     let down = valid_len_longest bs (utf8_valid_len (take part bs)) (omega (arith, length-take part bs)) (part_text bs part within) in
     omega arith
 
--- if a whole character still fits after the longest UTF-8 prefix of the window, no UTF-8 prefix extends beyond the window
+-- if a whole character still fits after the longest UTF-8 prefix of the window, no UTF-8 prefix
+-- extends beyond the window
 pub valid_len_by_window : (bs : List ℕ) (window : ℕ) → window ≤ length bs → utf8_valid_len (take window bs) + 4 ≤ window → utf8_valid_len bs ≤ window
 valid_len_by_window bs window within room =
     let n = utf8_valid_len (take window bs) in
@@ -120,7 +123,8 @@ valid_len_by_window bs window within room =
     (λ done. done)
     (cases_lt window m)
 
--- from a position where a character starts, or the end, the longest UTF-8 prefix of the rest bounds that of all bytes
+-- from a position where a character starts, or the end, the longest UTF-8 prefix of the rest bounds
+-- that of all bytes
 pub valid_len_by_rest : (bs : List ℕ) (start : ℕ) → start ≤ length bs → (start < length bs → 192 ≤ get_or bs start 0) → utf8_valid_len bs ≤ start + utf8_valid_len (drop start bs)
 valid_len_by_rest bs start within begins =
     let m = utf8_valid_len bs in

@@ -1,4 +1,5 @@
--- Laws of draws: from a piece that spells a value, a draw returns this value and leaves the bytes after the piece.
+-- Laws of draws: from a piece that spells a value, a draw returns this value and leaves the bytes
+-- after the piece.
 use Rattle.std.specs.Prelude.{◌≡◌, ℕ, ◌+◌, Bool, false, IsTrue, List, ◌++◌, length}
 use Rattle.smith_bytes.specs.Draws.{bool_at, range_at, ratio_at}
 use Rattle.smith_bytes.specs.Growth.{grow_at}
@@ -18,8 +19,8 @@ ReadsEach {A = A} Item draw = (made : List A) (x : A) (piece after : List ℕ) �
 abbrev pub Spelled : {A : Type 0} → (A → List ℕ → Bool) → A → List ℕ → Type 0
 Spelled is_spelled x piece = IsTrue (is_spelled x piece)
 
--- if a draw reads each item, a list grown by it reads the items spelled after bools (`asked`), and the items spelled without
--- bools up to the minimum (`needed`)
+-- if a draw reads each item, a list grown by it reads the items spelled after bools (`asked`), and
+-- the items spelled without bools up to the minimum (`needed`)
 pub record ListsReadWhatIsSpelled (A : Type 0) : Type 0 where
   pub asked : (is_spelled : A → List ℕ → Bool) (draw : List A → List ℕ → A × List ℕ) (most : ℕ) (made xs : List A) (piece after : List ℕ)
       → ReadsEach (Spelled is_spelled) draw → Listed (Spelled is_spelled) most xs piece → grow_at draw 0 most made (piece ++ after) ≡ (made ++ xs, after)

@@ -9,8 +9,8 @@ pub record SpellsBool (value : Bool) (piece : List ℕ) : Type 0 where
   pub whole : piece ≡ byte ∷ []
   pub lowest : byte % 2 ≡ (if value then 1 else 0)
 
--- a number in lo..=hi: as many digits as hi - lo has, most significant first; their value modulo the size of the range is
--- added to lo
+-- a number in lo..=hi: as many digits as hi - lo has, most significant first; their value modulo
+-- the size of the range is added to lo
 pub record SpellsNumber (value lo hi : ℕ) (piece : List ℕ) : Type 0 where
   pub digits : length piece ≡ digit_count (hi - lo)
   pub read : value ≡ lo + big_endian piece % (hi - lo + 1)
@@ -35,7 +35,8 @@ abbrev pub Where : Bool → (List ℕ → Type 0) → List ℕ → Type 0
 Where true Piece piece = Piece piece
 Where false Piece piece = piece ≡ []
 
--- a loop of at most `most` turns that ends before its first turn: one false bool if `most` is above 0
+-- a loop of at most `most` turns that ends before its first turn: one false bool if `most` is above
+-- 0
 abbrev pub SpellsNone : ℕ → List ℕ → Type 0
 SpellsNone most = Where (nat_lt 0 most) (SpellsBool false)
 
