@@ -14,8 +14,8 @@ use crate::answer::put;
 use crate::explanation::explain;
 use std::alloc::Global;
 
-/// Writes the module of a configuration and of `input`, with a body for each function that it defines, to the front of `out`, in the
-/// binary format.
+/// Writes the module of a configuration and of `input`, with a body for each function that it
+/// defines, to the front of `out`, in the binary format.
 ///
 /// `config` is the text of a JSON object, or empty for the default configuration.
 #[unsafe(no_mangle)]
@@ -28,7 +28,7 @@ pub extern "C" fn smith_binary(alloc: Global, config: &[u8], input: &[u8], out: 
     }
 }
 
-/// Writes that module in the text format, which no module is too long for. No clause states the
+/// Writes that module in the text format, for which no module is too long. No clause states the
 /// text.
 #[unsafe(no_mangle)]
 pub extern "C" fn smith_text(alloc: Global, config: &[u8], input: &[u8], out: &mut [u8]) -> Answer
