@@ -260,7 +260,8 @@ pub(crate) fn choose_array(
     Some((index as u32, element))
 }
 
-/// Chooses an array type whose element may be used for `of` and whose created values match `wanted`.
+/// Chooses an array type whose element may be used for `of` and whose created values match
+/// `wanted`.
 pub(crate) fn choose_created_array(
     scope: &Scope<'_>,
     wanted: ValType,

@@ -188,7 +188,8 @@ fn dropping(
     )
 }
 
-/// Chooses a branch on a failed cast that leaves a reference of the type `wanted` if it is not taken.
+/// Chooses a branch on a failed cast that leaves a reference of the type `wanted` if it is not
+/// taken.
 #[tactic(auto, unfolding(crate::specs::CastBranchChoices::cast_value_at))]
 pub fn choose_kept_cast(
     alloc: Global,

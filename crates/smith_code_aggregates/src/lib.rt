@@ -1,5 +1,5 @@
-//! Choices of instructions that create, read and write structs and arrays, and of casts. The standard
-//! is the WebAssembly Core Specification 3.0.
+//! Choices of instructions that create, read and write structs and arrays, and of casts. The
+//! standard is the WebAssembly Core Specification 3.0.
 #![tactic(auto)]
 
 mod aggregates;
