@@ -85,7 +85,8 @@ try_at context wanted bytes =
     let clauses = some_clauses_at context bytes in
     (Some (trying (block.Value wanted) clauses.0 [] (wanted ∷ []) 0), clauses.1)
 
--- a `try_table` of a function type, whose results are dropped, or one without parameters and results
+-- a `try_table` of a function type, whose results are dropped, or one without parameters and
+-- results
 abbrev pub any_try_node : List Catch → ℕ → Option FuncType → Node
 any_try_node clauses index (Some function) = trying (block.Func index) clauses function.params function.results (length function.results)
 any_try_node clauses index None = trying block.Empty clauses [] [] 0
