@@ -13,8 +13,9 @@ use Rattle.smith_types.specs.declared.value_type.ValType.TheVariants.{I32, I64, 
 use Rattle.smith_instr.specs.Contexts.{BodyContext}
 use Rattle.smith_instr_examples.specs.ExampleBodies.{function_of, some_func}
 
--- a function with these locals, over a struct of a constant packed field and a variable i64, a struct of a reference without a
--- default, and arrays of variable i32, of constant packed integers and of variable references to functions
+-- a function with these locals, over a struct of a constant packed field and a variable i64, a
+-- struct of a reference without a default, and arrays of variable i32, of constant packed integers
+-- and of variable references to functions
 abbrev pub aggregates : List ValType → BodyContext
 aggregates locals = record (function_of locals []) {
   types =
