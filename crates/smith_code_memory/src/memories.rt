@@ -125,8 +125,8 @@ fn draw_offset(choices: MemoryOffsetChoices, memory: MemoryType, u: &mut Unstruc
     draw_place(memory, most, addresses(memory), u)
 }
 
-/// Draws an address of `memory` from `first` on and before `end`. The address is `first` if `end` is
-/// not past it, and at most the last address.
+/// Draws an address of `memory` from `first` on and before `end`. The address is `first` if `end`
+/// is not past it, and at most the last address.
 #[tactic(auto, unfolding(crate::specs::Accesses::place_at))]
 fn draw_place(memory: MemoryType, first: u128, end: u128, u: &mut Unstructured<'_>) -> u64
     ensures exact { place_at memory first end u.old ≡ (result, u.new) }
