@@ -107,7 +107,8 @@ rules_at config bytes = in_turn (
     coin (λ config b. record config { limit_arrays_in_const_exprs = b }) ∷
     []) config bytes
 
--- the fields that are not drawn: minimums are 0, and proposals with little support in engines are off
+-- the fields that are not drawn: minimums are 0, and proposals with little support in engines are
+-- off
 abbrev pub undrawn_config : Config
 undrawn_config = record default_config {
   max_components = 0;

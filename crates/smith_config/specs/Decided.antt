@@ -1,5 +1,5 @@
--- Properties of a whole stated part by part, as the decision procedures establish them. Proofs derive the definitions from
--- them.
+-- Properties of a whole stated part by part, as the decision procedures establish them. Proofs
+-- derive the definitions from them.
 use Rattle.std.specs.Prelude.{◌≡◌, ℕ, ◌≤◌, List, length}
 use Rattle.smith_types.specs.Space.{Space}
 use Rattle.smith_types.specs.Imports.{IndexSpaces}

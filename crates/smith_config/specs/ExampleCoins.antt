@@ -12,7 +12,8 @@ changing_bytes =
     31 ∷ 32 ∷ 0 ∷ 0 ∷ 0 ∷ 0 ∷ 33 ∷ 0 ∷ 0 ∷ 0 ∷ 0 ∷ 0 ∷ 0 ∷ 0 ∷ 0 ∷ 34 ∷ 5 ∷
     -- of the first four proposals, reference types and multi-value; aliases, depth
     0 ∷ 1 ∷ 0 ∷ 1 ∷ 0 ∷ 35 ∷ 6 ∷
-    -- the first, third, fifth, seventh and ninth of the other nine proposals, of which the third requires SIMD
+    -- the first, third, fifth, seventh and ninth of the other nine proposals, of which the third
+    -- requires SIMD
     1 ∷ 0 ∷ 1 ∷ 0 ∷ 1 ∷ 0 ∷ 1 ∷ 0 ∷ 1 ∷
     -- numeric, vector, parametric, table, memory and aggregate instructions
     0 ∷ 1 ∷ 0 ∷ 1 ∷ 0 ∷ 1 ∷ 0 ∷ 1 ∷ 0 ∷ 1 ∷ 0 ∷ 1 ∷

@@ -52,8 +52,8 @@ maximum_of config DataSegments = config.max_data_segments
 maximum_of config Memories = config.max_memories
 maximum_of config Tables = config.max_tables
 
--- the bounds of a count are in effect: not for imports if a shape fixes them, and not for exports if a shape fixes them or
--- everything is exported
+-- the bounds of a count are in effect: not for imports if a shape fixes them, and not for exports
+-- if a shape fixes them or everything is exported
 abbrev pub BoundsApply : Config → Count → Type 0
 BoundsApply config Imports = FixesImports config → ⊥
 BoundsApply config Exports = (FixesExports config → ⊥) × (config.export_everything ≡ false)

@@ -3,8 +3,9 @@ use Rattle.std.specs.Prelude.{ℕ, Bool, true, [], ◌∷◌, sum_by, nat_lt, if
 use Rattle.smith_types.specs.Features.{Features}
 use Rattle.smith_config.specs.declared.config.Config.{Config}
 
--- mutable globals and the first version of the standard always; multi-memory if several memories are permitted; function
--- references with garbage collection; each other feature according to its field
+-- mutable globals and the first version of the standard always; multi-memory if several memories
+-- are permitted; function references with garbage collection; each other feature according to its
+-- field
 abbrev pub features_of : Config → Features
 features_of config = record {
   mutable_global = true;

@@ -21,7 +21,8 @@ abbrev pub IsUngrounded : Config → Context → ValType → Type 0
 IsUngrounded config context (Ref reference) = (reference.nullable ≡ false) × (IsTrue config.non_nullable_enabled → ¬ IsGrounded context reference.heap_type)
 IsUngrounded config context _ = ⊥
 
--- a value type that is not a non-nullable reference, or is a grounded one with `non_nullable_enabled` on
+-- a value type that is not a non-nullable reference, or is a grounded one with
+-- `non_nullable_enabled` on
 abbrev pub IsGranted : Config → Context → ValType → Type 0
 IsGranted config context value = ¬ IsUngrounded config context value
 

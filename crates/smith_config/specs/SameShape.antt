@@ -1,4 +1,5 @@
--- The `==` of shapes decides equality. This proof is here because the law of the trait `Exact` cites it.
+-- The `==` of shapes decides equality. This proof is here because the law of the trait `Exact`
+-- cites it.
 use Rattle.std.proofs.Common.{◌≡◌, ap}
 use Rattle.std.specs.Bool.{Decides}
 use Rattle.std.specs.Cmp.{unsigned_Decides}

@@ -2,8 +2,8 @@
 use Rattle.std.specs.Prelude.{◌≡◌, ◌≤◌, ◌⊎◌, false, ◌&&◌, IsTrue, IsSome, None, is_some, min, if◌then◌else◌}
 use Rattle.smith_config.specs.declared.config.Config.{Config}
 
--- each field that requires others is on only if these are; without reference types there is at most one table; a module
--- shape replaces the other shapes
+-- each field that requires others is on only if these are; without reference types there is at most
+-- one table; a module shape replaces the other shapes
 abbrev pub sanitized : Config → Config
 sanitized config =
     let gc = config.reference_types_enabled && config.gc_enabled in
@@ -20,8 +20,8 @@ sanitized config =
       exports = if is_some config.module_shape then None else config.exports;
     }
 
--- no field is on that requires a field that is off; several tables require reference types; beside a module shape there is
--- no other shape
+-- no field is on that requires a field that is off; several tables require reference types; beside
+-- a module shape there is no other shape
 pub record IsSanitized (config : Config) : Type 0 where
   pub one_table : config.reference_types_enabled ≡ false → config.max_tables ≤ 1
   pub gc : IsTrue config.gc_enabled → IsTrue config.reference_types_enabled
@@ -35,7 +35,8 @@ pub record IsSanitized (config : Config) : Type 0 where
   pub imports : IsSome config.module_shape → config.available_imports ≡ None
   pub exports : IsSome config.module_shape → config.exports ≡ None
 
--- in new, each of these ten fields of old is turned off, lowered, cleared or unchanged; none is turned on, raised or set
+-- in new, each of these ten fields of old is turned off, lowered, cleared or unchanged; none is
+-- turned on, raised or set
 pub record IsLowered (old new : Config) : Type 0 where
   pub tables : new.max_tables ≤ old.max_tables
   pub gc : IsTrue new.gc_enabled → IsTrue old.gc_enabled

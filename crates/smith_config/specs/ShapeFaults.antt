@@ -22,8 +22,8 @@ use Rattle.smith_config.specs.declared.shape.Shape.{Shape}
 use Rattle.smith_config.specs.Features.{features_of}
 use Rattle.smith_config.specs.Shapes.{IsShort, IsShallow, IsPlain, HasNothingLeftOut, AreCountsFor, space_of, shape_spaces}
 
--- types, and the entities that refer to them, are valid with every feature enabled; shared ones hold only values that may be
--- shared
+-- types, and the entities that refer to them, are valid with every feature enabled; shared ones
+-- hold only values that may be shared
 pub record AreTypesSound (space : Space) (spaces : IndexSpaces) : Type 0 where
   pub types : AreTypesValid every_feature space
   pub values : All (IsValTypeValid every_feature (length space.types)) (values_in space.types spaces)
@@ -36,7 +36,8 @@ pub record AreIndicesSound (space : Space) (spaces : IndexSpaces) (exported : Li
   pub tags : All (IsTagValid space.types) spaces.tags
   pub exports : AreExportsStanding spaces exported
 
--- the limits of tables fit, memories are valid with every feature enabled, and types are not too deep
+-- the limits of tables fit, memories are valid with every feature enabled, and types are not too
+-- deep
 pub record AreLimitsSound (space : Space) (spaces : IndexSpaces) : Type 0 where
   pub tables : All (λ (table : TableType). AreLimitsValid (most_elements table.table64) table.minimum table.maximum) spaces.tables
   pub memories : All (IsMemoryValid every_feature) spaces.memories
@@ -86,8 +87,8 @@ pub record IsFirstShapeFault (which : Which) (config : Config) (shape : Shape) (
   pub earlier : All (λ other. ¬ HasShapeFault which config shape other) before
   pub there : HasShapeFault which config shape found
 
--- the errors of the check of a shape: its first fault, or a failed allocation; the check of a shape that is too long does
--- not allocate
+-- the errors of the check of a shape: its first fault, or a failed allocation; the check of a shape
+-- that is too long does not allocate
 abbrev pub IsRefused : Which → Config → Shape → Error → Type 0
 IsRefused which config shape error.Memory = IsShort shape
 IsRefused which config shape (error.Shape named found) = (named ≡ which) × IsFirstShapeFault which config shape found

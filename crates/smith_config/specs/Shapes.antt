@@ -1,5 +1,5 @@
--- Shapes that a module may be required to have. The conditions on the module are those of the standard, by the definitions
--- of validity; which shapes are accepted is a rule of this project.
+-- Shapes that a module may be required to have. The conditions on the module are those of the
+-- standard, by the definitions of validity; which shapes are accepted is a rule of this project.
 use Rattle.std.specs.Prelude.{◌≡◌, ℕ, ◌≤◌, ◌^◌, false, IsTrue, List, ◌++◌, Option, None, is_some, length, All, if◌then◌else◌}
 use Rattle.smith_bytes.specs.declared.error.Which.{Which}
 use Rattle.smith_bytes.specs.declared.error.Which.TheVariants.{AvailableImports, Exports, ModuleShape}
@@ -37,8 +37,8 @@ pub record Shapes : Type 0 where
 abbrev pub no_shapes : Shapes
 no_shapes = record { available_imports = None; exports = None; module_shape = None }
 
--- the shapes in effect: a module shape replaces the others. The definitions of modules refer to these, or to fields that are
--- equal to these in a sanitised configuration
+-- the shapes in effect: a module shape replaces the others. The definitions of modules refer to
+-- these, or to fields that are equal to these in a sanitised configuration
 abbrev pub in_use : Shapes → Shapes
 in_use shapes = if is_some shapes.module_shape then record no_shapes { module_shape = shapes.module_shape } else shapes
 
@@ -149,8 +149,8 @@ pub record IsConsistent (features : Features) (shape : Shape) : Type 0 where
   pub entities : AreEntitiesValid features (shape_types shape) (shape_spaces shape)
   pub exports : AreExportsValid (shape_spaces shape) shape.exports
 
--- tags, and several tables or memories, have their features; available imports are exempt, since some of them may not be
--- imported
+-- tags, and several tables or memories, have their features; available imports are exempt, since
+-- some of them may not be imported
 abbrev pub AreCountsFor : Which → Features → IndexSpaces → Type 0
 AreCountsFor AvailableImports features spaces = Unit {0}
 AreCountsFor Exports features spaces = AreCountsEnabled features spaces
