@@ -1,4 +1,5 @@
-// Configurations: sanitised, passing, drawn, with their features and faults; and offset choices as text.
+// Configurations: sanitised, passing, drawn, with their features and faults; and offset choices as
+// text.
 
 ghost use Rattle.std.specs.Prelude.{◌≡◌, ◌+◌, ◌^◌, true, false, [], ◌∷◌, codes, Ok, Err};
 ghost use Rattle.smith_bytes.specs.declared.error.Count.TheVariants as counts;
