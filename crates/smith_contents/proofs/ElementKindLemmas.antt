@@ -12,7 +12,7 @@ use Rattle.smith_contents.specs.DrawnElements.{IsKindOffered}
 use Rattle.smith_contents.specs.ElementSegments.{KindChoice, is_funcref, is_offered_at, with_unnamed, with_named, table_kinds_at, kept_kinds, element_kinds_at}
 use Rattle.smith_contents.specs.declared.element_kinds.KindChoice.TheVariants as choice
 
--- the tables of a list from an index on
+-- `tables` are those of `whole` from an index on
 record StandFrom (whole : List TableType) (index : ℕ) (tables : List TableType) : Type 0 where
   pub each : (place : ℕ) (table : TableType) → slice_get tables place ≡ Some table → slice_get whole (index + place) ≡ Some table
 
