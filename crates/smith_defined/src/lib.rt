@@ -1,5 +1,5 @@
-//! The entities that a module defines: tags, functions, tables, memories and globals, and those that
-//! the exports of a shape require.
+//! The entities that a module defines: tags, functions, tables, memories and globals, and those
+//! that the exports of a shape require.
 #![tactic(auto)]
 
 mod definitions;
