@@ -71,8 +71,8 @@ gc_first config types (Abstract s heap.NoExn) = refl
 gc_first config types (Concrete i) = refl
 gc_first config types (Exact i) = refl
 
--- for a reference: all subtypes are offered if it is nullable or `non_nullable_enabled` is off; otherwise the first and the
--- grounded ones
+-- for a reference: all subtypes are offered if it is nullable or `non_nullable_enabled` is off;
+-- otherwise the first and the grounded ones
 pub all_are_offered : (config : Config) (context : Context) (ty : RefType) (bytes : List ℕ) → (ty.nullable || not config.non_nullable_enabled) ≡ true
     → chosen_at ty.heap_type (references_offered config context ty) bytes ≡ matching_heap_type_at config context.types ty.heap_type bytes
 unfolding references_offered matching_heap_type_at

@@ -1,4 +1,5 @@
--- No drawn constant expression has a float constant if the wanted type is not a float and no existing type contains one.
+-- No drawn constant expression has a float constant if the wanted type is not a float and no
+-- existing type contains one.
 use Rattle.std.proofs.Common.{◌≡◌, ℕ, zero, suc, Bool, true, false, List, [], ◌∷◌, ◌++◌, Option, Some, None, map, length, ◌-◌, refl, subst, ap}
 use Rattle.std.specs.Prelude.{slice_get, All, IfSome, option_and_then}
 use Rattle.std.specs.List.{AllByRecursion as Each}

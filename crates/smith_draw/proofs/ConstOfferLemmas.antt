@@ -339,8 +339,8 @@ module _ (config : Config) (context : Context) (wanted : ValType) (fuel : ℕ) (
 
 -- the choices offered for a reference
 module _ (config : Config) (context : Context) (r : RefType) (fuel : ℕ) (scope : IsScope context) (valid : IsValTypeValid context.features (length context.types) (Ref r)) where
-  -- a conversion is offered for a nullable reference or with `non_nullable_enabled` off: if its operand may lack choices, so
-  -- may the reference
+  -- a conversion is offered for a nullable reference or with `non_nullable_enabled` off: if its
+  -- operand may lack choices, so may the reference
   lacking_by : (nullable on : Bool) (P Q : Type 0) → (nullable || not on) ≡ true → (nullable ≡ false) × (IsTrue on → P) → (nullable ≡ false) × (IsTrue on → Q)
   lacking_by true on P Q may (not_null, h) = cc
   lacking_by false true P Q may (not_null, h) = cc
@@ -469,7 +469,8 @@ defaults_are : (fields : List FieldType) → Each IsDefaultable (field_values fi
 defaults_are [] h = refl
 defaults_are (field ∷ fields) h = both_are (is_defaultable (unpacked field.element_type)) (are_defaultable fields) (default_is (unpacked field.element_type) h.0) (defaults_are fields h.1)
 
--- a struct type with defaults and a function that ground a reference are offered for it, with any fuel
+-- a struct type with defaults and a function that ground a reference are offered for it, with any
+-- fuel
 struct_offered : (context : Context) (r : RefType) (fuel index : ℕ) (i : CompositeInnerType) (fields : List FieldType) → i ≡ inner.Struct (record { fields = fields }) → are_defaultable fields ≡ true → is_val_below context.types (created context index) (Ref r) ≡ true
     → 0 < length (type_offers context (Ref r) fuel false index i)
 struct_offered context r fuel index i fields is defaults below =
@@ -521,7 +522,8 @@ lacking config context (Ref r) fuel before scope none =
       λ on grounded. let some = references_some context (Ref r) before references (grounded_offered config context r fuel scope grounded) in absurd (omega arith),
     )
 
--- no choice is offered only for a non-nullable reference, which with `non_nullable_enabled` is not grounded either
+-- no choice is offered only for a non-nullable reference, which with `non_nullable_enabled` is not
+-- grounded either
 pub nothing_offered : (config : Config) (context : Context) (wanted : ValType) (fuel : ℕ) (items : List Choice) (e : Error) → IsScope context → items ≡ offers config context wanted fuel → length items ≡ 0 → e ≡ EmptyChoose → MayRefuseConstExpr config context wanted e
 unfolding offers
 nothing_offered config context wanted fuel items e scope is none empty =

@@ -1,4 +1,5 @@
--- Lists of tasks, the next one first: their outcome, their amount of work, and the effect of each step.
+-- Lists of tasks, the next one first: their outcome, their amount of work, and the effect of each
+-- step.
 use Rattle.std.proofs.Common.{◌≡◌, ◌⊎◌, inl, inr, ℕ, zero, suc, ◌+◌, ◌*◌, ◌-◌, ◌<◌, ◌≤◌, Bool, true, false, List, [], ◌∷◌, ◌++◌, Option, Some, None, length, map, get_or, drop, refl, subst, ap, ◌∙◌, arith}
 use Rattle.std.specs.Prelude.{IsTrue, ◌↔◌, Result, Ok, Err, OnOk, IfSome, IsErrAnd, slice_get, reverse, option_and_then}
 use Rattle.std.specs.Option.{option_map}

@@ -1,4 +1,5 @@
--- A property that each drawn type has over types that have it holds for all types of a type space as drawn groups are added.
+-- A property that each drawn type has over types that have it holds for all types of a type space
+-- as drawn groups are added.
 use Rattle.std.proofs.Common.{ℕ, ◌+◌, ◌-◌, Bool, true, false, ◌||◌, List, [], ◌∷◌, length}
 use Rattle.std.specs.Prelude.{All}
 use Rattle.std.proofs.lemmas.List.Elements.{All-append, All-take, All-drop, All-from_recursion}

@@ -1,5 +1,5 @@
--- Every drawn non-nullable reference is grounded. If this holds for the fields and elements of the existing types, it holds
--- for those of drawn types.
+-- Every drawn non-nullable reference is grounded. If this holds for the fields and elements of the
+-- existing types, it holds for those of drawn types.
 use Rattle.std.proofs.Common.{◌≡◌, inl, inr, ℕ, zero, suc, ◌+◌, ◌-◌, ◌∙◌, Bool, false, Some, List, [], ◌∷◌, ◌++◌, length, refl, sym, subst, arith}
 use Rattle.std.specs.Prelude.{All}
 use Rattle.std.specs.List.{Any, AllByRecursion as Each}
@@ -59,7 +59,8 @@ ref_type_filled config context orderly must_share limit bytes (not_null, none) =
     let (on, grounded) = ref_type_granted config context must_share limit bytes not_null in
     none on (grounded_if context (ref_type_at config context must_share limit bytes).0.heap_type orderly grounded)
 
--- a matching reference is non-nullable only if the other is, and then its heap type is that of the other or a grounded one
+-- a matching reference is non-nullable only if the other is, and then its heap type is that of the
+-- other or a grounded one
 pub matching_ref_ungrounded : (config : Config) (context : Context) (orderly : IsOrderly context.types) (r : RefType) (bytes : List ℕ) → IsUngrounded config context (vals.Ref (matching_ref_type_at config context r bytes).0) → IsUngrounded config context (vals.Ref r)
 matching_ref_ungrounded config context orderly r bytes (not_null, none) =
     let drawn = (matching_ref_type_at config context r bytes).0 in

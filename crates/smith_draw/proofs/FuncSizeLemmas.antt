@@ -1,4 +1,5 @@
--- Drawn function types have at most 20 parameters and 20 results, or as many as the function types that they match.
+-- Drawn function types have at most 20 parameters and 20 results, or as many as the function types
+-- that they match.
 use Rattle.std.proofs.Common.{ℕ, zero, suc, ◌≤◌, Bool, true, false, cond, Some, List, [], length, arith, ◌≡◌}
 use Rattle.std.specs.Prelude.{All, slice_get}
 use Rattle.std.proofs.lemmas.List.Elements.{All-weaker}

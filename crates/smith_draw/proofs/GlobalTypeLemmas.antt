@@ -1,4 +1,5 @@
--- Drawn global types are valid, contain no floats if floats are off, and are read from the bytes that spell them.
+-- Drawn global types are valid, contain no floats if floats are off, and are read from the bytes
+-- that spell them.
 use Rattle.std.proofs.Common.{◌≡◌, ℕ, true, false, List, [], ◌++◌, length, refl, sym, ap, append-nil, ◌∙◌}
 use Rattle.std.specs.Prelude.{IsTrue}
 use Rattle.smith_bytes.specs.Takes.{Takes, SpellsSuch}

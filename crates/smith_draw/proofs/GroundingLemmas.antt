@@ -229,7 +229,8 @@ module _ {A : Type 0} (test : ℕ → A → Bool) (xs : List A) (n : ℕ) (whole
       let here : any_from test n (drop n xs) ≡ false = rw (none_left xs n le) refl in
       sym here ∙ so_far
 
--- a function without an existing type grounds nothing, and any other grounds the supertypes of its reference
+-- a function without an existing type grounds nothing, and any other grounds the supertypes of its
+-- reference
 pub outside_grounds : (context : Context) (ty : HeapType) (function index : ℕ) → length context.types ≤ index → false ≡ function_grounds context ty function index
 outside_grounds context ty function index le = rw (le-ltb index (length context.types) le) refl
 

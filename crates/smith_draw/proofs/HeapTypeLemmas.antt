@@ -1,4 +1,5 @@
--- Drawn heap types that match a heap type are subtypes of it, and drawn supertypes are supertypes; both are valid if it is.
+-- Drawn heap types that match a heap type are subtypes of it, and drawn supertypes are supertypes;
+-- both are valid if it is.
 use Rattle.std.proofs.Common.{rules, ◌≡◌, ℕ, ◌<◌, ◌≤◌, Bool, true, false, cond, List, [], ◌∷◌, Some, length, refl, sym, subst, arith}
 use Rattle.std.specs.Prelude.{slice_get, IsTrue, All}
 use Rattle.std.specs.List.{AllByRecursion as Each}

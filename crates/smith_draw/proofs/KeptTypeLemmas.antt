@@ -1,6 +1,6 @@
--- Properties that drawn types have if the types that they are drawn over have them: for one type, from types without a
--- supertype and subtypes; for all types of a type space, if the property may depend on all of them and is preserved as more
--- are added.
+-- Properties that drawn types have if the types that they are drawn over have them: for one type,
+-- from types without a supertype and subtypes; for all types of a type space, if the property may
+-- depend on all of them and is preserved as more are added.
 use Rattle.std.proofs.Common.{◌≡◌, ℕ, ◌+◌, ◌-◌, Bool, true, false, ◌||◌, Option, Some, None, List, [], ◌∷◌, ◌++◌, length, get_or, refl, sym, subst, arith, append_assoc}
 use Rattle.std.specs.Prelude.{slice_get, All}
 use Rattle.std.specs.List.{AllByRecursion as Each}

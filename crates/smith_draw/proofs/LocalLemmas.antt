@@ -1,5 +1,5 @@
--- Drawn locals are few and valid; without floats none is a float, and with `non_nullable_enabled` off none is a non-nullable
--- reference.
+-- Drawn locals are few and valid; without floats none is a float, and with `non_nullable_enabled`
+-- off none is a non-nullable reference.
 use Rattle.std.proofs.Common.{◌≡◌, ℕ, ◌≤◌, false, List, [], length, arith}
 use Rattle.std.specs.Prelude.{All}
 use Rattle.std.proofs.lemmas.List.Elements.{All-nil}

@@ -1,4 +1,5 @@
--- Drawn types that match a type are subtypes of it, and drawn supertypes are supertypes; both are valid if it is.
+-- Drawn types that match a type are subtypes of it, and drawn supertypes are supertypes; both are
+-- valid if it is.
 use Rattle.std.proofs.Common.{◌≡◌, ◌⊎◌, inl, inr, ℕ, ◌≤◌, Bool, true, false, cond, List, [], ◌∷◌, length, drop, refl, sym, subst, arith}
 use Rattle.std.specs.Prelude.{All, IsTrue, filter, not, ◌||◌}
 use Rattle.std.specs.List.{AllByRecursion as Each}
@@ -90,7 +91,8 @@ matching_ref_valid config context ty bytes = record {
   };
 }
 
--- with `non_nullable_enabled`, the heap type of a non-nullable reference is that of the argument or a grounded one
+-- with `non_nullable_enabled`, the heap type of a non-nullable reference is that of the argument or
+-- a grounded one
 first_granted : (test : HeapType → Bool) (ty : HeapType) (xs rest : List HeapType) → xs ≡ ty ∷ rest → Each (λ (h : HeapType). (h ≡ ty) ⊎ IsTrue (test h)) (first_and_passing test xs)
 first_granted test ty xs rest e =
     let P = λ (h : HeapType). (h ≡ ty) ⊎ IsTrue (test h) in

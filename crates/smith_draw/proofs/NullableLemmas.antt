@@ -1,5 +1,5 @@
--- With `non_nullable_enabled` off, no drawn reference is non-nullable. If no field or element of the existing types is, none
--- of a drawn type is.
+-- With `non_nullable_enabled` off, no drawn reference is non-nullable. If no field or element of
+-- the existing types is, none of a drawn type is.
 use Rattle.std.proofs.Common.{◌≡◌, ℕ, ◌∙◌, Bool, true, false, List, length, refl, sym}
 use Rattle.std.specs.Prelude.{IsTrue}
 use Rattle.std.specs.List.{Any}

@@ -1,4 +1,5 @@
--- From a source that starts with a piece that spells groups, these groups are drawn, and the bytes after the piece remain.
+-- From a source that starts with a piece that spells groups, these groups are drawn, and the bytes
+-- after the piece remain.
 use Rattle.std.proofs.Common.{◌≡◌, ℕ, zero, suc, ◌-◌, ◌+◌, ◌<◌, ◌≤◌, ◌&&◌, Bool, true, false, cond, List, [], ◌∷◌, ◌++◌, length, nat_lt, refl, sym, ap, subst, ◌∙◌, arith, append_assoc, length-append}
 use Rattle.std.specs.List.{All, flat_map}
 use Rattle.std.proofs.lemmas.Bool.{lt-ltb}

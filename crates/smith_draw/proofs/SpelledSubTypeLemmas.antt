@@ -1,5 +1,5 @@
--- From a source that starts with a piece that spells types without supertypes, these types are drawn, and the bytes after
--- the piece remain.
+-- From a source that starts with a piece that spells types without supertypes, these types are
+-- drawn, and the bytes after the piece remain.
 use Rattle.std.proofs.Common.{◌≡◌, ℕ, suc, ◌+◌, ◌<◌, ◌&&◌, ◌||◌, Bool, true, false, cond, Option, Some, None, List, [], ◌∷◌, ◌++◌, length, nat_lt, refl, sym, ap, subst, ◌∙◌, arith, append_assoc, length-append}
 use Rattle.std.specs.Prelude.{IsTrue, slice_get}
 use Rattle.std.specs.List.{All, list_any}

@@ -1,5 +1,5 @@
--- From a source that starts with a piece that spells a field, function, struct or composite type, this type is drawn, and
--- the bytes after the piece remain.
+-- From a source that starts with a piece that spells a field, function, struct or composite type,
+-- this type is drawn, and the bytes after the piece remain.
 use Rattle.std.proofs.Common.{◌≡◌, ℕ, ◌-◌, ◌+◌, Bool, true, false, cond, List, [], ◌++◌, length, refl, arith}
 use Rattle.std.specs.List.{All}
 use Rattle.std.proofs.lemmas.List.Elements.{All-weaker, recursion_from_All}

@@ -1,5 +1,5 @@
--- From a source that starts with a piece that spells a heap or value type, this type is drawn, and the bytes after the piece
--- remain.
+-- From a source that starts with a piece that spells a heap or value type, this type is drawn, and
+-- the bytes after the piece remain.
 use Rattle.std.proofs.Common.{◌≡◌, ℕ, zero, suc, [], ◌∷◌, sym, subst, ◌<◌, ◌-◌, ◌&&◌, not, Bool, true, false, cond, Some, List, ◌++◌, length, refl, nat_lt, inl, inr, arith}
 use Rattle.std.specs.Prelude.{IsTrue, ◌⊎◌, slice_get}
 use Rattle.std.proofs.lemmas.Bool.{lt-ltb, ltb-true}
@@ -98,8 +98,8 @@ heap_type_read config types limit (Concrete index) piece after stands h =
     concrete_read config types limit index piece after t at h
 heap_type_read config types limit (Exact index) piece after stands h = absurd h
 
--- the condition for reading a value type over types and functions: the types that it refers to exist, and a non-nullable
--- reference is grounded
+-- the condition for reading a value type over types and functions: the types that it refers to
+-- exist, and a non-nullable reference is grounded
 abbrev pub IsReadable : Context → ValType → Type 0
 IsReadable context (vals.Ref reference) = IsInRange context.types reference.heap_type × (IsTrue reference.nullable ⊎ IsTrue (is_grounded context reference.heap_type))
 IsReadable context _ = Unit {0}

@@ -1,5 +1,5 @@
--- From a source that starts with a piece that spells a type, this type is drawn, if it refers to existing types that ground
--- its references.
+-- From a source that starts with a piece that spells a type, this type is drawn, if it refers to
+-- existing types that ground its references.
 use Rattle.std.proofs.Common.{◌≡◌, ℕ, Bool, true, false, List, [], subst, sym, ap, ◌∙◌}
 use Rattle.std.specs.List.{All}
 use Rattle.smith_bytes.specs.Takes.{Takes, SpellsSuch}

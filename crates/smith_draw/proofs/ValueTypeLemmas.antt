@@ -186,7 +186,8 @@ unfolding granted_to
 granted_by config context ty bytes true e = granted_only config context ty.0 ty.1 e
 granted_by config context ty bytes false e = cc
 
--- a drawn reference is non-nullable only if `non_nullable_enabled` is on and its heap type is grounded
+-- a drawn reference is non-nullable only if `non_nullable_enabled` is on and its heap type is
+-- grounded
 pub ref_type_granted : (config : Config) (context : Context) (must_share : Bool) (limit : ℕ) (bytes : List ℕ) → let drawn = (ref_type_at config context must_share limit bytes).0 in
     drawn.nullable ≡ false → IsTrue config.non_nullable_enabled × IsTrue (is_grounded context drawn.heap_type)
 unfolding ref_type_at granted_to

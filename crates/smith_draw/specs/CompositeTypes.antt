@@ -49,7 +49,8 @@ inner_of_number_at config context must_share limit _ bytes =
 abbrev pub inner_number_at : Config → List ℕ → ℕ × List ℕ
 inner_number_at config bytes = if config.gc_enabled then range_at 0 2 bytes else (1, bytes)
 
--- sharedness, then a composite type for a number; if it is shared, so is everything in it (own rule)
+-- sharedness, then a composite type for a number; if it is shared, so is everything in it (own
+-- rule)
 unfoldable pub composite_type_at : Config → Context → ℕ → List ℕ → CompositeType × List ℕ
 composite_type_at config context limit bytes =
     let shared = sharedness_at config false bytes in

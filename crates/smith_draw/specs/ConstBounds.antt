@@ -1,4 +1,5 @@
--- The length of drawn constant expressions, and the cases without an expression. Rules of this project.
+-- The length of drawn constant expressions, and the cases without an expression. Rules of this
+-- project.
 use Rattle.std.specs.Prelude.{◌≡◌, ◌⊎◌, ℕ, ◌+◌, ◌*◌, max, List, [], ◌∷◌, length}
 use Rattle.std.specs.List.{Any}
 use Rattle.smith_types.specs.Expressions.{Context, field_values}
@@ -17,7 +18,8 @@ abbrev pub field_count : CompositeInnerType → ℕ
 field_count (Struct structure) = length structure.fields
 field_count _ = 0
 
--- the greater of 3 and the greatest number of fields of a struct: the maximum number of operands of an instruction
+-- the greater of 3 and the greatest number of fields of a struct: the maximum number of operands of
+-- an instruction
 unfoldable pub widest : List SubType → ℕ
 widest [] = 3
 widest (t ∷ types) = max (field_count t.composite_type.inner) (widest types)

@@ -58,7 +58,8 @@ abbrev pub after_choice : Context → Config → (ValType → State → Option S
 after_choice context config draw wanted s None = None
 after_choice context config draw wanted s (Some choice) = made_at context config draw wanted s choice
 
--- a value of a type, by recursion on a depth above the fuel; none if there is nothing to choose from
+-- a value of a type, by recursion on a depth above the fuel; none if there is nothing to choose
+-- from
 unfoldable pub expression_at : Context → Config → ℕ → ValType → State → Option State
 expression_at context config zero wanted s = None
 expression_at context config (suc depth) wanted s =
@@ -75,7 +76,8 @@ abbrev pub const_expr_at : Config → Context → ValType → List ℕ → Optio
 const_expr_at config context wanted bytes =
     expression_alone_at context config config.const_expr_fuel wanted bytes
 
--- the initialiser of a table: none without garbage collection; for nullable elements, a bool decides whether there is none
+-- the initialiser of a table: none without garbage collection; for nullable elements, a bool
+-- decides whether there is none
 unfoldable pub table_init_at : Config → Context → RefType → List ℕ → Option (Option (List ConstInstr) × List ℕ)
 table_init_at config context element bytes =
     let null = if element.nullable then bool_at bytes else (false, bytes) in

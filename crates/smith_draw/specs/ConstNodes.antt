@@ -39,7 +39,8 @@ abbrev pub is_shared_heap : HeapType → Bool
 is_shared_heap (Abstract shared ty) = shared
 is_shared_heap _ = false
 
--- the reference type to convert to the wanted type: to this heap type, with the same nullability and sharedness
+-- the reference type to convert to the wanted type: to this heap type, with the same nullability
+-- and sharedness
 abbrev pub converted : ValType → AbstractHeapType → ValType
 converted (Ref reference) ty = Ref (record { nullable = reference.nullable; heap_type = Abstract (is_shared_heap reference.heap_type) ty })
 converted value ty = value

@@ -49,8 +49,8 @@ struct_ways fuel index fields = offered_if (nat_lt 0 fuel || (length fields == 0
 abbrev pub array_ways : ℕ → FieldType → List Choice
 array_ways index element = choice.Array index ∷ choice.FixedArray index ∷ offered_if (is_defaultable (unpacked element.element_type)) (choice.ArrayDefault index)
 
--- the ways to create a value of a type whose created reference is a subtype of the wanted type: of a struct, or with fuel of
--- an array
+-- the ways to create a value of a type whose created reference is a subtype of the wanted type: of
+-- a struct, or with fuel of an array
 abbrev pub type_offers : Context → ValType → ℕ → Bool → ℕ → CompositeInnerType → List Choice
 type_offers context wanted fuel false index (inner.Struct structure) = if is_val_below context.types (created context index) wanted then struct_ways fuel index structure.fields else []
 type_offers context wanted fuel true index (inner.Array array) = if nat_lt 0 fuel && is_val_below context.types (created context index) wanted then array_ways index array.0 else []
@@ -104,8 +104,8 @@ offers config context wanted fuel =
 abbrev pub readable_globals : Context → ValType → List ℕ
 readable_globals context wanted = each_from (λ index (global : GlobalType). offered_if (not global.mutable && is_val_below context.types global.val_type wanted) index) 0 (take context.visible context.globals)
 
--- a search in a list for the item at a position: that item as an `Err`, or as `Ok` the position counted from the end of the
--- list
+-- a search in a list for the item at a position: that item as an `Err`, or as `Ok` the position
+-- counted from the end of the list
 unfoldable pub past : {B : Type 0} → List B → ℕ → Result ℕ B
 past [] place = Ok place
 past (x ∷ xs) zero = Err x

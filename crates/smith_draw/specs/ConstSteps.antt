@@ -41,12 +41,14 @@ pub record IsNode (config : Config) (context : Context) (wanted : ValType) (fuel
   pub valid : All (λ operand. IsValTypeValid context.features (length context.types) (operand_type operand)) node.operands
   pub lacks : (operand : Operand) (place : ℕ) → slice_get node.operands place ≡ Some operand → MayLack config context (operand_type operand) → MayLack config context wanted
 
--- each node of a choice has the wanted type; an extended constant has an integer type and is enabled
+-- each node of a choice has the wanted type; an extended constant has an integer type and is
+-- enabled
 pub record IsFit (config : Config) (context : Context) (wanted : ValType) (fuel : ℕ) (choice : Choice) : Type 0 where
   pub node : (bytes : List ℕ) → IsNode config context wanted fuel (node_at context.types wanted choice bytes).0
   pub extended : is_extended choice ≡ true → ((wanted ≡ I32) ⊎ (wanted ≡ I64)) × IsTrue context.features.extended_const
 
--- a successful step leaves the state that its definition returns; if a step had no choice, its definition returns none
+-- a successful step leaves the state that its definition returns; if a step had no choice, its
+-- definition returns none
 abbrev pub Reads : Result (Unit {0}) Error → State → Option State → Type 0
 Reads (Ok done) new read = read ≡ Some new
 Reads (Err errors.Memory) new read = Unit {0}

@@ -24,7 +24,8 @@ pub record IsOperandDrawn (context : Context) (config : Config) (operand : Opera
   pub read : (depth : ℕ) → old.fuel < depth → operand_at config (expression_at context config depth) operand old ≡ Some new
   pub drawn : IsDrawn context (operand_type operand ∷ []) old.made old.fuel new.made new.fuel
 
--- a node was chosen for an operand: its operands are drawn next, and its instruction is appended after them
+-- a node was chosen for an operand: its operands are drawn next, and its instruction is appended
+-- after them
 pub record IsOperandBegun (context : Context) (config : Config) (operand : Operand) (todo : List Task) (old : State) (todo' : List Task) (new : State) : Type 0 where
   pub node : Node
   pub bytes : List ℕ
@@ -40,7 +41,8 @@ abbrev pub IsStep : Context → Config → Task → List Task → State → List
 IsStep context config (Draw operand) todo old todo' new = ((todo' ≡ todo) × IsOperandDrawn context config operand old new) ⊎ IsOperandBegun context config operand todo old todo' new
 IsStep context config (Write instruction) todo old todo' new = (todo' ≡ todo) × (new ≡ behind instruction old)
 
--- a step adds at most the operands of one node and its instruction to the tasks, and makes them more only if it spends fuel
+-- a step adds at most the operands of one node and its instruction to the tasks, and makes them
+-- more only if it spends fuel
 pub record IsGrowthPaid (context : Context) (todo : List Task) (fuel : ℕ) (todo' : List Task) (left : ℕ) : Type 0 where
   pub few : length todo' ≤ length todo + (widest context.types + 1)
   pub paid : length todo < length todo' → left < fuel

@@ -4,7 +4,8 @@ use Rattle.smith_bytes.specs.Source.{KeepsPieces}
 use Rattle.smith_bytes.specs.declared.error.Error.{Error}
 use Rattle.smith_bytes.specs.declared.error.Error.TheVariants.{Memory}
 
--- a call that cannot fail returns the drawn value and leaves the bytes after it, a piece of those before
+-- a call that cannot fail returns the drawn value and leaves the bytes after it, a piece of those
+-- before
 pub record AlwaysDraws {A : Type 0} (drawn : A × List ℕ) (value : A) (old new : List ℕ) : Type 0 where
   pub exact : drawn ≡ (value, new)
   pub left : KeepsPieces old new

@@ -11,7 +11,8 @@ of_each_kind =
     shared_type empty_struct ∷ shared_type (array (constant I8)) ∷ shared_type plain_func ∷
     final_type empty_struct ∷ final_type (array (constant I8)) ∷ []
 
--- `count` structs: the first a subtype of the type at this index, each other a subtype of the one before
+-- `count` structs: the first a subtype of the type at this index, each other a subtype of the one
+-- before
 abbrev pub structs_below : ℕ → ℕ → List SubType
 structs_below zero index = []
 structs_below (suc count) index = open_type (Some index) empty_struct ∷ structs_below count (index + 1)

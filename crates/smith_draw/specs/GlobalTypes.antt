@@ -10,12 +10,14 @@ use Rattle.smith_bytes.specs.Draws.{bool_at}
 use Rattle.smith_draw.specs.ValueTypes.{sharedness_at, val_type_at}
 use Rattle.smith_draw.specs.SharedHeapTypes.{is_heap_type_shared}
 
--- whether a global of a value type is shared: like the heap type of a reference, otherwise drawn (own rule)
+-- whether a global of a value type is shared: like the heap type of a reference, otherwise drawn
+-- (own rule)
 abbrev pub global_sharedness_at : Config → List SubType → ValType → List ℕ → Bool × List ℕ
 global_sharedness_at config types (Ref reference) bytes = (is_heap_type_shared types reference.heap_type, bytes)
 global_sharedness_at config types _ bytes = sharedness_at config false bytes
 
--- a value type over the existing types, whether the global is shared, and whether it is mutable (own rule)
+-- a value type over the existing types, whether the global is shared, and whether it is mutable
+-- (own rule)
 unfoldable pub global_type_at : Config → Context → List ℕ → GlobalType × List ℕ
 global_type_at config context bytes =
     let value = val_type_at config context false (length context.types) bytes in

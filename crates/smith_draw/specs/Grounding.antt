@@ -1,4 +1,5 @@
--- The context of a drawn reference, and whether a heap type is grounded in it, as a test over orderly types.
+-- The context of a drawn reference, and whether a heap type is grounded in it, as a test over
+-- orderly types.
 use Rattle.std.specs.Prelude.{ℕ, ◌+◌, Bool, false, ◌&&◌, ◌||◌, nat_lt, List, [], ◌∷◌, length}
 use Rattle.smith_types.specs.Features.{Features}
 use Rattle.smith_types.specs.Expressions.{Context, created, function_reference, reference_to}
@@ -43,13 +44,14 @@ with_functions context funcs = record context { funcs = funcs }
 abbrev pub standing_in : Config → Spaces → Context
 standing_in config spaces = over (functions_in config spaces.entities) spaces.types.now.types
 
--- whether a test of an index and an item holds for some item of a list; the first item has the index `start`
+-- whether a test of an index and an item holds for some item of a list; the first item has the
+-- index `start`
 abbrev pub any_from : {A : Type 0} → (ℕ → A → Bool) → ℕ → List A → Bool
 any_from test start [] = false
 any_from test start (x ∷ xs) = test start x || any_from test (start + 1) xs
 
--- whether the type at this index is a struct type whose fields all have defaults, and a reference to such a struct is below
--- a heap type
+-- whether the type at this index is a struct type whose fields all have defaults, and a reference
+-- to such a struct is below a heap type
 abbrev pub type_grounds : Context → HeapType → ℕ → SubType → Bool
 type_grounds context ty index t = is_ground t && is_val_below context.types (created context index) (reference_to ty)
 

@@ -12,8 +12,8 @@ use Rattle.smith_types.specs.declared.composite_type.SubType.{SubType}
 abbrev pub IsSharingEnabled : Features → SubType → Type 0
 IsSharingEnabled features t = IsTrue t.composite_type.shared → IsTrue features.shared_everything_threads
 
--- over types that are shared only if that is enabled: the drawn item is valid for each end after these types for which the
--- other item is (own rule)
+-- over types that are shared only if that is enabled: the drawn item is valid for each end after
+-- these types for which the other item is (own rule)
 pub record StaysValid {A : Type 0} (IsValid : ℕ → A → Type 0) (features : Features) (types : List SubType) (ty drawn : A) : Type 0 where
   pub against : (end : ℕ) → length types ≤ end → All (IsSharingEnabled features) types → IsValid end ty → IsValid end drawn
 

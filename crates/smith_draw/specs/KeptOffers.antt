@@ -8,7 +8,8 @@ use Rattle.smith_draw.specs.declared.const_expr.node_choice.Choice.TheVariants a
 use Rattle.smith_draw.specs.declared.const_expr.kept_offers.KeptOffer.{KeptOffer}
 use Rattle.smith_draw.specs.declared.const_expr.kept_offers.KeptOffers.{KeptOffers}
 
--- the entry for a type lists the globals and functions, among those read, that are offered for a value of that type
+-- the entry for a type lists the globals and functions, among those read, that are offered for a
+-- value of that type
 pub record IsKeptOffer (context : Context) (offer : KeptOffer) : Type 0 where
   pub wanted : IsValInRange context.types offer.wanted
   pub globals_seen : offer.globals_seen ≤ length context.globals

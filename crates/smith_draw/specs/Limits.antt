@@ -14,7 +14,8 @@ scaled n x = n * x / most_u32
 unfoldable pub sixth_power : ℕ → ℕ
 sixth_power x = scaled (scaled (scaled (scaled (scaled x x) x) x) x) x
 
--- the number for a 32-bit number x: mostly near min and at most inbounds; anywhere up to max for the greatest 0.5 % of x
+-- the number for a 32-bit number x: mostly near min and at most inbounds; anywhere up to max for
+-- the greatest 0.5 % of x
 unfoldable pub gradual : ℕ → ℕ → ℕ → ℕ → ℕ
 gradual min inbounds max x =
     if nat_lt (1000 * x) (995 * most_u32)

@@ -10,7 +10,8 @@ use Rattle.smith_bytes.specs.Draws.{range_at}
 use Rattle.smith_draw.specs.FieldTypes.{fields_until_at}
 use Rattle.smith_draw.specs.MatchingTypes.{matching_field_type_at, matched_fields_at, matching_func_type_at}
 
--- the number of further fields, at most 5, then the matched fields, then the further fields (own rule)
+-- the number of further fields, at most 5, then the matched fields, then the further fields (own
+-- rule)
 unfoldable pub matching_struct_type_at : Config → Context → Bool → ℕ → StructType → List ℕ → StructType × List ℕ
 matching_struct_type_at config context must_share limit structure bytes =
     let extra = range_at 0 5 bytes in

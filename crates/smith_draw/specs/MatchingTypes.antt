@@ -32,8 +32,8 @@ abbrev pub first_and_passing : {A : Type 0} → (A → Bool) → List A → List
 first_and_passing test [] = []
 first_and_passing test (x ∷ xs) = x ∷ filter test xs
 
--- the subtypes offered for a reference: all of them; with `non_nullable_enabled`, for a non-nullable one only its heap type
--- itself and the grounded ones among the others (own rule)
+-- the subtypes offered for a reference: all of them; with `non_nullable_enabled`, for a
+-- non-nullable one only its heap type itself and the grounded ones among the others (own rule)
 unfoldable pub references_offered : Config → Context → RefType → List HeapType
 references_offered config context ty =
     let offered = subtypes_offered config context.types ty.heap_type in

@@ -12,7 +12,8 @@ use Rattle.smith_types.specs.Kinds.{bottom, shared}
 use Rattle.smith_types.specs.Types.{IsOrderly}
 use Rattle.smith_config.specs.declared.config.Config.{Config}
 
--- the abstract heap types that are offered as subtypes of an abstract heap type, including itself (own rule)
+-- the abstract heap types that are offered as subtypes of an abstract heap type, including itself
+-- (own rule)
 abbrev pub abstract_subtypes : AbstractHeapType → List AbstractHeapType
 abstract_subtypes heap.Any = heap.Any ∷ heap.Eq ∷ heap.Struct ∷ heap.Array ∷ heap.I31 ∷ heap.None ∷ []
 abstract_subtypes heap.Eq = heap.Eq ∷ heap.Struct ∷ heap.Array ∷ heap.I31 ∷ heap.None ∷ []
@@ -27,7 +28,8 @@ abstract_subtypes heap.NoExtern = heap.NoExtern ∷ []
 abstract_subtypes heap.Exn = heap.Exn ∷ []
 abstract_subtypes heap.NoExn = heap.NoExn ∷ []
 
--- the abstract heap types that are offered as supertypes of an abstract heap type, including itself (own rule)
+-- the abstract heap types that are offered as supertypes of an abstract heap type, including itself
+-- (own rule)
 abbrev pub abstract_supertypes : AbstractHeapType → List AbstractHeapType
 abstract_supertypes heap.Any = heap.Any ∷ []
 abstract_supertypes heap.Eq = heap.Eq ∷ heap.Any ∷ []
@@ -88,12 +90,14 @@ is_index index (Some other) = other == index
 abbrev pub is_declared_below : ℕ → SubType → Bool
 is_declared_below index t = is_index index t.supertype
 
--- the concrete heap types of the types that satisfy a test, by index; the first type has the index `start` (own rule)
+-- the concrete heap types of the types that satisfy a test, by index; the first type has the index
+-- `start` (own rule)
 abbrev pub picked_from : (SubType → Bool) → ℕ → List SubType → List HeapType
 picked_from test start [] = []
 picked_from test start (t ∷ types) = if test t then Concrete start ∷ picked_from test (start + 1) types else picked_from test (start + 1) types
 
--- the concrete heap types of the existing types of these kinds, kind by kind, each by index (own rule)
+-- the concrete heap types of the existing types of these kinds, kind by kind, each by index (own
+-- rule)
 abbrev pub of_kinds : List SubType → Bool → List AbstractHeapType → List HeapType
 of_kinds types is_shared kinds = flat_map (λ kind. picked_from (is_kind is_shared kind) 0 types) kinds
 
@@ -106,7 +110,8 @@ abbrev pub supertype_of : Option SubType → Option ℕ
 supertype_of None = None
 supertype_of (Some t) = t.supertype
 
--- the declared supertype of the type at this index, if it exists and has one (Structure, Recursive Types)
+-- the declared supertype of the type at this index, if it exists and has one (Structure, Recursive
+-- Types)
 abbrev pub supertype_at : List SubType → ℕ → Option ℕ
 supertype_at types index = supertype_of (slice_get types index)
 
@@ -115,11 +120,13 @@ abbrev pub ancestors_within : ℕ → List SubType → ℕ → List HeapType
 ancestors_within zero types index = []
 ancestors_within (suc most) types index = elim (supertype_at types index) [ None ↦ [] | Some supertype ↦ Concrete supertype ∷ ancestors_within most types supertype ]
 
--- the proper supertypes of the type at this index, nearest first; at most as many as there are types (own rule)
+-- the proper supertypes of the type at this index, nearest first; at most as many as there are
+-- types (own rule)
 unfoldable pub ancestors : List SubType → ℕ → List HeapType
 ancestors types index = ancestors_within (length types) types index
 
--- over orderly types none is missing: the first is the declared supertype, and the others are the proper supertypes of that
+-- over orderly types none is missing: the first is the declared supertype, and the others are the
+-- proper supertypes of that
 abbrev pub AncestorsAreAll : Type 0
 AncestorsAreAll = (types : List SubType) → IsOrderly types → (index supertype : ℕ) → supertype_at types index ≡ Some supertype → ancestors types index ≡ Concrete supertype ∷ ancestors types supertype
 
@@ -152,10 +159,12 @@ gc_supertypes types (Abstract is_shared ty) = map (Abstract is_shared) (abstract
 gc_supertypes types (Concrete index) = Concrete index ∷ kinds_at types index ++ ancestors types index
 gc_supertypes types (Exact index) = Exact index ∷ []
 
--- the subtypes offered for a heap type over the existing types; without garbage collection only itself (own rule)
+-- the subtypes offered for a heap type over the existing types; without garbage collection only
+-- itself (own rule)
 unfoldable pub subtypes_offered : Config → List SubType → HeapType → List HeapType
 subtypes_offered config types ty = if config.gc_enabled then gc_subtypes config types ty else ty ∷ []
 
--- the supertypes offered for a heap type over the existing types; without garbage collection only itself (own rule)
+-- the supertypes offered for a heap type over the existing types; without garbage collection only
+-- itself (own rule)
 unfoldable pub supertypes_offered : Config → List SubType → HeapType → List HeapType
 supertypes_offered config types ty = if config.gc_enabled then gc_supertypes types ty else ty ∷ []

@@ -41,7 +41,8 @@ new_group_at config context allow_empty space bytes =
 abbrev pub members : List SubType → Range ℕ → List SubType
 members types group = take (group.end - group.start) (drop group.start types)
 
--- a group may be cloned unless it is empty and that is not allowed, or it has more types than may still be added (own rule)
+-- a group may be cloned unless it is empty and that is not allowed, or it has more types than may
+-- still be added (own rule)
 abbrev pub may_be_cloned : Config → Bool → Space → Range ℕ → Bool
 may_be_cloned config allow_empty space group =
     (allow_empty || nat_lt group.start group.end) && nat_le (group.end - group.start) (types_left config space)
@@ -57,7 +58,8 @@ clone_rec_group_at config allow_empty space bytes =
     let cloned = may_be_cloned config allow_empty space group.0 in
     (cloned, ((if cloned then with_clone space group.0 else space), group.1))
 
--- whether to clone a group: with garbage collection, if there is a group, in one case of 255 (own rule)
+-- whether to clone a group: with garbage collection, if there is a group, in one case of 255 (own
+-- rule)
 abbrev pub clone_wanted_at : Config → Space → List ℕ → Bool × List ℕ
 clone_wanted_at config space bytes =
     if config.gc_enabled && nat_lt 0 (length space.groups) then ratio_at 1 255 bytes else (false, bytes)
@@ -91,8 +93,8 @@ more_types_at config context (suc most) space bytes =
     then (if go.0 then more_types_at config context most grown.0 grown.1 else (space, go.1))
     else (space, bytes)
 
--- groups until the minimum number of types is reached, then further groups; each of these but the last takes a byte (own
--- rule)
+-- groups until the minimum number of types is reached, then further groups; each of these but the
+-- last takes a byte (own rule)
 unfoldable pub types_at : Config → Context → Space → List ℕ → Space × List ℕ
 types_at config context space bytes =
     let least = least_types_at config context config.min_types space bytes in

@@ -1,4 +1,5 @@
--- Bytes that spell types. Rules of this project. Only unshared types without supertypes can be spelled.
+-- Bytes that spell types. Rules of this project. Only unshared types without supertypes can be
+-- spelled.
 use Rattle.std.specs.Prelude.{◌≡◌, ℕ, ◌<◌, ◌≤◌, ◌+◌, ◌-◌, ◌&&◌, ◌⊎◌, Bool, true, false, not, nat_lt, IsTrue, List, [], ◌∷◌, ◌++◌, Some, None, length, slice_get}
 use Rattle.std.specs.List.{All, list_any}
 use Rattle.smith_bytes.specs.Spelling.{SpellsBool, SpellsNumber, SpellsRefusal, Where, Joined, Each, Listed}
@@ -125,8 +126,8 @@ pub record SpellsCompositeType (config : Config) (limit : ℕ) (composite : Comp
 abbrev pub is_open : SubType → Bool
 is_open t = not t.is_final
 
--- with garbage collection: that no supertype is chosen, whether the type is final, that it is unshared, and its composite
--- type
+-- with garbage collection: that no supertype is chosen, whether the type is final, that it is
+-- unshared, and its composite type
 abbrev pub SpellsDeclared : Config → List SubType → ℕ → SubType → List ℕ → Type 0
 SpellsDeclared config before limit t =
     Joined (Where (list_any is_open before) (SpellsRefusal 32))
@@ -148,7 +149,8 @@ unfoldable pub SpellsSubTypes : Config → List SubType → ℕ → List SubType
 SpellsSubTypes config before limit [] piece = piece ≡ []
 SpellsSubTypes config before limit (t ∷ types) piece = Joined (SpellsSubType config before limit t) (SpellsSubTypes config (before ++ t ∷ []) limit types) piece
 
--- a group after others: with garbage collection, that no group is cloned if there is one, and the number of types
+-- a group after others: with garbage collection, that no group is cloned if there is one, and the
+-- number of types
 abbrev pub SpellsSize : Bool → Config → Bool → ℕ → ℕ → List ℕ → Type 0
 SpellsSize true config stands room size piece = Joined (Where stands (SpellsRefusal 255)) (SpellsNumber size 0 room) piece
 SpellsSize false config stands room size piece = (size ≡ 1) × (piece ≡ [])
@@ -169,26 +171,28 @@ SpellsGroups config before stands (group ∷ groups) piece =
 abbrev pub IsRoot : SubType → Type 0
 IsRoot t = t.supertype ≡ None
 
--- a value type that refers only to these types, and, if it is a non-nullable reference, is grounded by a struct type among
--- them
+-- a value type that refers only to these types, and, if it is a non-nullable reference, is grounded
+-- by a struct type among them
 abbrev pub RefersTo : Config → List SubType → ValType → Type 0
 RefersTo config types (vals.Ref reference) =
     IsInRange types reference.heap_type × (IsTrue reference.nullable ⊎ IsGroundedByStructs types config.custom_descriptors_enabled reference.heap_type)
 RefersTo config types _ = Unit {0}
 
--- types after others, each of which refers only to types before it, which ground its non-nullable references
+-- types after others, each of which refers only to types before it, which ground its non-nullable
+-- references
 abbrev pub ReferBack : Config → List SubType → List SubType → Type 0
 ReferBack config before [] = Unit {0}
 ReferBack config before (t ∷ types) = All (RefersTo config before) (values_of t.composite_type.inner) × ReferBack config (before ++ t ∷ []) types
 
--- groups after types: none is empty, there is room for all, and their types refer only to types before them, which ground
--- their non-nullable references
+-- groups after types: none is empty, there is room for all, and their types refer only to types
+-- before them, which ground their non-nullable references
 abbrev pub GroupsFit : Config → List SubType → List (List SubType) → Type 0
 GroupsFit config before [] = Unit {0}
 GroupsFit config before (group ∷ groups) =
     (0 < length group) × (length before + length group ≤ config.max_types) × ReferBack config before group × GroupsFit config (before ++ group) groups
 
--- a space with one more group, of types that refer only to types before them, which ground their non-nullable references
+-- a space with one more group, of types that refer only to types before them, which ground their
+-- non-nullable references
 pub record SpellsAdded (config : Config) (before space : Space) (piece : List ℕ) : Type 0 where
   pub added : List SubType
   pub is_behind : space ≡ with_group (before.types ++ added) before.groups

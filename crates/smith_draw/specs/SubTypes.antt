@@ -11,16 +11,18 @@ use Rattle.smith_draw.specs.Offered.{ancestors}
 use Rattle.smith_draw.specs.CompositeTypes.{composite_type_at}
 use Rattle.smith_draw.specs.MatchingComposites.{matching_composite_type_at}
 
--- the number of types on the path along declared supertypes of the type at this index, including the type itself (own rule)
+-- the number of types on the path along declared supertypes of the type at this index, including
+-- the type itself (own rule)
 abbrev pub depth_at : List SubType → ℕ → ℕ
 depth_at types index = suc (length (ancestors types index))
 
--- the type at this index may have subtypes: it is not final, and its depth is less than 60 (own rule)
+-- the type at this index may have subtypes: it is not final, and its depth is less than 60 (own
+-- rule)
 abbrev pub may_have_subtypes : List SubType → ℕ → SubType → Bool
 may_have_subtypes types index t = not t.is_final && nat_lt (depth_at types index) 60
 
--- a declared supertype exists, has the same kind and sharedness (Validation, Recursive Types), and may have subtypes (own
--- rule)
+-- a declared supertype exists, has the same kind and sharedness (Validation, Recursive Types), and
+-- may have subtypes (own rule)
 pub record HasSuperType (types : List SubType) (t : SubType) : Type 0 where
   pub below : (s : ℕ) → t.supertype ≡ Some s → (u : SubType) × (slice_get types s ≡ Some u) × IsAlike t u
   pub allowed : (s : ℕ) (u : SubType) → t.supertype ≡ Some s → slice_get types s ≡ Some u → may_have_subtypes types s u ≡ true
@@ -57,7 +59,8 @@ root_type_at config context limit bytes =
     let composite = composite_type_at config context limit is_final.1 in
     (record { is_final = is_final.0; supertype = None; composite_type = composite.0 }, composite.1)
 
--- a subtype of the type at this index, if it exists: a matching composite type, then whether it is final (own rule)
+-- a subtype of the type at this index, if it exists: a matching composite type, then whether it is
+-- final (own rule)
 abbrev pub sub_type_below_at : Config → Context → ℕ → ℕ → Option SubType → List ℕ → SubType × List ℕ
 sub_type_below_at config context limit index None bytes = root_type_at config context limit bytes
 sub_type_below_at config context limit index (Some supertype) bytes =
@@ -71,8 +74,8 @@ sub_type_of_at config context limit indices bytes =
     let index = chosen_at 0 indices bytes in
     sub_type_below_at config context limit index.0 (slice_get context.types index.0) index.1
 
--- whether to choose a supertype, given the number of types that may have subtypes: with garbage collection, if some type
--- may, in one case of 32 (own rule)
+-- whether to choose a supertype, given the number of types that may have subtypes: with garbage
+-- collection, if some type may, in one case of 32 (own rule)
 abbrev pub supertype_wanted_at : Config → ℕ → List ℕ → Bool × List ℕ
 supertype_wanted_at config count bytes =
     if config.gc_enabled && nat_lt 0 count then ratio_at 1 32 bytes else (false, bytes)

@@ -13,8 +13,8 @@ use Rattle.smith_draw.specs.ValueTypes.{ref_type_at}
 abbrev pub least_elements : Config → ℕ
 least_elements config = if config.disallow_traps then 1 else 0
 
--- the maximum number of elements that is drawn: the configured number, but at least `least_elements`, and at most as many as
--- a table may have (own rule)
+-- the maximum number of elements that is drawn: the configured number, but at least
+-- `least_elements`, and at most as many as a table may have (own rule)
 unfoldable pub drawn_elements : Config → Bool → ℕ
 drawn_elements config table64 = min (max (least_elements config) config.max_table_elements) (most_elements table64)
 
@@ -22,8 +22,8 @@ drawn_elements config table64 = min (max (least_elements config) config.max_tabl
 abbrev pub likely_elements : Config → Bool → ℕ
 likely_elements config table64 = min 10000 (drawn_elements config table64)
 
--- the width of its addresses, drawn as for a memory, its limits, and its element type, which also determines whether it is
--- shared (own rule)
+-- the width of its addresses, drawn as for a memory, its limits, and its element type, which also
+-- determines whether it is shared (own rule)
 unfoldable pub table_type_at : Config → Context → List ℕ → TableType × List ℕ
 table_type_at config context bytes =
     let table64 = memory64_at config bytes in

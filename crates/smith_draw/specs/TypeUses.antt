@@ -31,7 +31,8 @@ abbrev pub places_from : {A : Type 0} → (A → Bool) → ℕ → List A → Li
 places_from test n [] = []
 places_from test n (x ∷ xs) = if test x then n ∷ places_from test (suc n) xs else places_from test (suc n) xs
 
--- whether a type may be used: by a tag, by an imported function, which may be shared, or by a defined function
+-- whether a type may be used: by a tag, by an imported function, which may be shared, or by a
+-- defined function
 abbrev pub may_be_used : TypeUse → SubType → Bool
 may_be_used Tag t = is_tag_type t
 may_be_used ImportedFunc t = is_function t.composite_type.inner

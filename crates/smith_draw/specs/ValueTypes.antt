@@ -33,7 +33,8 @@ abstract_heap_types config =
     (heap.Eq, config.gc_enabled) ∷ (heap.Struct, config.gc_enabled) ∷
     (heap.Array, config.gc_enabled) ∷ (heap.I31, config.gc_enabled) ∷ []
 
--- whether a type is shared: always if it must be, and in one case of four if there is a choice (own rule)
+-- whether a type is shared: always if it must be, and in one case of four if there is a choice (own
+-- rule)
 unfoldable pub sharedness_at : Config → Bool → List ℕ → Bool × List ℕ
 sharedness_at config must_share bytes =
     if must_share then (true, bytes)
@@ -46,7 +47,8 @@ abstract_heap_type_at config must_share bytes =
     let ty = chosen_at heap.Func (enabled (abstract_heap_types config)) is_shared.1 in
     (Abstract is_shared.0 ty.0, ty.1)
 
--- whether to use a type index: with garbage collection, if there is a type below the limit (own rule)
+-- whether to use a type index: with garbage collection, if there is a type below the limit (own
+-- rule)
 abbrev pub index_wanted_at : Config → ℕ → List ℕ → Bool × List ℕ
 index_wanted_at config limit bytes =
     if config.gc_enabled && nat_lt 0 limit then bool_at bytes else (false, bytes)
@@ -74,14 +76,15 @@ heap_type_at config types must_share limit bytes =
     let index = type_index_at config types must_share limit bytes in
     heap_type_of_at config must_share index.0 index.1
 
--- whether a reference is non-nullable: with `non_nullable_enabled`, if a bool is true and the heap type is grounded (own
--- rule)
+-- whether a reference is non-nullable: with `non_nullable_enabled`, if a bool is true and the heap
+-- type is grounded (own rule)
 unfoldable pub granted_at : Config → Context → HeapType → List ℕ → Bool × List ℕ
 granted_at config context ty bytes =
     let wanted = bool_at bytes in
     if config.non_nullable_enabled then (wanted.0 && is_grounded context ty, wanted.1) else (false, bytes)
 
--- a heap type, then whether the reference is nullable; without reference types, `funcref` without a draw (own rule)
+-- a heap type, then whether the reference is nullable; without reference types, `funcref` without a
+-- draw (own rule)
 unfoldable pub ref_type_at : Config → Context → Bool → ℕ → List ℕ → RefType × List ℕ
 ref_type_at config context must_share limit bytes =
     let ty = heap_type_at config context.types must_share limit bytes in
