@@ -1,4 +1,5 @@
-// Drawn composite types, subtypes and groups. The clauses are proved; nothing calls these functions.
+// Drawn composite types, subtypes and groups. The clauses are proved; nothing calls these
+// functions.
 
 ghost use Rattle.std.specs.Prelude.{◌≡◌, [], ◌∷◌, replicate, true, false, Some};
 ghost use Rattle.smith_types.specs.declared.composite_type.StorageType.TheVariants.{I8, I16};

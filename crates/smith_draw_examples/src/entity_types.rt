@@ -1,5 +1,5 @@
-// Drawn global and table types, and the types that tags and imported functions may have. The clauses are proved; nothing calls
-// these functions.
+// Drawn global and table types, and the types that tags and imported functions may have. The
+// clauses are proved; nothing calls these functions.
 
 ghost use Rattle.std.specs.Prelude.{◌≡◌, ◌^◌, ◌++◌, [], ◌∷◌, true, false, Some, None};
 ghost use Rattle.smith_types.specs.Flags.{funcref};

@@ -1,4 +1,5 @@
-// Function types of few values, and of too many. The clauses are proved; nothing calls these functions.
+// Function types of few values, and of too many. The clauses are proved; nothing calls these
+// functions.
 
 ghost use Rattle.std.specs.Prelude.{replicate};
 ghost use Rattle.smith_types.specs.ExampleTypes.{final_type, empty_struct, taking, giving};

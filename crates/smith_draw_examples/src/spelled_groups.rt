@@ -1,4 +1,5 @@
-// Bytes that spell types, and bytes that do not. The clauses are proved; nothing calls these functions.
+// Bytes that spell types, and bytes that do not. The clauses are proved; nothing calls these
+// functions.
 
 ghost use Rattle.smith_draw.specs.ExampleSpellings.{OneFunctionIsSpelled, MoreIsAskedFor};
 
