@@ -1,4 +1,5 @@
--- A module with a code section of another kind: the section Binary Format, Modules, of the WebAssembly Core Specification 3.0.
+-- A module with a code section of another kind: the section Binary Format, Modules, of the
+-- WebAssembly Core Specification 3.0.
 use Rattle.std.specs.Prelude.{◌≡◌, ℕ, List, []}
 use Rattle.smith_binary.specs.Pieces.{Joined}
 use Rattle.smith_sections.specs.Types.{IsRecGroup}

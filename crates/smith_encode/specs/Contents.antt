@@ -1,4 +1,5 @@
--- A module in the abstract syntax: the section Structure, Modules, of the WebAssembly Core Specification 3.0.
+-- A module in the abstract syntax: the section Structure, Modules, of the WebAssembly Core
+-- Specification 3.0.
 use Rattle.std.specs.Prelude.{ℕ, ◌-◌, List, map, length, drop}
 use Rattle.std.specs.List.{zip}
 use Rattle.smith_types.specs.Imports.{flattened}

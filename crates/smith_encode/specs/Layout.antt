@@ -24,7 +24,8 @@ writes_imports m = m.encodes_imports || is_filled m.imports
 abbrev pub writes_data_count : ModuleParts → Bool
 writes_data_count m = m.config.bulk_memory_enabled && is_filled m.segments
 
--- the identifiers of the sections that are written: of those other than the type and import section, none that is empty
+-- the identifiers of the sections that are written: of those other than the type and import
+-- section, none that is empty
 abbrev pub section_ids : ModuleParts → List ℕ
 section_ids m =
     id_if (writes_types m) 1 ++ (id_if (writes_imports m) 2 ++ (id_if (is_filled (defined m.num_defined_funcs m.funcs)) 3

@@ -12,7 +12,8 @@ use Rattle.smith_sections.specs.Data.{IsData}
 use Rattle.smith_sections.specs.Long.{IsLongSection, IsNeverLong, IsLongGroup, IsLongImportGroup, IsLongExport, IsLongElement, IsLongBody, IsLongData}
 use Rattle.smith_encode.specs.Contents.{contents_of}
 
--- a section is too long: a list in it has 2^32 items or more, or it or a body of it has a spelling of 2^32 bytes or more
+-- a section is too long: a list in it has 2^32 items or more, or it or a body of it has a spelling
+-- of 2^32 bytes or more
 pub data IsTooLong (m : ModuleParts) : Type 0 where
   types : IsLongSection IsRecGroup IsLongGroup (contents_of m).types → IsTooLong m
   imports : IsLongSection IsImportGroup IsLongImportGroup m.imports → IsTooLong m

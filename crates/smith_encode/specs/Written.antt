@@ -1,5 +1,5 @@
--- The sections of a module as they are written, in three parts: imports in the groups of the module, tables and segments in one of
--- their forms.
+-- The sections of a module as they are written, in three parts: imports in the groups of the
+-- module, tables and segments in one of their forms.
 use Rattle.std.specs.Prelude.{ℕ, List, length}
 use Rattle.std.specs.List.{zip}
 use Rattle.smith_binary.specs.Numbers.{IsUnsigned}
