@@ -1,4 +1,5 @@
--- The checks of counters of fuel as instructions: the section Binary Format, Instructions, of the WebAssembly Core Specification 3.0.
+-- The checks of counters of fuel as instructions: the section Binary Format, Instructions, of the
+-- WebAssembly Core Specification 3.0.
 use Rattle.std.specs.Prelude.{◌≡◌, ℕ, List, [], ◌∷◌, pos}
 use Rattle.smith_binary.specs.Numbers.{IsSigned}
 use Rattle.smith_binary.specs.Pieces.{IsByte, Joined}
@@ -19,7 +20,8 @@ IsTrapIf = Joined (IsByte 0x04) (Joined (IsByte 0x40) (Joined (IsByte 0x00) (IsB
 abbrev pub IsOne : List ℕ → Type 0
 IsOne = Joined (IsByte 0x41) (IsSigned 32 (pos 1))
 
--- the check of a counter: `global.get`, `i32.eqz`, `if`; then `global.get`, `i32.const 1`, `i32.sub`, `global.set`
+-- the check of a counter: `global.get`, `i32.eqz`, `if`; then `global.get`, `i32.const 1`,
+-- `i32.sub`, `global.set`
 abbrev pub IsCheck : ℕ → List ℕ → Type 0
 IsCheck counter =
     Joined (IsGlobalGet counter) (Joined (IsByte 0x45) (Joined IsTrapIf (Joined (IsGlobalGet counter) (Joined IsOne (Joined (IsByte 0x6B) (IsGlobalSet counter))))))
