@@ -1,4 +1,5 @@
--- The types of instructions: the section Validation, Instructions, of the WebAssembly Core Specification 3.0.
+-- The types of instructions: the section Validation, Instructions, of the WebAssembly Core
+-- Specification 3.0.
 use Rattle.std.specs.Prelude.{◌≡◌, ℕ, Bool, true, false, List, [], ◌∷◌, ◌++◌, Some, slice_get, All, if◌then◌else◌}
 use Rattle.smith_types.specs.Entities.{IsFuncAt}
 use Rattle.smith_types.specs.Expressions.{reference_to}
@@ -53,7 +54,8 @@ Leaves context operands results taken = (below : List ValType) × (operands ≡ 
 abbrev pub ReturnsFrom : BodyContext → FuncType → Type 0
 ReturnsFrom context function = AreBelow context function.results context.results
 
--- a table of functions (Validation, Control Instructions, call_indirect); shared ones are an own rule
+-- a table of functions (Validation, Control Instructions, call_indirect); shared ones are an own
+-- rule
 pub record IsFunctionTable (context : BodyContext) (index : ℕ) (wide : Bool) : Type 0 where
   pub table : TableType
   pub there : IsTable context index table

@@ -1,5 +1,5 @@
--- The types of memory instructions: the section Validation, Memory Instructions, of the WebAssembly Core Specification 3.0.
--- Atomic accesses are those of the threads proposal.
+-- The types of memory instructions: the section Validation, Memory Instructions, of the WebAssembly
+-- Core Specification 3.0. Atomic accesses are those of the threads proposal.
 use Rattle.std.specs.Prelude.{◌≡◌, ℕ, ◌<◌, ◌≤◌, ◌^◌, ◌-◌, Bool, List, [], ◌∷◌, Some, slice_get, if◌then◌else◌}
 use Rattle.smith_types.specs.declared.value_type.ValType.{ValType}
 use Rattle.smith_types.specs.declared.value_type.ValType.TheVariants.{I32, I64, F32, F64, V128}

@@ -1,5 +1,5 @@
--- Sequences of instructions and bodies: the sections Validation, Instruction Sequences, and Validation, Functions, of the
--- WebAssembly Core Specification 3.0.
+-- Sequences of instructions and bodies: the sections Validation, Instruction Sequences, and
+-- Validation, Functions, of the WebAssembly Core Specification 3.0.
 use Rattle.std.specs.Prelude.{◌≡◌, ℕ, List, [], ◌∷◌, ◌++◌, All}
 use Rattle.smith_types.specs.declared.value_type.ValType.{ValType}
 use Rattle.smith_types.specs.declared.value_type.ValType.TheVariants.{I32}

@@ -1,4 +1,5 @@
--- The types of vector instructions: the section Validation, Vector Instructions, of the WebAssembly Core Specification 3.0.
+-- The types of vector instructions: the section Validation, Vector Instructions, of the WebAssembly
+-- Core Specification 3.0.
 use Rattle.std.specs.Prelude.{ℕ, ◌<◌, List, [], ◌∷◌, All}
 use Rattle.smith_types.specs.declared.value_type.ValType.{ValType}
 use Rattle.smith_types.specs.declared.value_type.ValType.TheVariants.{I32, I64, F32, F64, V128}
@@ -10,7 +11,8 @@ use Rattle.smith_instr.specs.declared.vector.LaneExtract.TheVariants as extract
 use Rattle.smith_instr.specs.declared.vector.VectorInstr.{VectorInstr}
 use Rattle.smith_instr.specs.declared.vector.VectorInstr.TheVariants as vector
 
--- the number of lanes of a shape, and the value of a lane, unpacked (Validation, Vector Instructions)
+-- the number of lanes of a shape, and the value of a lane, unpacked (Validation, Vector
+-- Instructions)
 abbrev pub lanes : LaneShape → ℕ × ValType
 lanes shape.I8x16 = (16, I32)
 lanes shape.I16x8 = (8, I32)

@@ -24,7 +24,8 @@ pub enum Catch {
     AllRef { label: u32 },
 }
 
-/// The immediates of `br_on_cast` and `br_on_cast_fail`: the standard's section Structure, Control Instructions.
+/// The immediates of `br_on_cast` and `br_on_cast_fail`: the standard's section Structure, Control
+/// Instructions.
 #[derive(Clone, Copy, Debug)]
 pub struct BranchCast {
     /// The label that the branch goes to.

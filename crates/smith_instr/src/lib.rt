@@ -1,8 +1,8 @@
-//! Instructions of function bodies as plain data, and the rules by which they are typed. The standard is the WebAssembly Core
-//! Specification 3.0.
+//! Instructions of function bodies as plain data, and the rules by which they are typed. The
+//! standard is the WebAssembly Core Specification 3.0.
 //!
-//! There are no instructions of the features acquire_release_atomics, multibyte_array_access and custom_descriptors, and of
-//! shared_everything_threads none but ref.i31_shared.
+//! There are no instructions of the features acquire_release_atomics, multibyte_array_access and
+//! custom_descriptors, and of shared_everything_threads none but ref.i31_shared.
 #![tactic(auto)]
 
 mod aggregate;

@@ -44,7 +44,8 @@ pub struct MemArg {
     pub memory: u32,
 }
 
-/// An instruction on a whole memory or on a data segment: the standard's section Structure, Memory Instructions.
+/// An instruction on a whole memory or on a data segment: the standard's section Structure, Memory
+/// Instructions.
 #[derive(Clone, Copy, Debug)]
 pub enum MemoryInstr {
     /// `memory.size` of a memory.

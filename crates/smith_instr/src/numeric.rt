@@ -1,4 +1,5 @@
-/// An operator on one integer: the standard's section Structure, Numeric Instructions, unop at an integer type.
+/// An operator on one integer: the standard's section Structure, Numeric Instructions, unop at an
+/// integer type.
 #[derive(Clone, Copy, Debug)]
 pub enum IntUnary {
     Clz,
@@ -138,7 +139,8 @@ pub enum WideArithmetic {
     MulWideU,
 }
 
-/// A numeric instruction without immediates: the standard's section Structure, Numeric Instructions.
+/// A numeric instruction without immediates: the standard's section Structure, Numeric
+/// Instructions.
 #[derive(Clone, Copy, Debug)]
 pub enum NumericInstr {
     /// A unary operator of `i32`.

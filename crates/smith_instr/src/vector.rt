@@ -1,4 +1,5 @@
-/// The lanes of a vector of integers: the standard's section Structure, Vector Instructions, ishape.
+/// The lanes of a vector of integers: the standard's section Structure, Vector Instructions,
+/// ishape.
 #[derive(Clone, Copy, Debug)]
 pub enum IntShape {
     I8x16,
