@@ -1,5 +1,6 @@
--- Aggregate instructions: the section Binary Format, Instructions, Aggregate Instructions, of the WebAssembly Core Specification
--- 3.0. The shared i31 is that of the shared-everything-threads proposal.
+-- Aggregate instructions: the section Binary Format, Instructions, Aggregate Instructions, of the
+-- WebAssembly Core Specification 3.0. The shared i31 is that of the shared-everything-threads
+-- proposal.
 use Rattle.std.specs.Prelude.{ℕ, ◌+◌, List}
 use Rattle.smith_binary.specs.Pieces.{Joined}
 use Rattle.smith_sections.specs.Instructions.{IsIndex, IsPrefixed}

@@ -1,4 +1,5 @@
--- Atomic accesses to memory: the threads proposal, section Binary Format, Atomic Memory Instructions.
+-- Atomic accesses to memory: the threads proposal, section Binary Format, Atomic Memory
+-- Instructions.
 use Rattle.std.specs.Prelude.{ℕ, ◌+◌}
 use Rattle.smith_instr.specs.declared.atomic.AtomicAccess.{AtomicAccess}
 use Rattle.smith_instr.specs.declared.atomic.AtomicAccess.TheVariants as atomic

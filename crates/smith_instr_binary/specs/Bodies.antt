@@ -1,4 +1,5 @@
--- Bodies of functions: the section Binary Format, Modules, Code Section, of the WebAssembly Core Specification 3.0.
+-- Bodies of functions: the section Binary Format, Modules, Code Section, of the WebAssembly Core
+-- Specification 3.0.
 use Rattle.std.specs.Prelude.{ℕ, List}
 use Rattle.smith_binary.specs.Pieces.{Joined, IsSized}
 use Rattle.smith_types.specs.declared.value_type.ValType.{ValType}

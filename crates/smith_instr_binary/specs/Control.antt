@@ -1,5 +1,5 @@
--- Immediates of control instructions: the section Binary Format, Instructions, Control Instructions, of the WebAssembly Core
--- Specification 3.0.
+-- Immediates of control instructions: the section Binary Format, Instructions, Control
+-- Instructions, of the WebAssembly Core Specification 3.0.
 use Rattle.std.specs.Prelude.{ℕ, Bool, true, false, List, pos}
 use Rattle.smith_binary.specs.Numbers.{IsSigned}
 use Rattle.smith_binary.specs.Pieces.{IsByte, Joined}
@@ -11,7 +11,8 @@ use Rattle.smith_instr.specs.declared.control.BlockType.TheVariants as block
 use Rattle.smith_instr.specs.declared.control.Catch.{Catch}
 use Rattle.smith_instr.specs.declared.control.Catch.TheVariants as catch
 
--- the type of a block: a byte, a value type, or the index of a type as a signed integer that is not negative
+-- the type of a block: a byte, a value type, or the index of a type as a signed integer that is not
+-- negative
 abbrev pub IsBlockType : BlockType → List ℕ → Type 0
 IsBlockType block.Empty piece = IsByte 0x40 piece
 IsBlockType (block.Value value) piece = IsValType value piece

@@ -1,4 +1,5 @@
--- Memory instructions: the section Binary Format, Instructions, Memory Instructions, of the WebAssembly Core Specification 3.0.
+-- Memory instructions: the section Binary Format, Instructions, Memory Instructions, of the
+-- WebAssembly Core Specification 3.0.
 use Rattle.std.specs.Prelude.{◌≡◌, ℕ, ◌+◌, ◌^◌, ◌<◌, List}
 use Rattle.smith_binary.specs.Numbers.{IsUnsigned}
 use Rattle.smith_binary.specs.Pieces.{IsByte, Joined}
@@ -74,6 +75,7 @@ vector_load_number vector_load.Splat64 = 10
 vector_load_number vector_load.Zero32 = 92
 vector_load_number vector_load.Zero64 = 93
 
--- an access to a lane of `2 ^ log2_bytes` bytes, of which there are four sizes: the numbers follow one another from `first` on
+-- an access to a lane of `2 ^ log2_bytes` bytes, of which there are four sizes: the numbers follow
+-- one another from `first` on
 abbrev pub IsLaneAccess : ℕ → ℕ → MemArg → ℕ → List ℕ → Type 0
 IsLaneAccess first log2_bytes at lane piece = (log2_bytes < 4) × Joined (IsPrefixed 0xFD (first + log2_bytes)) (Joined (IsMemArg at) (IsByte lane)) piece

@@ -1,5 +1,5 @@
--- Numeric instructions: the section Binary Format, Instructions, Numeric Instructions, of the WebAssembly Core Specification 3.0.
--- Wide arithmetic is that of the wide arithmetic proposal.
+-- Numeric instructions: the section Binary Format, Instructions, Numeric Instructions, of the
+-- WebAssembly Core Specification 3.0. Wide arithmetic is that of the wide arithmetic proposal.
 use Rattle.std.specs.Prelude.{ℕ, ◌+◌, List}
 use Rattle.smith_binary.specs.Pieces.{IsByte}
 use Rattle.smith_sections.specs.Instructions.{IsPrefixed}

@@ -1,5 +1,5 @@
--- Reference and table instructions: the sections Binary Format, Instructions, Reference Instructions and Table Instructions, of the
--- WebAssembly Core Specification 3.0.
+-- Reference and table instructions: the sections Binary Format, Instructions, Reference
+-- Instructions and Table Instructions, of the WebAssembly Core Specification 3.0.
 use Rattle.std.specs.Prelude.{ℕ, ◌+◌, Bool, true, false, List}
 use Rattle.smith_binary.specs.Pieces.{IsByte, Joined}
 use Rattle.smith_types.specs.declared.value_type.RefType.{RefType}

@@ -1,4 +1,5 @@
--- Vector instructions: the section Binary Format, Instructions, Vector Instructions, of the WebAssembly Core Specification 3.0.
+-- Vector instructions: the section Binary Format, Instructions, Vector Instructions, of the
+-- WebAssembly Core Specification 3.0.
 use Rattle.std.specs.Prelude.{◌≡◌, ℕ, List, length}
 use Rattle.smith_binary.specs.Pieces.{Is, IsByte, Joined}
 use Rattle.smith_sections.specs.Instructions.{IsPrefixed}

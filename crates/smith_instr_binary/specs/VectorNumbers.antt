@@ -1,5 +1,5 @@
--- The numbers of vector instructions, after their prefix: the section Binary Format, Instructions, Vector Instructions, of the
--- WebAssembly Core Specification 3.0.
+-- The numbers of vector instructions, after their prefix: the section Binary Format, Instructions,
+-- Vector Instructions, of the WebAssembly Core Specification 3.0.
 use Rattle.std.specs.Prelude.{ℕ, ◌+◌}
 use Rattle.smith_instr.specs.declared.vector.VectorUnary.{VectorUnary}
 use Rattle.smith_instr.specs.declared.vector.VectorUnary.TheVariants as unary

@@ -1,5 +1,5 @@
-//! Instructions and bodies of functions in the binary format of the WebAssembly Core Specification 3.0 (chapter Binary Format,
-//! Instructions).
+//! Instructions and bodies of functions in the binary format of the WebAssembly Core Specification
+//! 3.0 (chapter Binary Format, Instructions).
 //!
 //! Additions of proposals outside the standard are written in the encoding of the proposal: atomic
 //! accesses to memory (threads), the shared i31 (shared-everything-threads), and wide arithmetic.

@@ -56,7 +56,8 @@ pub(crate) fn write_prefixed_access(
     write_mem_arg(at, sink)
 }
 
-// Writes the access to the lane `lane` of `2 ^ log2_bytes` bytes. The number of the least lane is `first`.
+// Writes the access to the lane `lane` of `2 ^ log2_bytes` bytes. The number of the least lane is
+// `first`.
 pub(crate) fn write_lane_access(
     first: u32,
     log2_bytes: u32,

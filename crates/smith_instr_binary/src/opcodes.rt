@@ -52,7 +52,8 @@ pub(crate) fn write_prefixed_index(
     sink.write_u32(index)
 }
 
-// Writes the opcode of the prefix `prefix` and the number `number`, then the indices `first` and `second`.
+// Writes the opcode of the prefix `prefix` and the number `number`, then the indices `first` and
+// `second`.
 pub(crate) fn write_prefixed_indices(
     prefix: u8,
     number: u32,
