@@ -52,7 +52,7 @@ list_long x xs piece h =
     let sum = length-append h.first h.second in
     omega (arith, first, whole, sum)
 
--- a spelling of some byte changes the number of bytes
+-- bytes are not the same with a non-empty piece in front
 never_longer : (piece last : List ℕ) → last ≡ piece ++ last → 1 ≤ length piece → ⊥
 never_longer piece last e long =
     let whole : length last ≡ length (piece ++ last) = ap length e in
