@@ -13,7 +13,8 @@ use smith_text::{Sink, TextForm};
 use smith_types::ConstInstr;
 use std::fmt;
 
-/// Writes `instruction` in its plain form, without a line's end: the standard's section Text Format, Instructions.
+/// Writes `instruction` in its plain form, without a line's end: the standard's section Text
+/// Format, Instructions.
 ///
 /// Indices are numbers, and blocks have no labels of their own.
 pub fn write_instr<S: Sink>(instruction: &Instr, sink: &mut S) -> fmt::Result

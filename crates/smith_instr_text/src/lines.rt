@@ -48,8 +48,8 @@ fn write_line<S: Sink>(instruction: &Instr, depth: usize, sink: &mut S) -> Resul
     Ok(depth_after(instruction, level))
 }
 
-/// Writes `instructions` in their plain form, a line each. The first is at the depth `depth`, at two spaces a level, and those of a
-/// block are one level deeper than its start and its end.
+/// Writes `instructions` in their plain form, a line each. The first is at the depth `depth`, at
+/// two spaces a level, and those of a block are one level deeper than its start and its end.
 ///
 /// # Errors
 ///
@@ -95,8 +95,8 @@ fn write_check<S: Sink>(counter: u32, depth: usize, sink: &mut S) -> fmt::Result
     write_instrs(&check, depth, sink)
 }
 
-/// Writes `instructions` as [`write_instrs`] does, with the checks of the counters of fuel `counters` before them and after the start of
-/// each loop.
+/// Writes `instructions` as [`write_instrs`] does, with the checks of the counters of fuel
+/// `counters` before them and after the start of each loop.
 ///
 /// # Errors
 ///

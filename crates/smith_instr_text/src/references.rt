@@ -59,7 +59,8 @@ fn extended(extension: Extension) -> &'static str {
     }
 }
 
-/// Writes an aggregate instruction; `ref.i31_shared` as the shared-everything-threads proposal does.
+/// Writes an aggregate instruction; `ref.i31_shared` as the shared-everything-threads proposal
+/// does.
 pub(crate) fn write_aggregate<S: Sink>(instruction: AggregateInstr, sink: &mut S) -> fmt::Result
     requires open { S.failed sink.old ≡ false }
     ensures fault { S.failed sink.new ≡ is_err result }
