@@ -58,8 +58,8 @@ impl Field {
     }
 }
 
-/// The list of the fields, in the order of `Config`: the name, the place and one sentence of each, as
-/// `$row` writes them.
+/// The list of the fields, in the order of `Config`: the name, the place and one sentence of each,
+/// as `$row` writes them.
 macro_rules! fields {
     ($row:ident) => {
         [
