@@ -10,7 +10,7 @@ pub(crate) fn config_of_memories() -> Config {
     config
 }
 
-/// Sets the minimums of each part to some.
+/// Sets a minimum above 0 for types, tables, memories, globals and segments.
 pub(crate) fn set_minimums(config: &mut Config) {
     config.min_types = 4;
     config.min_tables = 1;

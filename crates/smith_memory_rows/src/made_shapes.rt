@@ -161,7 +161,8 @@ fn exports_of_each(alloc: Global) -> Result<Items<(Name, ExportKind, u32)>, Erro
     Ok(exports)
 }
 
-/// Makes a shape of an export of each kind: a function from i32 to i64, a constant f32, a memory, a table, and a tag of an f32.
+/// Makes a shape of an export of each kind: a function from i32 to i64, a constant f32, a memory, a
+/// table, and a tag of an f32.
 pub(crate) fn one_of_each(alloc: Global) -> Result<Shape, Error> {
     Ok(Shape {
         groups: types_of_each(alloc)?,

@@ -33,8 +33,7 @@ fn push(alloc: Global, types: &mut TypeSpace, index: u32) -> Result<(), Error> {
     Ok(())
 }
 
-// Whether there are this number of types in `types`, each a subtype of the one before, and no
-// group.
+// Whether `types` has `count` types, each a subtype of the one before, and no group.
 fn is_chain(types: &TypeSpace, count: u32) -> bool {
     let above = types.types().iter().map(|ty| ty.supertype);
     types.rec_groups().is_empty()
