@@ -51,7 +51,8 @@ impl From<Error> for OutputFault {
     }
 }
 
-/// Draws a program from the bytes of `u` under `config`, as [`Program::new`] does, and encodes it in the binary format.
+/// Draws a program from the bytes of `u` under `config`, as [`Program::new`] does, and encodes it
+/// in the binary format.
 ///
 /// # Errors
 ///
