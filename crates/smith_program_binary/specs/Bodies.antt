@@ -1,4 +1,5 @@
--- The bodies of a program in the code section: the section Binary Format, Code Section, of the WebAssembly Core Specification 3.0.
+-- The bodies of a program in the code section: the section Binary Format, Code Section, of the
+-- WebAssembly Core Specification 3.0.
 use Rattle.std.specs.Prelude.{ℕ, List}
 use Rattle.std.specs.List.{zip}
 use Rattle.smith_binary.specs.Pieces.{Is, Joined, IsList, IsSized}

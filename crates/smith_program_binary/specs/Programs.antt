@@ -1,4 +1,5 @@
--- Programs in the binary format: the section Binary Format, Modules, of the WebAssembly Core Specification 3.0.
+-- Programs in the binary format: the section Binary Format, Modules, of the WebAssembly Core
+-- Specification 3.0.
 use Rattle.std.specs.Prelude.{ℕ, List, map}
 use Rattle.std.specs.List.{AllZip, zip}
 use Rattle.smith_types.specs.declared.code.Code.{Code}
@@ -21,7 +22,8 @@ with_expressions codes expressions = zip (map (λ (code : Code). code.locals) co
 abbrev pub program_contents : ModuleParts → List (List ℕ) → Contents
 program_contents m expressions = record (contents_of m) { bodies = with_expressions m.code expressions }
 
--- bytes are the module in the binary format, in which the bytes of each function's expression are those of its body
+-- bytes are the module in the binary format, in which the bytes of each function's expression are
+-- those of its body
 pub record IsProgramBinary (m : ModuleParts) (bodies : List Body) (bytes : List ℕ) : Type 0 where
   pub expressions : List (List ℕ)
   pub each : AreExpressionsOf m.fuel_globals (zip m.code bodies) expressions

@@ -66,7 +66,8 @@ fn write_each(counters: &[u32], instructions: &[Instr], sink: &mut Sink) -> Resu
     Ok(())
 }
 
-// Writes `instructions` in order, with the checks of `counters` before them and after the start of each loop.
+// Writes `instructions` in order, with the checks of `counters` before them and after the start of
+// each loop.
 fn write_counted(
     counters: &[u32],
     instructions: &[Instr],
@@ -79,7 +80,8 @@ fn write_counted(
     write_each(counters, instructions, sink)
 }
 
-/// Writes the expression of a body: the checks of `counters`, and `instructions`, with the checks after the start of each loop.
+/// Writes the expression of a body: the checks of `counters`, and `instructions`, with the checks
+/// after the start of each loop.
 pub(crate) fn write_expression(
     counters: &[u32],
     instructions: &[Instr],

@@ -1,5 +1,5 @@
-//! Programs, which are modules with bodies of instructions, in the binary format of the WebAssembly Core Specification 3.0 (chapter
-//! Binary Format).
+//! Programs, which are modules with bodies of instructions, in the binary format of the WebAssembly
+//! Core Specification 3.0 (chapter Binary Format).
 #![tactic(auto)]
 
 mod bodies;
