@@ -66,7 +66,7 @@ in_order numbers sorted made moved rising once = record {
   adds_none = λ n inside. Contains-permutation sorted numbers n (IsPermutation-sym numbers sorted moved) (Contains-from_dedup eqb sorted n (rw once at inside));
 }
 
--- numbers after sorting, each once
+-- numbers with a property, after sorting, each once
 pub all_in_order : (P : ℕ → Type 0) (numbers made : List ℕ) → AreExactly P numbers → IsSortedSet numbers made → AreAll P made
 all_in_order P numbers made exactly order = record {
   ascending = order.ascending;
