@@ -22,8 +22,8 @@ imported_read = record one_import {
   defined_globals = (1, GlobalGet 0 ∷ []) ∷ [];
 }
 
--- an imported function and a defined one of one type, and a global for a reference of this type, which begins with the
--- function of this index
+-- an imported function and a defined one of one type, and a global for a reference of this type,
+-- which begins with the function of this index
 abbrev pub refers_to_function : HeapType → ℕ → ModuleParts
 refers_to_function heap_type function = record one_function {
   config = record default_config { custom_descriptors_enabled = true };
