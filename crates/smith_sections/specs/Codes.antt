@@ -1,4 +1,5 @@
--- Bodies: the section Binary Format, Modules, Code Section, of the WebAssembly Core Specification 3.0.
+-- Bodies: the section Binary Format, Modules, Code Section, of the WebAssembly Core Specification
+-- 3.0.
 use Rattle.std.specs.Prelude.{◌≡◌, ℕ, List, [], ◌∷◌, ◌++◌, replicate}
 use Rattle.std.specs.List.{flat_map}
 use Rattle.smith_binary.specs.Numbers.{IsUnsigned, shortest_bytes}
@@ -31,8 +32,8 @@ IsBody body = IsSized (Joined (IsLocals body.0) (Is body.1))
 abbrev pub index_bytes : ℕ → List ℕ
 index_bytes index = shortest_bytes 5 index
 
--- the check of a counter of fuel: `global.get`, `i32.eqz`, `if`, `unreachable`, `end`, `global.get`, `i32.const 1`, `i32.sub`,
--- `global.set`
+-- the check of a counter of fuel: `global.get`, `i32.eqz`, `if`, `unreachable`, `end`,
+-- `global.get`, `i32.const 1`, `i32.sub`, `global.set`
 abbrev pub check_bytes : ℕ → List ℕ
 check_bytes counter =
     (0x23 ∷ index_bytes counter) ++ (0x45 ∷ 0x04 ∷ 0x40 ∷ 0x00 ∷ 0x0B ∷ []) ++ (0x23 ∷ index_bytes counter)
@@ -43,7 +44,8 @@ abbrev pub checks_bytes : List ℕ → List ℕ
 checks_bytes [] = []
 checks_bytes (counter ∷ counters) = checks_bytes counters ++ check_bytes counter
 
--- the bytes of a body's expression: the checks of the counters, `unreachable` and the end; or the raw bytes as they are
+-- the bytes of a body's expression: the checks of the counters, `unreachable` and the end; or the
+-- raw bytes as they are
 abbrev pub body_bytes : List ℕ → Instructions → List ℕ
 body_bytes counters Unreachable = checks_bytes counters ++ (0x00 ∷ 0x0B ∷ [])
 body_bytes counters (Arbitrary bytes) = bytes

@@ -1,4 +1,5 @@
--- Data segments: the section Binary Format, Modules, Data Section, of the WebAssembly Core Specification 3.0.
+-- Data segments: the section Binary Format, Modules, Data Section, of the WebAssembly Core
+-- Specification 3.0.
 use Rattle.std.specs.Prelude.{◌≡◌, ◌==◌, ℕ, List, if◌then◌else◌}
 use Rattle.smith_binary.specs.Numbers.{IsUnsigned}
 use Rattle.smith_binary.specs.Pieces.{IsByte, Joined, IsList}

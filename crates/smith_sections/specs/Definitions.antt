@@ -1,5 +1,5 @@
--- Definitions of tables, globals and tags: the section Binary Format, Modules, Table Section, Global Section and Tag Section, of the
--- WebAssembly Core Specification 3.0.
+-- Definitions of tables, globals and tags: the section Binary Format, Modules, Table Section,
+-- Global Section and Tag Section, of the WebAssembly Core Specification 3.0.
 use Rattle.std.specs.Prelude.{◌≡◌, ℕ, Option, Some, None, List, [], ◌∷◌, unwrap_or}
 use Rattle.smith_binary.specs.Pieces.{Is, Joined}
 use Rattle.smith_types.specs.declared.value_type.RefType.{RefType}

@@ -1,4 +1,5 @@
--- Element segments: the section Binary Format, Modules, Element Section, of the WebAssembly Core Specification 3.0.
+-- Element segments: the section Binary Format, Modules, Element Section, of the WebAssembly Core
+-- Specification 3.0.
 use Rattle.std.specs.Prelude.{◌≡◌, ◌==◌, ℕ, Bool, true, false, not, ◌&&◌, List, [], ◌∷◌, map, unwrap_or, if◌then◌else◌}
 use Rattle.smith_binary.specs.Numbers.{IsUnsigned}
 use Rattle.smith_binary.specs.Pieces.{IsByte, Joined, IsList}
@@ -89,8 +90,8 @@ pub record IsElement (e : Element) (piece : List ℕ) : Type 0 where
   pub form : Form
   pub spelled : IsElementIn form e piece
 
--- the parts of an element segment in the abstract syntax: functions are of the type `(ref func)`, and a segment that names no table
--- is over table 0
+-- the parts of an element segment in the abstract syntax: functions are of the type `(ref func)`,
+-- and a segment that names no table is over table 0
 abbrev pub element_type : Elements → RefType → RefType
 element_type (Functions funcs) ty = func_ref false
 element_type (Expressions items) ty = ty

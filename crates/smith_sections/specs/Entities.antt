@@ -1,5 +1,6 @@
--- Types of entities: the section Binary Format, Types, of the WebAssembly Core Specification 3.0. Shared entities are those of the
--- threads and shared-everything-threads proposals, page sizes those of the custom page sizes proposal.
+-- Types of entities: the section Binary Format, Types, of the WebAssembly Core Specification 3.0.
+-- Shared entities are those of the threads and shared-everything-threads proposals, page sizes
+-- those of the custom page sizes proposal.
 use Rattle.std.specs.Prelude.{ℕ, ◌+◌, Bool, true, false, Option, Some, None, List, []}
 use Rattle.smith_binary.specs.Numbers.{IsUnsigned}
 use Rattle.smith_binary.specs.Pieces.{Is, IsByte, Joined}
@@ -38,8 +39,9 @@ global_byte mutable shared = flag mutable 0x01 + flag shared 0x02
 abbrev pub IsGlobalType : GlobalType → List ℕ → Type 0
 IsGlobalType global = Joined (IsValType global.val_type) (IsByte (global_byte global.mutable global.shared))
 
--- the flags of limits: whether there is a maximum, whether an entity is shared, whether its addresses have 64 bits, and whether
--- a page size is stated (Limits; the second and the last are flags of the proposals)
+-- the flags of limits: whether there is a maximum, whether an entity is shared, whether its
+-- addresses have 64 bits, and whether a page size is stated (Limits; the second and the last are
+-- flags of the proposals)
 abbrev pub limits_byte : Option ℕ → Bool → Bool → Option ℕ → ℕ
 limits_byte maximum shared wide page = flag (is_there maximum) 0x01 + flag shared 0x02 + flag wide 0x04 + flag (is_there page) 0x08
 

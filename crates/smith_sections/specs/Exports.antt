@@ -1,4 +1,5 @@
--- Exports: the section Binary Format, Modules, Export Section, of the WebAssembly Core Specification 3.0.
+-- Exports: the section Binary Format, Modules, Export Section, of the WebAssembly Core
+-- Specification 3.0.
 use Rattle.std.specs.Prelude.{ℕ, List}
 use Rattle.smith_binary.specs.Numbers.{IsUnsigned}
 use Rattle.smith_binary.specs.Pieces.{IsByte, Joined, IsName}

@@ -1,5 +1,5 @@
--- Imports: the section Binary Format, Modules, Import Section, of the WebAssembly Core Specification 3.0. Groups are those of the
--- compact imports proposal.
+-- Imports: the section Binary Format, Modules, Import Section, of the WebAssembly Core
+-- Specification 3.0. Groups are those of the compact imports proposal.
 use Rattle.std.specs.Prelude.{◌≡◌, ℕ, List, []}
 use Rattle.smith_binary.specs.Pieces.{IsByte, Joined, IsList, IsName}
 use Rattle.smith_types.specs.declared.imports.Import.{Import}
@@ -17,11 +17,13 @@ IsImport imported = Joined (IsName imported.«module») (Joined (IsName imported
 abbrev pub IsImportItem : ImportItem → List ℕ → Type 0
 IsImportItem item = Joined (IsName item.name) (IsExternType item.entity_type)
 
--- the head of a group of the proposal: the name of a module, then an empty name, then a byte that is the first of no external type
+-- the head of a group of the proposal: the name of a module, then an empty name, then a byte that
+-- is the first of no external type
 abbrev pub IsGroupHead : List ℕ → ℕ → List ℕ → Type 0
 IsGroupHead from byte = Joined (IsName from) (Joined (IsName []) (IsByte byte))
 
--- a group of imports: one import; or, in the proposal, imports with a type each, or names of imports of one type
+-- a group of imports: one import; or, in the proposal, imports with a type each, or names of
+-- imports of one type
 abbrev pub IsImportGroup : Imports → List ℕ → Type 0
 IsImportGroup (Single imported) piece = IsImport imported piece
 IsImportGroup (Compact1 from items) piece = Joined (IsGroupHead from 0x7F) (IsList IsImportItem items) piece

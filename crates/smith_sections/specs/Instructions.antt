@@ -1,5 +1,5 @@
--- Constant instructions: the section Binary Format, Instructions, of the WebAssembly Core Specification 3.0. The shared i31 is that
--- of the shared-everything-threads proposal.
+-- Constant instructions: the section Binary Format, Instructions, of the WebAssembly Core
+-- Specification 3.0. The shared i31 is that of the shared-everything-threads proposal.
 use Rattle.std.specs.Prelude.{ℕ, List, [], ◌∷◌}
 use Rattle.smith_binary.specs.Numbers.{IsUnsigned, IsSigned, IsLittleEndian, IsVector}
 use Rattle.smith_binary.specs.Pieces.{IsByte, Joined, Each}

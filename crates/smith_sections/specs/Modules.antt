@@ -1,4 +1,5 @@
--- Modules: the section Binary Format, Modules, of the WebAssembly Core Specification 3.0. Custom sections are left out.
+-- Modules: the section Binary Format, Modules, of the WebAssembly Core Specification 3.0. Custom
+-- sections are left out.
 use Rattle.std.specs.Prelude.{◌≡◌, ℕ, Option, Some, None, List, [], ◌∷◌, length}
 use Rattle.smith_binary.specs.Numbers.{IsUnsigned}
 use Rattle.smith_binary.specs.Pieces.{Is, Joined, IsSection}
@@ -21,8 +22,9 @@ use Rattle.smith_sections.specs.Codes.{IsBody}
 use Rattle.smith_sections.specs.Data.{Data, IsData}
 use Rattle.smith_sections.specs.Sections.{IsOptionalSection, IsListSection}
 
--- a module in the abstract syntax (Structure, Modules). A function is its type and its body, which are two lists here, as in the
--- bytes; a body is its locals and the bytes of its expression, which aren't read further, since raw bodies need not be expressions
+-- a module in the abstract syntax (Structure, Modules). A function is its type and its body, which
+-- are two lists here, as in the bytes; a body is its locals and the bytes of its expression, which
+-- aren't read further, since raw bodies need not be expressions
 pub record Contents : Type 0 where
   pub types : List (List SubType)
   pub imports : List Import

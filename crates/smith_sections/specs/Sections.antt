@@ -1,4 +1,5 @@
--- Sections: the section Binary Format, Modules, Sections, of the WebAssembly Core Specification 3.0.
+-- Sections: the section Binary Format, Modules, Sections, of the WebAssembly Core Specification
+-- 3.0.
 use Rattle.std.specs.Prelude.{◌≡◌, ℕ, Bool, true, false, List, []}
 use Rattle.smith_binary.specs.Pieces.{Is, IsList, IsSection}
 

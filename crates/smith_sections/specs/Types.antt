@@ -1,5 +1,6 @@
--- Types: the section Binary Format, Types, of the WebAssembly Core Specification 3.0. Shared types are those of the
--- shared-everything-threads proposal, exact types those of the custom descriptors proposal.
+-- Types: the section Binary Format, Types, of the WebAssembly Core Specification 3.0. Shared types
+-- are those of the shared-everything-threads proposal, exact types those of the custom descriptors
+-- proposal.
 use Rattle.std.specs.Prelude.{◌≡◌, ℕ, Bool, true, false, List, [], ◌∷◌, None, pos, option_to_list, take, drop}
 use Rattle.std.specs.declared.ops.Range.{Range}
 use Rattle.smith_binary.specs.Numbers.{IsUnsigned, IsSigned}

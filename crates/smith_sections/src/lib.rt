@@ -1,4 +1,5 @@
-//! The sections of modules in the binary format of the WebAssembly Core Specification 3.0, written from plain data.
+//! The sections of modules in the binary format of the WebAssembly Core Specification 3.0, written
+//! from plain data.
 #![tactic(auto)]
 
 mod codes;
