@@ -12,8 +12,8 @@ use smith_bytes::Error;
 use smith_config::Config;
 use smith_types::{Items, SubType};
 
-/// Writes the size `size` of a group, which is at most `room`. If `stands` is set, a group exists
-/// before it, and first writes that no group is cloned. Writes nothing without garbage collection.
+/// Writes the size `size` of a group, which is at most `room`. First writes that no group is cloned
+/// if `stands` is set: a group exists before it. Writes nothing without garbage collection.
 fn write_size(
     config: &Config,
     stands: bool,
