@@ -74,8 +74,9 @@ fn write_arguments<S: Sink>(instruction: &ConstInstr, sink: &mut S) -> fmt::Resu
     }
 }
 
-/// The sections Text Format, Numeric, Vector, Reference, Aggregate and Variable Instructions; `ref.i31_shared` as the
-/// shared-everything-threads proposal writes it. Integers are written in decimal, with their sign.
+/// The sections Text Format, Numeric, Vector, Reference, Aggregate and Variable Instructions;
+/// `ref.i31_shared` as the shared-everything-threads proposal writes it. Integers are written in
+/// decimal, with their sign.
 impl TextForm for ConstInstr {
     fn write_text<S: Sink>(&self, sink: &mut S) -> fmt::Result {
         sink.write_str(keyword_of(self))?;

@@ -28,7 +28,8 @@ fn address_type(is_wide: bool) -> &'static str {
     if is_wide { "i64 " } else { "" }
 }
 
-/// The section Text Format, Table Types; shared tables as the shared-everything-threads proposal writes them.
+/// The section Text Format, Table Types; shared tables as the shared-everything-threads proposal
+/// writes them.
 impl TextForm for TableType {
     fn write_text<S: Sink>(&self, sink: &mut S) -> fmt::Result {
         let shared = if self.shared { "shared " } else { "" };
@@ -53,8 +54,8 @@ fn write_page_size<S: Sink>(log2: u32, sink: &mut S) -> fmt::Result
     }
 }
 
-/// The section Text Format, Memory Types; shared memories as the threads proposal, page sizes as the custom page sizes proposal
-/// writes them.
+/// The section Text Format, Memory Types; shared memories as the threads proposal, page sizes as
+/// the custom page sizes proposal writes them.
 impl TextForm for MemoryType {
     fn write_text<S: Sink>(&self, sink: &mut S) -> fmt::Result {
         let limits = Limits {
@@ -70,7 +71,8 @@ impl TextForm for MemoryType {
     }
 }
 
-/// The section Text Format, Global Types; shared globals as the shared-everything-threads proposal writes them.
+/// The section Text Format, Global Types; shared globals as the shared-everything-threads proposal
+/// writes them.
 impl TextForm for GlobalType {
     fn write_text<S: Sink>(&self, sink: &mut S) -> fmt::Result {
         let keywords = match (self.shared, self.mutable) {

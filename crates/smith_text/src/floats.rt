@@ -19,7 +19,8 @@ struct Float {
     digits: u32,
 }
 
-// Writes the digits of a fraction with their point, without zeros at the end, or nothing for a fraction of 0.
+// Writes the digits of a fraction with their point, without zeros at the end, or nothing for a
+// fraction of 0.
 fn write_fraction<S: Sink>(fraction: u64, digits: u32, sink: &mut S) -> fmt::Result
     requires open { S.failed sink.old ≡ false }
     ensures fault { S.failed sink.new ≡ is_err result }
@@ -62,8 +63,8 @@ fn write_float<S: Sink>(float: &Float, sink: &mut S) -> fmt::Result
     write_magnitude(float, sink)
 }
 
-/// Writes, after a space, the number of 32 bits whose bits are `bits`: a hexadecimal number that is equal, an infinity, or a NaN
-/// with its payload.
+/// Writes, after a space, the number of 32 bits whose bits are `bits`: a hexadecimal number that is
+/// equal, an infinity, or a NaN with its payload.
 pub(crate) fn write_f32<S: Sink>(bits: u32, sink: &mut S) -> fmt::Result
     requires open { S.failed sink.old ≡ false }
     ensures fault { S.failed sink.new ≡ is_err result }

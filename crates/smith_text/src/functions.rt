@@ -20,7 +20,8 @@ fn write_check<S: Sink>(global: u32, sink: &mut S) -> fmt::Result
     (check, count, ("    global.set ", global, "\n")).write_text(sink)
 }
 
-// Writes a body that traps: the checks of the counters of fuel, the last first, before `unreachable`.
+// Writes a body that traps: the checks of the counters of fuel, the last first, before
+// `unreachable`.
 fn write_trap<S: Sink>(fuel_globals: &[u32], sink: &mut S) -> fmt::Result
     requires open { S.failed sink.old ≡ false }
     ensures fault { S.failed sink.new ≡ is_err result }
@@ -33,8 +34,9 @@ fn write_trap<S: Sink>(fuel_globals: &[u32], sink: &mut S) -> fmt::Result
 
 /// The instructions of the bodies of a module, as text.
 pub trait BodyText {
-    /// Writes the instructions of the defined function `place` to `sink`, of which no write has failed: a line each, at least four
-    /// spaces deep. `body` is the module's, and `fuel_globals` are the indices of its globals that count fuel.
+    /// Writes the instructions of the defined function `place` to `sink`, of which no write has
+    /// failed: a line each, at least four spaces deep. `body` is the module's, and `fuel_globals`
+    /// are the indices of its globals that count fuel.
     ///
     /// # Errors
     ///
@@ -69,8 +71,8 @@ impl BodyText for OwnBodies {
     }
 }
 
-/// Writes the functions that a module defines, the last of those whose types are `types`: the bodies are `code`, and `bodies` writes
-/// their instructions. The section Text Format, Functions.
+/// Writes the functions that a module defines, the last of those whose types are `types`: the
+/// bodies are `code`, and `bodies` writes their instructions. The section Text Format, Functions.
 pub(crate) fn write_functions<B: BodyText, S: Sink>(
     types: &[u32],
     code: &[Code],

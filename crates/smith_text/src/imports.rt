@@ -93,7 +93,8 @@ fn write_group<S: Sink>(group: &Imports, indices: &mut NextIndices, sink: &mut S
     }
 }
 
-/// Writes the imports of a module. The section Text Format, Imports; groups as the compact imports proposal writes them.
+/// Writes the imports of a module. The section Text Format, Imports; groups as the compact imports
+/// proposal writes them.
 pub(crate) fn write_imports<S: Sink>(imports: &[Imports], sink: &mut S) -> fmt::Result
     requires open { S.failed sink.old ≡ false }
     ensures fault { S.failed sink.new ≡ is_err result }

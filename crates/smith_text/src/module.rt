@@ -13,8 +13,8 @@ use std::alloc::Global;
 use std::fmt;
 use wasm_smith::Module;
 
-// Writes those of `tables` that a module defines, the last, with their initialisers. The section Text Format, Tables. A table
-// without an initialiser has null references.
+// Writes those of `tables` that a module defines, the last, with their initialisers. The section
+// Text Format, Tables. A table without an initialiser has null references.
 fn write_tables<S: Sink>(
     tables: &[TableType],
     initialisers: &[Option<Items<ConstInstr>>],
@@ -32,7 +32,8 @@ fn write_tables<S: Sink>(
     Ok(())
 }
 
-// Writes those of `memories` that a module defines, the last `defined`. The section Text Format, Memories.
+// Writes those of `memories` that a module defines, the last `defined`. The section Text Format,
+// Memories.
 fn write_memories<S: Sink>(memories: &[MemoryType], defined: usize, sink: &mut S) -> fmt::Result
     requires open { S.failed sink.old ≡ false }
     ensures fault { S.failed sink.new ≡ is_err result }
@@ -58,7 +59,8 @@ fn write_tags<S: Sink>(tags: &[u32], defined: usize, sink: &mut S) -> fmt::Resul
     Ok(())
 }
 
-// Writes those of `globals` that a module defines, the last, with their indices and initialisers. The section Text Format, Globals.
+// Writes those of `globals` that a module defines, the last, with their indices and initialisers.
+// The section Text Format, Globals.
 fn write_globals<S: Sink>(
     globals: &[GlobalType],
     initialisers: &[(u32, Items<ConstInstr>)],
@@ -76,7 +78,8 @@ fn write_globals<S: Sink>(
     Ok(())
 }
 
-// Writes the exports and the start function of a module. The sections Text Format, Exports and Start Function.
+// Writes the exports and the start function of a module. The sections Text Format, Exports and
+// Start Function.
 fn write_exports<S: Sink>(
     exports: &[(Name, ExportKind, u32)],
     start: Option<u32>,

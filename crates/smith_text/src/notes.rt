@@ -26,7 +26,8 @@ fn write_raw_body<S: Sink>(index: usize, bytes: &[u8], sink: &mut S) -> fmt::Res
     sink.write_str("\n")
 }
 
-// Writes the lines of the raw bodies among `code`, of which the first is that of the function `start`.
+// Writes the lines of the raw bodies among `code`, of which the first is that of the function
+// `start`.
 fn write_raw_bodies<S: Sink>(start: usize, code: &[Code], sink: &mut S) -> fmt::Result
     requires open { S.failed sink.old ≡ false }
     ensures fault { S.failed sink.new ≡ is_err result }

@@ -17,8 +17,8 @@ const FUNCREF: RefType = RefType {
     },
 };
 
-/// The expression of one instruction: the sections Text Format, Element Segments and Data Segments, with their abbreviation of an
-/// offset.
+/// The expression of one instruction: the sections Text Format, Element Segments and Data Segments,
+/// with their abbreviation of an offset.
 impl TextForm for Offset {
     fn write_text<S: Sink>(&self, sink: &mut S) -> fmt::Result {
         match self {
@@ -29,8 +29,8 @@ impl TextForm for Offset {
     }
 }
 
-/// The mode of an element segment: the section Text Format, Element Segments. A passive segment has no text for it, and a mode
-/// that has one ends with a space.
+/// The mode of an element segment: the section Text Format, Element Segments. A passive segment has
+/// no text for it, and a mode that has one ends with a space.
 impl TextForm for ElementKind {
     fn write_text<S: Sink>(&self, sink: &mut S) -> fmt::Result {
         match self {
@@ -101,8 +101,8 @@ impl TextForm for ElementSegment {
     }
 }
 
-/// The mode of a data segment: the section Text Format, Data Segments. A passive segment has no text for it, and another mode
-/// ends with a space. The first memory is left out.
+/// The mode of a data segment: the section Text Format, Data Segments. A passive segment has no
+/// text for it, and another mode ends with a space. The first memory is left out.
 impl TextForm for DataSegmentKind {
     fn write_text<S: Sink>(&self, sink: &mut S) -> fmt::Result {
         let DataSegmentKind::Active {

@@ -17,8 +17,9 @@ fn write_byte<S: Sink>(byte: u8, sink: &mut S) -> fmt::Result
     }
 }
 
-/// Writes `bytes` as a string. Printable ASCII is written as it is, with a backslash before a quotation mark and a backslash; any
-/// other byte as two hexadecimal digits after a backslash. The section Text Format, Strings.
+/// Writes `bytes` as a string. Printable ASCII is written as it is, with a backslash before a
+/// quotation mark and a backslash; any other byte as two hexadecimal digits after a backslash. The
+/// section Text Format, Strings.
 pub(crate) fn write_string<S: Sink>(bytes: &[u8], sink: &mut S) -> fmt::Result
     requires open { S.failed sink.old ≡ false }
     ensures fault { S.failed sink.new ≡ is_err result }
@@ -30,7 +31,8 @@ pub(crate) fn write_string<S: Sink>(bytes: &[u8], sink: &mut S) -> fmt::Result
     sink.write_str("\"")
 }
 
-/// The section Text Format, Names. A character outside of ASCII is written as the bytes of its UTF-8.
+/// The section Text Format, Names. A character outside of ASCII is written as the bytes of its
+/// UTF-8.
 impl TextForm for Name {
     fn write_text<S: Sink>(&self, sink: &mut S) -> fmt::Result {
         write_string(self.as_str().as_bytes(), sink)

@@ -37,8 +37,8 @@ impl TextForm for ArrayType {
     }
 }
 
-/// The section Text Format, Composite Types: a struct type, with the abbreviation that lists its fields in one pair of
-/// parentheses.
+/// The section Text Format, Composite Types: a struct type, with the abbreviation that lists its
+/// fields in one pair of parentheses.
 impl TextForm for StructType {
     fn write_text<S: Sink>(&self, sink: &mut S) -> fmt::Result {
         let fields = Listed(" (field", self.fields.as_slice(), ")");
@@ -46,7 +46,8 @@ impl TextForm for StructType {
     }
 }
 
-/// The section Text Format, Composite Types: a function type, with the abbreviations that list its parameters and its results.
+/// The section Text Format, Composite Types: a function type, with the abbreviations that list its
+/// parameters and its results.
 impl TextForm for FuncType {
     fn write_text<S: Sink>(&self, sink: &mut S) -> fmt::Result {
         let params = Listed(" (param", self.params.as_slice(), ")");
@@ -66,7 +67,8 @@ impl TextForm for CompositeInnerType {
     }
 }
 
-/// The section Text Format, Composite Types; shared types as the shared-everything-threads proposal writes them.
+/// The section Text Format, Composite Types; shared types as the shared-everything-threads proposal
+/// writes them.
 impl TextForm for CompositeType {
     fn write_text<S: Sink>(&self, sink: &mut S) -> fmt::Result {
         if !self.shared {
@@ -76,7 +78,8 @@ impl TextForm for CompositeType {
     }
 }
 
-/// The section Text Format, Recursive Types: a sub type. A final type without a supertype is abbreviated to its composite type.
+/// The section Text Format, Recursive Types: a sub type. A final type without a supertype is
+/// abbreviated to its composite type.
 impl TextForm for SubType {
     fn write_text<S: Sink>(&self, sink: &mut S) -> fmt::Result {
         if self.is_final && self.supertype.is_none() {
@@ -116,7 +119,8 @@ fn write_several<S: Sink>(start: usize, members: &[SubType], sink: &mut S) -> fm
     sink.write_str("  )\n")
 }
 
-// Writes a recursive group. The section Text Format, Recursive Types, with its abbreviation for a group of one type.
+// Writes a recursive group. The section Text Format, Recursive Types, with its abbreviation for a
+// group of one type.
 fn write_group<S: Sink>(types: &[SubType], group: &Range<usize>, sink: &mut S) -> fmt::Result
     requires open { S.failed sink.old ≡ false }
     ensures fault { S.failed sink.new ≡ is_err result }

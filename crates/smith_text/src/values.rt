@@ -45,8 +45,8 @@ impl TextForm for AbstractHeapType {
     }
 }
 
-/// The section Text Format, Heap Types; shared types as the shared-everything-threads proposal, exact types as the custom
-/// descriptors proposal writes them.
+/// The section Text Format, Heap Types; shared types as the shared-everything-threads proposal,
+/// exact types as the custom descriptors proposal writes them.
 impl TextForm for HeapType {
     fn write_text<S: Sink>(&self, sink: &mut S) -> fmt::Result {
         match self {
