@@ -67,8 +67,8 @@ later_turn true first zero n m found rest least most at = absurd (omega arith)
 later_turn true first (suc place) n m found rest least most at = at place (omega arith) (omega arith)
 later_turn false first place n m found rest least most at = at place least most
 
--- the type at index i has the position `place` among those that satisfy a test: at most `place` of them precede it, and more
--- than `place` are up to it
+-- the type at index i has the position `place` among those that satisfy a test: at most `place` of
+-- them precede it, and more than `place` are up to it
 index_found : (test : SubType → Bool) (first : ℕ) (types : List SubType) (i place : ℕ) → i < length types → count_where test (take i types) ≤ place → place < count_where test (take (suc i) types)
     → slice_get (indices_from test first types) place ≡ Some (first + i)
 index_found test first [] i place inside least most = absurd (omega arith)

@@ -4,7 +4,8 @@ use Rattle.std.specs.List.{AllZip}
 use Rattle.std.proofs.lemmas.List.{take_more}
 use Rattle.std.proofs.lemmas.Slice.Zip.{all_zipped_more}
 
--- a relation between the parts before a position and the values read from them extends to that position if it holds there
+-- a relation between the parts before a position and the values read from them extends to that
+-- position if it holds there
 pub AllZip-next : {A B : Type 0} (R : A → B → Type 0) (parts : List A) (place : ℕ) (read : List B) (part : A) (y : B)
     → place < length parts → part ≡ get_or parts place part → AllZip R (take place parts) read → R part y
     → AllZip R (take (place + 1) parts) (read ++ y ∷ [])

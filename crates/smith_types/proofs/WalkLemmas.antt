@@ -1,4 +1,5 @@
--- Subtyping of heap types by cases, as in the test, and its equivalence with the closure of the steps.
+-- Subtyping of heap types by cases, as in the test, and its equivalence with the closure of the
+-- steps.
 use Rattle.std.proofs.Common.{rules, ◌≡◌, ◌<◌, ◌≤◌, ℕ, Bool, List, Some, None, IsTrue, ◌↔◌, get_or, length, refl, sym, ◌∙◌, ap, subst, arith}
 use Rattle.std.specs.Prelude.{slice_get}
 use Rattle.std.proofs.lemmas.Option.{same_Some, none-some, slice_get_within, slice_get-get_or, slice_get_read}

@@ -1,5 +1,6 @@
--- Bodies of functions: the section Validation, Functions, of the WebAssembly Core Specification 3.0. The conditions on raw
--- bytes, on the number of locals, and on the fuel global are rules of this project.
+-- Bodies of functions: the section Validation, Functions, of the WebAssembly Core Specification
+-- 3.0. The conditions on raw bytes, on the number of locals, and on the fuel global are rules of
+-- this project.
 use Rattle.std.specs.Prelude.{◌≡◌, ℕ, ◌≤◌, true, false, IsTrue, Bool, List, Some, length, slice_get, All}
 use Rattle.smith_types.specs.Features.{Features}
 use Rattle.smith_types.specs.ValidTypes.{IsValTypeValid}
@@ -9,13 +10,14 @@ use Rattle.smith_types.specs.declared.code.Code.{Code}
 use Rattle.smith_types.specs.declared.code.Instructions.{Instructions}
 use Rattle.smith_types.specs.declared.code.Instructions.TheVariants.{Unreachable, Arbitrary}
 
--- `unreachable` is valid for every type (Validation, Instructions); raw bytes are valid only if `raw` is true (own rule)
+-- `unreachable` is valid for every type (Validation, Instructions); raw bytes are valid only if
+-- `raw` is true (own rule)
 abbrev pub AreInstructionsValid : Bool → Instructions → Type 0
 AreInstructionsValid raw Unreachable = Unit {0}
 AreInstructionsValid raw (Arbitrary bytes) = IsTrue raw
 
--- a body in a module with this number of types: its locals have valid types (Validation, Functions), and there are at most
--- 100 of them (own rule)
+-- a body in a module with this number of types: its locals have valid types (Validation,
+-- Functions), and there are at most 100 of them (own rule)
 pub record IsBodyValid (features : Features) (types : ℕ) (raw : Bool) (body : Code) : Type 0 where
   pub few : length body.locals ≤ 100
   pub locals : All (IsValTypeValid features types) body.locals

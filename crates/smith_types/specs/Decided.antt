@@ -1,5 +1,5 @@
--- Properties of a whole stated part by part, as the decision procedures establish them. Proofs derive the definitions of
--- validity from them.
+-- Properties of a whole stated part by part, as the decision procedures establish them. Proofs
+-- derive the definitions of validity from them.
 use Rattle.std.specs.Prelude.{◌≡◌, ◌<◌, ◌≤◌, ℕ, List, [], Some, All, length, slice_get}
 use Rattle.std.specs.declared.ops.Range.{Range}
 use Rattle.smith_types.specs.Features.{Features}

@@ -1,5 +1,6 @@
--- Valid entities: the section Validation, Types, of the WebAssembly Core Specification 3.0. The conditions on explicit page
--- sizes, sharedness, results of tags and features are rules of this project.
+-- Valid entities: the section Validation, Types, of the WebAssembly Core Specification 3.0. The
+-- conditions on explicit page sizes, sharedness, results of tags and features are rules of this
+-- project.
 use Rattle.std.specs.Prelude.{◌≡◌, ℕ, ◌-◌, ◌/◌, ◌^◌, ◌<◌, ◌≤◌, ◌⊎◌, min, Bool, IsTrue, IsSome, IfSome, List, [], Option, Some, None, length, slice_get, All, if◌then◌else◌}
 use Rattle.smith_types.specs.Features.{Features}
 use Rattle.smith_types.specs.Flags.{IsElementEnabled}
@@ -28,13 +29,13 @@ page_log2 None = 16
 abbrev pub addresses : Bool → ℕ
 addresses memory64 = if memory64 then 2 ^ 64 else 2 ^ 32
 
--- the maximum number of pages: as many as the memory can address (Validation, Memory Types), but less than the number of its
--- addresses (own rule)
+-- the maximum number of pages: as many as the memory can address (Validation, Memory Types), but
+-- less than the number of its addresses (own rule)
 abbrev pub most_pages : Bool → Option ℕ → ℕ
 most_pages memory64 stated = min (addresses memory64 / 2 ^ page_log2 stated) (addresses memory64 - 1)
 
--- a memory type (Validation, Memory Types); a shared memory has a maximum, and a stated page size is 1 byte or 64 KiB (own
--- rules)
+-- a memory type (Validation, Memory Types); a shared memory has a maximum, and a stated page size
+-- is 1 byte or 64 KiB (own rules)
 pub record IsMemoryValid (features : Features) (memory : MemoryType) : Type 0 where
   pub limits : AreLimitsValid (most_pages memory.memory64 memory.page_size_log2) memory.minimum memory.maximum
   pub page_size : IfSome memory.page_size_log2 (λ log2. ((log2 ≡ 0) ⊎ (log2 ≡ 16)) × IsTrue features.custom_page_sizes)
@@ -45,7 +46,8 @@ pub record IsMemoryValid (features : Features) (memory : MemoryType) : Type 0 wh
 abbrev pub most_elements : Bool → ℕ
 most_elements table64 = if table64 then 2 ^ 64 - 1 else 2 ^ 32 - 1
 
--- a table type over these types (Validation, Table Types); a shared table holds shared references (own rule)
+-- a table type over these types (Validation, Table Types); a shared table holds shared references
+-- (own rule)
 pub record IsTableValid (features : Features) (types : List SubType) (table : TableType) : Type 0 where
   pub limits : AreLimitsValid (most_elements table.table64) table.minimum table.maximum
   pub element : IsRefTypeValid features (length types) table.element_type
@@ -53,7 +55,8 @@ pub record IsTableValid (features : Features) (types : List SubType) (table : Ta
   pub table64 : IsTrue table.table64 → IsTrue features.memory64
   pub shared : IsTrue table.shared → IsTrue features.shared_everything_threads × IsShareable types (Ref table.element_type)
 
--- a global type over these types (Validation, Global Types); a shared global holds a value that may be shared (own rule)
+-- a global type over these types (Validation, Global Types); a shared global holds a value that may
+-- be shared (own rule)
 pub record IsGlobalValid (features : Features) (types : List SubType) (global : GlobalType) : Type 0 where
   pub value : IsValTypeValid features (length types) global.val_type
   pub shared : IsTrue global.shared → IsTrue features.shared_everything_threads × IsShareable types global.val_type

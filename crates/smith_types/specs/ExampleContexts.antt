@@ -10,8 +10,8 @@ use Rattle.smith_types.specs.Expressions.{Context}
 use Rattle.smith_types.specs.ExampleTypes.{final_type, plain_func, struct, constant, variable, not_null, plain}
 use Rattle.smith_types.specs.ExampleEntities.{constant_global, variable_global}
 
--- a function type, a struct with one packed field, an array of numbers, a struct with a non-nullable field, an array of such
--- references, and a struct with a packed field and a number
+-- a function type, a struct with one packed field, an array of numbers, a struct with a
+-- non-nullable field, an array of such references, and a struct with a packed field and a number
 abbrev pub context_types : List SubType
 context_types =
     final_type plain_func ∷ final_type (struct (constant I8 ∷ [])) ∷ final_type (Array (record { 0 = variable (Val I32) }))
@@ -30,7 +30,8 @@ context_with features visible = record {
   visible = visible;
 }
 
--- a context of these types and functions, of which those below `imported` are imported, without globals
+-- a context of these types and functions, of which those below `imported` are imported, without
+-- globals
 abbrev pub context_of : Features → List SubType → List ℕ → ℕ → Context
 context_of features types funcs imported = record {
   features = features;

@@ -1,5 +1,5 @@
--- Exports and the start function: the sections Validation, Exports, and Validation, Start Function, of the WebAssembly Core
--- Specification 3.0.
+-- Exports and the start function: the sections Validation, Exports, and Validation, Start Function,
+-- of the WebAssembly Core Specification 3.0.
 use Rattle.std.specs.Prelude.{◌≡◌, ℕ, List, [], Option, Some, None, slice_get, map, All}
 use Rattle.smith_types.specs.Entities.{IsFuncAt}
 use Rattle.smith_types.specs.Imports.{IndexSpaces}

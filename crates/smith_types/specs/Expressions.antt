@@ -1,6 +1,6 @@
--- Constant expressions: the section Validation, Instructions, Constant Expressions, of the WebAssembly Core Specification
--- 3.0. The treatment of shared references and exact types is a rule of this project. Subtyping includes the own rules of
--- `Subtyping`.
+-- Constant expressions: the section Validation, Instructions, Constant Expressions, of the
+-- WebAssembly Core Specification 3.0. The treatment of shared references and exact types is a rule
+-- of this project. Subtyping includes the own rules of `Subtyping`.
 use Rattle.std.specs.Prelude.{◌≡◌, ℕ, ◌<◌, Bool, true, false, nat_le, IsTrue, List, [], ◌∷◌, ◌++◌, map, replicate, length, slice_get, Some, All, if◌then◌else◌}
 use Rattle.std.specs.List.{AllZip}
 use Rattle.smith_types.specs.Features.{Features}
@@ -21,8 +21,8 @@ use Rattle.smith_types.specs.declared.entity_type.GlobalType.{GlobalType}
 use Rattle.smith_types.specs.declared.const_instr.ConstInstr.{ConstInstr}
 use Rattle.smith_types.specs.declared.const_instr.ConstInstr.TheVariants as instr
 
--- the context of an expression (Validation, Contexts); imported functions and globals come first, and only globals below
--- `visible` may be read
+-- the context of an expression (Validation, Contexts); imported functions and globals come first,
+-- and only globals below `visible` may be read
 pub record Context : Type 0 where
   pub features : Features
   pub types : List SubType
@@ -36,22 +36,26 @@ pub record Context : Type 0 where
 abbrev pub reference_to : HeapType → ValType
 reference_to heap_type = Ref (record { nullable = false; heap_type = heap_type })
 
--- the reference to a created value of a type, or to a defined function of a type: exact with custom descriptors (own rule)
+-- the reference to a created value of a type, or to a defined function of a type: exact with custom
+-- descriptors (own rule)
 abbrev pub created : Context → ℕ → ValType
 created context index = reference_to (if context.features.custom_descriptors then Exact index else Concrete index)
 
--- the reference of `ref.func` for a function with this type index: never exact for an imported function (own rule)
+-- the reference of `ref.func` for a function with this type index: never exact for an imported
+-- function (own rule)
 abbrev pub function_reference : Context → ℕ → ℕ → ValType
 function_reference context function index =
     if nat_le context.imported_funcs function then created context index else reference_to (Concrete index)
 
--- the type of the values written to a field: a packed integer is unpacked (Structure, Composite Types)
+-- the type of the values written to a field: a packed integer is unpacked (Structure, Composite
+-- Types)
 abbrev pub unpacked : StorageType → ValType
 unpacked storage.I8 = I32
 unpacked storage.I16 = I32
 unpacked (storage.Val value) = value
 
--- a value type with a default: any but a non-nullable reference (Validation, Value Types, Defaultable)
+-- a value type with a default: any but a non-nullable reference (Validation, Value Types,
+-- Defaultable)
 abbrev pub IsDefaultable : ValType → Type 0
 IsDefaultable (Ref reference) = IsTrue reference.nullable
 IsDefaultable _ = Unit {0}
@@ -73,16 +77,16 @@ abbrev pub IsVisible : Context → ℕ → ValType → Type 0
 IsVisible context index value =
     (global : GlobalType) × (slice_get context.globals index ≡ Some global) × (index < context.visible) × (global.mutable ≡ false) × (global.val_type ≡ value)
 
--- a conversion between internal and external references, which preserves nullability (Validation, Instructions,
--- any.convert_extern and extern.convert_any) and sharedness (own rule)
+-- a conversion between internal and external references, which preserves nullability (Validation,
+-- Instructions, any.convert_extern and extern.convert_any) and sharedness (own rule)
 pub record IsConversion (operands : List ValType) (result : ValType) (from into : Bool → HeapType) : Type 0 where
   pub shared : Bool
   pub nullable : Bool
   pub taken : operands ≡ Ref (record { nullable = nullable; heap_type = from shared }) ∷ []
   pub given : result ≡ Ref (record { nullable = nullable; heap_type = into shared })
 
--- an instruction takes operands of these types, the last on top, and pushes a value of the result type (Validation,
--- Instructions); the type of a shared i31 is an own rule
+-- an instruction takes operands of these types, the last on top, and pushes a value of the result
+-- type (Validation, Instructions); the type of a shared i31 is an own rule
 abbrev pub HasType : Context → ConstInstr → List ValType → ValType → Type 0
 HasType context (instr.I32Const value) operands result = (operands ≡ []) × (result ≡ I32)
 HasType context (instr.I64Const value) operands result = (operands ≡ []) × (result ≡ I64)
@@ -115,8 +119,8 @@ HasType context (instr.ArrayNewFixed index size) operands result =
 HasType context instr.AnyConvertExtern operands result = IsConversion operands result (λ shared. Abstract shared abstract.Extern) (λ shared. Abstract shared abstract.Any)
 HasType context instr.ExternConvertAny operands result = IsConversion operands result (λ shared. Abstract shared abstract.Any) (λ shared. Abstract shared abstract.Extern)
 
--- one instruction takes a stack, its top last, to another: it pops subtypes of its operand types and pushes its result
--- (Validation, Instruction Sequences)
+-- one instruction takes a stack, its top last, to another: it pops subtypes of its operand types
+-- and pushes its result (Validation, Instruction Sequences)
 pub record IsStackStep (context : Context) (instruction : ConstInstr) (before after : List ValType) : Type 0 where
   pub operands : List ValType
   pub result : ValType
@@ -133,8 +137,8 @@ AreStackSteps context [] before after = before ≡ after
 AreStackSteps context (instruction ∷ instructions) before after =
     (between : List ValType) × IsStackStep context instruction before between × AreStackSteps context instructions between after
 
--- an expression produces one value of a subtype of the wanted type (Validation, Constant Expressions), by enabled
--- instructions
+-- an expression produces one value of a subtype of the wanted type (Validation, Constant
+-- Expressions), by enabled instructions
 pub record IsConstExpr (context : Context) (wanted : ValType) (expression : List ConstInstr) : Type 0 where
   pub value : ValType
   pub steps : AreStackSteps context expression [] (value ∷ [])
@@ -145,13 +149,13 @@ pub record IsConstExpr (context : Context) (wanted : ValType) (expression : List
 abbrev pub seen_by_tables : Context → ℕ
 seen_by_tables context = context.imported_globals
 
--- the end of the globals visible to the global at this index: before it (Validation, Modules); without garbage collection,
--- after the imported globals (own rule)
+-- the end of the globals visible to the global at this index: before it (Validation, Modules);
+-- without garbage collection, after the imported globals (own rule)
 abbrev pub seen_by_global : Context → ℕ → ℕ
 seen_by_global context index = if context.features.gc then index else context.imported_globals
 
--- the end of the globals visible to segments: after all globals (Validation, Modules); without garbage collection, after the
--- imported globals (own rule)
+-- the end of the globals visible to segments: after all globals (Validation, Modules); without
+-- garbage collection, after the imported globals (own rule)
 abbrev pub seen_by_segments : Context → ℕ
 seen_by_segments context = if context.features.gc then length context.globals else context.imported_globals
 

@@ -18,8 +18,8 @@ is_directly_below index t = is_index index t.supertype
 abbrev pub direct_subtypes : List SubType → ℕ → List ℕ
 direct_subtypes types index = indices_from (is_directly_below index) 0 types
 
--- the families of types: the number of direct subtypes, the last of them, and for each direct subtype the one before it;
--- types without a family have no direct subtypes
+-- the families of types: the number of direct subtypes, the last of them, and for each direct
+-- subtype the one before it; types without a family have no direct subtypes
 pub record AreFamilies (types : List SubType) (families : List Family) : Type 0 where
   pub count : (s : ℕ) (family : Family) → slice_get families s ≡ Some family → family.count ≡ length (direct_subtypes types s)
   pub last : (s k : ℕ) (family : Family) → slice_get families s ≡ Some family → suc k ≡ length (direct_subtypes types s) → slice_get (direct_subtypes types s) k ≡ Some family.last

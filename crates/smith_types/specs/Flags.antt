@@ -1,5 +1,5 @@
--- The features that each construct requires. That a module may use a construct only if its feature is enabled is a rule of
--- this project; the standard defines one language.
+-- The features that each construct requires. That a module may use a construct only if its feature
+-- is enabled is a rule of this project; the standard defines one language.
 use Rattle.std.specs.Prelude.{◌≡◌, ℕ, ◌<◌, ◌≤◌, true, false, IsTrue, IsSome, length}
 use Rattle.smith_types.specs.Features.{Features}
 use Rattle.smith_types.specs.declared.value_type.AbstractHeapType.{AbstractHeapType}
@@ -46,7 +46,8 @@ pub record IsSubTypeEnabled (features : Features) (t : SubType) : Type 0 where
 abbrev pub funcref : RefType
 funcref = record { nullable = true; heap_type = Abstract false abstract.Func }
 
--- the element type of a table or a segment: anything but funcref requires reference types (own rule)
+-- the element type of a table or a segment: anything but funcref requires reference types (own
+-- rule)
 abbrev pub IsElementEnabled : Features → RefType → Type 0
 IsElementEnabled features element = (element ≡ funcref → ⊥) → IsTrue features.reference_types
 

@@ -47,8 +47,8 @@ pub record AreFuncGrounds (context : Context) (grounds : FuncGrounds) : Type 0 w
   pub long : length grounds.marks.items ≡ length context.types
   pub each : (ty : HeapType) → IsInRange context.types ty → IsTrue (is_noted grounds ty) ↔ IsGroundedByFuncs context ty
 
--- a context with one more function, whose type has this index and whose reference is exact or not; the references of the
--- other functions are unchanged
+-- a context with one more function, whose type has this index and whose reference is exact or not;
+-- the references of the other functions are unchanged
 pub record IsFunctionAdded (old new : Context) (index : ℕ) (exact : Bool) : Type 0 where
   pub types : new.types ≡ old.types
   pub funcs : new.funcs ≡ old.funcs ++ index ∷ []

@@ -1,5 +1,5 @@
--- Heap types with a subtype of which a non-null reference is available without operands. A rule of this project, over the
--- typing of constant expressions.
+-- Heap types with a subtype of which a non-null reference is available without operands. A rule of
+-- this project, over the typing of constant expressions.
 use Rattle.std.specs.Prelude.{◌≡◌, ℕ, ◌⊎◌, Bool, true, List, slice_get, Some, All, if◌then◌else◌}
 use Rattle.std.specs.List.{list_all}
 use Rattle.smith_types.specs.Subtyping.{IsBelow, IsValBelow}
@@ -11,8 +11,8 @@ use Rattle.smith_types.specs.declared.value_type.ValType.TheVariants.{Ref}
 use Rattle.smith_types.specs.declared.composite_type.FieldType.{FieldType}
 use Rattle.smith_types.specs.declared.composite_type.SubType.{SubType}
 
--- the type at this index is a struct type whose fields all have defaults, and creating one pushes a reference below the heap
--- type; with custom descriptors that reference is exact
+-- the type at this index is a struct type whose fields all have defaults, and creating one pushes a
+-- reference below the heap type; with custom descriptors that reference is exact
 pub record IsGroundedBy (types : List SubType) (descriptors : Bool) (heap_type : HeapType) (index : ℕ) : Type 0 where
   pub fields : List FieldType
   pub struct : IsStructAt types index fields
@@ -28,7 +28,8 @@ abbrev pub IsGroundedByFuncs : Context → HeapType → Type 0
 IsGroundedByFuncs context heap_type =
     (function : ℕ) × (index : ℕ) × (slice_get context.funcs function ≡ Some index) × IsValBelow context.types (function_reference context function index) (reference_to heap_type)
 
--- a heap type is grounded: a struct type or a function provides a non-null reference below it without operands
+-- a heap type is grounded: a struct type or a function provides a non-null reference below it
+-- without operands
 abbrev pub IsGrounded : Context → HeapType → Type 0
 IsGrounded context heap_type = IsGroundedByStructs context.types context.features.custom_descriptors heap_type ⊎ IsGroundedByFuncs context heap_type
 

@@ -77,7 +77,8 @@ kinds_with ground is_shared kinds = record { plain = kinds.plain || (ground && n
 pub record AreGroundKinds (types : List SubType) (kinds : GroundKinds) : Type 0 where
   pub each : (is_shared : Bool) → kind_at kinds is_shared ≡ list_any (is_ground_of is_shared) types
 
--- marking is under way: all wanted types are marked except the type `above`, if any, and its supertypes
+-- marking is under way: all wanted types are marked except the type `above`, if any, and its
+-- supertypes
 pub record IsMarking (types : List SubType) (from above : Option ℕ) (old grounds : List Ground) : Type 0 where
   pub long : length grounds ≡ length old
   pub own : (j : ℕ) → own_at grounds j ≡ own_at old j

@@ -1,5 +1,5 @@
--- Types given in their groups, as lists of lists: the section Structure, Types, Recursive Types, of the WebAssembly Core
--- Specification 3.0.
+-- Types given in their groups, as lists of lists: the section Structure, Types, Recursive Types, of
+-- the WebAssembly Core Specification 3.0.
 use Rattle.std.specs.Prelude.{◌≡◌, ℕ, ◌+◌, ◌<◌, List, [], ◌∷◌, Some, length, slice_get}
 use Rattle.std.specs.List.{flat_map}
 use Rattle.std.specs.declared.ops.Range.{Range}
@@ -16,7 +16,7 @@ ranges_from start (group ∷ groups) = record { start = start; end = start + len
 abbrev pub space_of : List (List SubType) → Space
 space_of groups = record { types = flat_map (λ group. group) groups; groups = ranges_from 0 groups }
 
--- each declared supertype precedes its subtype and has the same kind and sharedness (Validation, Recursive Types;
--- sharedness: own rule)
+-- each declared supertype precedes its subtype and has the same kind and sharedness (Validation,
+-- Recursive Types; sharedness: own rule)
 pub record AreFollowing (types : List SubType) : Type 0 where
   pub under : (i s : ℕ) (t : SubType) → slice_get types i ≡ Some t → t.supertype ≡ Some s → (s < i) × ((u : SubType) × (slice_get types s ≡ Some u) × IsAlike t u)

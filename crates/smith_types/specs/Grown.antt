@@ -13,7 +13,8 @@ pub record Extends {A : Type 0} (old new : List A) : Type 0 where
   pub more : List A
   pub parts : new ≡ old ++ more
 
--- a context with types, functions and globals appended, the same features and imports, and at least as many visible globals
+-- a context with types, functions and globals appended, the same features and imports, and at least
+-- as many visible globals
 pub record IsContextGrown (old new : Context) : Type 0 where
   pub features : new.features ≡ old.features
   pub types : Extends old.types new.types
@@ -23,7 +24,8 @@ pub record IsContextGrown (old new : Context) : Type 0 where
   pub imported_globals : new.imported_globals ≡ old.imported_globals
   pub visible : old.visible ≤ new.visible
 
--- a context in which all functions are imported, with types and imported functions appended, and the same features
+-- a context in which all functions are imported, with types and imported functions appended, and
+-- the same features
 pub record AreImportsGrown (old new : Context) : Type 0 where
   pub features : new.features ≡ old.features
   pub types : Extends old.types new.types

@@ -1,5 +1,6 @@
--- Imports one by one, and the index spaces that start with them: the sections Structure, Imports, and Validation, Imports,
--- of the WebAssembly Core Specification 3.0. Groups of imports are those of the compact imports proposal.
+-- Imports one by one, and the index spaces that start with them: the sections Structure, Imports,
+-- and Validation, Imports, of the WebAssembly Core Specification 3.0. Groups of imports are those
+-- of the compact imports proposal.
 use Rattle.std.specs.Prelude.{◌≡◌, ℕ, ◌<◌, List, [], ◌∷◌, ◌++◌, map, length}
 use Rattle.std.specs.List.{flat_map}
 use Rattle.smith_types.specs.Features.{Features}
@@ -28,7 +29,8 @@ imports_of (Compact2 from entity_type names) = map (λ name. import_of from name
 abbrev pub flattened : List Imports → List Import
 flattened groups = flat_map imports_of groups
 
--- the tag, function, table, memory or global of an imported entity, if it is of that kind (Validation, Modules)
+-- the tag, function, table, memory or global of an imported entity, if it is of that kind
+-- (Validation, Modules)
 abbrev pub tag_of : EntityType → List ℕ
 tag_of (entity.Tag index) = index ∷ []
 tag_of _ = []
@@ -53,7 +55,8 @@ global_of _ = []
 abbrev pub imported : {A : Type 0} → (EntityType → List A) → List Import → List A
 imported of_kind imports = flat_map (λ (one : Import). of_kind one.entity_type) imports
 
--- the index spaces except that of types (Structure, Indices); tags and functions are given by the indices of their types
+-- the index spaces except that of types (Structure, Indices); tags and functions are given by the
+-- indices of their types
 pub record IndexSpaces : Type 0 where
   pub tags : List ℕ
   pub funcs : List ℕ

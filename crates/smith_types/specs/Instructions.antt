@@ -36,7 +36,8 @@ kind_bits Memory = 2 ^ 9 + 2 ^ 8
 kind_bits Control = 2 ^ 10
 kind_bits Aggregate = 2 ^ 11
 
--- the bits that concern floats: those that Numeric, Vector and Memory have and their counterparts without floats lack
+-- the bits that concern floats: those that Numeric, Vector and Memory have and their counterparts
+-- without floats lack
 abbrev pub float_bits : ℕ
 float_bits = 2 ^ 1 + 2 ^ 3 + 2 ^ 9
 
@@ -108,7 +109,8 @@ pub record IsFirstUnknown (parts : List (List ℕ)) (place : ℕ) : Type 0 where
   pub kinds : List InstructionKind
   pub before : AllZip IsNamed (take place parts) kinds
 
--- the result of parsing a set: the kinds named by the parts of the text, or the position of the first part that names none
+-- the result of parsing a set: the kinds named by the parts of the text, or the position of the
+-- first part that names none
 abbrev pub AreReadKinds : List ℕ → Result InstructionKinds UnknownKind → Type 0
 AreReadKinds text (Ok all) = (kinds : List InstructionKind) × AllZip IsNamed (split_at_commas text) kinds × (kinds_bits all ≡ union_of kinds)
 AreReadKinds text (Err e) = IsFirstUnknown (split_at_commas text) e.part

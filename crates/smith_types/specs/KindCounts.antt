@@ -8,7 +8,8 @@ use Rattle.smith_types.specs.declared.composite_type.SubType.{SubType}
 use Rattle.smith_types.specs.declared.kind_counts.KindCounts.{KindCounts}
 use Rattle.smith_types.specs.Kinds.{shared}
 
--- whether a composite type with the sharedness of the third argument has this kind and the sharedness of the first
+-- whether a composite type with the sharedness of the third argument has this kind and the
+-- sharedness of the first
 abbrev pub is_inner_of_kind : Bool → AbstractHeapType → Bool → CompositeInnerType → Bool
 is_inner_of_kind false heap.Array is_shared (Array a) = not is_shared
 is_inner_of_kind true heap.Array is_shared (Array a) = is_shared

@@ -6,13 +6,15 @@ use Rattle.smith_types.specs.declared.composite_type.CompositeInnerType.{Composi
 use Rattle.smith_types.specs.declared.composite_type.CompositeInnerType.TheVariants.{Array, Func, Struct}
 use Rattle.smith_types.specs.declared.composite_type.SubType.{SubType}
 
--- the abstract heap type that is a supertype of every composite type of its kind (Validation, Matching, Heap Types)
+-- the abstract heap type that is a supertype of every composite type of its kind (Validation,
+-- Matching, Heap Types)
 abbrev pub kind_of : CompositeInnerType → AbstractHeapType
 kind_of (Array a) = heap.Array
 kind_of (Func f) = heap.Func
 kind_of (Struct s) = heap.Struct
 
--- the abstract heap type that is a subtype of every composite type of its kind (Validation, Matching, Heap Types)
+-- the abstract heap type that is a subtype of every composite type of its kind (Validation,
+-- Matching, Heap Types)
 abbrev pub bottom_of : CompositeInnerType → AbstractHeapType
 bottom_of (Array a) = heap.None
 bottom_of (Func f) = heap.NoFunc

@@ -1,5 +1,5 @@
--- Valid types while a group is under construction. Type validation, in the section Validation, Types, of the WebAssembly
--- Core Specification 3.0.
+-- Valid types while a group is under construction. Type validation, in the section Validation,
+-- Types, of the WebAssembly Core Specification 3.0.
 use Rattle.std.specs.Prelude.{◌≡◌, ℕ, ◌≤◌, Some, length, slice_get, All}
 use Rattle.smith_types.specs.declared.composite_type.SubType.{SubType}
 use Rattle.smith_types.specs.Features.{Features}
@@ -7,7 +7,8 @@ use Rattle.smith_types.specs.Space.{Space}
 use Rattle.smith_types.specs.Types.{IsOrderly, AreConsecutive, next_start}
 use Rattle.smith_types.specs.ValidTypes.{IsTypeValid, IsGroupValid}
 
--- valid groups, followed by types that are valid in a group that will end at `end` (Validation, Recursive Types)
+-- valid groups, followed by types that are valid in a group that will end at `end` (Validation,
+-- Recursive Types)
 pub record AreTypesOpen (features : Features) (end : ℕ) (space : Space) : Type 0 where
   pub consecutive : AreConsecutive 0 space.groups
   pub within : next_start space.groups ≤ length space.types

@@ -1,5 +1,5 @@
--- The entry of each type in a type space: its depth, the counts up to it, and its row, a part of one table of rows. A row
--- lists the proper supertypes of the type by depth.
+-- The entry of each type in a type space: its depth, the counts up to it, and its row, a part of
+-- one table of rows. A row lists the proper supertypes of the type by depth.
 use Rattle.std.specs.Prelude.{◌≡◌, ℕ, suc, ◌+◌, ◌<◌, ◌≤◌, List, [], ◌∷◌, ◌++◌, Some, length, map, take, slice_get, slice_index, Vec, vec_len, vec_capacity}
 use Rattle.smith_types.specs.declared.composite_type.SubType.{SubType}
 use Rattle.std.specs.declared.alloc.Global.{Global}
@@ -15,7 +15,8 @@ pub record IsAncestor (types : List SubType) (i depth ancestor : ℕ) : Type 0 w
   pub depth_is : HasDepth types ancestor depth
   pub above : IsBelow types (Concrete i) (Concrete ancestor)
 
--- the depth of a type, the counts of the types up to it, and its row in the table: the supertype of each smaller depth
+-- the depth of a type, the counts of the types up to it, and its row in the table: the supertype of
+-- each smaller depth
 pub record IsPlace (types : List SubType) (table : List ℕ) (i : ℕ) (place : Place) : Type 0 where
   pub depth : HasDepth types i place.depth
   pub within : place.start + place.depth ≤ length table + 1

@@ -1,4 +1,5 @@
--- The `==` of plain data decides equality. These proofs are here because the laws of the trait `Exact` cite them.
+-- The `==` of plain data decides equality. These proofs are here because the laws of the trait
+-- `Exact` cite them.
 use Rattle.std.proofs.Common.{rules, ◌≡◌, ℕ, Bool, List, Some, ap, refl}
 use Rattle.std.specs.Bool.{Decides}
 use Rattle.std.specs.Option.{option_eq}

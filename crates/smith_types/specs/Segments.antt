@@ -1,5 +1,5 @@
--- Element and data segments: the section Validation, Modules, of the WebAssembly Core Specification 3.0. Subtyping of
--- references includes the own rules of `Subtyping`.
+-- Element and data segments: the section Validation, Modules, of the WebAssembly Core Specification
+-- 3.0. Subtyping of references includes the own rules of `Subtyping`.
 use Rattle.std.specs.Prelude.{◌≡◌, ℕ, ◌+◌, ◌*◌, ◌^◌, ◌≤◌, Bool, true, false, IsTrue, List, Option, Some, None, length, slice_get, unwrap_or, All}
 use Rattle.std.specs.Int.{cast_unsigned, w32, w64}
 use Rattle.smith_types.specs.Flags.{IsElementEnabled}
@@ -28,8 +28,8 @@ abbrev pub address_type : Bool → ValType
 address_type true = I64
 address_type false = I32
 
--- an offset for addresses of this width: a constant of the address type, or a visible global of that type (Validation,
--- Element Segments and Data Segments)
+-- an offset for addresses of this width: a constant of the address type, or a visible global of
+-- that type (Validation, Element Segments and Data Segments)
 abbrev pub IsOffsetValid : Context → Bool → Offset → Type 0
 IsOffsetValid context wide (Const32 value) = wide ≡ false
 IsOffsetValid context wide (Const64 value) = wide ≡ true
@@ -48,16 +48,16 @@ AreItemsValid context ty (Expressions expressions) = IsTrue context.features.ref
 abbrev pub table_index : Option ℕ → ℕ
 table_index table = unwrap_or table 0
 
--- the item type is a subtype of the table's element type, and the offset fits the table's addresses (Validation, Element
--- Segments)
+-- the item type is a subtype of the table's element type, and the offset fits the table's addresses
+-- (Validation, Element Segments)
 pub record IsActiveElement (context : Context) (tables : List TableType) (ty : RefType) (index : ℕ) (offset : Offset) : Type 0 where
   pub table : TableType
   pub stands : slice_get tables index ≡ Some table
   pub below : IsRefBelow context.types ty table.element_type
   pub offset_valid : IsOffsetValid context table.table64 offset
 
--- an active segment is copied into a table that accepts it, the first if none is given; the other forms require bulk memory
--- (own rule)
+-- an active segment is copied into a table that accepts it, the first if none is given; the other
+-- forms require bulk memory (own rule)
 abbrev pub IsElementKindValid : Context → List TableType → RefType → ElementKind → Type 0
 IsElementKindValid context tables ty element.Passive = IsTrue context.features.bulk_memory
 IsElementKindValid context tables ty element.Declared = IsTrue context.features.bulk_memory
@@ -71,7 +71,8 @@ pub record IsElementValid (context : Context) (tables : List TableType) (segment
   pub items : AreItemsValid context segment.ty segment.items
   pub kind : IsElementKindValid context tables segment.ty segment.kind
 
--- the memory of an active data segment exists (Validation, Data Segments); passive segments require bulk memory (own rule)
+-- the memory of an active data segment exists (Validation, Data Segments); passive segments require
+-- bulk memory (own rule)
 abbrev pub IsDataKindValid : Context → List MemoryType → DataSegmentKind → Type 0
 IsDataKindValid context memories data_kind.Passive = IsTrue context.features.bulk_memory
 IsDataKindValid context memories (data_kind.Active index offset) =
@@ -86,7 +87,8 @@ abbrev pub item_count : Elements → ℕ
 item_count (Functions functions) = length functions
 item_count (Expressions expressions) = length expressions
 
--- a constant offset, read as unsigned, after which `count` items end within `most` (Execution, Instantiation)
+-- a constant offset, read as unsigned, after which `count` items end within `most` (Execution,
+-- Instantiation)
 abbrev pub IsOffsetInside : Offset → ℕ → ℕ → Type 0
 IsOffsetInside (Const32 value) count most = cast_unsigned w32 value + count ≤ most
 IsOffsetInside (Const64 value) count most = cast_unsigned w64 value + count ≤ most
@@ -107,10 +109,12 @@ AreBytesInside memories data_kind.Passive count = Unit {0}
 AreBytesInside memories (data_kind.Active index offset) count =
     (memory : MemoryType) × (slice_get memories index ≡ Some memory) × IsOffsetInside offset count (memory.minimum * 2 ^ page_log2 memory.page_size_log2)
 
--- an active element segment lies within the minimum size of its table (own rule: so that it does not trap)
+-- an active element segment lies within the minimum size of its table (own rule: so that it does
+-- not trap)
 abbrev pub IsElementInside : List TableType → ElementSegment → Type 0
 IsElementInside tables segment = AreElementsInside tables segment.kind (item_count segment.items)
 
--- an active data segment lies within the minimum size of its memory (own rule: so that it does not trap)
+-- an active data segment lies within the minimum size of its memory (own rule: so that it does not
+-- trap)
 abbrev pub IsDataInside : List MemoryType → DataSegment → Type 0
 IsDataInside memories segment = AreBytesInside memories segment.kind (length segment.init)

@@ -31,8 +31,8 @@ pub record AreDepths (types : List SubType) (depths : List ℕ) : Type 0 where
   pub long : length depths ≡ length types
   pub each : (i : ℕ) → i < length types → HasDepth types i (slice_index depths i)
 
--- the indices, starting at `first`, of the types that may have subtypes, given the depth of each: types that are not final
--- and have a depth less than 60 (own rule)
+-- the indices, starting at `first`, of the types that may have subtypes, given the depth of each:
+-- types that are not final and have a depth less than 60 (own rule)
 abbrev pub extensible_from : ℕ → List SubType → List ℕ → List ℕ
 extensible_from first [] depths = []
 extensible_from first (t ∷ types) [] = []

@@ -1,5 +1,6 @@
--- Valid types. Type validation, in the section Validation, Types, of the WebAssembly Core Specification 3.0. The conditions
--- on features and sharedness are rules of this project. Matching includes the own rules of `Subtyping`.
+-- Valid types. Type validation, in the section Validation, Types, of the WebAssembly Core
+-- Specification 3.0. The conditions on features and sharedness are rules of this project. Matching
+-- includes the own rules of `Subtyping`.
 use Rattle.std.specs.Prelude.{◌≡◌, ℕ, ◌+◌, ◌<◌, ◌≤◌, false, IsTrue, List, [], ◌∷◌, ◌++◌, slice_get, Some, All}
 use Rattle.std.specs.List.{flat_map}
 use Rattle.std.specs.declared.ops.Range.{Range}
@@ -27,7 +28,8 @@ IsHeapTypeValid features end (Abstract shared ty) = IsHeapTypeEnabled features (
 IsHeapTypeValid features end (Concrete index) = IsHeapTypeEnabled features (Concrete index) × (index < end)
 IsHeapTypeValid features end (Exact index) = IsHeapTypeEnabled features (Exact index) × (index < end)
 
--- a reference type with a valid heap type (Validation, Reference Types); a non-nullable one requires its feature (own rule)
+-- a reference type with a valid heap type (Validation, Reference Types); a non-nullable one
+-- requires its feature (own rule)
 pub record IsRefTypeValid (features : Features) (end : ℕ) (reference : RefType) : Type 0 where
   pub heap_type : IsHeapTypeValid features end reference.heap_type
   pub nullable : reference.nullable ≡ false → IsTrue features.function_references
@@ -75,21 +77,22 @@ pub record IsSupertypeValid (types : List SubType) (t supertype : SubType) : Typ
   pub not_final : supertype.is_final ≡ false
   pub matched : IsCompositeMatch types t.composite_type supertype.composite_type
 
--- a type of a group that ends at `end` (Validation, Recursive Types), which is enabled, and if shared holds only values that
--- may be shared (own rules)
+-- a type of a group that ends at `end` (Validation, Recursive Types), which is enabled, and if
+-- shared holds only values that may be shared (own rules)
 pub record IsTypeValid (features : Features) (types : List SubType) (end : ℕ) (t : SubType) : Type 0 where
   pub enabled : IsSubTypeEnabled features t
   pub values : All (IsValTypeValid features end) (values_of t.composite_type.inner)
   pub declared : (s : ℕ) → t.supertype ≡ Some s → (u : SubType) × (slice_get types s ≡ Some u) × IsSupertypeValid types t u
   pub shareable : IsTrue t.composite_type.shared → All (IsShareable types) (values_of t.composite_type.inner)
 
--- each type of a group is valid (Validation, Recursive Types); without garbage collection, a group has exactly one type (own
--- rule)
+-- each type of a group is valid (Validation, Recursive Types); without garbage collection, a group
+-- has exactly one type (own rule)
 pub record IsGroupValid (features : Features) (types : List SubType) (group : Range ℕ) : Type 0 where
   pub members : (i : ℕ) (t : SubType) → group.start ≤ i → i < group.end → slice_get types i ≡ Some t → IsTypeValid features types group.end t
   pub single : features.gc ≡ false → group.end ≡ group.start + 1
 
--- valid types in consecutive groups that cover them, each supertype before its subtypes (Validation, Modules)
+-- valid types in consecutive groups that cover them, each supertype before its subtypes
+-- (Validation, Modules)
 pub record AreTypesValid (features : Features) (space : Space) : Type 0 where
   pub covered : AreCovered space.types space.groups
   pub orderly : IsOrderly space.types
