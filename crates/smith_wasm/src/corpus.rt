@@ -39,7 +39,8 @@ pub(crate) fn make_corpus(
     show_refusals(rt, count, refusals.as_slice())
 }
 
-/// Shows each refused input with its refusal, and how many of `count` inputs were written and refused.
+/// Shows each refused input with its refusal, and how many of `count` inputs were written and
+/// refused.
 fn show_refusals(rt: &HostRuntime, count: u32, refusals: &[(u32, Error)]) -> Result<(), Failure> {
     for (number, refusal) in refusals {
         eprintln!(rt; "smith_wasm: input {number} is refused: {refusal:?}")?;
