@@ -24,7 +24,7 @@ use Rattle.smith_rules.specs.Bounds.{items_of_shapes, items_of_module_shape, ite
 use Rattle.wasm_smith.specs.declared.build.drawn.Drawn.{Drawn}
 use Rattle.wasm_smith.proofs.BegunLemmas.{stands_alone}
 
--- a module shape, the only shape in use, adds these items
+-- a module shape is the only shape in use, and adds its items
 module_brings : (config : Config) (shape : Shape) (count : Count) → config.module_shape ≡ Some shape → items_of_shapes config count ≡ items_of_module_shape count shape
 module_brings config shape count given = rw given (omega arith)
 

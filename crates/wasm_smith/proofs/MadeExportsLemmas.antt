@@ -122,7 +122,7 @@ module _ (config : Config) (shape : Shape) (drawn : Drawn) (passes : Passes conf
     room = record { tags = room_for counts.Tags tt; funcs = room_for counts.Funcs tt; tables = room_for counts.Tables tt; memories = room_for counts.Memories tt; globals = room_for counts.Globals tt };
   }
 
-  -- the types of these exports are added after the existing types
+  -- there is room for the types of these exports after the existing types
   pub types_room : length drawn.types.types + length shape.exports < 2 ^ 32
   types_room = omega (arith, now.most_types, passes.few counts.Types, few_brought config valid counts.Types, one.short.exports)
 

@@ -38,7 +38,7 @@ functions_begun config begun = functions_over config begun.spaces.funcs (length 
 abbrev pub with_types_at : Config → ModuleSoFar → List ℕ → ModuleSoFar × List ℕ
 with_types_at config begun bytes = let types = types_at config (functions_begun config begun) begun.types bytes in (record begun { types = types.0 }, types.1)
 
--- the result of a step, with a refusal for the wrong format as an error
+-- the result of a step, with its reason for a refusal as the error `IncorrectFormat`
 abbrev pub in_full : {A : Type 0} → Result A Why → Result A Error
 in_full (Ok drawn) = Ok drawn
 in_full (Err why) = Err (errors.IncorrectFormat why)

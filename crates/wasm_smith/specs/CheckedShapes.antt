@@ -1,5 +1,4 @@
--- The shape of a configuration for which the configuration is refused, and the reason. Rules of
--- this project.
+-- The first shape of a configuration that is refused, and the reason. Rules of this project.
 use Rattle.std.specs.Prelude.{⊤, IfSome, IsSomeAnd, Option}
 use Rattle.smith_bytes.specs.declared.error.Error.{Error}
 use Rattle.smith_bytes.specs.declared.error.Which.{Which}
