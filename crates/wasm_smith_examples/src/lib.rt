@@ -1,5 +1,5 @@
-//! Values that meet the definitions of `wasm_smith` and of the steps below it, and values that do not. The
-//! clauses are proved, and nothing calls these functions.
+//! Values that meet the definitions of `wasm_smith` and of the steps below it, and values that do
+//! not. The clauses are proved, and nothing calls these functions.
 #![tactic(auto)]
 
 mod begun;
