@@ -10,10 +10,12 @@ const RESULT: BlockType = BlockType::Value(ValType::I32);
 
 // The body of bytes that wabt 1.0.32 wrote for
 //
-// (func (param i32) (result i32) (local i32 i64) block (result i32) local.get 0 br_table 0 0 1 end
-// local.get 0 if (result i32) local.get 0 i32.load 1 offset=300 align=2 else i32.const -77 end
-// i32.div_s i32.const 3 call_indirect (type 0) i64.const 1234567890123 local.set 2 f64.const 1.5
-// i32.trunc_sat_f64_u select (result i32))
+//     (func (param i32) (result i32) (local i32 i64)
+//       block (result i32) local.get 0 br_table 0 0 1 end
+//       local.get 0
+//       if (result i32) local.get 0 i32.load 1 offset=300 align=2 else i32.const -77 end i32.div_s
+//       i32.const 3 call_indirect (type 0) i64.const 1234567890123 local.set 2
+//       f64.const 1.5 i32.trunc_sat_f64_u select (result i32))
 const BYTES: [u8; 62] = [
     0x3D, 0x02, 0x01, 0x7F, 0x01, 0x7E, 0x02, 0x7F, 0x20, 0x00, 0x0E, 0x02, 0x00, 0x00, 0x01, 0x0B,
     0x20, 0x00, 0x04, 0x7F, 0x20, 0x00, 0x28, 0x41, 0x01, 0xAC, 0x02, 0x05, 0x41, 0xB3, 0x7F, 0x0B,
