@@ -12,7 +12,7 @@ use smith_instr::Instr;
 use smith_sections::{Encode, EncodeItem, Listed};
 use smith_types::ValType;
 
-// Writes a local as a run of its own.
+// Writer of a local, as a run of its own.
 #[derive(Clone, Copy)]
 struct Runs;
 

@@ -34,7 +34,7 @@ pub(crate) fn write_block(opcode: u8, ty: BlockType, sink: &mut Sink) -> Result<
     write_block_type(ty, sink)
 }
 
-// Writes a clause of `try_table`.
+// Writer of a clause of `try_table`.
 #[derive(Clone, Copy)]
 struct Catches;
 
