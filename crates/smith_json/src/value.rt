@@ -131,7 +131,7 @@ fn kinds(token: Token<'_>) -> Result<Option<InstructionKinds>, Fault>
     }
 }
 
-/// One of the three weights.
+/// Returns one of the three weights.
 fn weight(token: Token<'_>) -> Result<u32, Fault>
     ensures { result ≡ weight (token_of token.entry) }
 {
