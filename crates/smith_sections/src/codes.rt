@@ -9,7 +9,7 @@ use crate::lists::{Encode, EncodeItem, write_each};
 use smith_binary::{EncodeError, Sink};
 use smith_types::{Code, Instructions, ValType};
 
-// Writes a local as a run of its own.
+// Writer of a local, as a run of its own.
 #[derive(Clone, Copy)]
 struct Runs;
 
@@ -85,7 +85,7 @@ fn write_instructions(
     }
 }
 
-/// Writes a body in a module with counters of fuel.
+/// Writer of a body, in a module with counters of fuel.
 #[derive(Clone, Copy)]
 pub struct Bodies<'a> {
     /// The indices of the globals that count fuel. A body that is not raw begins with a check of

@@ -10,7 +10,7 @@ use crate::lists::{Encode, EncodeItem, EncodePair};
 use smith_binary::{EncodeError, Sink};
 use smith_types::{ConstInstr, GlobalType, Items, TableType};
 
-/// Writes a table, by its type and its initialiser. A table without an initialiser is written as
+/// Writer of a table, by its type and its initialiser. A table without an initialiser is written as
 /// its type alone.
 #[derive(Clone, Copy)]
 pub struct Tables;
@@ -35,7 +35,7 @@ impl EncodePair<TableType, Option<Items<ConstInstr>>> for Tables {
     }
 }
 
-/// Writes a global, by its type and its definition.
+/// Writer of a global, by its type and its definition.
 #[derive(Clone, Copy)]
 pub struct Globals;
 
@@ -53,7 +53,7 @@ impl EncodePair<GlobalType, (u32, Items<ConstInstr>)> for Globals {
     }
 }
 
-/// Writes a tag, by the index of its function type.
+/// Writer of a tag, by the index of its function type.
 #[derive(Clone, Copy)]
 pub struct Tags;
 
