@@ -361,14 +361,14 @@ impl Module {
         self.fuel_globals.as_slice()
     }
 
-    /// Whether an encoder writes a type section, even without types.
+    /// Returns whether an encoder writes a type section, even without types.
     pub fn should_encode_types(&self) -> bool
         ensures { result ≡ self.now.encodes_types }
     {
         self.drawn.contents.encodes_types
     }
 
-    /// Whether an encoder writes an import section, even without imports.
+    /// Returns whether an encoder writes an import section, even without imports.
     pub fn should_encode_imports(&self) -> bool
         ensures { result ≡ self.now.encodes_imports }
     {
