@@ -89,7 +89,7 @@ pub record AreEntitiesDrawn (config : Config) (drawn : Drawn) : Type 0 where
   pub small : HasNoShapes config → HasSmallSizes config drawn
   pub floats : config.allow_floats ≡ false → HasNoShapes config → HasNoFloatSoFar drawn
 
--- the state after exports are made too
+-- the state after exports are made
 pub record AreExportsDrawn (config : Config) (drawn : Drawn) : Type 0 where
   pub whole : StandsWhole config drawn
   pub few_values : All (HasFewValues most_listed) drawn.types.types
