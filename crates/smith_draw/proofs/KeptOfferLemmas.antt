@@ -1,15 +1,14 @@
 -- The record of globals and functions that are offered, as they are read in turn.
 use Rattle.std.proofs.Common.{◌≡◌, ℕ, zero, suc, ◌+◌, ◌-◌, ◌<◌, ◌≤◌, Bool, true, false, List, [], ◌∷◌, ◌++◌, take, get_or, set, map, length, refl, sym, ap, ◌∙◌, subst, arith}
-use Rattle.std.specs.Prelude.{All, Some, Result, Ok, Err, not, ◌&&◌}
+use Rattle.std.specs.Prelude.{All, Some, Ok, Err, not, ◌&&◌}
 use Rattle.std.proofs.lemmas.List.{append-nil, append_assoc, get_or-set_same, length-map, length-set, map-append}
-use Rattle.std.proofs.Math.Seq.{take-length}
 use Rattle.std.proofs.lemmas.Option.{get_or_from_slice_get, slice_get-get_or, slice_get_within}
 use Rattle.smith_types.specs.Expressions.{Context, function_reference}
 use Rattle.smith_types.specs.declared.entity_type.GlobalType.{GlobalType}
 use Rattle.smith_types.specs.declared.value_type.ValType.{ValType}
 use Rattle.smith_draw.specs.Below.{is_val_below}
 use Rattle.smith_draw.specs.ConstOffers.{each_from, offered_if, past, global_offers, function_offers}
-use Rattle.smith_draw.specs.KeptOffers.{IsKeptAt, IsKeptOffer, IsWhole}
+use Rattle.smith_draw.specs.KeptOffers.{IsKeptAt, IsKeptOffer}
 use Rattle.smith_draw.specs.declared.const_expr.kept_offers.KeptOffer.{KeptOffer}
 use Rattle.smith_draw.specs.declared.const_expr.node_choice.Choice.TheVariants as choice
 use Rattle.smith_draw.proofs.ConstFoundLemmas.{past_end}
@@ -23,7 +22,7 @@ each_more offer start (x ∷ xs) (suc k) d inside =
     let same : start + 1 + k ≡ start + suc k = omega arith in
     ap (λ ys. offer start x ++ ys) (more ∙ ap (λ (n : ℕ). each_from offer (start + 1) (take k xs) ++ offer n (get_or xs k d)) same) ∙ sym (append_assoc (offer start x) (each_from offer (start + 1) (take k xs)) (offer (start + suc k) (get_or xs k d)))
 
-made_if : {B : Type 0} (make : ℕ → B) (offered : Bool) (k : ℕ) → map make (offered_if offered k) ≡ offered_if offered (make k)
+pub made_if : {B : Type 0} (make : ℕ → B) (offered : Bool) (k : ℕ) → map make (offered_if offered k) ≡ offered_if offered (make k)
 made_if make true k = refl
 made_if make false k = refl
 
