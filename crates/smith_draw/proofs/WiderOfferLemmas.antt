@@ -1,13 +1,12 @@
 -- What is offered for a type is among what is offered for a wider one.
-use Rattle.std.proofs.Common.{◌≡◌, inl, inr, ℕ, zero, suc, ◌+◌, ◌-◌, ◌<◌, ◌≤◌, Bool, true, false, cond, List, [], ◌∷◌, ◌++◌, Option, Some, None, IsTrue, take, drop, get_or, set, map, length, refl, sym, ap, ◌∙◌, subst, arith}
+use Rattle.std.proofs.Common.{◌≡◌, inl, inr, ℕ, zero, suc, ◌+◌, ◌-◌, ◌<◌, ◌≤◌, Bool, true, false, cond, List, [], ◌∷◌, ◌++◌, Option, Some, None, IsTrue, take, drop, get_or, map, length, refl, sym, ap, ◌∙◌, subst, arith}
 use Rattle.std.specs.Prelude.{All, slice_get, not, ◌&&◌}
 use Rattle.std.specs.List.{AllWithin, filter}
 use Rattle.std.proofs.Math.Seq.{drop-append_seam, get_or-append_right}
-use Rattle.std.proofs.lemmas.List.{append_assoc, length-append, length-drop, length-take-le, map-append, take-take, take-append-drop, get_or-drop, get_or-take, get_or_append_left, get_or-set_other, length-set}
-use Rattle.std.proofs.lemmas.List.Elements.{All-append, All-drop, All-set, All-take, All-weaker, filter_more}
+use Rattle.std.proofs.lemmas.List.{append_assoc, length-append, length-drop, length-take-le, map-append, take-take, take-append-drop, get_or-drop, get_or-take, get_or_append_left}
+use Rattle.std.proofs.lemmas.List.Elements.{All-append, All-drop, All-take, All-weaker, filter_more}
 use Rattle.std.proofs.lemmas.Bool.{cases_lt}
-use Rattle.std.proofs.lemmas.Bool.Decides.{eqb_tells}
-use Rattle.std.proofs.lemmas.Option.{get_or_from_slice_get, slice_get-get_or, slice_get_within}
+use Rattle.std.proofs.lemmas.Option.{slice_get-get_or}
 use Rattle.smith_types.specs.Types.{IsOrderly}
 use Rattle.smith_types.specs.Expressions.{Context}
 use Rattle.smith_types.specs.declared.entity_type.GlobalType.{GlobalType}
@@ -16,11 +15,11 @@ use Rattle.smith_types.specs.declared.value_type.ValType.{ValType}
 use Rattle.smith_types.proofs.GrowthLemmas.{IsValBelow-trans}
 use Rattle.smith_draw.specs.Below.{is_val_below}
 use Rattle.smith_draw.specs.ConstOffers.{each_from, offered_if}
-use Rattle.smith_draw.specs.KeptOffers.{IsKeptAt, IsKeptOffer}
+use Rattle.smith_draw.specs.KeptOffers.{IsKeptOffer}
 use Rattle.smith_draw.specs.declared.const_expr.kept_offers.KeptOffer.{KeptOffer}
 use Rattle.smith_draw.specs.declared.const_expr.node_choice.Choice.TheVariants as choice
 use Rattle.smith_draw.proofs.BelowLemmas.{val_decides}
-use Rattle.smith_draw.proofs.KeptOfferLemmas.{kept_again, made_if}
+use Rattle.smith_draw.proofs.KeptOfferLemmas.{made_if}
 
 -- the indices of the items that pass a test, from a start on
 abbrev pub listed : {A : Type 0} → (ℕ → A → Bool) → ℕ → List A → List ℕ
@@ -34,7 +33,7 @@ passes_one test i (Some x) = test i x
 abbrev pub passes : {A : Type 0} → (ℕ → A → Bool) → List A → ℕ → Bool
 passes test xs i = passes_one test i (slice_get xs i)
 
-pub passes_there : {A : Type 0} (test : ℕ → A → Bool) (xs : List A) (i : ℕ) (d : A) → i < length xs → passes test xs i ≡ test i (get_or xs i d)
+passes_there : {A : Type 0} (test : ℕ → A → Bool) (xs : List A) (i : ℕ) (d : A) → i < length xs → passes test xs i ≡ test i (get_or xs i d)
 passes_there test xs i d inside = ap (passes_one test i) (slice_get-get_or xs i d inside)
 
 same_made : {B : Type 0} (make : ℕ → B) → ((i j : ℕ) → make i ≡ make j → i ≡ j) → (xs ys : List ℕ) → map make xs ≡ map make ys → xs ≡ ys
@@ -158,7 +157,7 @@ both_wider false b c wider both = cc
 abbrev pub global_test : Context → ValType → ℕ → GlobalType → Bool
 global_test context wanted index global = not global.mutable && is_val_below context.types global.val_type wanted
 
-pub kept_globals : (context : Context) (offer : KeptOffer) → IsKeptOffer context offer → offer.globals ≡ listed (global_test context offer.wanted) 0 (take offer.globals_seen context.globals)
+kept_globals : (context : Context) (offer : KeptOffer) → IsKeptOffer context offer → offer.globals ≡ listed (global_test context offer.wanted) 0 (take offer.globals_seen context.globals)
 kept_globals context offer kept =
     same_made (λ i. choice.Global i) (λ i j same. cc) offer.globals (listed (global_test context offer.wanted) 0 (take offer.globals_seen context.globals))
     (kept.globals ∙ sym (made_listed (λ i. choice.Global i) (global_test context offer.wanted) 0 (take offer.globals_seen context.globals)))
@@ -201,33 +200,6 @@ module _ (context : Context) (offer source : KeptOffer) (orderly : IsOrderly con
         funcs_seen = kept.funcs_seen;
         funcs = kept.funcs;
       })
-
--- a replacement for the same type leaves each entry for its type
-pub kept_still : (kept : List KeptOffer) (at place : ℕ) (wanted : ValType) (d old new : KeptOffer) → IsKeptAt kept at wanted → old ≡ get_or kept place d → new.wanted ≡ old.wanted → IsKeptAt (set kept place new) at wanted
-kept_still kept at place wanted d old new there is still = elim (eqb_tells at place) [
-  | inl (test, same) ↦ subst (λ (n : ℕ). IsKeptAt (set kept place new) n wanted) (sym same) (kept_again kept place d old new wanted (subst (λ (n : ℕ). IsKeptAt kept n wanted) same there) is still)
-  | inr (test, other) ↦
-      let inside : at < length kept = slice_get_within kept at there.0 there.1 in
-      (there.0, slice_get-get_or (set kept place new) at there.0 (rw (length-set kept place new) inside) ∙ ap (λ (each : KeptOffer). Some each) (get_or-set_other kept place at new there.0 other ∙ get_or_from_slice_get kept at there.0 there.0 there.1), there.2)
-]
-
--- the entry at a position is for its type
-pub wanted_there : (kept : List KeptOffer) (place : ℕ) (d one : KeptOffer) (wanted : ValType) → IsKeptAt kept place wanted → one ≡ get_or kept place d → one.wanted ≡ wanted
-wanted_there kept place d one wanted (offer, at, same) is = ap (λ (each : KeptOffer). each.wanted) (is ∙ get_or_from_slice_get kept place offer d at) ∙ same
-
--- correct entries, one of them for a type and one for a wider type
-pub record HasEntries (context : Context) (kept : List KeptOffer) (source : ℕ) (wider : ValType) (place : ℕ) (wanted : ValType) : Type 0 where
-  pub all : All (IsKeptOffer context) kept
-  pub at_source : IsKeptAt kept source wider
-  pub at_place : IsKeptAt kept place wanted
-
-pub entry_replaced : (context : Context) (kept : List KeptOffer) (source : ℕ) (wider : ValType) (place : ℕ) (wanted : ValType) (at : ℕ) (d old new : KeptOffer) → HasEntries context kept source wider place wanted → old ≡ get_or kept at d → new.wanted ≡ old.wanted → IsKeptOffer context new
-    → HasEntries context (set kept at new) source wider place wanted
-entry_replaced context kept source wider place wanted at d old new has is still correct = record {
-  all = All-set (IsKeptOffer context) kept at new correct has.all;
-  at_source = kept_still kept source at wider d old new has.at_source is still;
-  at_place = kept_still kept place at wanted d old new has.at_place is still;
-}
 
 -- one more index is read
 pub filter_longer : (test : ℕ → Bool) (old new indices : List ℕ) (k d index : ℕ) (offered : Bool) (more : List ℕ) → k < length indices → index ≡ get_or indices k d → offered ≡ test index → new ≡ old ++ filter test (take k indices) → more ≡ new ++ offered_if offered index → more ≡ old ++ filter test (take (k + 1) indices)

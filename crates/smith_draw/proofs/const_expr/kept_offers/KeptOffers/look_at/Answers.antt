@@ -6,8 +6,7 @@ use Rattle.smith_draw.specs.Below.{is_val_below}
 use Rattle.smith_draw.specs.ConstScopes.{context_of}
 use Rattle.smith_draw.specs.KeptOffers.{IsKeptOffer}
 use Rattle.smith_draw.specs.declared.const_expr.kept_offers.KeptOffer.{KeptOffer}
-use Rattle.smith_draw.proofs.KeptOfferLemmas.{kept_again, offer_there}
-use Rattle.smith_draw.proofs.WiderOfferLemmas.{HasEntries, entry_replaced, wanted_there}
+use Rattle.smith_draw.proofs.KeptOfferLemmas.{HasEntries, entry_replaced, kept_again, offer_there, wanted_there}
 use Rattle.smith_draw.proofs.const_expr.kept_offers.KeptOffers.look_at.Goals as goal
 use Rattle.smith_draw.proofs.const_expr.kept_offers.KeptOffers.look_at.Goals.{In_ok-look, After-replace-offer}
 
