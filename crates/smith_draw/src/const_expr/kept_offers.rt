@@ -24,7 +24,8 @@ const FEW: usize = 32;
 /// The globals and functions offered for each wanted type, recorded so that repeated draws read
 /// each global and function only once per type.
 ///
-/// For a type of references only the globals offered for the top of its hierarchy are read.
+/// For a type of unshared references, only the globals offered for the top of its hierarchy are
+/// read.
 ///
 /// Initialisers of tables and of globals may share one value: an entry that has read defined
 /// globals is not used where only imported globals are visible. If there are few globals and
