@@ -1,15 +1,16 @@
 -- The record of globals and functions that are offered, as they are read in turn.
-use Rattle.std.proofs.Common.{◌≡◌, ℕ, zero, suc, ◌+◌, ◌-◌, ◌<◌, ◌≤◌, Bool, true, false, List, [], ◌∷◌, ◌++◌, take, get_or, set, map, length, refl, sym, ap, ◌∙◌, subst, arith}
-use Rattle.std.specs.Prelude.{All, Some, Result, Ok, Err, not, ◌&&◌}
-use Rattle.std.proofs.lemmas.List.{append-nil, append_assoc, get_or-set_same, length-map, length-set, map-append}
-use Rattle.std.proofs.Math.Seq.{take-length}
+use Rattle.std.proofs.Common.{◌≡◌, inl, inr, ℕ, zero, suc, ◌+◌, ◌-◌, ◌<◌, ◌≤◌, Bool, true, false, List, [], ◌∷◌, ◌++◌, take, get_or, set, map, length, refl, sym, ap, ◌∙◌, subst, arith}
+use Rattle.std.specs.Prelude.{All, Some, Ok, Err, not, ◌&&◌}
+use Rattle.std.proofs.lemmas.List.{append-nil, append_assoc, get_or-set_other, get_or-set_same, length-map, length-set, map-append}
+use Rattle.std.proofs.lemmas.List.Elements.{All-set}
+use Rattle.std.proofs.lemmas.Bool.Decides.{eqb_tells}
 use Rattle.std.proofs.lemmas.Option.{get_or_from_slice_get, slice_get-get_or, slice_get_within}
 use Rattle.smith_types.specs.Expressions.{Context, function_reference}
 use Rattle.smith_types.specs.declared.entity_type.GlobalType.{GlobalType}
 use Rattle.smith_types.specs.declared.value_type.ValType.{ValType}
 use Rattle.smith_draw.specs.Below.{is_val_below}
 use Rattle.smith_draw.specs.ConstOffers.{each_from, offered_if, past, global_offers, function_offers}
-use Rattle.smith_draw.specs.KeptOffers.{IsKeptAt, IsKeptOffer, IsWhole}
+use Rattle.smith_draw.specs.KeptOffers.{IsKeptAt, IsKeptOffer}
 use Rattle.smith_draw.specs.declared.const_expr.kept_offers.KeptOffer.{KeptOffer}
 use Rattle.smith_draw.specs.declared.const_expr.node_choice.Choice.TheVariants as choice
 use Rattle.smith_draw.proofs.ConstFoundLemmas.{past_end}
@@ -23,7 +24,7 @@ each_more offer start (x ∷ xs) (suc k) d inside =
     let same : start + 1 + k ≡ start + suc k = omega arith in
     ap (λ ys. offer start x ++ ys) (more ∙ ap (λ (n : ℕ). each_from offer (start + 1) (take k xs) ++ offer n (get_or xs k d)) same) ∙ sym (append_assoc (offer start x) (each_from offer (start + 1) (take k xs)) (offer (start + suc k) (get_or xs k d)))
 
-made_if : {B : Type 0} (make : ℕ → B) (offered : Bool) (k : ℕ) → map make (offered_if offered k) ≡ offered_if offered (make k)
+pub made_if : {B : Type 0} (make : ℕ → B) (offered : Bool) (k : ℕ) → map make (offered_if offered k) ≡ offered_if offered (make k)
 made_if make true k = refl
 made_if make false k = refl
 
@@ -95,3 +96,30 @@ kept_again kept place d old new wanted (offer, at, same) is still =
       slice_get-get_or (set kept place new) place new (rw (length-set kept place new) inside) ∙ ap (λ (each : KeptOffer). Some each) (get_or-set_same kept place new new inside),
       still ∙ ap (λ (each : KeptOffer). each.wanted) (is ∙ get_or_from_slice_get kept place offer d at) ∙ same,
     )
+
+-- a replacement for the same type leaves each entry for its type
+kept_still : (kept : List KeptOffer) (at place : ℕ) (wanted : ValType) (d old new : KeptOffer) → IsKeptAt kept at wanted → old ≡ get_or kept place d → new.wanted ≡ old.wanted → IsKeptAt (set kept place new) at wanted
+kept_still kept at place wanted d old new there is still = elim (eqb_tells at place) [
+  | inl (test, same) ↦ subst (λ (n : ℕ). IsKeptAt (set kept place new) n wanted) (sym same) (kept_again kept place d old new wanted (subst (λ (n : ℕ). IsKeptAt kept n wanted) same there) is still)
+  | inr (test, other) ↦
+      let inside : at < length kept = slice_get_within kept at there.0 there.1 in
+      (there.0, slice_get-get_or (set kept place new) at there.0 (rw (length-set kept place new) inside) ∙ ap (λ (each : KeptOffer). Some each) (get_or-set_other kept place at new there.0 other ∙ get_or_from_slice_get kept at there.0 there.0 there.1), there.2)
+]
+
+-- the entry at a position is for its type
+pub wanted_there : (kept : List KeptOffer) (place : ℕ) (d one : KeptOffer) (wanted : ValType) → IsKeptAt kept place wanted → one ≡ get_or kept place d → one.wanted ≡ wanted
+wanted_there kept place d one wanted (offer, at, same) is = ap (λ (each : KeptOffer). each.wanted) (is ∙ get_or_from_slice_get kept place offer d at) ∙ same
+
+-- correct entries, one of them for a type and one for a wider type
+pub record HasEntries (context : Context) (kept : List KeptOffer) (source : ℕ) (wider : ValType) (place : ℕ) (wanted : ValType) : Type 0 where
+  pub all : All (IsKeptOffer context) kept
+  pub at_source : IsKeptAt kept source wider
+  pub at_place : IsKeptAt kept place wanted
+
+pub entry_replaced : (context : Context) (kept : List KeptOffer) (source : ℕ) (wider : ValType) (place : ℕ) (wanted : ValType) (at : ℕ) (d old new : KeptOffer) → HasEntries context kept source wider place wanted → old ≡ get_or kept at d → new.wanted ≡ old.wanted → IsKeptOffer context new
+    → HasEntries context (set kept at new) source wider place wanted
+entry_replaced context kept source wider place wanted at d old new has is still correct = record {
+  all = All-set (IsKeptOffer context) kept at new correct has.all;
+  at_source = kept_still kept source at wider d old new has.at_source is still;
+  at_place = kept_still kept place at wanted d old new has.at_place is still;
+}

@@ -45,6 +45,7 @@ pub mod BelowLemmas
 pub mod GroundingLemmas
 pub mod KeptGroundLemmas
 pub mod KeptOfferLemmas
+pub mod WiderOfferLemmas
 pub mod ReadableLemmas
 pub mod ConstScopeLemmas
 pub mod ConstOfferLemmas
