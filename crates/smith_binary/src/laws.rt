@@ -15,5 +15,6 @@ pub fn signed_integers_are_unambiguous()
 
 /// Proves that an unsigned integer has one shortest spelling.
 pub fn shortest_spellings_are_known()
-    ensures { (most bits n : ℕ) (piece : List ℕ) → n < 128 ^ suc most → n < 2 ^ bits → Shortest (IsUnsigned bits n) piece → piece ≡ shortest_bytes (suc most) n }
+    ensures { (most bits n : ℕ) (piece : List ℕ) → n < 128 ^ suc most → n < 2 ^ bits
+        → Shortest (IsUnsigned bits n) piece → piece ≡ shortest_bytes (suc most) n }
 {}

@@ -1,6 +1,7 @@
 ghost use Rattle.std.specs.Prelude.{◌≡◌, ℕ, ◌<◌, ◌^◌, pos, negsuc, OnOk, IfErr};
 ghost use Rattle.smith_binary.specs.declared.error.EncodeError.TheVariants.{Memory};
-ghost use Rattle.smith_binary.specs.Numbers.{IsUnsigned, IsSigned, FitsBits, IsLittleEndian, IsVector};
+ghost use Rattle.smith_binary.specs.Numbers.{IsUnsigned, IsSigned, FitsBits, IsLittleEndian};
+ghost use Rattle.smith_binary.specs.Numbers.{IsVector};
 ghost use Rattle.smith_binary.specs.Pieces.{Writes, Shortest};
 
 use crate::error::EncodeError;
@@ -8,7 +9,8 @@ use crate::sink::Sink;
 
 // Writes the signed integer `value`, which is not negative.
 fn write_positive(value: u64, sink: &mut Sink) -> Result<(), EncodeError>
-    ensures writes { OnOk result ((bits : ℕ) → FitsBits bits (pos value) → Writes (Shortest (IsSigned bits (pos value))) sink.old sink.new) }
+    ensures writes { OnOk result ((bits : ℕ) → FitsBits bits (pos value)
+        → Writes (Shortest (IsSigned bits (pos value))) sink.old sink.new) }
     ensures memory { IfErr result (λ e. e ≡ Memory) }
 {
     if value < 64 {
@@ -20,7 +22,8 @@ fn write_positive(value: u64, sink: &mut Sink) -> Result<(), EncodeError>
 
 // Writes the signed integer `-1 - value`.
 fn write_negative(value: u64, sink: &mut Sink) -> Result<(), EncodeError>
-    ensures writes { OnOk result ((bits : ℕ) → FitsBits bits (negsuc value) → Writes (Shortest (IsSigned bits (negsuc value))) sink.old sink.new) }
+    ensures writes { OnOk result ((bits : ℕ) → FitsBits bits (negsuc value)
+        → Writes (Shortest (IsSigned bits (negsuc value))) sink.old sink.new) }
     ensures memory { IfErr result (λ e. e ≡ Memory) }
 {
     if value < 64 {
@@ -47,7 +50,8 @@ impl Sink {
     /// Writes `value` without sign in LEB128, in as few bytes as possible, as an integer of any
     /// number of bits that it fits.
     pub fn write_unsigned(&mut self, value: u64) -> Result<(), EncodeError>
-        ensures writes { OnOk result ((bits : ℕ) → value < 2 ^ bits → Writes (Shortest (IsUnsigned bits value)) self.old self.new) }
+        ensures writes { OnOk result ((bits : ℕ) → value < 2 ^ bits
+            → Writes (Shortest (IsUnsigned bits value)) self.old self.new) }
         ensures memory { IfErr result (λ e. e ≡ Memory) }
     {
         if value < 128 {
@@ -60,7 +64,8 @@ impl Sink {
     /// Writes `value` with its sign in LEB128, in as few bytes as possible, as an integer of any
     /// number of bits that it fits.
     pub fn write_signed(&mut self, value: i64) -> Result<(), EncodeError>
-        ensures writes { OnOk result ((bits : ℕ) → FitsBits bits value → Writes (Shortest (IsSigned bits value)) self.old self.new) }
+        ensures writes { OnOk result ((bits : ℕ) → FitsBits bits value
+            → Writes (Shortest (IsSigned bits value)) self.old self.new) }
         ensures memory { IfErr result (λ e. e ≡ Memory) }
     {
         if value >= 0 {

@@ -1,6 +1,7 @@
 ghost use Rattle.std.specs.Prelude.{◌≡◌, ◌<◌, ◌≤◌, [], string_bytes, IfOk, IfErr};
 ghost use Rattle.smith_bytes.specs.Source.{KeepsPieces};
-ghost use Rattle.smith_bytes.specs.Kebab.{is_open, character, character_at, characters_at, kebab_at};
+ghost use Rattle.smith_bytes.specs.Kebab.{is_open, character, character_at, characters_at};
+ghost use Rattle.smith_bytes.specs.Kebab.{kebab_at};
 
 use crate::error::Error;
 use crate::unstructured::Unstructured;

@@ -31,7 +31,8 @@ pub fn unique_string(
     names: &mut HashSet<String>,
     u: &mut Unstructured<'_>,
 ) -> Result<String, Error>
-    ensures made { IfOk result (λ name. IsMadeNew names.old (text_at max_size u.old).0 (string_bytes name)) }
+    ensures made { IfOk result (λ name.
+        IsMadeNew names.old (text_at max_size u.old).0 (string_bytes name)) }
     ensures added { IfOk result (λ name. AddsName names.old names.new (string_bytes name)) }
     ensures kept { OnErr result (IsUnchanged names.old names.new) }
     ensures memory { IfErr result (λ e. e ≡ Error.Memory) }
@@ -59,7 +60,8 @@ pub fn unique_kebab_string(
     names: &mut HashSet<String>,
     u: &mut Unstructured<'_>,
 ) -> Result<String, Error>
-    ensures made { IfOk result (λ name. IsMadeNew names.old (kebab_at max_size u.old).0 (string_bytes name)) }
+    ensures made { IfOk result (λ name.
+        IsMadeNew names.old (kebab_at max_size u.old).0 (string_bytes name)) }
     ensures shape { IfOk result (λ name. IsKebab (string_bytes name)) }
     ensures added { IfOk result (λ name. AddsName names.old names.new (string_bytes name)) }
     ensures kept { OnErr result (IsUnchanged names.old names.new) }
@@ -90,10 +92,13 @@ pub fn unique_url(
     names: &mut HashSet<String>,
     u: &mut Unstructured<'_>,
 ) -> Result<String, Error>
-    ensures front { IfOk result (λ url. string_bytes url ≡ url_front ++ url_path (string_bytes url)) }
-    ensures made { IfOk result (λ url. IsMadeNew names.old (kebab_at max_size u.old).0 (url_path (string_bytes url))) }
+    ensures front { IfOk result (λ url.
+        string_bytes url ≡ url_front ++ url_path (string_bytes url)) }
+    ensures made { IfOk result (λ url.
+        IsMadeNew names.old (kebab_at max_size u.old).0 (url_path (string_bytes url))) }
     ensures shape { IfOk result (λ url. IsKebab (url_path (string_bytes url))) }
-    ensures added { IfOk result (λ url. AddsName names.old names.new (url_path (string_bytes url))) }
+    ensures added { IfOk result (λ url.
+        AddsName names.old names.new (url_path (string_bytes url))) }
     ensures kept { OnErr result (IsUnchanged names.old names.new) }
     ensures memory { IfErr result (λ e. e ≡ Error.Memory) }
     ensures rest { OnOk result (u.new ≡ (kebab_at max_size u.old).1) }
@@ -115,7 +120,8 @@ fn url_of(alloc: Global, path: &str) -> Result<String, Error>
 
 /// Makes `text` new in `names` as [`made_new`] does, and adds the result to `names`.
 fn unique(names: &mut HashSet<String>, text: String) -> Result<String, Error>
-    ensures made { IfOk result (λ name. IsMadeNew names.old (string_bytes text) (string_bytes name)) }
+    ensures made { IfOk result (λ name.
+        IsMadeNew names.old (string_bytes text) (string_bytes name)) }
     ensures added { IfOk result (λ name. AddsName names.old names.new (string_bytes name)) }
     ensures kept { OnErr result (IsUnchanged names.old names.new) }
     ensures memory { IfErr result (λ e. e ≡ Error.Memory) }
@@ -127,7 +133,8 @@ fn unique(names: &mut HashSet<String>, text: String) -> Result<String, Error>
 
 /// Appends the size of `names` to `text` repeatedly until `text` is not in `names`.
 fn made_new(names: &HashSet<String>, text: String) -> Result<String, Error>
-    ensures made { IfOk result (λ name. IsMadeNew names.now (string_bytes text) (string_bytes name)) }
+    ensures made { IfOk result (λ name.
+        IsMadeNew names.now (string_bytes text) (string_bytes name)) }
     ensures memory { IfErr result (λ e. e ≡ Error.Memory) }
 {
     let mut name = text;

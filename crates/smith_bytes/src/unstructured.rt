@@ -1,7 +1,9 @@
-ghost use Rattle.std.specs.Prelude.{◌≡◌, ◌≤◌, ◌<◌, ◌^◌, ◌↔◌, IsTrue, IsOk, IsErr, IfOk, IfErr, OnOk, OnErr, Some, IsSome, IfSome, length, take, drop};
+ghost use Rattle.std.specs.Prelude.{◌≡◌, ◌≤◌, ◌<◌, ◌^◌, ◌↔◌, IsTrue, IsOk, IsErr, IfOk, IfErr};
+ghost use Rattle.std.specs.Prelude.{OnOk, OnErr, Some, IsSome, IfSome, length, take, drop};
 ghost use Rattle.std.specs.Range.{range_inclusive_start, range_inclusive_end};
 ghost use Rattle.smith_bytes.specs.Source.{KeepsPieces};
-ghost use Rattle.smith_bytes.specs.Draws.{whole_at, range_at, ratio_at, choose_at, length_size, len_at};
+ghost use Rattle.smith_bytes.specs.Draws.{whole_at, range_at, ratio_at, choose_at, length_size};
+ghost use Rattle.smith_bytes.specs.Draws.{len_at};
 
 use crate::arbitrary::{Arbitrary, Int};
 use crate::digits::{
@@ -110,8 +112,10 @@ impl<'a> Unstructured<'a> {
     /// ```
     #[tactic(auto, unfolding(crate::specs::Draws::range_at))]
     pub fn int_in_range<T: Int>(&mut self, range: RangeInclusive<T>) -> T
-        requires ordered { T.number (range_inclusive_start range) ≤ T.number (range_inclusive_end range) }
-        ensures exact { range_at (T.number (range_inclusive_start range)) (T.number (range_inclusive_end range)) self.old
+        requires ordered { T.number (range_inclusive_start range)
+            ≤ T.number (range_inclusive_end range) }
+        ensures exact { range_at (T.number (range_inclusive_start range))
+            (T.number (range_inclusive_end range)) self.old
             ≡ (T.number result, self.new) }
         ensures above { T.number (range_inclusive_start range) ≤ T.number result }
         ensures within { T.number result ≤ T.number (range_inclusive_end range) }
@@ -156,7 +160,8 @@ impl<'a> Unstructured<'a> {
     /// ```
     #[tactic(auto, unfolding(crate::specs::Draws::choose_at))]
     pub fn choose<'b, T>(&mut self, items: &'b [T]) -> Result<&'b T, Error>
-        ensures exact { IfOk result (λ item. choose_at items.now self.old ≡ (Some item.now, self.new)) }
+        ensures exact { IfOk result (λ item.
+            choose_at items.now self.old ≡ (Some item.now, self.new)) }
         ensures empty { IsErr result ↔ (length items.now ≡ 0) }
         ensures error { IfErr result (λ e. e ≡ Error.EmptyChoose) }
         ensures fault { OnErr result (self.new ≡ self.old) }

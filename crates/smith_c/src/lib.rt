@@ -20,7 +20,8 @@ use std::alloc::Global;
 /// `config` is the text of a JSON object, or empty for the default configuration.
 #[unsafe(no_mangle)]
 pub extern "C" fn smith_binary(alloc: Global, config: &[u8], input: &[u8], out: &mut [u8]) -> Answer
-    ensures { IsAnswered (IsBinary config.now input.now) (IsRefusal config.now input.now) out.old out.new result }
+    ensures { IsAnswered (IsBinary config.now input.now)
+        (IsRefusal config.now input.now) out.old out.new result }
 {
     match smith_request::binary(alloc, config, input) {
         Ok(bytes) => put(answer::MADE, bytes.as_slice(), out),
@@ -32,7 +33,8 @@ pub extern "C" fn smith_binary(alloc: Global, config: &[u8], input: &[u8], out: 
 /// text.
 #[unsafe(no_mangle)]
 pub extern "C" fn smith_text(alloc: Global, config: &[u8], input: &[u8], out: &mut [u8]) -> Answer
-    ensures { IsAnswered (λ text. HasProgram config.now input.now) (IsTextRefusal config.now input.now) out.old out.new result }
+    ensures { IsAnswered (λ text. HasProgram config.now input.now)
+        (IsTextRefusal config.now input.now) out.old out.new result }
 {
     match smith_request::text(alloc, config, input) {
         Ok(text) => put(answer::MADE, text.as_str().as_bytes(), out),
@@ -49,7 +51,8 @@ pub extern "C" fn smith_refusal(
     input: &[u8],
     out: &mut [u8],
 ) -> Answer
-    ensures { IsExplained (HasBinary config.now input.now) (IsRefusal config.now input.now) out.old out.new result }
+    ensures { IsExplained (HasBinary config.now input.now)
+        (IsRefusal config.now input.now) out.old out.new result }
 {
     match smith_request::binary(alloc, config, input) {
         Ok(_) => Answer::without_output(answer::MADE),

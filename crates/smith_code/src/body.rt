@@ -38,10 +38,13 @@ pub fn draw_body(
 ) -> Result<Items<Instr>, Error>
     requires scope { IsScope (bare scope.now) }
     ensures typed { IfOk result (IsBodyTyped (bare scope.now)) }
-    ensures allowed { IfOk result (All (IsEnabled (features_in scope.now.features) scope.now.config.now.allowed_instructions)) }
+    ensures allowed { IfOk result (All
+        (IsEnabled (features_in scope.now.features) scope.now.config.now.allowed_instructions)) }
     ensures trapless { IsTrue scope.now.config.now.disallow_traps → IfOk result (All IsTrapless) }
-    ensures short { IfOk result (λ body. length body ≤ 1 + length scope.now.results.now + most scope.now.types.now.types * fuel) }
-    ensures exact { Draws (body_at scope.now.config.now (bare scope.now) fuel u.old) result u.old u.new }
+    ensures short { IfOk result (λ body.
+        length body ≤ 1 + length scope.now.results.now + most scope.now.types.now.types * fuel) }
+    ensures exact { Draws (body_at scope.now.config.now (bare scope.now) fuel u.old)
+        result u.old u.new }
 {
     if fuel == 0 {
         let mut body = Items::new(alloc);
@@ -60,10 +63,13 @@ fn draw_some(
     requires scope { IsScope (bare scope.now) }
     requires some { 0 < fuel }
     ensures typed { IfOk result (IsBodyTyped (bare scope.now)) }
-    ensures allowed { IfOk result (All (IsEnabled (features_in scope.now.features) scope.now.config.now.allowed_instructions)) }
+    ensures allowed { IfOk result (All
+        (IsEnabled (features_in scope.now.features) scope.now.config.now.allowed_instructions)) }
     ensures trapless { IsTrue scope.now.config.now.disallow_traps → IfOk result (All IsTrapless) }
-    ensures short { IfOk result (λ body. length body ≤ length scope.now.results.now + most scope.now.types.now.types * fuel) }
-    ensures exact { Draws (body_at scope.now.config.now (bare scope.now) fuel u.old) result u.old u.new }
+    ensures short { IfOk result (λ body.
+        length body ≤ length scope.now.results.now + most scope.now.types.now.types * fuel) }
+    ensures exact { Draws (body_at scope.now.config.now (bare scope.now) fuel u.old)
+        result u.old u.new }
 {
     let mut labels = Vec::new(alloc);
     labels.push(Items::from_slice(alloc, scope.results)?)?;

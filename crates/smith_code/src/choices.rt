@@ -1,7 +1,9 @@
 ghost use Rattle.std.specs.Prelude.{◌≡◌, ◌<◌, [], ◌∷◌, length, IfOk, IfErr, IfSome};
 ghost use Rattle.smith_bytes.specs.Source.{KeepsPieces};
 ghost use Rattle.smith_instr.specs.Contexts.{IsValid};
-ghost use Rattle.smith_code.specs.Choices.{allowed_choice_at, any_call_at, call_at, drop_at, dropped_at, global_set_at, set_at, statement_choice_at, tee_at, value_choice_at};
+ghost use Rattle.smith_code.specs.Choices.{allowed_choice_at, any_call_at, call_at, drop_at};
+ghost use Rattle.smith_code.specs.Choices.{dropped_at, global_set_at, set_at, statement_choice_at};
+ghost use Rattle.smith_code.specs.Choices.{tee_at, value_choice_at};
 ghost use Rattle.smith_code_control.specs.BranchChoices.{leaving_at};
 ghost use Rattle.smith_code_nodes.specs.Chosen.{or_nop};
 ghost use Rattle.smith_code_nodes.specs.Nodes.{IsNode, IsNodeAllowed, IsOffer};
@@ -45,8 +47,11 @@ pub(crate) fn choose_allowed(
     requires scope { IsScope (bare scope.now) }
     requires labels { AreLabels scope.now draft.now.labels.items }
     requires wanted { IsValid (bare scope.now) wanted }
-    ensures exact { IfOk result (λ chosen. allowed_choice_at scope.now.config.now (where_stands scope.now draft.now) wanted u.old ≡ (chosen, u.new)) }
-    ensures offer { IsOffer (where_stands scope.now draft.now) draft.now.set.items (wanted ∷ []) result }
+    ensures exact { IfOk result (λ chosen.
+        allowed_choice_at scope.now.config.now (where_stands scope.now draft.now) wanted u.old
+        ≡ (chosen, u.new)) }
+    ensures offer { IsOffer (where_stands scope.now draft.now) draft.now.set.items
+        (wanted ∷ []) result }
     ensures allowed { IfOk result (λ chosen. IfSome chosen (IsNodeAllowed scope.now)) }
     ensures memory { IfErr result (λ e. e ≡ Error.Memory) }
     ensures left { KeepsPieces u.old u.new }
@@ -73,8 +78,11 @@ fn choose_value(
     requires scope { IsScope (bare scope.now) }
     requires labels { AreLabels scope.now draft.now.labels.items }
     requires wanted { IsValid (bare scope.now) wanted }
-    ensures exact { IfOk result (λ chosen. value_choice_at scope.now.config.now (where_stands scope.now draft.now) wanted u.old ≡ (chosen, u.new)) }
-    ensures offer { IsOffer (where_stands scope.now draft.now) draft.now.set.items (wanted ∷ []) result }
+    ensures exact { IfOk result (λ chosen.
+        value_choice_at scope.now.config.now (where_stands scope.now draft.now) wanted u.old
+        ≡ (chosen, u.new)) }
+    ensures offer { IsOffer (where_stands scope.now draft.now) draft.now.set.items
+        (wanted ∷ []) result }
     ensures memory { IfErr result (λ e. e ≡ Error.Memory) }
     ensures left { KeepsPieces u.old u.new }
 {
@@ -117,8 +125,10 @@ fn choose_leaving_for(
     requires scope { IsScope (bare scope.now) }
     requires labels { AreLabels scope.now draft.now.labels.items }
     requires wanted { IsValid (bare scope.now) wanted }
-    ensures exact { IfOk result (λ chosen. leaving_at (where_stands scope.now draft.now) u.old ≡ (chosen, u.new)) }
-    ensures offer { IsOffer (where_stands scope.now draft.now) draft.now.set.items (wanted ∷ []) result }
+    ensures exact { IfOk result (λ chosen.
+        leaving_at (where_stands scope.now draft.now) u.old ≡ (chosen, u.new)) }
+    ensures offer { IsOffer (where_stands scope.now draft.now) draft.now.set.items
+        (wanted ∷ []) result }
     ensures memory { IfErr result (λ e. e ≡ Error.Memory) }
     ensures left { KeepsPieces u.old u.new }
 {
@@ -135,8 +145,10 @@ fn choose_tee(
 ) -> Result<Option<Node>, Error>
     requires scope { IsScope (bare scope.now) }
     requires wanted { IsValid (bare scope.now) wanted }
-    ensures exact { IfOk result (λ chosen. tee_at (where_stands scope.now draft.now) wanted u.old ≡ (chosen, u.new)) }
-    ensures offer { IsOffer (where_stands scope.now draft.now) draft.now.set.items (wanted ∷ []) result }
+    ensures exact { IfOk result (λ chosen.
+        tee_at (where_stands scope.now draft.now) wanted u.old ≡ (chosen, u.new)) }
+    ensures offer { IsOffer (where_stands scope.now draft.now) draft.now.set.items
+        (wanted ∷ []) result }
     ensures memory { IfErr result (λ e. e ≡ Error.Memory) }
     ensures left { KeepsPieces u.old u.new }
 {
@@ -157,8 +169,10 @@ fn choose_call(
 ) -> Result<Option<Node>, Error>
     requires scope { IsScope (bare scope.now) }
     requires wanted { IsValid (bare scope.now) wanted }
-    ensures exact { IfOk result (λ chosen. call_at (where_stands scope.now draft.now) wanted u.old ≡ (chosen, u.new)) }
-    ensures offer { IsOffer (where_stands scope.now draft.now) draft.now.set.items (wanted ∷ []) result }
+    ensures exact { IfOk result (λ chosen.
+        call_at (where_stands scope.now draft.now) wanted u.old ≡ (chosen, u.new)) }
+    ensures offer { IsOffer (where_stands scope.now draft.now) draft.now.set.items
+        (wanted ∷ []) result }
     ensures memory { IfErr result (λ e. e ≡ Error.Memory) }
     ensures left { KeepsPieces u.old u.new }
 {
@@ -182,7 +196,9 @@ pub(crate) fn choose_statement(
 ) -> Result<Node, Error>
     requires scope { IsScope (bare scope.now) }
     requires labels { AreLabels scope.now draft.now.labels.items }
-    ensures exact { IfOk result (λ node. statement_choice_at scope.now.config.now (where_stands scope.now draft.now) u.old ≡ (node, u.new)) }
+    ensures exact { IfOk result (λ node.
+        statement_choice_at scope.now.config.now (where_stands scope.now draft.now) u.old
+        ≡ (node, u.new)) }
     ensures node { IfOk result (IsNode (where_stands scope.now draft.now) draft.now.set.items []) }
     ensures memory { IfErr result (λ e. e ≡ Error.Memory) }
     ensures left { KeepsPieces u.old u.new }
@@ -224,7 +240,8 @@ fn choose_drop(
     u: &mut Unstructured<'_>,
 ) -> Result<Node, Error>
     requires scope { IsScope (bare scope.now) }
-    ensures exact { IfOk result (λ node. or_nop (drop_at (where_stands scope.now draft.now) u.old) ≡ (node, u.new)) }
+    ensures exact { IfOk result (λ node.
+        or_nop (drop_at (where_stands scope.now draft.now) u.old) ≡ (node, u.new)) }
     ensures node { IfOk result (IsNode (where_stands scope.now draft.now) draft.now.set.items []) }
     ensures memory { IfErr result (λ e. e ≡ Error.Memory) }
     ensures left { KeepsPieces u.old u.new }
@@ -261,7 +278,8 @@ fn choose_set(
     u: &mut Unstructured<'_>,
 ) -> Result<Node, Error>
     requires scope { IsScope (bare scope.now) }
-    ensures exact { IfOk result (λ node. or_nop (set_at (where_stands scope.now draft.now) u.old) ≡ (node, u.new)) }
+    ensures exact { IfOk result (λ node.
+        or_nop (set_at (where_stands scope.now draft.now) u.old) ≡ (node, u.new)) }
     ensures node { IfOk result (IsNode (where_stands scope.now draft.now) draft.now.set.items []) }
     ensures memory { IfErr result (λ e. e ≡ Error.Memory) }
     ensures left { KeepsPieces u.old u.new }
@@ -282,7 +300,8 @@ fn choose_global_set(
     u: &mut Unstructured<'_>,
 ) -> Result<Node, Error>
     requires scope { IsScope (bare scope.now) }
-    ensures exact { IfOk result (λ node. or_nop (global_set_at (where_stands scope.now draft.now) u.old) ≡ (node, u.new)) }
+    ensures exact { IfOk result (λ node.
+        or_nop (global_set_at (where_stands scope.now draft.now) u.old) ≡ (node, u.new)) }
     ensures node { IfOk result (IsNode (where_stands scope.now draft.now) draft.now.set.items []) }
     ensures memory { IfErr result (λ e. e ≡ Error.Memory) }
     ensures left { KeepsPieces u.old u.new }
@@ -301,7 +320,8 @@ fn choose_any_call(
     u: &mut Unstructured<'_>,
 ) -> Result<Node, Error>
     requires scope { IsScope (bare scope.now) }
-    ensures exact { IfOk result (λ node. or_nop (any_call_at (where_stands scope.now draft.now) u.old) ≡ (node, u.new)) }
+    ensures exact { IfOk result (λ node.
+        or_nop (any_call_at (where_stands scope.now draft.now) u.old) ≡ (node, u.new)) }
     ensures node { IfOk result (IsNode (where_stands scope.now draft.now) draft.now.set.items []) }
     ensures memory { IfErr result (λ e. e ≡ Error.Memory) }
     ensures left { KeepsPieces u.old u.new }

@@ -1,14 +1,19 @@
-ghost use Rattle.std.specs.Prelude.{◌≡◌, ◌++◌, ◌+◌, ◌-◌, ◌<◌, ◌≤◌, [], ◌∷◌, All, List, length, IfErr, OnOk, option_to_list};
+ghost use Rattle.std.specs.Prelude.{◌≡◌, ◌++◌, ◌+◌, ◌-◌, ◌<◌, ◌≤◌, [], ◌∷◌, All, List, length};
+ghost use Rattle.std.specs.Prelude.{IfErr, OnOk, option_to_list};
 ghost use Rattle.smith_bytes.specs.Source.{KeepsPieces};
 ghost use Rattle.smith_types.specs.declared.value_type.ValType.{ValType as Val};
 ghost use Rattle.smith_types.specs.declared.value_type.ValType.TheVariants.{I32};
 ghost use Rattle.smith_instr.specs.Contexts.{AreBelow, AreValid, IsBlockType, IsValid};
 ghost use Rattle.smith_instr.specs.InstrTypes.{IsCatch};
 ghost use Rattle.smith_instr.specs.declared.instr.Instr.TheVariants as instr;
-ghost use Rattle.smith_code.specs.Bodies.{drawing_at, enclosed_at, head_at, inside_at, node_at, statement_at, values_at, whole_at, written};
+ghost use Rattle.smith_code.specs.Bodies.{drawing_at, enclosed_at, head_at, inside_at, node_at};
+ghost use Rattle.smith_code.specs.Bodies.{statement_at, values_at, whole_at, written};
 ghost use Rattle.smith_code.specs.Drawn.{IsDrawn, state_of};
-ghost use Rattle.smith_code_nodes.specs.Nodes.{AreSidesValid, HasHeadType, IsHeadAllowed, IsHeadValid, IsNode, IsNodeAllowed, MayOpen, block_cost, head_sets, label_of, opened, taken_by};
-ghost use Rattle.smith_code_nodes.specs.Scopes.{AreLabels, IsAllowedIn, IsScope, bare, where_stands};
+ghost use Rattle.smith_code_nodes.specs.Nodes.{AreSidesValid, HasHeadType, IsHeadAllowed};
+ghost use Rattle.smith_code_nodes.specs.Nodes.{IsHeadValid, IsNode, IsNodeAllowed, MayOpen};
+ghost use Rattle.smith_code_nodes.specs.Nodes.{block_cost, head_sets, label_of, opened, taken_by};
+ghost use Rattle.smith_code_nodes.specs.Scopes.{AreLabels, IsAllowedIn, IsScope, bare};
+ghost use Rattle.smith_code_nodes.specs.Scopes.{where_stands};
 
 use crate::choices::{choose_allowed, choose_statement};
 use crate::leaf::write_leaf;
@@ -33,7 +38,9 @@ fn draw_value(
     requires scope { IsScope (bare scope.now) }
     requires labels { AreLabels scope.now draft.old.labels.items }
     requires wanted { IsValid (bare scope.now) wanted }
-    ensures exact { OnOk result ((drawing_at scope.now.config.now depth).value wanted (state_of scope.now draft.old u.old) ≡ state_of scope.now draft.new u.new) }
+    ensures exact { OnOk result
+        ((drawing_at scope.now.config.now depth).value wanted (state_of scope.now draft.old u.old)
+        ≡ state_of scope.now draft.new u.new) }
     ensures drawn { OnOk result (IsDrawn scope.now [] (wanted ∷ []) 1 draft.old draft.new) }
     ensures memory { IfErr result (λ e. e ≡ Error.Memory) }
     ensures left { KeepsPieces u.old u.new }
@@ -64,8 +71,12 @@ fn draw_node(
     requires inside { IsHeadValid (bare scope.now).features (bare scope.now).types node.head }
     requires allowed { IsNodeAllowed scope.now node }
     requires paid { 0 < draft.old.fuel }
-    ensures exact { OnOk result (node_at (drawing_at scope.now.config.now depth) node (state_of scope.now draft.old u.old) ≡ state_of scope.now draft.new u.new) }
-    ensures drawn { (values : List Val) → IsNode (where_stands scope.now draft.old) draft.old.set.items values node → OnOk result (IsDrawn scope.now [] values 0 draft.old draft.new) }
+    ensures exact { OnOk result
+        (node_at (drawing_at scope.now.config.now depth) node (state_of scope.now draft.old u.old)
+        ≡ state_of scope.now draft.new u.new) }
+    ensures drawn { (values : List Val)
+        → IsNode (where_stands scope.now draft.old) draft.old.set.items values node
+        → OnOk result (IsDrawn scope.now [] values 0 draft.old draft.new) }
     ensures less { OnOk result (draft.new.fuel < draft.old.fuel) }
     ensures memory { IfErr result (λ e. e ≡ Error.Memory) }
     ensures left { KeepsPieces u.old u.new }
@@ -97,8 +108,13 @@ fn draw_head(
     requires labels { AreLabels scope.now draft.old.labels.items }
     requires inside { IsHeadValid (bare scope.now).features (bare scope.now).types head }
     requires allowed { IsHeadAllowed scope.now head }
-    ensures exact { OnOk result (head_at (drawing_at scope.now.config.now depth) head sets (state_of scope.now draft.old u.old) ≡ state_of scope.now draft.new u.new) }
-    ensures drawn { (operands given values : List Val) → HasHeadType (where_stands scope.now draft.old) draft.old.set.items head operands given → AreBelow (bare scope.now) given values → AreValid (bare scope.now) values → head_sets head ≡ option_to_list sets → OnOk result (IsDrawn scope.now operands values (block_cost scope.now.types.now.types) draft.old draft.new) }
+    ensures exact { OnOk result (head_at (drawing_at scope.now.config.now depth) head sets
+        (state_of scope.now draft.old u.old) ≡ state_of scope.now draft.new u.new) }
+    ensures drawn { (operands given values : List Val)
+        → HasHeadType (where_stands scope.now draft.old) draft.old.set.items head operands given
+        → AreBelow (bare scope.now) given values → AreValid (bare scope.now) values
+        → head_sets head ≡ option_to_list sets → OnOk result (IsDrawn scope.now operands values
+        (block_cost scope.now.types.now.types) draft.old draft.new) }
     ensures less { OnOk result (draft.new.fuel ≤ draft.old.fuel) }
     ensures memory { IfErr result (λ e. e ≡ Error.Memory) }
     ensures left { KeepsPieces u.old u.new }
@@ -132,8 +148,17 @@ fn draw_enclosed(
     requires sides { AreSidesValid (bare scope.now).features (bare scope.now).types sides.now }
     requires allowed { IsAllowedIn scope.now (opened opening ty) }
     requires drops { 0 < length sides.now.params → IsAllowedIn scope.now instr.Drop }
-    ensures exact { OnOk result (written instr.End (enclosed_at (drawing_at scope.now.config.now depth) (label_of opening sides.now.params sides.now.results) sides.now (written (opened opening ty) (state_of scope.now draft.old u.old))) ≡ state_of scope.now draft.new u.new) }
-    ensures drawn { (values : List Val) → IsBlockType (bare scope.now) ty sides.now.params sides.now.results → MayOpen opening sides.now.params sides.now.results → AreBelow (bare scope.now) sides.now.results values → AreValid (bare scope.now) values → OnOk result (IsDrawn scope.now (taken_by opening sides.now.params) values (block_cost scope.now.types.now.types) draft.old draft.new) }
+    ensures exact { OnOk result
+        (written instr.End (enclosed_at (drawing_at scope.now.config.now depth)
+        (label_of opening sides.now.params sides.now.results) sides.now
+        (written (opened opening ty) (state_of scope.now draft.old u.old)))
+        ≡ state_of scope.now draft.new u.new) }
+    ensures drawn { (values : List Val)
+        → IsBlockType (bare scope.now) ty sides.now.params sides.now.results
+        → MayOpen opening sides.now.params sides.now.results
+        → AreBelow (bare scope.now) sides.now.results values → AreValid (bare scope.now) values
+        → OnOk result (IsDrawn scope.now (taken_by opening sides.now.params) values
+        (block_cost scope.now.types.now.types) draft.old draft.new) }
     ensures less { OnOk result (draft.new.fuel ≤ draft.old.fuel) }
     ensures memory { IfErr result (λ e. e ≡ Error.Memory) }
     ensures left { KeepsPieces u.old u.new }
@@ -180,8 +205,16 @@ fn draw_if(
     requires sides { AreSidesValid (bare scope.now).features (bare scope.now).types sides.now }
     requires allowed { IsAllowedIn scope.now (instr.If ty) }
     requires drops { 0 < length sides.now.params → IsAllowedIn scope.now instr.Drop }
-    ensures exact { OnOk result (written instr.End (enclosed_at (drawing_at scope.now.config.now depth) sides.now.results sides.now (written instr.Else (enclosed_at (drawing_at scope.now.config.now depth) sides.now.results sides.now (written (instr.If ty) (state_of scope.now draft.old u.old))))) ≡ state_of scope.now draft.new u.new) }
-    ensures drawn { (values : List Val) → IsBlockType (bare scope.now) ty sides.now.params sides.now.results → AreBelow (bare scope.now) sides.now.results values → AreValid (bare scope.now) values → OnOk result (IsDrawn scope.now (sides.now.params ++ I32 ∷ []) values (block_cost scope.now.types.now.types) draft.old draft.new) }
+    ensures exact { OnOk result
+        (written instr.End (enclosed_at (drawing_at scope.now.config.now depth) sides.now.results
+        sides.now (written instr.Else (enclosed_at (drawing_at scope.now.config.now depth)
+        sides.now.results sides.now (written (instr.If ty) (state_of scope.now draft.old u.old)))))
+        ≡ state_of scope.now draft.new u.new) }
+    ensures drawn { (values : List Val)
+        → IsBlockType (bare scope.now) ty sides.now.params sides.now.results
+        → AreBelow (bare scope.now) sides.now.results values → AreValid (bare scope.now) values
+        → OnOk result (IsDrawn scope.now (sides.now.params ++ I32 ∷ []) values
+        (block_cost scope.now.types.now.types) draft.old draft.new) }
     ensures less { OnOk result (draft.new.fuel ≤ draft.old.fuel) }
     ensures memory { IfErr result (λ e. e ≡ Error.Memory) }
     ensures left { KeepsPieces u.old u.new }
@@ -211,8 +244,16 @@ fn draw_try(
     requires sides { AreSidesValid (bare scope.now).features (bare scope.now).types sides.now }
     requires allowed { IsAllowedIn scope.now (instr.TryTable ty clauses) }
     requires drops { 0 < length sides.now.params → IsAllowedIn scope.now instr.Drop }
-    ensures exact { OnOk result (written instr.End (enclosed_at (drawing_at scope.now.config.now depth) sides.now.results sides.now (written (instr.TryTable ty clauses) (state_of scope.now draft.old u.old))) ≡ state_of scope.now draft.new u.new) }
-    ensures drawn { (values : List Val) → IsBlockType (bare scope.now) ty sides.now.params sides.now.results → All (IsCatch (where_stands scope.now draft.old)) clauses → AreBelow (bare scope.now) sides.now.results values → AreValid (bare scope.now) values → OnOk result (IsDrawn scope.now sides.now.params values (block_cost scope.now.types.now.types) draft.old draft.new) }
+    ensures exact { OnOk result
+        (written instr.End (enclosed_at (drawing_at scope.now.config.now depth) sides.now.results
+        sides.now (written (instr.TryTable ty clauses) (state_of scope.now draft.old u.old)))
+        ≡ state_of scope.now draft.new u.new) }
+    ensures drawn { (values : List Val)
+        → IsBlockType (bare scope.now) ty sides.now.params sides.now.results
+        → All (IsCatch (where_stands scope.now draft.old)) clauses
+        → AreBelow (bare scope.now) sides.now.results values → AreValid (bare scope.now) values
+        → OnOk result (IsDrawn scope.now sides.now.params values
+        (block_cost scope.now.types.now.types) draft.old draft.new) }
     ensures less { OnOk result (draft.new.fuel ≤ draft.old.fuel) }
     ensures memory { IfErr result (λ e. e ≡ Error.Memory) }
     ensures left { KeepsPieces u.old u.new }
@@ -239,8 +280,10 @@ fn draw_inside(
     requires params { AreValid (bare scope.now) sides.now.params }
     requires results { AreValid (bare scope.now) sides.now.results }
     requires drops { 0 < length sides.now.params → IsAllowedIn scope.now instr.Drop }
-    ensures exact { OnOk result (inside_at (drawing_at scope.now.config.now depth) sides.now (state_of scope.now draft.old u.old) ≡ state_of scope.now draft.new u.new) }
-    ensures drawn { OnOk result (IsDrawn scope.now sides.now.params sides.now.results (length sides.now.params + length sides.now.results) draft.old draft.new) }
+    ensures exact { OnOk result (inside_at (drawing_at scope.now.config.now depth) sides.now
+        (state_of scope.now draft.old u.old) ≡ state_of scope.now draft.new u.new) }
+    ensures drawn { OnOk result (IsDrawn scope.now sides.now.params sides.now.results
+        (length sides.now.params + length sides.now.results) draft.old draft.new) }
     ensures memory { IfErr result (λ e. e ≡ Error.Memory) }
     ensures left { KeepsPieces u.old u.new }
 {
@@ -262,8 +305,10 @@ fn draw_values(
     requires scope { IsScope (bare scope.now) }
     requires labels { AreLabels scope.now draft.old.labels.items }
     requires valid { AreValid (bare scope.now) wanted.now }
-    ensures exact { OnOk result (values_at (drawing_at scope.now.config.now depth) wanted.now (state_of scope.now draft.old u.old) ≡ state_of scope.now draft.new u.new) }
-    ensures drawn { OnOk result (IsDrawn scope.now [] wanted.now (length wanted.now) draft.old draft.new) }
+    ensures exact { OnOk result (values_at (drawing_at scope.now.config.now depth) wanted.now
+        (state_of scope.now draft.old u.old) ≡ state_of scope.now draft.new u.new) }
+    ensures drawn { OnOk result
+        (IsDrawn scope.now [] wanted.now (length wanted.now) draft.old draft.new) }
     ensures memory { IfErr result (λ e. e ≡ Error.Memory) }
     ensures left { KeepsPieces u.old u.new }
 {
@@ -287,7 +332,9 @@ fn draw_statement(
     requires labels { AreLabels scope.now draft.old.labels.items }
     requires deep { 0 < depth }
     requires paid { 0 < draft.old.fuel }
-    ensures exact { OnOk result (statement_at scope.now.config.now (drawing_at scope.now.config.now (depth - 1)) (state_of scope.now draft.old u.old) ≡ state_of scope.now draft.new u.new) }
+    ensures exact { OnOk result (statement_at scope.now.config.now
+        (drawing_at scope.now.config.now (depth - 1)) (state_of scope.now draft.old u.old)
+        ≡ state_of scope.now draft.new u.new) }
     ensures drawn { OnOk result (IsDrawn scope.now [] [] 0 draft.old draft.new) }
     ensures less { OnOk result (draft.new.fuel < draft.old.fuel) }
     ensures memory { IfErr result (λ e. e ≡ Error.Memory) }
@@ -313,7 +360,9 @@ fn draw_statements(
 ) -> Result<(), Error>
     requires scope { IsScope (bare scope.now) }
     requires labels { AreLabels scope.now draft.old.labels.items }
-    ensures exact { OnOk result ((drawing_at scope.now.config.now depth).statements (state_of scope.now draft.old u.old) ≡ state_of scope.now draft.new u.new) }
+    ensures exact { OnOk result
+        ((drawing_at scope.now.config.now depth).statements (state_of scope.now draft.old u.old)
+        ≡ state_of scope.now draft.new u.new) }
     ensures drawn { OnOk result (IsDrawn scope.now [] [] 0 draft.old draft.new) }
     ensures memory { IfErr result (λ e. e ≡ Error.Memory) }
     ensures left { KeepsPieces u.old u.new }
@@ -340,8 +389,11 @@ pub(crate) fn draw_whole(
 ) -> Result<(), Error>
     requires scope { IsScope (bare scope.now) }
     requires labels { AreLabels scope.now draft.old.labels.items }
-    ensures exact { OnOk result (whole_at (drawing_at scope.now.config.now depth) scope.now.results.now (state_of scope.now draft.old u.old) ≡ state_of scope.now draft.new u.new) }
-    ensures drawn { OnOk result (IsDrawn scope.now [] scope.now.results.now (length scope.now.results.now) draft.old draft.new) }
+    ensures exact { OnOk result (whole_at (drawing_at scope.now.config.now depth)
+        scope.now.results.now (state_of scope.now draft.old u.old)
+        ≡ state_of scope.now draft.new u.new) }
+    ensures drawn { OnOk result (IsDrawn scope.now [] scope.now.results.now
+        (length scope.now.results.now) draft.old draft.new) }
     ensures memory { IfErr result (λ e. e ≡ Error.Memory) }
     ensures left { KeepsPieces u.old u.new }
 {

@@ -3,7 +3,8 @@ ghost use Rattle.smith_bytes.specs.Source.{KeepsPieces};
 ghost use Rattle.smith_instr.specs.Contexts.{IsValid};
 ghost use Rattle.smith_code.specs.Bodies.{leaf_in};
 ghost use Rattle.smith_code.specs.Drawn.{IsConstant, IsDrawn, IsLeaf, state_of};
-ghost use Rattle.smith_code.specs.Leaves.{any_leaf_at, constant_instr_at, first_leaf, first_of, leaf_at, leaf_choice_at, leaf_of, spare_leaf};
+ghost use Rattle.smith_code.specs.Leaves.{any_leaf_at, constant_instr_at, first_leaf, first_of};
+ghost use Rattle.smith_code.specs.Leaves.{leaf_at, leaf_choice_at, leaf_of, spare_leaf};
 ghost use Rattle.smith_code_nodes.specs.Scopes.{IsAllowedIn, IsScope, bare, where_stands};
 
 use crate::families::{LeafFamily, leaf_families};
@@ -23,7 +24,9 @@ pub(crate) fn write_leaf(
 ) -> Result<(), Error>
     requires scope { IsScope (bare scope.now) }
     requires wanted { IsValid (bare scope.now) wanted }
-    ensures exact { OnOk result (leaf_in scope.now.config.now wanted (state_of scope.now draft.old u.old) ≡ state_of scope.now draft.new u.new) }
+    ensures exact { OnOk result
+        (leaf_in scope.now.config.now wanted (state_of scope.now draft.old u.old)
+        ≡ state_of scope.now draft.new u.new) }
     ensures drawn { OnOk result (IsDrawn scope.now [] (wanted ∷ []) 1 draft.old draft.new) }
     ensures memory { IfErr result (λ e. e ≡ Error.Memory) }
     ensures left { KeepsPieces u.old u.new }
@@ -37,7 +40,9 @@ pub(crate) fn write_leaf(
 fn draw_leaf(scope: &Scope<'_>, wanted: ValType, draft: &Draft, u: &mut Unstructured<'_>) -> Instr
     requires scope { IsScope (bare scope.now) }
     requires wanted { IsValid (bare scope.now) wanted }
-    ensures exact { leaf_at scope.now.config.now (where_stands scope.now draft.now) draft.now.set.items wanted u.old ≡ (result, u.new) }
+    ensures exact { leaf_at scope.now.config.now
+        (where_stands scope.now draft.now) draft.now.set.items wanted u.old
+        ≡ (result, u.new) }
     ensures typed { IsLeaf (where_stands scope.now draft.now) draft.now.set.items wanted result }
     ensures allowed { IsAllowedIn scope.now result }
     ensures left { KeepsPieces u.old u.new }
@@ -54,7 +59,9 @@ fn draw_leaf(scope: &Scope<'_>, wanted: ValType, draft: &Draft, u: &mut Unstruct
 fn spare_leaf(scope: &Scope<'_>, wanted: ValType, draft: &Draft) -> Instr
     requires scope { IsScope (bare scope.now) }
     requires wanted { IsValid (bare scope.now) wanted }
-    ensures exact { result ≡ spare_leaf scope.now.config.now (where_stands scope.now draft.now) draft.now.set.items wanted }
+    ensures exact { result
+        ≡ spare_leaf scope.now.config.now
+        (where_stands scope.now draft.now) draft.now.set.items wanted }
     ensures typed { IsLeaf (where_stands scope.now draft.now) draft.now.set.items wanted result }
     ensures allowed { IsAllowedIn scope.now result }
 {
@@ -70,7 +77,9 @@ fn spare_leaf(scope: &Scope<'_>, wanted: ValType, draft: &Draft) -> Instr
 fn first_leaf(scope: &Scope<'_>, wanted: ValType, draft: &Draft) -> Instr
     requires scope { IsScope (bare scope.now) }
     requires wanted { IsValid (bare scope.now) wanted }
-    ensures exact { result ≡ first_leaf scope.now.config.now (where_stands scope.now draft.now) draft.now.set.items wanted }
+    ensures exact { result
+        ≡ first_leaf scope.now.config.now
+        (where_stands scope.now draft.now) draft.now.set.items wanted }
     ensures typed { IsLeaf (where_stands scope.now draft.now) draft.now.set.items wanted result }
     ensures allowed { IsAllowedIn scope.now result }
 {
@@ -95,8 +104,11 @@ fn first_leaf(scope: &Scope<'_>, wanted: ValType, draft: &Draft) -> Instr
 fn first_of(scope: &Scope<'_>, family: LeafFamily, wanted: ValType, draft: &Draft) -> Option<Instr>
     requires scope { IsScope (bare scope.now) }
     requires wanted { IsValid (bare scope.now) wanted }
-    ensures exact { result ≡ first_of scope.now.config.now (where_stands scope.now draft.now) draft.now.set.items wanted family }
-    ensures typed { IfSome result (IsLeaf (where_stands scope.now draft.now) draft.now.set.items wanted) }
+    ensures exact { result
+        ≡ first_of scope.now.config.now
+        (where_stands scope.now draft.now) draft.now.set.items wanted family }
+    ensures typed { IfSome result
+        (IsLeaf (where_stands scope.now draft.now) draft.now.set.items wanted) }
     ensures allowed { IfSome result (IsAllowedIn scope.now) }
 {
     let mut nothing = Unstructured::new(&[]);
@@ -116,7 +128,8 @@ fn draw_any_leaf(
 ) -> Instr
     requires scope { IsScope (bare scope.now) }
     requires wanted { IsValid (bare scope.now) wanted }
-    ensures exact { any_leaf_at (where_stands scope.now draft.now) draft.now.set.items wanted u.old ≡ (result, u.new) }
+    ensures exact { any_leaf_at (where_stands scope.now draft.now) draft.now.set.items wanted u.old
+        ≡ (result, u.new) }
     ensures typed { IsLeaf (where_stands scope.now draft.now) draft.now.set.items wanted result }
     ensures left { KeepsPieces u.old u.new }
 {
@@ -136,8 +149,11 @@ fn choose_leaf(
 ) -> Option<Instr>
     requires scope { IsScope (bare scope.now) }
     requires wanted { IsValid (bare scope.now) wanted }
-    ensures exact { leaf_choice_at (where_stands scope.now draft.now) draft.now.set.items wanted u.old ≡ (result, u.new) }
-    ensures typed { IfSome result (IsLeaf (where_stands scope.now draft.now) draft.now.set.items wanted) }
+    ensures exact { leaf_choice_at (where_stands scope.now draft.now)
+        draft.now.set.items wanted u.old
+        ≡ (result, u.new) }
+    ensures typed { IfSome result
+        (IsLeaf (where_stands scope.now draft.now) draft.now.set.items wanted) }
     ensures left { KeepsPieces u.old u.new }
 {
     let family = choose(leaf_families(), u);
@@ -154,8 +170,11 @@ fn leaf_of(
 ) -> Option<Instr>
     requires scope { IsScope (bare scope.now) }
     requires wanted { IsValid (bare scope.now) wanted }
-    ensures exact { leaf_of (where_stands scope.now draft.now) draft.now.set.items wanted family u.old ≡ (result, u.new) }
-    ensures typed { IfSome result (IsLeaf (where_stands scope.now draft.now) draft.now.set.items wanted) }
+    ensures exact { leaf_of (where_stands scope.now draft.now) draft.now.set.items
+        wanted family u.old
+        ≡ (result, u.new) }
+    ensures typed { IfSome result
+        (IsLeaf (where_stands scope.now draft.now) draft.now.set.items wanted) }
     ensures left { KeepsPieces u.old u.new }
 {
     match family {

@@ -22,7 +22,8 @@ impl<'a> Offer for ReferenceOffer<'a> {
     ghost use Rattle.smith_code_nodes.specs.Offered.{is_reference};
     ghost use Rattle.smith_code_nodes.specs.Scopes.{IsScope, bare};
 
-    ghost ready = { λ self. IsScope (bare self.scope.now) × IsValid (bare self.scope.now) self.wanted };
+    ghost ready = { λ self.
+        IsScope (bare self.scope.now) × IsValid (bare self.scope.now) self.wanted };
 
     ghost size = { λ self. length self.scope.now.references.now };
 

@@ -54,7 +54,8 @@ pub(crate) fn write_else(height: usize, draft: &mut Draft) -> Result<(), Error>
 /// innermost label.
 pub(crate) fn write_end(height: usize, draft: &mut Draft) -> Result<(), Error>
     ensures ended { OnOk result (IsEnded Instr.End height draft.old draft.new) }
-    ensures left_label { (label : List Val) (labels : List (List Val)) → draft.old.labels.items ≡ label ∷ labels → OnOk result (draft.new.labels.items ≡ labels) }
+    ensures left_label { (label : List Val) (labels : List (List Val))
+        → draft.old.labels.items ≡ label ∷ labels → OnOk result (draft.new.labels.items ≡ labels) }
     ensures memory { IfErr result (λ e. e ≡ Error.Memory) }
 {
     draft.set.truncate(height);

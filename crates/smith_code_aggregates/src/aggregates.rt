@@ -3,7 +3,10 @@ ghost use Rattle.smith_bytes.specs.Source.{KeepsPieces};
 ghost use Rattle.smith_types.specs.Expressions.{IsArrayAt};
 ghost use Rattle.smith_instr.specs.AggregateTypes.{IsFieldAt, value_of};
 ghost use Rattle.smith_instr.specs.Contexts.{IsValid, created_reference};
-ghost use Rattle.smith_code_aggregates.specs.Aggregates.{array_at, created_array_at, created_struct_at, field_at, is_array, is_creatable, is_created_below, is_created_struct, names_types};
+ghost use Rattle.smith_code_aggregates.specs.Aggregates.{array_at, created_array_at};
+ghost use Rattle.smith_code_aggregates.specs.Aggregates.{created_struct_at, field_at, is_array};
+ghost use Rattle.smith_code_aggregates.specs.Aggregates.{is_creatable, is_created_below};
+ghost use Rattle.smith_code_aggregates.specs.Aggregates.{is_created_struct, names_types};
 ghost use Rattle.smith_code_aggregates.specs.Fields.{AreFieldsValid, IsUse, is_usable};
 ghost use Rattle.smith_code_nodes.specs.Scopes.{IsScope, bare, indexed};
 
@@ -67,7 +70,8 @@ impl<'a> Offer for CreatedArrayOffer<'a> {
     ghost use Rattle.smith_code_aggregates.specs.Fields.{IsUse};
     ghost use Rattle.smith_code_nodes.specs.Scopes.{IsScope, bare, indexed};
 
-    ghost ready = { λ self. IsScope (bare self.scope.now) × IsValid (bare self.scope.now) self.wanted × IsUse (bare self.scope.now) self.of };
+    ghost ready = { λ self. IsScope (bare self.scope.now)
+        × IsValid (bare self.scope.now) self.wanted × IsUse (bare self.scope.now) self.of };
 
     ghost size = { λ self. indexed (length self.scope.now.types.now.types) };
 
@@ -97,11 +101,13 @@ impl<'a> Offer for CreatedStructOffer<'a> {
     ghost use Rattle.smith_code_aggregates.specs.Aggregates.{is_created_struct};
     ghost use Rattle.smith_code_nodes.specs.Scopes.{IsScope, bare, indexed};
 
-    ghost ready = { λ self. IsScope (bare self.scope.now) × IsValid (bare self.scope.now) self.wanted };
+    ghost ready = { λ self.
+        IsScope (bare self.scope.now) × IsValid (bare self.scope.now) self.wanted };
 
     ghost size = { λ self. indexed (length self.scope.now.types.now.types) };
 
-    ghost test = { λ self index. is_created_struct (bare self.scope.now) self.wanted self.defaults index };
+    ghost test = { λ self index.
+        is_created_struct (bare self.scope.now) self.wanted self.defaults index };
 
     fn count(&self) -> usize {
         indexed(self.scope.types.types().len())
@@ -132,11 +138,13 @@ impl<'a> Offer for FieldOffer<'a> {
     ghost use Rattle.smith_code_aggregates.specs.Fields.{AreFieldsValid, IsUse};
     ghost use Rattle.smith_code_nodes.specs.Scopes.{bare, indexed};
 
-    ghost ready = { λ self. IsUse (bare self.scope.now) self.of × AreFieldsValid (bare self.scope.now) self.fields.now };
+    ghost ready = { λ self. IsUse (bare self.scope.now) self.of
+        × AreFieldsValid (bare self.scope.now) self.fields.now };
 
     ghost size = { λ self. indexed (length self.fields.now) };
 
-    ghost test = { λ self index. is_field (bare self.scope.now).types self.of self.fields.now index };
+    ghost test = { λ self index.
+        is_field (bare self.scope.now).types self.of self.fields.now index };
 
     fn count(&self) -> usize {
         indexed(self.fields.len())
@@ -275,7 +283,8 @@ pub(crate) fn choose_created_array(
     ensures there { IfSome result (λ array. IsArrayAt (bare scope.now).types array.0 array.1) }
     ensures valid { IfSome result (λ array. IsValid (bare scope.now) (value_of array.1)) }
     ensures usable { IfSome result (λ array. is_usable (bare scope.now).types of array.1 ≡ true) }
-    ensures created { IfSome result (λ array. is_created_below (bare scope.now) wanted array.0 ≡ true) }
+    ensures created { IfSome result (λ array.
+        is_created_below (bare scope.now) wanted array.0 ≡ true) }
     ensures left { KeepsPieces u.old u.new }
 {
     let index = choose_offered(&CreatedArrayOffer { scope, wanted, of }, u)?;
@@ -294,7 +303,8 @@ pub(crate) fn choose_created_struct(
     requires scope { IsScope (bare scope.now) }
     requires wanted { IsValid (bare scope.now) wanted }
     ensures exact { created_struct_at (bare scope.now) wanted defaults u.old ≡ (result, u.new) }
-    ensures offered { IfSome result (λ index. is_created_struct (bare scope.now) wanted defaults index ≡ true) }
+    ensures offered { IfSome result (λ index.
+        is_created_struct (bare scope.now) wanted defaults index ≡ true) }
     ensures left { KeepsPieces u.old u.new }
 {
     let offer = CreatedStructOffer {
@@ -315,9 +325,11 @@ pub(crate) fn choose_field(
     requires scope { IsScope (bare scope.now) }
     requires of { IsUse (bare scope.now) of }
     ensures exact { field_at (bare scope.now) of u.old ≡ (result, u.new) }
-    ensures there { IfSome result (λ chosen. IsFieldAt (bare scope.now) chosen.ty chosen.index chosen.field) }
+    ensures there { IfSome result (λ chosen.
+        IsFieldAt (bare scope.now) chosen.ty chosen.index chosen.field) }
     ensures valid { IfSome result (λ chosen. IsValid (bare scope.now) (value_of chosen.field)) }
-    ensures usable { IfSome result (λ chosen. is_usable (bare scope.now).types of chosen.field ≡ true) }
+    ensures usable { IfSome result (λ chosen.
+        is_usable (bare scope.now).types of chosen.field ≡ true) }
     ensures left { KeepsPieces u.old u.new }
 {
     let ty = choose_offered(&StructOffer { scope: &*scope, of }, u)?;

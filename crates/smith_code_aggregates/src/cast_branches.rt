@@ -3,7 +3,10 @@ ghost use Rattle.smith_bytes.specs.Source.{KeepsPieces};
 ghost use Rattle.smith_types.specs.Subtyping.{IsRefBelow};
 ghost use Rattle.smith_types.specs.declared.value_type.ValType.TheVariants.{Ref};
 ghost use Rattle.smith_instr.specs.Contexts.{IsValid};
-ghost use Rattle.smith_code_aggregates.specs.CastBranchChoices.{below_at, br_on_cast_at, br_on_cast_fail_at, cast_branch_at, cast_branch_for, cast_label_at, cast_node, cast_value_at, last_of};
+ghost use Rattle.smith_code_aggregates.specs.CastBranchChoices.{below_at, br_on_cast_at};
+ghost use Rattle.smith_code_aggregates.specs.CastBranchChoices.{br_on_cast_fail_at, cast_branch_at};
+ghost use Rattle.smith_code_aggregates.specs.CastBranchChoices.{cast_branch_for, cast_label_at};
+ghost use Rattle.smith_code_aggregates.specs.CastBranchChoices.{cast_node, cast_value_at, last_of};
 ghost use Rattle.smith_code_nodes.specs.Chosen.{or_nop};
 ghost use Rattle.smith_code_nodes.specs.Nodes.{IsNode, IsOffer};
 ghost use Rattle.smith_code_nodes.specs.Scopes.{AreLabels, IsScope, bare, where_stands};
@@ -34,7 +37,8 @@ pub fn choose_cast_branch(
 ) -> Result<Node, Error>
     requires scope { IsScope (bare scope.now) }
     requires labels { AreLabels scope.now draft.now.labels.items }
-    ensures exact { IfOk result (λ node. or_nop (cast_branch_at (where_stands scope.now draft.now) u.old) ≡ (node, u.new)) }
+    ensures exact { IfOk result (λ node.
+        or_nop (cast_branch_at (where_stands scope.now draft.now) u.old) ≡ (node, u.new)) }
     ensures node { IfOk result (IsNode (where_stands scope.now draft.now) draft.now.set.items []) }
     ensures memory { IfErr result (λ e. e ≡ Error.Memory) }
     ensures left { KeepsPieces u.old u.new }
@@ -51,7 +55,8 @@ fn draw_cast_branch(
 ) -> Result<Option<Node>, Error>
     requires scope { IsScope (bare scope.now) }
     requires labels { AreLabels scope.now draft.now.labels.items }
-    ensures exact { IfOk result (λ chosen. cast_branch_at (where_stands scope.now draft.now) u.old ≡ (chosen, u.new)) }
+    ensures exact { IfOk result (λ chosen.
+        cast_branch_at (where_stands scope.now draft.now) u.old ≡ (chosen, u.new)) }
     ensures offer { IsOffer (where_stands scope.now draft.now) draft.now.set.items [] result }
     ensures memory { IfErr result (λ e. e ≡ Error.Memory) }
     ensures left { KeepsPieces u.old u.new }
@@ -66,7 +71,8 @@ fn draw_cast_branch(
 fn choose_cast_label(draft: &Draft, u: &mut Unstructured<'_>) -> Option<CastLabel>
     ensures exact { cast_label_at draft.now.labels.items u.old ≡ (result, u.new) }
     ensures below { IfSome result (λ label. label.index < length draft.now.labels.items) }
-    ensures last { IfSome result (λ label. last_of draft.now.labels.items label.index ≡ Some label.last) }
+    ensures last { IfSome result (λ label.
+        last_of draft.now.labels.items label.index ≡ Some label.last) }
     ensures left { KeepsPieces u.old u.new }
 {
     let label = choose_of_reference(draft, u)?;
@@ -87,7 +93,8 @@ fn branch_to(
     requires labels { AreLabels scope.now draft.now.labels.items }
     requires below { label.index < length draft.now.labels.items }
     requires last { last_of draft.now.labels.items label.index ≡ Some label.last }
-    ensures exact { IfOk result (λ chosen. cast_branch_for (where_stands scope.now draft.now) label u.old ≡ (chosen, u.new)) }
+    ensures exact { IfOk result (λ chosen.
+        cast_branch_for (where_stands scope.now draft.now) label u.old ≡ (chosen, u.new)) }
     ensures offer { IsOffer (where_stands scope.now draft.now) draft.now.set.items [] result }
     ensures memory { IfErr result (λ e. e ≡ Error.Memory) }
     ensures left { KeepsPieces u.old u.new }
@@ -109,7 +116,8 @@ fn choose_br_on_cast(
     requires labels { AreLabels scope.now draft.now.labels.items }
     requires below { label.index < length draft.now.labels.items }
     requires last { last_of draft.now.labels.items label.index ≡ Some label.last }
-    ensures exact { IfOk result (λ chosen. br_on_cast_at (where_stands scope.now draft.now) label u.old ≡ (chosen, u.new)) }
+    ensures exact { IfOk result (λ chosen.
+        br_on_cast_at (where_stands scope.now draft.now) label u.old ≡ (chosen, u.new)) }
     ensures offer { IsOffer (where_stands scope.now draft.now) draft.now.set.items [] result }
     ensures memory { IfErr result (λ e. e ≡ Error.Memory) }
     ensures left { KeepsPieces u.old u.new }
@@ -136,7 +144,8 @@ fn choose_br_on_cast_fail(
     requires labels { AreLabels scope.now draft.now.labels.items }
     requires below { label.index < length draft.now.labels.items }
     requires last { last_of draft.now.labels.items label.index ≡ Some label.last }
-    ensures exact { IfOk result (λ chosen. br_on_cast_fail_at (where_stands scope.now draft.now) label u.old ≡ (chosen, u.new)) }
+    ensures exact { IfOk result (λ chosen.
+        br_on_cast_fail_at (where_stands scope.now draft.now) label u.old ≡ (chosen, u.new)) }
     ensures offer { IsOffer (where_stands scope.now draft.now) draft.now.set.items [] result }
     ensures memory { IfErr result (λ e. e ≡ Error.Memory) }
     ensures left { KeepsPieces u.old u.new }
@@ -201,8 +210,10 @@ pub fn choose_kept_cast(
     requires scope { IsScope (bare scope.now) }
     requires labels { AreLabels scope.now draft.now.labels.items }
     requires wanted { IsValid (bare scope.now) wanted }
-    ensures exact { IfOk result (λ chosen. cast_value_at (where_stands scope.now draft.now) wanted u.old ≡ (chosen, u.new)) }
-    ensures offer { IsOffer (where_stands scope.now draft.now) draft.now.set.items (wanted ∷ []) result }
+    ensures exact { IfOk result (λ chosen.
+        cast_value_at (where_stands scope.now draft.now) wanted u.old ≡ (chosen, u.new)) }
+    ensures offer { IsOffer (where_stands scope.now draft.now) draft.now.set.items
+        (wanted ∷ []) result }
     ensures memory { IfErr result (λ e. e ≡ Error.Memory) }
     ensures left { KeepsPieces u.old u.new }
 {
@@ -222,8 +233,10 @@ fn choose_cast_to(
     requires scope { IsScope (bare scope.now) }
     requires labels { AreLabels scope.now draft.now.labels.items }
     requires to { IsValid (bare scope.now) (Ref to) }
-    ensures exact { IfOk result (λ chosen. cast_value_at (where_stands scope.now draft.now) (Ref to) u.old ≡ (chosen, u.new)) }
-    ensures offer { IsOffer (where_stands scope.now draft.now) draft.now.set.items (Ref to ∷ []) result }
+    ensures exact { IfOk result (λ chosen.
+        cast_value_at (where_stands scope.now draft.now) (Ref to) u.old ≡ (chosen, u.new)) }
+    ensures offer { IsOffer (where_stands scope.now draft.now) draft.now.set.items
+        (Ref to ∷ []) result }
     ensures memory { IfErr result (λ e. e ≡ Error.Memory) }
     ensures left { KeepsPieces u.old u.new }
 {

@@ -1,10 +1,16 @@
-ghost use Rattle.std.specs.Prelude.{◌≡◌, false, true, Some, unwrap_or, [], ◌∷◌, IfOk, IfErr, IfSome};
+ghost use Rattle.std.specs.Prelude.{◌≡◌, false, true, Some, unwrap_or, [], ◌∷◌, IfOk, IfErr};
+ghost use Rattle.std.specs.Prelude.{IfSome};
 ghost use Rattle.smith_bytes.specs.Source.{KeepsPieces};
 ghost use Rattle.smith_types.specs.Subtyping.{IsRefBelow};
 ghost use Rattle.smith_types.specs.declared.value_type.ValType.TheVariants.{I32, Ref};
 ghost use Rattle.smith_instr.specs.Contexts.{IsValid, nullable_to};
 ghost use Rattle.smith_code_aggregates.specs.Aggregates.{names_types};
-ghost use Rattle.smith_code_aggregates.specs.CastChoices.{above_at, cast_at, cast_choice_at, cast_for, conversion_at, conversions, converted_to, i31_node, is_i31_below, non_null_test_at, reference_local_at, scalar_at, scalars, tested_for, type_test_at, with_null, without_null};
+ghost use Rattle.smith_code_aggregates.specs.CastChoices.{above_at, cast_at, cast_choice_at};
+ghost use Rattle.smith_code_aggregates.specs.CastChoices.{cast_for, conversion_at, conversions};
+ghost use Rattle.smith_code_aggregates.specs.CastChoices.{converted_to, i31_node, is_i31_below};
+ghost use Rattle.smith_code_aggregates.specs.CastChoices.{non_null_test_at, reference_local_at};
+ghost use Rattle.smith_code_aggregates.specs.CastChoices.{scalar_at, scalars, tested_for};
+ghost use Rattle.smith_code_aggregates.specs.CastChoices.{type_test_at, with_null, without_null};
 ghost use Rattle.smith_code_aggregates.specs.CreationChoices.{aggregate_of};
 ghost use Rattle.smith_code_nodes.specs.Nodes.{IsOffer};
 ghost use Rattle.smith_code_control.specs.NullChoices.{reference_in};
@@ -86,7 +92,8 @@ impl<'a> Offer for AboveOffer<'a> {
     ghost use Rattle.smith_code_aggregates.specs.CastChoices.{is_above};
     ghost use Rattle.smith_code_nodes.specs.Scopes.{IsScope, bare, indexed};
 
-    ghost ready = { λ self. IsScope (bare self.scope.now) × IsValid (bare self.scope.now) (Ref self.to) };
+    ghost ready = { λ self.
+        IsScope (bare self.scope.now) × IsValid (bare self.scope.now) (Ref self.to) };
 
     ghost size = { λ self. indexed (length self.scope.now.locals.now) };
 
@@ -138,8 +145,10 @@ pub fn choose_cast(
 ) -> Result<Option<Node>, Error>
     requires scope { IsScope (bare scope.now) }
     requires wanted { IsValid (bare scope.now) wanted }
-    ensures exact { IfOk result (λ chosen. cast_choice_at (where_stands scope.now draft.now) wanted u.old ≡ (chosen, u.new)) }
-    ensures offer { IsOffer (where_stands scope.now draft.now) draft.now.set.items (wanted ∷ []) result }
+    ensures exact { IfOk result (λ chosen.
+        cast_choice_at (where_stands scope.now draft.now) wanted u.old ≡ (chosen, u.new)) }
+    ensures offer { IsOffer (where_stands scope.now draft.now) draft.now.set.items
+        (wanted ∷ []) result }
     ensures memory { IfErr result (λ e. e ≡ Error.Memory) }
     ensures left { KeepsPieces u.old u.new }
 {
@@ -160,8 +169,10 @@ fn choose_cast_for(
     requires scope { IsScope (bare scope.now) }
     requires named { names_types (bare scope.now) ≡ true }
     requires wanted { IsValid (bare scope.now) wanted }
-    ensures exact { IfOk result (λ chosen. cast_for (where_stands scope.now draft.now) wanted u.old ≡ (chosen, u.new)) }
-    ensures offer { IsOffer (where_stands scope.now draft.now) draft.now.set.items (wanted ∷ []) result }
+    ensures exact { IfOk result (λ chosen.
+        cast_for (where_stands scope.now draft.now) wanted u.old ≡ (chosen, u.new)) }
+    ensures offer { IsOffer (where_stands scope.now draft.now) draft.now.set.items
+        (wanted ∷ []) result }
     ensures memory { IfErr result (λ e. e ≡ Error.Memory) }
     ensures left { KeepsPieces u.old u.new }
 {
@@ -181,8 +192,10 @@ fn choose_scalar(
 ) -> Result<Option<Node>, Error>
     requires scope { IsScope (bare scope.now) }
     requires named { names_types (bare scope.now) ≡ true }
-    ensures exact { IfOk result (λ chosen. scalar_at (where_stands scope.now draft.now) u.old ≡ (chosen, u.new)) }
-    ensures offer { IsOffer (where_stands scope.now draft.now) draft.now.set.items (I32 ∷ []) result }
+    ensures exact { IfOk result (λ chosen.
+        scalar_at (where_stands scope.now draft.now) u.old ≡ (chosen, u.new)) }
+    ensures offer { IsOffer (where_stands scope.now draft.now) draft.now.set.items
+        (I32 ∷ []) result }
     ensures memory { IfErr result (λ e. e ≡ Error.Memory) }
     ensures left { KeepsPieces u.old u.new }
 {
@@ -199,7 +212,8 @@ fn choose_scalar(
 
 /// Makes the node of `op`, which takes a nullable reference to the abstract heap type `ty`.
 fn out_of(alloc: Global, ty: AbstractHeapType, op: AggregateInstr) -> Result<Option<Node>, Error>
-    ensures exact { IfOk result (λ chosen. chosen ≡ Some (aggregate_of (nullable_to (HeapType.Abstract false ty) ∷ []) op)) }
+    ensures exact { IfOk result (λ chosen.
+        chosen ≡ Some (aggregate_of (nullable_to (HeapType.Abstract false ty) ∷ []) op)) }
     ensures memory { IfErr result (λ e. e ≡ Error.Memory) }
 {
     let heap_type = HeapType::Abstract { shared: false, ty };
@@ -215,8 +229,10 @@ fn choose_type_test(
     u: &mut Unstructured<'_>,
 ) -> Result<Option<Node>, Error>
     requires scope { IsScope (bare scope.now) }
-    ensures exact { IfOk result (λ chosen. type_test_at (where_stands scope.now draft.now) u.old ≡ (chosen, u.new)) }
-    ensures offer { IsOffer (where_stands scope.now draft.now) draft.now.set.items (I32 ∷ []) result }
+    ensures exact { IfOk result (λ chosen.
+        type_test_at (where_stands scope.now draft.now) u.old ≡ (chosen, u.new)) }
+    ensures offer { IsOffer (where_stands scope.now draft.now) draft.now.set.items
+        (I32 ∷ []) result }
     ensures memory { IfErr result (λ e. e ≡ Error.Memory) }
     ensures left { KeepsPieces u.old u.new }
 {
@@ -234,8 +250,10 @@ fn choose_non_null_test(
     u: &mut Unstructured<'_>,
 ) -> Result<Option<Node>, Error>
     requires scope { IsScope (bare scope.now) }
-    ensures exact { IfOk result (λ chosen. non_null_test_at (where_stands scope.now draft.now) u.old ≡ (chosen, u.new)) }
-    ensures offer { IsOffer (where_stands scope.now draft.now) draft.now.set.items (I32 ∷ []) result }
+    ensures exact { IfOk result (λ chosen.
+        non_null_test_at (where_stands scope.now draft.now) u.old ≡ (chosen, u.new)) }
+    ensures offer { IsOffer (where_stands scope.now draft.now) draft.now.set.items
+        (I32 ∷ []) result }
     ensures memory { IfErr result (λ e. e ≡ Error.Memory) }
     ensures left { KeepsPieces u.old u.new }
 {
@@ -270,8 +288,10 @@ fn test_for(
 ) -> Result<Option<Node>, Error>
     requires scope { IsScope (bare scope.now) }
     requires to { IsValid (bare scope.now) (Ref to) }
-    ensures exact { IfOk result (λ chosen. tested_for (where_stands scope.now draft.now) to u.old ≡ (chosen, u.new)) }
-    ensures offer { IsOffer (where_stands scope.now draft.now) draft.now.set.items (I32 ∷ []) result }
+    ensures exact { IfOk result (λ chosen.
+        tested_for (where_stands scope.now draft.now) to u.old ≡ (chosen, u.new)) }
+    ensures offer { IsOffer (where_stands scope.now draft.now) draft.now.set.items
+        (I32 ∷ []) result }
     ensures memory { IfErr result (λ e. e ≡ Error.Memory) }
     ensures left { KeepsPieces u.old u.new }
 {
@@ -340,8 +360,10 @@ fn choose_conversion(
     requires scope { IsScope (bare scope.now) }
     requires named { names_types (bare scope.now) ≡ true }
     requires to { IsValid (bare scope.now) (Ref to) }
-    ensures exact { IfOk result (λ chosen. conversion_at (where_stands scope.now draft.now) to u.old ≡ (chosen, u.new)) }
-    ensures offer { IsOffer (where_stands scope.now draft.now) draft.now.set.items (Ref to ∷ []) result }
+    ensures exact { IfOk result (λ chosen.
+        conversion_at (where_stands scope.now draft.now) to u.old ≡ (chosen, u.new)) }
+    ensures offer { IsOffer (where_stands scope.now draft.now) draft.now.set.items
+        (Ref to ∷ []) result }
     ensures memory { IfErr result (λ e. e ≡ Error.Memory) }
     ensures left { KeepsPieces u.old u.new }
 {
@@ -363,7 +385,8 @@ fn choose_i31(
     requires scope { IsScope (bare scope.now) }
     requires to { IsValid (bare scope.now) (Ref to) }
     ensures exact { IfOk result (λ chosen. chosen ≡ i31_node (bare scope.now) to) }
-    ensures offer { IsOffer (where_stands scope.now draft.now) draft.now.set.items (Ref to ∷ []) result }
+    ensures offer { IsOffer (where_stands scope.now draft.now) draft.now.set.items
+        (Ref to ∷ []) result }
     ensures memory { IfErr result (λ e. e ≡ Error.Memory) }
 {
     if is_i31_below(scope, to, false) {
@@ -403,7 +426,8 @@ fn choose_converted(
     requires named { names_types (bare scope.now) ≡ true }
     requires to { IsValid (bare scope.now) (Ref to) }
     ensures exact { IfOk result (λ chosen. chosen ≡ converted_to to.nullable to.heap_type) }
-    ensures offer { IsOffer (where_stands scope.now draft.now) draft.now.set.items (Ref to ∷ []) result }
+    ensures offer { IsOffer (where_stands scope.now draft.now) draft.now.set.items
+        (Ref to ∷ []) result }
     ensures memory { IfErr result (λ e. e ≡ Error.Memory) }
 {
     let HeapType::Abstract { shared, ty } = to.heap_type else {
@@ -423,7 +447,8 @@ fn choose_converted(
 }
 
 fn abstract_reference(shared: bool, nullable: bool, ty: AbstractHeapType) -> ValType
-    ensures { result ≡ Ref (record { nullable = nullable; heap_type = HeapType.Abstract shared ty }) }
+    ensures { result
+        ≡ Ref (record { nullable = nullable; heap_type = HeapType.Abstract shared ty }) }
 {
     ValType::Ref(RefType {
         nullable,
@@ -450,8 +475,10 @@ fn cast_to(
 ) -> Result<Option<Node>, Error>
     requires scope { IsScope (bare scope.now) }
     requires to { IsValid (bare scope.now) (Ref to) }
-    ensures exact { IfOk result (λ chosen. cast_at (where_stands scope.now draft.now) to u.old ≡ (chosen, u.new)) }
-    ensures offer { IsOffer (where_stands scope.now draft.now) draft.now.set.items (Ref to ∷ []) result }
+    ensures exact { IfOk result (λ chosen.
+        cast_at (where_stands scope.now draft.now) to u.old ≡ (chosen, u.new)) }
+    ensures offer { IsOffer (where_stands scope.now draft.now) draft.now.set.items
+        (Ref to ∷ []) result }
     ensures memory { IfErr result (λ e. e ≡ Error.Memory) }
     ensures left { KeepsPieces u.old u.new }
 {
@@ -471,8 +498,11 @@ fn cast_to_non_null(
 ) -> Result<Option<Node>, Error>
     requires scope { IsScope (bare scope.now) }
     requires to { IsValid (bare scope.now) (Ref to) }
-    ensures exact { IfOk result (λ chosen. cast_at (where_stands scope.now draft.now) (without_null (bare scope.now).features to) u.old ≡ (chosen, u.new)) }
-    ensures offer { IsOffer (where_stands scope.now draft.now) draft.now.set.items (Ref to ∷ []) result }
+    ensures exact { IfOk result (λ chosen.
+        cast_at (where_stands scope.now draft.now) (without_null (bare scope.now).features to) u.old
+        ≡ (chosen, u.new)) }
+    ensures offer { IsOffer (where_stands scope.now draft.now) draft.now.set.items
+        (Ref to ∷ []) result }
     ensures memory { IfErr result (λ e. e ≡ Error.Memory) }
     ensures left { KeepsPieces u.old u.new }
 {

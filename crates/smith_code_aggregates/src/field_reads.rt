@@ -4,7 +4,8 @@ ghost use Rattle.smith_types.specs.Expressions.{IsArrayAt};
 ghost use Rattle.smith_instr.specs.AggregateTypes.{IsFieldAt};
 ghost use Rattle.smith_instr.specs.Contexts.{IsValid};
 ghost use Rattle.smith_code_aggregates.specs.Aggregates.{names_types};
-ghost use Rattle.smith_code_aggregates.specs.FieldChoices.{array_get, array_get_at, field_read_at, read_at, struct_get, struct_get_at};
+ghost use Rattle.smith_code_aggregates.specs.FieldChoices.{array_get, array_get_at, field_read_at};
+ghost use Rattle.smith_code_aggregates.specs.FieldChoices.{read_at, struct_get, struct_get_at};
 ghost use Rattle.smith_code_aggregates.specs.Fields.{is_usable};
 ghost use Rattle.smith_code_nodes.specs.Nodes.{IsOffer};
 ghost use Rattle.smith_code_nodes.specs.Scopes.{IsScope, bare, where_stands};
@@ -28,8 +29,10 @@ pub fn choose_field_read(
 ) -> Result<Option<Node>, Error>
     requires scope { IsScope (bare scope.now) }
     requires wanted { IsValid (bare scope.now) wanted }
-    ensures exact { IfOk result (λ chosen. field_read_at (where_stands scope.now draft.now) wanted u.old ≡ (chosen, u.new)) }
-    ensures offer { IsOffer (where_stands scope.now draft.now) draft.now.set.items (wanted ∷ []) result }
+    ensures exact { IfOk result (λ chosen.
+        field_read_at (where_stands scope.now draft.now) wanted u.old ≡ (chosen, u.new)) }
+    ensures offer { IsOffer (where_stands scope.now draft.now) draft.now.set.items
+        (wanted ∷ []) result }
     ensures memory { IfErr result (λ e. e ≡ Error.Memory) }
     ensures left { KeepsPieces u.old u.new }
 {
@@ -49,8 +52,10 @@ fn choose_read(
     requires scope { IsScope (bare scope.now) }
     requires named { names_types (bare scope.now) ≡ true }
     requires wanted { IsValid (bare scope.now) wanted }
-    ensures exact { IfOk result (λ chosen. read_at (where_stands scope.now draft.now) wanted u.old ≡ (chosen, u.new)) }
-    ensures offer { IsOffer (where_stands scope.now draft.now) draft.now.set.items (wanted ∷ []) result }
+    ensures exact { IfOk result (λ chosen.
+        read_at (where_stands scope.now draft.now) wanted u.old ≡ (chosen, u.new)) }
+    ensures offer { IsOffer (where_stands scope.now draft.now) draft.now.set.items
+        (wanted ∷ []) result }
     ensures memory { IfErr result (λ e. e ≡ Error.Memory) }
     ensures left { KeepsPieces u.old u.new }
 {
@@ -70,8 +75,10 @@ fn choose_struct_get(
     requires scope { IsScope (bare scope.now) }
     requires named { names_types (bare scope.now) ≡ true }
     requires wanted { IsValid (bare scope.now) wanted }
-    ensures exact { IfOk result (λ chosen. struct_get_at (where_stands scope.now draft.now) wanted u.old ≡ (chosen, u.new)) }
-    ensures offer { IsOffer (where_stands scope.now draft.now) draft.now.set.items (wanted ∷ []) result }
+    ensures exact { IfOk result (λ chosen.
+        struct_get_at (where_stands scope.now draft.now) wanted u.old ≡ (chosen, u.new)) }
+    ensures offer { IsOffer (where_stands scope.now draft.now) draft.now.set.items
+        (wanted ∷ []) result }
     ensures memory { IfErr result (λ e. e ≡ Error.Memory) }
     ensures left { KeepsPieces u.old u.new }
 {
@@ -96,7 +103,8 @@ fn get_field(
     requires there { IsFieldAt (bare scope.now) from.ty from.index from.field }
     requires usable { is_usable (bare scope.now).types (field_use.Read wanted) from.field ≡ true }
     ensures exact { IfOk result (λ chosen. struct_get from u.old ≡ (chosen, u.new)) }
-    ensures offer { IsOffer (where_stands scope.now draft.now) draft.now.set.items (wanted ∷ []) result }
+    ensures offer { IsOffer (where_stands scope.now draft.now) draft.now.set.items
+        (wanted ∷ []) result }
     ensures memory { IfErr result (λ e. e ≡ Error.Memory) }
     ensures left { KeepsPieces u.old u.new }
 {
@@ -121,8 +129,10 @@ fn choose_array_get(
     requires scope { IsScope (bare scope.now) }
     requires named { names_types (bare scope.now) ≡ true }
     requires wanted { IsValid (bare scope.now) wanted }
-    ensures exact { IfOk result (λ chosen. array_get_at (where_stands scope.now draft.now) wanted u.old ≡ (chosen, u.new)) }
-    ensures offer { IsOffer (where_stands scope.now draft.now) draft.now.set.items (wanted ∷ []) result }
+    ensures exact { IfOk result (λ chosen.
+        array_get_at (where_stands scope.now draft.now) wanted u.old ≡ (chosen, u.new)) }
+    ensures offer { IsOffer (where_stands scope.now draft.now) draft.now.set.items
+        (wanted ∷ []) result }
     ensures memory { IfErr result (λ e. e ≡ Error.Memory) }
     ensures left { KeepsPieces u.old u.new }
 {
@@ -147,7 +157,8 @@ fn get_element(
     requires there { IsArrayAt (bare scope.now).types from.0 from.1 }
     requires usable { is_usable (bare scope.now).types (field_use.Read wanted) from.1 ≡ true }
     ensures exact { IfOk result (λ chosen. array_get from u.old ≡ (chosen, u.new)) }
-    ensures offer { IsOffer (where_stands scope.now draft.now) draft.now.set.items (wanted ∷ []) result }
+    ensures offer { IsOffer (where_stands scope.now draft.now) draft.now.set.items
+        (wanted ∷ []) result }
     ensures memory { IfErr result (λ e. e ≡ Error.Memory) }
     ensures left { KeepsPieces u.old u.new }
 {

@@ -6,7 +6,12 @@ ghost use Rattle.smith_instr.specs.Contexts.{IsValid};
 ghost use Rattle.smith_code_aggregates.specs.Aggregates.{array_at, field_at, names_types};
 ghost use Rattle.smith_code_nodes.specs.Chosen.{or_nop};
 ghost use Rattle.smith_code_nodes.specs.Chosen.{giving};
-ghost use Rattle.smith_code_aggregates.specs.FieldChoices.{array_copied, array_copy_at, array_fill_node, array_set_node, data_initialized, elem_initialized, field_write_at, field_writes, init_data_at, init_elem_at, struct_set_node, write_at};
+ghost use Rattle.smith_code_aggregates.specs.FieldChoices.{array_copied, array_copy_at};
+ghost use Rattle.smith_code_aggregates.specs.FieldChoices.{array_fill_node, array_set_node};
+ghost use Rattle.smith_code_aggregates.specs.FieldChoices.{data_initialized, elem_initialized};
+ghost use Rattle.smith_code_aggregates.specs.FieldChoices.{field_write_at, field_writes};
+ghost use Rattle.smith_code_aggregates.specs.FieldChoices.{init_data_at, init_elem_at};
+ghost use Rattle.smith_code_aggregates.specs.FieldChoices.{struct_set_node, write_at};
 ghost use Rattle.smith_code_aggregates.specs.Fields.{is_usable};
 ghost use Rattle.smith_code_nodes.specs.Nodes.{IsNode};
 ghost use Rattle.smith_code_nodes.specs.Scopes.{IsScope, bare, where_stands};
@@ -56,7 +61,8 @@ pub fn choose_field_write(
     u: &mut Unstructured<'_>,
 ) -> Result<Node, Error>
     requires scope { IsScope (bare scope.now) }
-    ensures exact { IfOk result (λ node. or_nop (field_write_at (where_stands scope.now draft.now) u.old) ≡ (node, u.new)) }
+    ensures exact { IfOk result (λ node.
+        or_nop (field_write_at (where_stands scope.now draft.now) u.old) ≡ (node, u.new)) }
     ensures node { IfOk result (IsNode (where_stands scope.now draft.now) draft.now.set.items []) }
     ensures memory { IfErr result (λ e. e ≡ Error.Memory) }
     ensures left { KeepsPieces u.old u.new }
@@ -75,7 +81,8 @@ fn choose_write(
 ) -> Result<Node, Error>
     requires scope { IsScope (bare scope.now) }
     requires named { names_types (bare scope.now) ≡ true }
-    ensures exact { IfOk result (λ node. or_nop (write_at (where_stands scope.now draft.now) u.old) ≡ (node, u.new)) }
+    ensures exact { IfOk result (λ node.
+        or_nop (write_at (where_stands scope.now draft.now) u.old) ≡ (node, u.new)) }
     ensures node { IfOk result (IsNode (where_stands scope.now draft.now) draft.now.set.items []) }
     ensures memory { IfErr result (λ e. e ≡ Error.Memory) }
     ensures left { KeepsPieces u.old u.new }
@@ -98,7 +105,9 @@ fn choose_struct_set(
 ) -> Result<Node, Error>
     requires scope { IsScope (bare scope.now) }
     requires named { names_types (bare scope.now) ≡ true }
-    ensures exact { IfOk result (λ node. or_nop (giving struct_set_node (field_at (where_stands scope.now draft.now) field_use.Set u.old)) ≡ (node, u.new)) }
+    ensures exact { IfOk result (λ node. or_nop
+        (giving struct_set_node (field_at (where_stands scope.now draft.now) field_use.Set u.old))
+        ≡ (node, u.new)) }
     ensures node { IfOk result (IsNode (where_stands scope.now draft.now) draft.now.set.items []) }
     ensures memory { IfErr result (λ e. e ≡ Error.Memory) }
     ensures left { KeepsPieces u.old u.new }
@@ -125,7 +134,9 @@ fn choose_array_set(
 ) -> Result<Node, Error>
     requires scope { IsScope (bare scope.now) }
     requires named { names_types (bare scope.now) ≡ true }
-    ensures exact { IfOk result (λ node. or_nop (giving array_set_node (array_at (where_stands scope.now draft.now) field_use.Set u.old)) ≡ (node, u.new)) }
+    ensures exact { IfOk result (λ node. or_nop
+        (giving array_set_node (array_at (where_stands scope.now draft.now) field_use.Set u.old))
+        ≡ (node, u.new)) }
     ensures node { IfOk result (IsNode (where_stands scope.now draft.now) draft.now.set.items []) }
     ensures memory { IfErr result (λ e. e ≡ Error.Memory) }
     ensures left { KeepsPieces u.old u.new }
@@ -151,7 +162,9 @@ fn choose_array_fill(
 ) -> Result<Node, Error>
     requires scope { IsScope (bare scope.now) }
     requires named { names_types (bare scope.now) ≡ true }
-    ensures exact { IfOk result (λ node. or_nop (giving array_fill_node (array_at (where_stands scope.now draft.now) field_use.Set u.old)) ≡ (node, u.new)) }
+    ensures exact { IfOk result (λ node. or_nop
+        (giving array_fill_node (array_at (where_stands scope.now draft.now) field_use.Set u.old))
+        ≡ (node, u.new)) }
     ensures node { IfOk result (IsNode (where_stands scope.now draft.now) draft.now.set.items []) }
     ensures memory { IfErr result (λ e. e ≡ Error.Memory) }
     ensures left { KeepsPieces u.old u.new }
@@ -178,7 +191,8 @@ fn choose_array_copy(
 ) -> Result<Node, Error>
     requires scope { IsScope (bare scope.now) }
     requires named { names_types (bare scope.now) ≡ true }
-    ensures exact { IfOk result (λ node. or_nop (array_copy_at (where_stands scope.now draft.now) u.old) ≡ (node, u.new)) }
+    ensures exact { IfOk result (λ node.
+        or_nop (array_copy_at (where_stands scope.now draft.now) u.old) ≡ (node, u.new)) }
     ensures node { IfOk result (IsNode (where_stands scope.now draft.now) draft.now.set.items []) }
     ensures memory { IfErr result (λ e. e ≡ Error.Memory) }
     ensures left { KeepsPieces u.old u.new }
@@ -202,7 +216,8 @@ fn copy_into(
     requires there { IsArrayAt (bare scope.now).types into.0 into.1 }
     requires valid { IsValid (bare scope.now) (value_of into.1) }
     requires mutable { is_usable (bare scope.now).types field_use.Set into.1 ≡ true }
-    ensures exact { IfOk result (λ node. or_nop (array_copied (where_stands scope.now draft.now) into u.old) ≡ (node, u.new)) }
+    ensures exact { IfOk result (λ node.
+        or_nop (array_copied (where_stands scope.now draft.now) into u.old) ≡ (node, u.new)) }
     ensures node { IfOk result (IsNode (where_stands scope.now draft.now) draft.now.set.items []) }
     ensures memory { IfErr result (λ e. e ≡ Error.Memory) }
     ensures left { KeepsPieces u.old u.new }
@@ -231,7 +246,8 @@ fn choose_init_data(
 ) -> Result<Node, Error>
     requires scope { IsScope (bare scope.now) }
     requires named { names_types (bare scope.now) ≡ true }
-    ensures exact { IfOk result (λ node. or_nop (init_data_at (where_stands scope.now draft.now) u.old) ≡ (node, u.new)) }
+    ensures exact { IfOk result (λ node.
+        or_nop (init_data_at (where_stands scope.now draft.now) u.old) ≡ (node, u.new)) }
     ensures node { IfOk result (IsNode (where_stands scope.now draft.now) draft.now.set.items []) }
     ensures memory { IfErr result (λ e. e ≡ Error.Memory) }
     ensures left { KeepsPieces u.old u.new }
@@ -254,7 +270,8 @@ fn init_data_of(
     requires named { names_types (bare scope.now) ≡ true }
     requires there { IsArrayAt (bare scope.now).types into.0 into.1 }
     requires usable { is_usable (bare scope.now).types field_use.SetBytes into.1 ≡ true }
-    ensures exact { IfOk result (λ node. or_nop (data_initialized (where_stands scope.now draft.now) into u.old) ≡ (node, u.new)) }
+    ensures exact { IfOk result (λ node.
+        or_nop (data_initialized (where_stands scope.now draft.now) into u.old) ≡ (node, u.new)) }
     ensures node { IfOk result (IsNode (where_stands scope.now draft.now) draft.now.set.items []) }
     ensures memory { IfErr result (λ e. e ≡ Error.Memory) }
     ensures left { KeepsPieces u.old u.new }
@@ -277,7 +294,8 @@ fn choose_init_elem(
 ) -> Result<Node, Error>
     requires scope { IsScope (bare scope.now) }
     requires named { names_types (bare scope.now) ≡ true }
-    ensures exact { IfOk result (λ node. or_nop (init_elem_at (where_stands scope.now draft.now) u.old) ≡ (node, u.new)) }
+    ensures exact { IfOk result (λ node.
+        or_nop (init_elem_at (where_stands scope.now draft.now) u.old) ≡ (node, u.new)) }
     ensures node { IfOk result (IsNode (where_stands scope.now draft.now) draft.now.set.items []) }
     ensures memory { IfErr result (λ e. e ≡ Error.Memory) }
     ensures left { KeepsPieces u.old u.new }
@@ -301,7 +319,8 @@ fn init_elem_of(
     requires there { IsArrayAt (bare scope.now).types into.0 into.1 }
     requires valid { IsValid (bare scope.now) (value_of into.1) }
     requires usable { is_usable (bare scope.now).types field_use.SetReferences into.1 ≡ true }
-    ensures exact { IfOk result (λ node. or_nop (elem_initialized (where_stands scope.now draft.now) into u.old) ≡ (node, u.new)) }
+    ensures exact { IfOk result (λ node.
+        or_nop (elem_initialized (where_stands scope.now draft.now) into u.old) ≡ (node, u.new)) }
     ensures node { IfOk result (IsNode (where_stands scope.now draft.now) draft.now.set.items []) }
     ensures memory { IfErr result (λ e. e ≡ Error.Memory) }
     ensures left { KeepsPieces u.old u.new }

@@ -2,7 +2,10 @@ ghost use Rattle.std.specs.Prelude.{◌≡◌, slice_get, None, Some, MatchOptio
 ghost use Rattle.smith_types.specs.Expressions.{unpacked};
 ghost use Rattle.smith_instr.specs.AggregateTypes.{value_of};
 ghost use Rattle.smith_instr.specs.Contexts.{IsValid};
-ghost use Rattle.smith_code_aggregates.specs.Fields.{IsUse, element_in, element_of, extension_of, is_of_bytes, is_of_references, is_storage_below, is_usable, struct_in, struct_of};
+ghost use Rattle.smith_code_aggregates.specs.Fields.{IsUse, element_in, element_of, extension_of};
+ghost use Rattle.smith_code_aggregates.specs.Fields.{is_of_bytes, is_of_references};
+ghost use Rattle.smith_code_aggregates.specs.Fields.{is_storage_below, is_usable, struct_in};
+ghost use Rattle.smith_code_aggregates.specs.Fields.{struct_of};
 ghost use Rattle.smith_code_nodes.specs.Scopes.{bare};
 
 use smith_code_nodes::{Scope, is_below};
@@ -105,7 +108,8 @@ pub(crate) fn extension_of(stored: StorageType, signed: bool) -> Extension
 
 /// Returns the struct type at `index`, if there is one.
 pub(crate) fn struct_type_at<'a>(scope: &Scope<'a>, index: usize) -> Option<&'a StructType>
-    ensures { MatchOption result (struct_in (slice_get (bare scope.now).types index) ≡ None) (λ structure. struct_in (slice_get (bare scope.now).types index) ≡ Some structure.now) }
+    ensures { MatchOption result (struct_in (slice_get (bare scope.now).types index) ≡ None)
+        (λ structure. struct_in (slice_get (bare scope.now).types index) ≡ Some structure.now) }
 {
     let types = scope.types;
     match types.types().get(index) {
@@ -115,7 +119,8 @@ pub(crate) fn struct_type_at<'a>(scope: &Scope<'a>, index: usize) -> Option<&'a 
 }
 
 fn inner_struct<'a>(ty: &'a SubType) -> Option<&'a StructType>
-    ensures { MatchOption result (struct_of ty.now.composite_type.inner ≡ None) (λ structure. struct_of ty.now.composite_type.inner ≡ Some structure.now) }
+    ensures { MatchOption result (struct_of ty.now.composite_type.inner ≡ None) (λ structure.
+        struct_of ty.now.composite_type.inner ≡ Some structure.now) }
 {
     match &ty.composite_type.inner {
         CompositeInnerType::Struct(structure) => Some(structure),

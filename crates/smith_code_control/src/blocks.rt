@@ -35,7 +35,8 @@ pub fn choose_block(
 ) -> Result<Option<Node>, Error>
     requires wanted { IsValid (bare scope.now) wanted }
     ensures exact { IfOk result (λ chosen. block_at wanted u.old ≡ (chosen, u.new)) }
-    ensures offer { IsOffer (where_stands scope.now draft.now) draft.now.set.items (wanted ∷ []) result }
+    ensures offer { IsOffer (where_stands scope.now draft.now) draft.now.set.items
+        (wanted ∷ []) result }
     ensures memory { IfErr result (λ e. e ≡ Error.Memory) }
     ensures left { KeepsPieces u.old u.new }
 {
@@ -53,7 +54,8 @@ pub fn choose_any_block(
     u: &mut Unstructured<'_>,
 ) -> Result<Node, Error>
     requires scope { IsScope (bare scope.now) }
-    ensures exact { IfOk result (λ node. or_nop (any_block_at (where_stands scope.now draft.now) u.old) ≡ (node, u.new)) }
+    ensures exact { IfOk result (λ node.
+        or_nop (any_block_at (where_stands scope.now draft.now) u.old) ≡ (node, u.new)) }
     ensures node { IfOk result (IsNode (where_stands scope.now draft.now) draft.now.set.items []) }
     ensures memory { IfErr result (λ e. e ≡ Error.Memory) }
     ensures left { KeepsPieces u.old u.new }

@@ -1,10 +1,12 @@
-ghost use Rattle.std.specs.Prelude.{◌≡◌, ◌<◌, true, List, [], All, length, min, Some, IfOk, IfErr, IfSome};
+ghost use Rattle.std.specs.Prelude.{◌≡◌, ◌<◌, true, List, [], All, length, min, Some, IfOk, IfErr};
+ghost use Rattle.std.specs.Prelude.{IfSome};
 ghost use Rattle.smith_bytes.specs.Draws.{choose_at};
 ghost use Rattle.smith_bytes.specs.Source.{KeepsPieces};
 ghost use Rattle.smith_types.specs.declared.value_type.ValType.{ValType as Val};
 ghost use Rattle.smith_instr.specs.Contexts.{AreValid};
 ghost use Rattle.smith_instr.specs.InstrTypes.{IsTaken};
-ghost use Rattle.smith_code_control.specs.BranchChoices.{branch_at, leaving_at, some_targets_at, table_at};
+ghost use Rattle.smith_code_control.specs.BranchChoices.{branch_at, leaving_at, some_targets_at};
+ghost use Rattle.smith_code_control.specs.BranchChoices.{table_at};
 ghost use Rattle.smith_code_nodes.specs.Chosen.{or_nop};
 ghost use Rattle.smith_code_nodes.specs.Nodes.{IsNode};
 ghost use Rattle.smith_code_nodes.specs.Offered.{are_below, is_target, offered};
@@ -25,8 +27,10 @@ pub fn choose_leaving(
 ) -> Result<Node, Error>
     requires scope { IsScope (bare scope.now) }
     requires labels { AreLabels scope.now draft.now.labels.items }
-    ensures exact { IfOk result (λ node. leaving_at (where_stands scope.now draft.now) u.old ≡ (Some node, u.new)) }
-    ensures node { (values : List Val) → AreValid (bare scope.now) values → IfOk result (IsNode (where_stands scope.now draft.now) draft.now.set.items values) }
+    ensures exact { IfOk result (λ node.
+        leaving_at (where_stands scope.now draft.now) u.old ≡ (Some node, u.new)) }
+    ensures node { (values : List Val) → AreValid (bare scope.now) values
+        → IfOk result (IsNode (where_stands scope.now draft.now) draft.now.set.items values) }
     ensures memory { IfErr result (λ e. e ≡ Error.Memory) }
     ensures left { KeepsPieces u.old u.new }
 {
@@ -48,7 +52,8 @@ pub fn choose_branch(
 ) -> Result<Node, Error>
     requires scope { IsScope (bare scope.now) }
     requires labels { AreLabels scope.now draft.now.labels.items }
-    ensures exact { IfOk result (λ node. or_nop (branch_at (where_stands scope.now draft.now) u.old) ≡ (node, u.new)) }
+    ensures exact { IfOk result (λ node.
+        or_nop (branch_at (where_stands scope.now draft.now) u.old) ≡ (node, u.new)) }
     ensures node { IfOk result (IsNode (where_stands scope.now draft.now) draft.now.set.items []) }
     ensures memory { IfErr result (λ e. e ≡ Error.Memory) }
     ensures left { KeepsPieces u.old u.new }
@@ -76,11 +81,13 @@ impl<'a> Offer for TargetOffer<'a> {
     ghost use Rattle.smith_code_nodes.specs.Offered.{is_target};
     ghost use Rattle.smith_code_nodes.specs.Scopes.{AreLabels, IsScope, bare};
 
-    ghost ready = { λ self. IsScope (bare self.scope.now) × AreLabels self.scope.now self.labels.now × AreValid (bare self.scope.now) self.taken.now };
+    ghost ready = { λ self. IsScope (bare self.scope.now) × AreLabels self.scope.now self.labels.now
+        × AreValid (bare self.scope.now) self.taken.now };
 
     ghost size = { λ self. min (length self.labels.now) 64 };
 
-    ghost test = { λ self index. is_target (bare self.scope.now).types self.labels.now self.taken.now index };
+    ghost test = { λ self index.
+        is_target (bare self.scope.now).types self.labels.now self.taken.now index };
 
     fn count(&self) -> usize {
         self.labels.len().min(64)
@@ -119,9 +126,12 @@ pub fn choose_target<'a>(
     requires scope { IsScope (bare scope.now) }
     requires labels { AreLabels scope.now labels.now }
     requires taken { AreValid (bare scope.now) taken.now }
-    ensures exact { choose_at (offered (is_target (bare scope.now).types labels.now taken.now) (min (length labels.now) 64)) u.old ≡ (result, u.new) }
+    ensures exact { choose_at (offered (is_target (bare scope.now).types labels.now taken.now)
+        (min (length labels.now) 64)) u.old
+        ≡ (result, u.new) }
     ensures below { IfSome result (λ label. label < length labels.now) }
-    ensures offered { IfSome result (λ label. is_target (bare scope.now).types labels.now taken.now label ≡ true) }
+    ensures offered { IfSome result (λ label.
+        is_target (bare scope.now).types labels.now taken.now label ≡ true) }
     ensures left { KeepsPieces u.old u.new }
 {
     let offer = TargetOffer {
@@ -143,7 +153,8 @@ fn draw_targets<'a>(
     requires scope { IsScope (bare scope.now) }
     requires labels { AreLabels scope.now labels.now }
     requires taken { AreValid (bare scope.now) taken.now }
-    ensures exact { IfOk result (λ targets. some_targets_at (context_of scope.now labels.now) taken.now u.old ≡ (targets, u.new)) }
+    ensures exact { IfOk result (λ targets.
+        some_targets_at (context_of scope.now labels.now) taken.now u.old ≡ (targets, u.new)) }
     ensures taken { IfOk result (All (IsTaken (context_of scope.now labels.now) taken.now)) }
     ensures memory { IfErr result (λ e. e ≡ Error.Memory) }
     ensures left { KeepsPieces u.old u.new }
@@ -168,8 +179,10 @@ pub fn choose_table(
 ) -> Result<Node, Error>
     requires scope { IsScope (bare scope.now) }
     requires labels { AreLabels scope.now draft.now.labels.items }
-    ensures exact { IfOk result (λ node. table_at (where_stands scope.now draft.now) u.old ≡ (Some node, u.new)) }
-    ensures node { (values : List Val) → AreValid (bare scope.now) values → IfOk result (IsNode (where_stands scope.now draft.now) draft.now.set.items values) }
+    ensures exact { IfOk result (λ node.
+        table_at (where_stands scope.now draft.now) u.old ≡ (Some node, u.new)) }
+    ensures node { (values : List Val) → AreValid (bare scope.now) values
+        → IfOk result (IsNode (where_stands scope.now draft.now) draft.now.set.items values) }
     ensures memory { IfErr result (λ e. e ≡ Error.Memory) }
     ensures left { KeepsPieces u.old u.new }
 {

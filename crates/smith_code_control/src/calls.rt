@@ -1,7 +1,9 @@
 ghost use Rattle.std.specs.Prelude.{◌≡◌, ◌&&◌, List, [], IfOk, IfErr};
 ghost use Rattle.smith_bytes.specs.Source.{KeepsPieces};
 ghost use Rattle.smith_types.specs.declared.value_type.ValType.{ValType as Val};
-ghost use Rattle.smith_code_control.specs.CallChoices.{IsLeft, IsOutcome, by_reference_at, by_reference_instr, indirect_at, indirect_instr};
+ghost use Rattle.smith_code_control.specs.CallChoices.{IsLeft, IsOutcome, by_reference_at};
+ghost use Rattle.smith_code_control.specs.CallChoices.{by_reference_instr, indirect_at};
+ghost use Rattle.smith_code_control.specs.CallChoices.{indirect_instr};
 ghost use Rattle.smith_code_nodes.specs.Chosen.{or_nop};
 ghost use Rattle.smith_code_nodes.specs.Nodes.{IsNode, IsOffer};
 ghost use Rattle.smith_code_nodes.specs.Scopes.{IsScope, bare, where_stands};
@@ -25,8 +27,10 @@ pub fn choose_indirect(
 ) -> Result<Option<Node>, Error>
     requires scope { IsScope (bare scope.now) }
     requires outcome { IsOutcome (bare scope.now) outcome }
-    ensures exact { IfOk result (λ chosen. indirect_at (where_stands scope.now draft.now) outcome u.old ≡ (chosen, u.new)) }
-    ensures offer { (values : List Val) → IsLeft (bare scope.now) outcome values → IsOffer (where_stands scope.now draft.now) draft.now.set.items values result }
+    ensures exact { IfOk result (λ chosen.
+        indirect_at (where_stands scope.now draft.now) outcome u.old ≡ (chosen, u.new)) }
+    ensures offer { (values : List Val) → IsLeft (bare scope.now) outcome values
+        → IsOffer (where_stands scope.now draft.now) draft.now.set.items values result }
     ensures memory { IfErr result (λ e. e ≡ Error.Memory) }
     ensures left { KeepsPieces u.old u.new }
 {
@@ -70,8 +74,10 @@ pub fn choose_by_reference(
 ) -> Result<Option<Node>, Error>
     requires scope { IsScope (bare scope.now) }
     requires outcome { IsOutcome (bare scope.now) outcome }
-    ensures exact { IfOk result (λ chosen. by_reference_at (where_stands scope.now draft.now) outcome u.old ≡ (chosen, u.new)) }
-    ensures offer { (values : List Val) → IsLeft (bare scope.now) outcome values → IsOffer (where_stands scope.now draft.now) draft.now.set.items values result }
+    ensures exact { IfOk result (λ chosen.
+        by_reference_at (where_stands scope.now draft.now) outcome u.old ≡ (chosen, u.new)) }
+    ensures offer { (values : List Val) → IsLeft (bare scope.now) outcome values
+        → IsOffer (where_stands scope.now draft.now) draft.now.set.items values result }
     ensures memory { IfErr result (λ e. e ≡ Error.Memory) }
     ensures left { KeepsPieces u.old u.new }
 {
@@ -121,7 +127,9 @@ pub fn choose_any_indirect(
     u: &mut Unstructured<'_>,
 ) -> Result<Node, Error>
     requires scope { IsScope (bare scope.now) }
-    ensures exact { IfOk result (λ node. or_nop (indirect_at (where_stands scope.now draft.now) Outcome.Dropped u.old) ≡ (node, u.new)) }
+    ensures exact { IfOk result (λ node.
+        or_nop (indirect_at (where_stands scope.now draft.now) Outcome.Dropped u.old)
+        ≡ (node, u.new)) }
     ensures node { IfOk result (IsNode (where_stands scope.now draft.now) draft.now.set.items []) }
     ensures memory { IfErr result (λ e. e ≡ Error.Memory) }
     ensures left { KeepsPieces u.old u.new }
@@ -139,7 +147,9 @@ pub fn choose_any_by_reference(
     u: &mut Unstructured<'_>,
 ) -> Result<Node, Error>
     requires scope { IsScope (bare scope.now) }
-    ensures exact { IfOk result (λ node. or_nop (by_reference_at (where_stands scope.now draft.now) Outcome.Dropped u.old) ≡ (node, u.new)) }
+    ensures exact { IfOk result (λ node.
+        or_nop (by_reference_at (where_stands scope.now draft.now) Outcome.Dropped u.old)
+        ≡ (node, u.new)) }
     ensures node { IfOk result (IsNode (where_stands scope.now draft.now) draft.now.set.items []) }
     ensures memory { IfErr result (λ e. e ≡ Error.Memory) }
     ensures left { KeepsPieces u.old u.new }

@@ -3,7 +3,8 @@ ghost use Rattle.smith_bytes.specs.Draws.{choose_at};
 ghost use Rattle.smith_bytes.specs.Source.{KeepsPieces};
 ghost use Rattle.smith_types.specs.Subtyping.{IsValInRange};
 ghost use Rattle.smith_types.specs.declared.value_type.ValType.TheVariants.{Ref};
-ghost use Rattle.smith_code_control.specs.CallChoices.{holds_functions, is_below_func, is_function_table};
+ghost use Rattle.smith_code_control.specs.CallChoices.{holds_functions, is_below_func};
+ghost use Rattle.smith_code_control.specs.CallChoices.{is_function_table};
 ghost use Rattle.smith_code_nodes.specs.Offered.{offered};
 ghost use Rattle.smith_code_nodes.specs.Scopes.{IsScope, bare, indexed};
 
@@ -59,7 +60,9 @@ fn is_below_func(scope: &Scope<'_>, element: RefType, shared: bool) -> bool
 /// Chooses a table of functions, if there is one.
 pub(crate) fn choose_function_table(scope: &Scope<'_>, u: &mut Unstructured<'_>) -> Option<u32>
     requires scope { IsScope (bare scope.now) }
-    ensures exact { choose_at (offered (is_function_table (bare scope.now)) (indexed (length scope.now.tables.now))) u.old ≡ (result, u.new) }
+    ensures exact { choose_at
+        (offered (is_function_table (bare scope.now)) (indexed (length scope.now.tables.now))) u.old
+        ≡ (result, u.new) }
     ensures below { IfSome result (λ index. index < length scope.now.tables.now) }
     ensures offered { IfSome result (λ index. is_function_table (bare scope.now) index ≡ true) }
     ensures left { KeepsPieces u.old u.new }

@@ -1,10 +1,13 @@
-ghost use Rattle.std.specs.Prelude.{◌≡◌, ◌<◌, true, List, Some, [], ◌∷◌, length, min, slice_get, IfOk, IfErr, IfSome, IsTrue};
+ghost use Rattle.std.specs.Prelude.{◌≡◌, ◌<◌, true, List, Some, [], ◌∷◌, length, min, slice_get};
+ghost use Rattle.std.specs.Prelude.{IfOk, IfErr, IfSome, IsTrue};
 ghost use Rattle.smith_bytes.specs.Draws.{choose_at};
 ghost use Rattle.smith_bytes.specs.Source.{KeepsPieces};
 ghost use Rattle.smith_instr.specs.Contexts.{IsValid};
 ghost use Rattle.smith_code_nodes.specs.Chosen.{or_nop};
 ghost use Rattle.smith_code_nodes.specs.Nodes.{IsNode, IsOffer};
-ghost use Rattle.smith_code_control.specs.NullChoices.{br_on_non_null_at, br_on_null_at, br_on_null_value_at, is_of_reference, is_short, last_reference, null_branch_at};
+ghost use Rattle.smith_code_control.specs.NullChoices.{br_on_non_null_at, br_on_null_at};
+ghost use Rattle.smith_code_control.specs.NullChoices.{br_on_null_value_at, is_of_reference};
+ghost use Rattle.smith_code_control.specs.NullChoices.{is_short, last_reference, null_branch_at};
 ghost use Rattle.smith_code_nodes.specs.Offered.{offered};
 ghost use Rattle.smith_code_nodes.specs.Scopes.{AreLabels, IsScope, bare, where_stands};
 
@@ -82,7 +85,9 @@ pub fn last_reference(taken: &[ValType]) -> Option<RefType>
 
 /// Chooses a label of at most `most` values, if there is one.
 fn choose_short(draft: &Draft, most: usize, u: &mut Unstructured<'_>) -> Option<u32>
-    ensures exact { choose_at (offered (is_short draft.now.labels.items most) (min (length draft.now.labels.items) 64)) u.old ≡ (result, u.new) }
+    ensures exact { choose_at (offered (is_short draft.now.labels.items most)
+        (min (length draft.now.labels.items) 64)) u.old
+        ≡ (result, u.new) }
     ensures below { IfSome result (λ index. index < length draft.now.labels.items) }
     ensures offered { IfSome result (λ index. is_short draft.now.labels.items most index ≡ true) }
     ensures left { KeepsPieces u.old u.new }
@@ -94,7 +99,9 @@ fn choose_short(draft: &Draft, most: usize, u: &mut Unstructured<'_>) -> Option<
 
 /// Chooses a label whose last value is a reference, if there is one.
 pub fn choose_of_reference(draft: &Draft, u: &mut Unstructured<'_>) -> Option<u32>
-    ensures exact { choose_at (offered (is_of_reference draft.now.labels.items) (min (length draft.now.labels.items) 64)) u.old ≡ (result, u.new) }
+    ensures exact { choose_at (offered (is_of_reference draft.now.labels.items)
+        (min (length draft.now.labels.items) 64)) u.old
+        ≡ (result, u.new) }
     ensures below { IfSome result (λ index. index < length draft.now.labels.items) }
     ensures offered { IfSome result (λ index. is_of_reference draft.now.labels.items index ≡ true) }
     ensures left { KeepsPieces u.old u.new }
@@ -114,8 +121,10 @@ pub fn choose_kept(
     u: &mut Unstructured<'_>,
 ) -> Result<Option<Node>, Error>
     requires wanted { IsValid (bare scope.now) wanted }
-    ensures exact { IfOk result (λ chosen. br_on_null_value_at (where_stands scope.now draft.now) wanted u.old ≡ (chosen, u.new)) }
-    ensures offer { IsOffer (where_stands scope.now draft.now) draft.now.set.items (wanted ∷ []) result }
+    ensures exact { IfOk result (λ chosen.
+        br_on_null_value_at (where_stands scope.now draft.now) wanted u.old ≡ (chosen, u.new)) }
+    ensures offer { IsOffer (where_stands scope.now draft.now) draft.now.set.items
+        (wanted ∷ []) result }
     ensures memory { IfErr result (λ e. e ≡ Error.Memory) }
     ensures left { KeepsPieces u.old u.new }
 {
@@ -133,8 +142,11 @@ fn choose_br_on_null_to(
     u: &mut Unstructured<'_>,
 ) -> Result<Option<Node>, Error>
     requires wanted { IsValid (bare scope.now) (ValType.Ref to) }
-    ensures exact { IfOk result (λ chosen. br_on_null_value_at (where_stands scope.now draft.now) (ValType.Ref to) u.old ≡ (chosen, u.new)) }
-    ensures offer { IsOffer (where_stands scope.now draft.now) draft.now.set.items (ValType.Ref to ∷ []) result }
+    ensures exact { IfOk result (λ chosen.
+        br_on_null_value_at (where_stands scope.now draft.now) (ValType.Ref to) u.old
+        ≡ (chosen, u.new)) }
+    ensures offer { IsOffer (where_stands scope.now draft.now) draft.now.set.items
+        (ValType.Ref to ∷ []) result }
     ensures memory { IfErr result (λ e. e ≡ Error.Memory) }
     ensures left { KeepsPieces u.old u.new }
 {
@@ -158,7 +170,8 @@ fn choose_br_on_null(
 ) -> Result<Option<Node>, Error>
     requires scope { IsScope (bare scope.now) }
     requires labels { AreLabels scope.now draft.now.labels.items }
-    ensures exact { IfOk result (λ chosen. br_on_null_at (where_stands scope.now draft.now) u.old ≡ (chosen, u.new)) }
+    ensures exact { IfOk result (λ chosen.
+        br_on_null_at (where_stands scope.now draft.now) u.old ≡ (chosen, u.new)) }
     ensures offer { IsOffer (where_stands scope.now draft.now) draft.now.set.items [] result }
     ensures memory { IfErr result (λ e. e ≡ Error.Memory) }
     ensures left { KeepsPieces u.old u.new }
@@ -188,7 +201,8 @@ fn choose_br_on_non_null(
     u: &mut Unstructured<'_>,
 ) -> Result<Option<Node>, Error>
     requires labels { AreLabels scope.now draft.now.labels.items }
-    ensures exact { IfOk result (λ chosen. br_on_non_null_at (where_stands scope.now draft.now) u.old ≡ (chosen, u.new)) }
+    ensures exact { IfOk result (λ chosen.
+        br_on_non_null_at (where_stands scope.now draft.now) u.old ≡ (chosen, u.new)) }
     ensures offer { IsOffer (where_stands scope.now draft.now) draft.now.set.items [] result }
     ensures memory { IfErr result (λ e. e ≡ Error.Memory) }
     ensures left { KeepsPieces u.old u.new }
@@ -220,7 +234,8 @@ pub fn choose_null_branch(
 ) -> Result<Node, Error>
     requires scope { IsScope (bare scope.now) }
     requires labels { AreLabels scope.now draft.now.labels.items }
-    ensures exact { IfOk result (λ node. or_nop (null_branch_at (where_stands scope.now draft.now) u.old) ≡ (node, u.new)) }
+    ensures exact { IfOk result (λ node.
+        or_nop (null_branch_at (where_stands scope.now draft.now) u.old) ≡ (node, u.new)) }
     ensures node { IfOk result (IsNode (where_stands scope.now draft.now) draft.now.set.items []) }
     ensures memory { IfErr result (λ e. e ≡ Error.Memory) }
     ensures left { KeepsPieces u.old u.new }
@@ -237,7 +252,8 @@ fn draw_null_branch(
 ) -> Result<Option<Node>, Error>
     requires scope { IsScope (bare scope.now) }
     requires labels { AreLabels scope.now draft.now.labels.items }
-    ensures exact { IfOk result (λ chosen. null_branch_at (where_stands scope.now draft.now) u.old ≡ (chosen, u.new)) }
+    ensures exact { IfOk result (λ chosen.
+        null_branch_at (where_stands scope.now draft.now) u.old ≡ (chosen, u.new)) }
     ensures offer { IsOffer (where_stands scope.now draft.now) draft.now.set.items [] result }
     ensures memory { IfErr result (λ e. e ≡ Error.Memory) }
     ensures left { KeepsPieces u.old u.new }

@@ -1,7 +1,8 @@
 ghost use Rattle.std.specs.Prelude.{◌≡◌, true, length, IfSome};
 ghost use Rattle.smith_bytes.specs.Source.{KeepsPieces};
 ghost use Rattle.smith_instr.specs.Contexts.{AreValid};
-ghost use Rattle.smith_code_control.specs.CallChoices.{IsOutcome, dropped_of, fit_type_at, is_fit, is_fit_type};
+ghost use Rattle.smith_code_control.specs.CallChoices.{IsOutcome, dropped_of, fit_type_at, is_fit};
+ghost use Rattle.smith_code_control.specs.CallChoices.{is_fit_type};
 ghost use Rattle.smith_code_nodes.specs.Scopes.{IsScope, bare, indexed};
 
 use crate::branches::are_below;
@@ -32,7 +33,8 @@ impl<'a> Offer for TypeOffer<'a> {
     ghost use Rattle.smith_code_control.specs.CallChoices.{IsOutcome, is_fit_type};
     ghost use Rattle.smith_code_nodes.specs.Scopes.{IsScope, bare, indexed};
 
-    ghost ready = { λ self. IsScope (bare self.scope.now) × IsOutcome (bare self.scope.now) self.outcome };
+    ghost ready = { λ self.
+        IsScope (bare self.scope.now) × IsOutcome (bare self.scope.now) self.outcome };
 
     ghost size = { λ self. indexed (length self.scope.now.types.now.types) };
 

@@ -50,7 +50,9 @@ impl<'a> Offer for ReturnOffer<'a> {
 /// Chooses a function whose results the function of the body may return, if there is one.
 fn choose_returnable(scope: &Scope<'_>, u: &mut Unstructured<'_>) -> Option<u32>
     requires scope { IsScope (bare scope.now) }
-    ensures exact { choose_at (offered (is_returnable (bare scope.now)) (indexed (length scope.now.funcs.now))) u.old ≡ (result, u.new) }
+    ensures exact { choose_at
+        (offered (is_returnable (bare scope.now)) (indexed (length scope.now.funcs.now))) u.old
+        ≡ (result, u.new) }
     ensures below { IfSome result (λ index. index < length scope.now.funcs.now) }
     ensures offered { IfSome result (λ index. is_returnable (bare scope.now) index ≡ true) }
     ensures left { KeepsPieces u.old u.new }
@@ -66,8 +68,10 @@ fn choose_return_call(
     u: &mut Unstructured<'_>,
 ) -> Result<Option<Node>, Error>
     requires scope { IsScope (bare scope.now) }
-    ensures exact { IfOk result (λ chosen. return_call_at (where_stands scope.now draft.now) u.old ≡ (chosen, u.new)) }
-    ensures offer { (values : List Val) → AreValid (bare scope.now) values → IsOffer (where_stands scope.now draft.now) draft.now.set.items values result }
+    ensures exact { IfOk result (λ chosen.
+        return_call_at (where_stands scope.now draft.now) u.old ≡ (chosen, u.new)) }
+    ensures offer { (values : List Val) → AreValid (bare scope.now) values
+        → IsOffer (where_stands scope.now draft.now) draft.now.set.items values result }
     ensures memory { IfErr result (λ e. e ≡ Error.Memory) }
     ensures left { KeepsPieces u.old u.new }
 {
@@ -94,8 +98,10 @@ pub fn choose_tail_call(
     u: &mut Unstructured<'_>,
 ) -> Result<Option<Node>, Error>
     requires scope { IsScope (bare scope.now) }
-    ensures exact { IfOk result (λ chosen. tail_call_at (where_stands scope.now draft.now) u.old ≡ (chosen, u.new)) }
-    ensures offer { (values : List Val) → AreValid (bare scope.now) values → IsOffer (where_stands scope.now draft.now) draft.now.set.items values result }
+    ensures exact { IfOk result (λ chosen.
+        tail_call_at (where_stands scope.now draft.now) u.old ≡ (chosen, u.new)) }
+    ensures offer { (values : List Val) → AreValid (bare scope.now) values
+        → IsOffer (where_stands scope.now draft.now) draft.now.set.items values result }
     ensures memory { IfErr result (λ e. e ≡ Error.Memory) }
     ensures left { KeepsPieces u.old u.new }
 {
@@ -117,7 +123,8 @@ pub fn choose_any_tail_call(
     u: &mut Unstructured<'_>,
 ) -> Result<Node, Error>
     requires scope { IsScope (bare scope.now) }
-    ensures exact { IfOk result (λ node. or_nop (tail_call_at (where_stands scope.now draft.now) u.old) ≡ (node, u.new)) }
+    ensures exact { IfOk result (λ node.
+        or_nop (tail_call_at (where_stands scope.now draft.now) u.old) ≡ (node, u.new)) }
     ensures node { IfOk result (IsNode (where_stands scope.now draft.now) draft.now.set.items []) }
     ensures memory { IfErr result (λ e. e ≡ Error.Memory) }
     ensures left { KeepsPieces u.old u.new }

@@ -1,11 +1,14 @@
-ghost use Rattle.std.specs.Prelude.{◌≡◌, ◌<◌, ◌&&◌, List, None, Some, [], length, IfOk, IfErr, IfSome, MatchOption};
+ghost use Rattle.std.specs.Prelude.{◌≡◌, ◌<◌, ◌&&◌, List, None, Some, [], length, IfOk, IfErr};
+ghost use Rattle.std.specs.Prelude.{IfSome, MatchOption};
 ghost use Rattle.smith_bytes.specs.Source.{KeepsPieces};
 ghost use Rattle.smith_types.specs.declared.value_type.ValType.{ValType as Val};
 ghost use Rattle.smith_instr.specs.Contexts.{AreValid};
 ghost use Rattle.smith_code_nodes.specs.Chosen.{or_nop};
 ghost use Rattle.smith_code_nodes.specs.Nodes.{IsNode, IsOffer};
 ghost use Rattle.smith_code_nodes.specs.Scopes.{IsScope, bare, where_stands};
-ghost use Rattle.smith_code_control.specs.ThrowChoices.{any_throw_at, exn, refers_to_exceptions, tag_at, tag_type_at, throw_at, throw_ref_node};
+ghost use Rattle.smith_code_control.specs.ThrowChoices.{any_throw_at, exn, refers_to_exceptions};
+ghost use Rattle.smith_code_control.specs.ThrowChoices.{tag_at, tag_type_at, throw_at};
+ghost use Rattle.smith_code_control.specs.ThrowChoices.{throw_ref_node};
 
 use smith_bytes::{Error, Unstructured};
 use smith_code_nodes::{Draft, Node, Scope, func_type_at, indexed, nullable_to, or_nop, plain};
@@ -16,7 +19,8 @@ use std::alloc::Global;
 /// Returns the function type of the tag at `index`.
 pub(crate) fn tag_type_of<'a>(scope: &Scope<'a>, index: usize) -> Option<&'a FuncType>
     requires { index < length scope.now.tags.now }
-    ensures { MatchOption result (tag_type_at (bare scope.now) index ≡ None) (λ ty. tag_type_at (bare scope.now) index ≡ Some ty.now) }
+    ensures { MatchOption result (tag_type_at (bare scope.now) index ≡ None) (λ ty.
+        tag_type_at (bare scope.now) index ≡ Some ty.now) }
 {
     func_type_at(scope, scope.tags[index] as usize)
 }
@@ -61,8 +65,10 @@ fn choose_throw(
     u: &mut Unstructured<'_>,
 ) -> Result<Option<Node>, Error>
     requires scope { IsScope (bare scope.now) }
-    ensures exact { IfOk result (λ chosen. throw_at (where_stands scope.now draft.now) u.old ≡ (chosen, u.new)) }
-    ensures offer { (values : List Val) → AreValid (bare scope.now) values → IsOffer (where_stands scope.now draft.now) draft.now.set.items values result }
+    ensures exact { IfOk result (λ chosen.
+        throw_at (where_stands scope.now draft.now) u.old ≡ (chosen, u.new)) }
+    ensures offer { (values : List Val) → AreValid (bare scope.now) values
+        → IsOffer (where_stands scope.now draft.now) draft.now.set.items values result }
     ensures memory { IfErr result (λ e. e ≡ Error.Memory) }
     ensures left { KeepsPieces u.old u.new }
 {
@@ -79,7 +85,8 @@ fn choose_throw(
 /// Chooses `throw_ref`, if references to exceptions are enabled.
 fn choose_throw_ref(alloc: Global, scope: &Scope<'_>, draft: &Draft) -> Result<Option<Node>, Error>
     ensures exact { IfOk result (λ chosen. chosen ≡ throw_ref_node (bare scope.now).features) }
-    ensures offer { (values : List Val) → AreValid (bare scope.now) values → IsOffer (where_stands scope.now draft.now) draft.now.set.items values result }
+    ensures offer { (values : List Val) → AreValid (bare scope.now) values
+        → IsOffer (where_stands scope.now draft.now) draft.now.set.items values result }
     ensures memory { IfErr result (λ e. e ≡ Error.Memory) }
 {
     if !refers_to_exceptions(scope) {
@@ -97,8 +104,10 @@ pub fn choose_any_throw(
     u: &mut Unstructured<'_>,
 ) -> Result<Option<Node>, Error>
     requires scope { IsScope (bare scope.now) }
-    ensures exact { IfOk result (λ chosen. any_throw_at (where_stands scope.now draft.now) u.old ≡ (chosen, u.new)) }
-    ensures offer { (values : List Val) → AreValid (bare scope.now) values → IsOffer (where_stands scope.now draft.now) draft.now.set.items values result }
+    ensures exact { IfOk result (λ chosen.
+        any_throw_at (where_stands scope.now draft.now) u.old ≡ (chosen, u.new)) }
+    ensures offer { (values : List Val) → AreValid (bare scope.now) values
+        → IsOffer (where_stands scope.now draft.now) draft.now.set.items values result }
     ensures memory { IfErr result (λ e. e ≡ Error.Memory) }
     ensures left { KeepsPieces u.old u.new }
 {
@@ -116,7 +125,8 @@ pub fn choose_throw_statement(
     u: &mut Unstructured<'_>,
 ) -> Result<Node, Error>
     requires scope { IsScope (bare scope.now) }
-    ensures exact { IfOk result (λ node. or_nop (any_throw_at (where_stands scope.now draft.now) u.old) ≡ (node, u.new)) }
+    ensures exact { IfOk result (λ node.
+        or_nop (any_throw_at (where_stands scope.now draft.now) u.old) ≡ (node, u.new)) }
     ensures node { IfOk result (IsNode (where_stands scope.now draft.now) draft.now.set.items []) }
     ensures memory { IfErr result (λ e. e ≡ Error.Memory) }
     ensures left { KeepsPieces u.old u.new }

@@ -1,11 +1,15 @@
-ghost use Rattle.std.specs.Prelude.{◌≡◌, ◌++◌, [], ◌∷◌, All, option_to_list, IfOk, IfErr, IfSome, IsTrue, OnOk};
+ghost use Rattle.std.specs.Prelude.{◌≡◌, ◌++◌, [], ◌∷◌, All, option_to_list, IfOk, IfErr, IfSome};
+ghost use Rattle.std.specs.Prelude.{IsTrue, OnOk};
 ghost use Rattle.smith_bytes.specs.Source.{KeepsPieces};
 ghost use Rattle.smith_instr.specs.Contexts.{AreValid, IsValid};
 ghost use Rattle.smith_instr.specs.InstrTypes.{IsCatch};
 ghost use Rattle.smith_code_nodes.specs.Chosen.{or_nop};
 ghost use Rattle.smith_code_nodes.specs.Nodes.{IsNode, IsOffer};
 ghost use Rattle.smith_code_nodes.specs.Scopes.{AreLabels, IsScope, bare, context_of, where_stands};
-ghost use Rattle.smith_code_control.specs.TryChoices.{IsCaught, any_try_at, brought, clause_at, clause_of, clause_to, referenced_at, refers_to_caught, some_clauses_at, tagged_clause_at, try_at};
+ghost use Rattle.smith_code_control.specs.TryChoices.{IsCaught, any_try_at, brought, clause_at};
+ghost use Rattle.smith_code_control.specs.TryChoices.{clause_of, clause_to, referenced_at};
+ghost use Rattle.smith_code_control.specs.TryChoices.{refers_to_caught, some_clauses_at};
+ghost use Rattle.smith_code_control.specs.TryChoices.{tagged_clause_at, try_at};
 
 use crate::branches::choose_target;
 use crate::throws::{draw_tag, exn, refers_to_exceptions, tag_type_of};
@@ -79,8 +83,11 @@ fn choose_clause_to(
     requires values { AreValid (bare scope.now) values.now }
     requires caught { IsCaught (context_of scope.now labels.now) tag values.now }
     requires possible { IsTrue referenced → IsTrue (refers_to_caught (bare scope.now).features) }
-    ensures exact { IfOk result (λ chosen. clause_to (context_of scope.now labels.now) tag referenced values.now u.old ≡ (chosen, u.new)) }
-    ensures fits { IfOk result (λ chosen. IfSome chosen (IsCatch (context_of scope.now labels.now))) }
+    ensures exact { IfOk result (λ chosen.
+        clause_to (context_of scope.now labels.now) tag referenced values.now u.old
+        ≡ (chosen, u.new)) }
+    ensures fits { IfOk result (λ chosen.
+        IfSome chosen (IsCatch (context_of scope.now labels.now))) }
     ensures memory { IfErr result (λ e. e ≡ Error.Memory) }
     ensures left { KeepsPieces u.old u.new }
 {
@@ -102,8 +109,10 @@ fn choose_tagged_clause(
     requires scope { IsScope (bare scope.now) }
     requires labels { AreLabels scope.now labels.now }
     requires possible { IsTrue referenced → IsTrue (refers_to_caught (bare scope.now).features) }
-    ensures exact { IfOk result (λ chosen. tagged_clause_at (context_of scope.now labels.now) referenced u.old ≡ (chosen, u.new)) }
-    ensures fits { IfOk result (λ chosen. IfSome chosen (IsCatch (context_of scope.now labels.now))) }
+    ensures exact { IfOk result (λ chosen.
+        tagged_clause_at (context_of scope.now labels.now) referenced u.old ≡ (chosen, u.new)) }
+    ensures fits { IfOk result (λ chosen.
+        IfSome chosen (IsCatch (context_of scope.now labels.now))) }
     ensures memory { IfErr result (λ e. e ≡ Error.Memory) }
     ensures left { KeepsPieces u.old u.new }
 {
@@ -133,8 +142,10 @@ fn choose_clause(
 ) -> Result<Option<Catch>, Error>
     requires scope { IsScope (bare scope.now) }
     requires labels { AreLabels scope.now labels.now }
-    ensures exact { IfOk result (λ chosen. clause_at (context_of scope.now labels.now) u.old ≡ (chosen, u.new)) }
-    ensures fits { IfOk result (λ chosen. IfSome chosen (IsCatch (context_of scope.now labels.now))) }
+    ensures exact { IfOk result (λ chosen.
+        clause_at (context_of scope.now labels.now) u.old ≡ (chosen, u.new)) }
+    ensures fits { IfOk result (λ chosen.
+        IfSome chosen (IsCatch (context_of scope.now labels.now))) }
     ensures memory { IfErr result (λ e. e ≡ Error.Memory) }
     ensures left { KeepsPieces u.old u.new }
 {
@@ -166,7 +177,8 @@ fn draw_clauses(
 ) -> Result<Items<Catch>, Error>
     requires scope { IsScope (bare scope.now) }
     requires labels { AreLabels scope.now labels.now }
-    ensures exact { IfOk result (λ clauses. some_clauses_at (context_of scope.now labels.now) u.old ≡ (clauses, u.new)) }
+    ensures exact { IfOk result (λ clauses.
+        some_clauses_at (context_of scope.now labels.now) u.old ≡ (clauses, u.new)) }
     ensures fit { IfOk result (All (IsCatch (context_of scope.now labels.now))) }
     ensures memory { IfErr result (λ e. e ≡ Error.Memory) }
     ensures left { KeepsPieces u.old u.new }
@@ -191,8 +203,10 @@ pub fn choose_try(
     requires scope { IsScope (bare scope.now) }
     requires labels { AreLabels scope.now draft.now.labels.items }
     requires wanted { IsValid (bare scope.now) wanted }
-    ensures exact { IfOk result (λ chosen. try_at (where_stands scope.now draft.now) wanted u.old ≡ (chosen, u.new)) }
-    ensures offer { IsOffer (where_stands scope.now draft.now) draft.now.set.items (wanted ∷ []) result }
+    ensures exact { IfOk result (λ chosen.
+        try_at (where_stands scope.now draft.now) wanted u.old ≡ (chosen, u.new)) }
+    ensures offer { IsOffer (where_stands scope.now draft.now) draft.now.set.items
+        (wanted ∷ []) result }
     ensures memory { IfErr result (λ e. e ≡ Error.Memory) }
     ensures left { KeepsPieces u.old u.new }
 {
@@ -211,7 +225,8 @@ pub fn choose_any_try(
 ) -> Result<Node, Error>
     requires scope { IsScope (bare scope.now) }
     requires labels { AreLabels scope.now draft.now.labels.items }
-    ensures exact { IfOk result (λ node. or_nop (any_try_at (where_stands scope.now draft.now) u.old) ≡ (node, u.new)) }
+    ensures exact { IfOk result (λ node.
+        or_nop (any_try_at (where_stands scope.now draft.now) u.old) ≡ (node, u.new)) }
     ensures node { IfOk result (IsNode (where_stands scope.now draft.now) draft.now.set.items []) }
     ensures memory { IfErr result (λ e. e ≡ Error.Memory) }
     ensures left { KeepsPieces u.old u.new }

@@ -12,9 +12,12 @@ fn indices()
 
 fn sizes()
     ensures no_type { widest [] ≡ 3 }
-    ensures of_a_function { func_size (Func (record { params = I32 ∷ I32 ∷ []; results = I64 ∷ [] })) ≡ 3 }
+    ensures of_a_function { func_size
+        (Func (record { params = I32 ∷ I32 ∷ []; results = I64 ∷ [] })) ≡ 3 }
     ensures of_a_struct { func_size (struct []) ≡ 0 }
-    ensures a_wide_function { widest (final_type plain_func ∷ final_type (Func (record { params = replicate 4 I32; results = I64 ∷ [] })) ∷ []) ≡ 5 }
+    ensures a_wide_function { widest (final_type plain_func
+        ∷ final_type (Func (record { params = replicate 4 I32; results = I64 ∷ [] })) ∷ [])
+        ≡ 5 }
     ensures a_narrow_function { widest (final_type plain_func ∷ []) ≡ 3 }
     ensures instructions_for_one_unit { most [] ≡ 16 }
 {}

@@ -15,7 +15,8 @@ ghost use Rattle.smith_instr.specs.declared.numeric.NumericInstr.TheVariants as 
 ghost use Rattle.smith_instr.specs.declared.numeric.SaturatingConversion.TheVariants as saturate;
 ghost use Rattle.smith_instr.specs.declared.reference.ReferenceInstr.TheVariants as reference;
 ghost use Rattle.smith_instr.specs.declared.table.TableInstr.TheVariants as table;
-ghost use Rattle.smith_instr_examples.specs.ExampleBodies.{aligned, function_of, kinds_of, number, some_func};
+ghost use Rattle.smith_instr_examples.specs.ExampleBodies.{aligned, function_of, kinds_of, number};
+ghost use Rattle.smith_instr_examples.specs.ExampleBodies.{some_func};
 ghost use Rattle.smith_code.specs.Bodies.{body_at};
 ghost use Rattle.smith_code_nodes.specs.Traps.{IsTrapless, may_trap};
 ghost use Rattle.smith_code_examples.specs.ExampleBytes.{narrow, trapless};
@@ -23,10 +24,12 @@ ghost use Rattle.smith_code_examples.specs.ExampleBytes.{narrow, trapless};
 fn numbers()
     ensures division { may_trap (instr.Numeric (numeric.I32Binary int_binary.DivS)) ≡ true }
     ensures remainder { may_trap (instr.Numeric (numeric.I64Binary int_binary.RemU)) ≡ true }
-    ensures division_of_floats { may_trap (instr.Numeric (numeric.F32Binary float_binary.Div)) ≡ false }
+    ensures division_of_floats { may_trap (instr.Numeric (numeric.F32Binary float_binary.Div))
+        ≡ false }
     ensures shift { may_trap (instr.Numeric (numeric.I32Binary int_binary.Shl)) ≡ false }
     ensures truncation { may_trap (instr.Numeric (numeric.Convert convert.I32TruncF64U)) ≡ true }
-    ensures saturating_truncation { may_trap (instr.Numeric (numeric.Saturate saturate.I32TruncSatF64U)) ≡ false }
+    ensures saturating_truncation { may_trap
+        (instr.Numeric (numeric.Saturate saturate.I32TruncSatF64U)) ≡ false }
     ensures wrap { may_trap (instr.Numeric (numeric.Convert convert.I32WrapI64)) ≡ false }
 {}
 
@@ -64,29 +67,49 @@ fn control()
 {}
 
 fn with_traps()
-    ensures division { body_at default_config (function_of [] (I32 ∷ [])) 1 (0 ∷ 1 ∷ 6 ∷ narrow 5 ++ narrow 7)
+    ensures division { body_at default_config (function_of [] (I32 ∷ [])) 1
+        (0 ∷ 1 ∷ 6 ∷ narrow 5 ++ narrow 7)
         ≡ (number 5 ∷ number 7 ∷ instr.Numeric (numeric.I32Binary int_binary.DivS) ∷ [], []) }
-    ensures stop { body_at default_config (function_of [] []) 1 (1 ∷ 14 ∷ []) ≡ (instr.Unreachable ∷ [], []) }
-    ensures constant_that_is_none { body_at default_config (function_of [] (some_func ∷ [])) 1 (0 ∷ 0 ∷ 4 ∷ []) ≡ (instr.Unreachable ∷ [], []) }
+    ensures stop { body_at default_config (function_of [] []) 1 (1 ∷ 14 ∷ [])
+        ≡ (instr.Unreachable ∷ [], []) }
+    ensures constant_that_is_none { body_at default_config (function_of [] (some_func ∷ [])) 1
+        (0 ∷ 0 ∷ 4 ∷ [])
+        ≡ (instr.Unreachable ∷ [], []) }
 {}
 
 fn without_traps()
-    ensures division { body_at trapless (function_of [] (I32 ∷ [])) 1 (0 ∷ 1 ∷ 6 ∷ narrow 5 ++ narrow 7) ≡ (number 5 ∷ [], narrow 7) }
-    ensures subtraction { body_at trapless (function_of [] (I32 ∷ [])) 1 (0 ∷ 1 ∷ 4 ∷ narrow 5 ++ narrow 7)
+    ensures division { body_at trapless (function_of [] (I32 ∷ [])) 1
+        (0 ∷ 1 ∷ 6 ∷ narrow 5 ++ narrow 7)
+        ≡ (number 5 ∷ [], narrow 7) }
+    ensures subtraction { body_at trapless
+        (function_of [] (I32 ∷ [])) 1 (0 ∷ 1 ∷ 4 ∷ narrow 5 ++ narrow 7)
         ≡ (number 5 ∷ number 7 ∷ instr.Numeric (numeric.I32Binary int_binary.Sub) ∷ [], []) }
-    ensures call { body_at trapless (function_of [] []) 1 (1 ∷ 5 ∷ 0 ∷ []) ≡ (instr.Call 0 ∷ [], []) }
+    ensures call { body_at trapless (function_of [] []) 1 (1 ∷ 5 ∷ 0 ∷ [])
+        ≡ (instr.Call 0 ∷ [], []) }
     ensures stop { body_at trapless (function_of [] []) 1 (1 ∷ 14 ∷ []) ≡ ([], []) }
-    ensures growth { body_at trapless (function_of [] (I32 ∷ [])) 1 (0 ∷ 15 ∷ 1 ∷ narrow 2) ≡ (number 2 ∷ instr.Memory (memory.Grow 0) ∷ [], []) }
-    ensures thrown { body_at trapless (function_of [] []) 1 (1 ∷ 28 ∷ 1 ∷ narrow 5) ≡ (number 5 ∷ instr.Throw 0 ∷ [], []) }
-    ensures thrown_again { body_at trapless (function_of [] []) 1 (1 ∷ 28 ∷ 0 ∷ 4 ∷ []) ≡ ([], 4 ∷ []) }
-    ensures block_that_catches { body_at trapless (function_of [] (I32 ∷ [])) 1 (0 ∷ 34 ∷ 0 ∷ narrow 5) ≡ (instr.TryTable (block.Value I32) [] ∷ number 5 ∷ instr.End ∷ [], []) }
-    ensures drawn_all_the_same { ¬ (body_at trapless (function_of [] (I32 ∷ [])) 1 (0 ∷ 1 ∷ 6 ∷ narrow 5 ++ narrow 7)
+    ensures growth { body_at trapless (function_of [] (I32 ∷ [])) 1 (0 ∷ 15 ∷ 1 ∷ narrow 2)
+        ≡ (number 2 ∷ instr.Memory (memory.Grow 0) ∷ [], []) }
+    ensures thrown { body_at trapless (function_of [] []) 1 (1 ∷ 28 ∷ 1 ∷ narrow 5)
+        ≡ (number 5 ∷ instr.Throw 0 ∷ [], []) }
+    ensures thrown_again { body_at trapless (function_of [] []) 1 (1 ∷ 28 ∷ 0 ∷ 4 ∷ [])
+        ≡ ([], 4 ∷ []) }
+    ensures block_that_catches { body_at trapless
+        (function_of [] (I32 ∷ [])) 1 (0 ∷ 34 ∷ 0 ∷ narrow 5)
+        ≡ (instr.TryTable (block.Value I32) [] ∷ number 5 ∷ instr.End ∷ [], []) }
+    ensures drawn_all_the_same { ¬ (body_at trapless (function_of [] (I32 ∷ [])) 1
+        (0 ∷ 1 ∷ 6 ∷ narrow 5 ++ narrow 7)
         ≡ (number 5 ∷ number 7 ∷ instr.Numeric (numeric.I32Binary int_binary.DivS) ∷ [], [])) }
 {}
 
 fn in_place_of_a_stop()
-    ensures function { body_at trapless (function_of [] (some_func ∷ [])) 1 (0 ∷ 0 ∷ 4 ∷ []) ≡ (instr.Reference (reference.Func 1) ∷ [], []) }
-    ensures nothing { body_at trapless (record (function_of [] (some_func ∷ [])) { references = [] }) 1 (0 ∷ 0 ∷ 4 ∷ []) ≡ (instr.Unreachable ∷ [], []) }
-    ensures zero { body_at (record trapless { allowed_instructions = kinds_of NumericInt }) (function_of [] (I32 ∷ [])) 1 (0 ∷ 0 ∷ 2 ∷ 1 ∷ []) ≡ (number 0 ∷ [], []) }
-    ensures fuel { body_at trapless (function_of [] (I32 ∷ [])) 0 [] ≡ (instr.Unreachable ∷ [], []) }
+    ensures function { body_at trapless (function_of [] (some_func ∷ [])) 1 (0 ∷ 0 ∷ 4 ∷ [])
+        ≡ (instr.Reference (reference.Func 1) ∷ [], []) }
+    ensures nothing { body_at trapless
+        (record (function_of [] (some_func ∷ [])) { references = [] }) 1 (0 ∷ 0 ∷ 4 ∷ [])
+        ≡ (instr.Unreachable ∷ [], []) }
+    ensures zero { body_at (record trapless { allowed_instructions = kinds_of NumericInt })
+        (function_of [] (I32 ∷ [])) 1 (0 ∷ 0 ∷ 2 ∷ 1 ∷ [])
+        ≡ (number 0 ∷ [], []) }
+    ensures fuel { body_at trapless (function_of [] (I32 ∷ [])) 0 []
+        ≡ (instr.Unreachable ∷ [], []) }
 {}

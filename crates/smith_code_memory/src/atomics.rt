@@ -3,7 +3,8 @@ ghost use Rattle.smith_bytes.specs.Source.{KeepsPieces};
 ghost use Rattle.smith_instr.specs.Contexts.{IsValid};
 ghost use Rattle.smith_instr.specs.MemoryTypes.{atomic_width};
 ghost use Rattle.smith_code_memory.specs.AtomicChoices.{atomic_at, atomic_node, atomic_store_at};
-ghost use Rattle.smith_code_memory.specs.AtomicRows.{atomic_bytes, atomic_rows, atomic_widths, i32_atomic_rows, i64_atomic_rows};
+ghost use Rattle.smith_code_memory.specs.AtomicRows.{atomic_bytes, atomic_rows, atomic_widths};
+ghost use Rattle.smith_code_memory.specs.AtomicRows.{i32_atomic_rows, i64_atomic_rows};
 ghost use Rattle.smith_code_nodes.specs.Chosen.{or_nop};
 ghost use Rattle.smith_code_nodes.specs.Nodes.{IsNode, IsOffer};
 ghost use Rattle.smith_code_nodes.specs.Scopes.{IsScope, bare, where_stands};
@@ -125,8 +126,11 @@ pub fn choose_atomic(
 ) -> Result<Option<Node>, Error>
     requires scope { IsScope (bare scope.now) }
     requires wanted { IsValid (bare scope.now) wanted }
-    ensures exact { IfOk result (λ chosen. atomic_at scope.now.config.now (where_stands scope.now draft.now) wanted u.old ≡ (chosen, u.new)) }
-    ensures offer { IsOffer (where_stands scope.now draft.now) draft.now.set.items (wanted ∷ []) result }
+    ensures exact { IfOk result (λ chosen.
+        atomic_at scope.now.config.now (where_stands scope.now draft.now) wanted u.old
+        ≡ (chosen, u.new)) }
+    ensures offer { IsOffer (where_stands scope.now draft.now) draft.now.set.items
+        (wanted ∷ []) result }
     ensures memory { IfErr result (λ e. e ≡ Error.Memory) }
     ensures left { KeepsPieces u.old u.new }
 {
@@ -150,7 +154,9 @@ pub fn choose_atomic_store(
     u: &mut Unstructured<'_>,
 ) -> Result<Node, Error>
     requires scope { IsScope (bare scope.now) }
-    ensures exact { IfOk result (λ node. or_nop (atomic_store_at scope.now.config.now (where_stands scope.now draft.now) u.old) ≡ (node, u.new)) }
+    ensures exact { IfOk result (λ node.
+        or_nop (atomic_store_at scope.now.config.now (where_stands scope.now draft.now) u.old)
+        ≡ (node, u.new)) }
     ensures node { IfOk result (IsNode (where_stands scope.now draft.now) draft.now.set.items []) }
     ensures memory { IfErr result (λ e. e ≡ Error.Memory) }
     ensures left { KeepsPieces u.old u.new }

@@ -1,6 +1,8 @@
 ghost use Rattle.std.specs.Prelude.{◌≡◌, [], slice_get, Some, IfOk, IfErr};
 ghost use Rattle.smith_bytes.specs.Source.{KeepsPieces};
-ghost use Rattle.smith_code_memory.specs.BulkChoices.{bulk_at, bulks, data_drop_at, memory_copied, memory_copy_at, memory_fill_at, memory_init_at, memory_initialized};
+ghost use Rattle.smith_code_memory.specs.BulkChoices.{bulk_at, bulks, data_drop_at, memory_copied};
+ghost use Rattle.smith_code_memory.specs.BulkChoices.{memory_copy_at, memory_fill_at};
+ghost use Rattle.smith_code_memory.specs.BulkChoices.{memory_init_at, memory_initialized};
 ghost use Rattle.smith_code_nodes.specs.Chosen.{or_nop};
 ghost use Rattle.smith_code_nodes.specs.Nodes.{IsNode};
 ghost use Rattle.smith_code_nodes.specs.Scopes.{where_stands};
@@ -35,7 +37,8 @@ pub fn choose_bulk(
     draft: &Draft,
     u: &mut Unstructured<'_>,
 ) -> Result<Node, Error>
-    ensures exact { IfOk result (λ node. or_nop (bulk_at (where_stands scope.now draft.now) u.old) ≡ (node, u.new)) }
+    ensures exact { IfOk result (λ node.
+        or_nop (bulk_at (where_stands scope.now draft.now) u.old) ≡ (node, u.new)) }
     ensures node { IfOk result (IsNode (where_stands scope.now draft.now) draft.now.set.items []) }
     ensures memory { IfErr result (λ e. e ≡ Error.Memory) }
     ensures left { KeepsPieces u.old u.new }
@@ -54,7 +57,8 @@ fn choose_memory_fill(
     draft: &Draft,
     u: &mut Unstructured<'_>,
 ) -> Result<Node, Error>
-    ensures exact { IfOk result (λ node. or_nop (memory_fill_at (where_stands scope.now draft.now) u.old) ≡ (node, u.new)) }
+    ensures exact { IfOk result (λ node.
+        or_nop (memory_fill_at (where_stands scope.now draft.now) u.old) ≡ (node, u.new)) }
     ensures node { IfOk result (IsNode (where_stands scope.now draft.now) draft.now.set.items []) }
     ensures memory { IfErr result (λ e. e ≡ Error.Memory) }
     ensures left { KeepsPieces u.old u.new }
@@ -74,7 +78,8 @@ fn choose_memory_copy(
     draft: &Draft,
     u: &mut Unstructured<'_>,
 ) -> Result<Node, Error>
-    ensures exact { IfOk result (λ node. or_nop (memory_copy_at (where_stands scope.now draft.now) u.old) ≡ (node, u.new)) }
+    ensures exact { IfOk result (λ node.
+        or_nop (memory_copy_at (where_stands scope.now draft.now) u.old) ≡ (node, u.new)) }
     ensures node { IfOk result (IsNode (where_stands scope.now draft.now) draft.now.set.items []) }
     ensures memory { IfErr result (λ e. e ≡ Error.Memory) }
     ensures left { KeepsPieces u.old u.new }
@@ -94,7 +99,8 @@ fn copy_into(
     u: &mut Unstructured<'_>,
 ) -> Result<Node, Error>
     requires into { slice_get scope.now.memories.now into.0 ≡ Some into.1 }
-    ensures exact { IfOk result (λ node. or_nop (memory_copied (where_stands scope.now draft.now) into u.old) ≡ (node, u.new)) }
+    ensures exact { IfOk result (λ node.
+        or_nop (memory_copied (where_stands scope.now draft.now) into u.old) ≡ (node, u.new)) }
     ensures node { IfOk result (IsNode (where_stands scope.now draft.now) draft.now.set.items []) }
     ensures memory { IfErr result (λ e. e ≡ Error.Memory) }
     ensures left { KeepsPieces u.old u.new }
@@ -120,7 +126,8 @@ fn choose_memory_init(
     draft: &Draft,
     u: &mut Unstructured<'_>,
 ) -> Result<Node, Error>
-    ensures exact { IfOk result (λ node. or_nop (memory_init_at (where_stands scope.now draft.now) u.old) ≡ (node, u.new)) }
+    ensures exact { IfOk result (λ node.
+        or_nop (memory_init_at (where_stands scope.now draft.now) u.old) ≡ (node, u.new)) }
     ensures node { IfOk result (IsNode (where_stands scope.now draft.now) draft.now.set.items []) }
     ensures memory { IfErr result (λ e. e ≡ Error.Memory) }
     ensures left { KeepsPieces u.old u.new }
@@ -140,7 +147,8 @@ fn init_of(
     u: &mut Unstructured<'_>,
 ) -> Result<Node, Error>
     requires into { slice_get scope.now.memories.now into.0 ≡ Some into.1 }
-    ensures exact { IfOk result (λ node. or_nop (memory_initialized (where_stands scope.now draft.now) into u.old) ≡ (node, u.new)) }
+    ensures exact { IfOk result (λ node.
+        or_nop (memory_initialized (where_stands scope.now draft.now) into u.old) ≡ (node, u.new)) }
     ensures node { IfOk result (IsNode (where_stands scope.now draft.now) draft.now.set.items []) }
     ensures memory { IfErr result (λ e. e ≡ Error.Memory) }
     ensures left { KeepsPieces u.old u.new }
@@ -163,7 +171,8 @@ fn choose_data_drop(
     draft: &Draft,
     u: &mut Unstructured<'_>,
 ) -> Result<Node, Error>
-    ensures exact { IfOk result (λ node. or_nop (data_drop_at (where_stands scope.now draft.now) u.old) ≡ (node, u.new)) }
+    ensures exact { IfOk result (λ node.
+        or_nop (data_drop_at (where_stands scope.now draft.now) u.old) ≡ (node, u.new)) }
     ensures node { IfOk result (IsNode (where_stands scope.now draft.now) draft.now.set.items []) }
     ensures memory { IfErr result (λ e. e ≡ Error.Memory) }
     ensures left { KeepsPieces u.old u.new }

@@ -1,14 +1,17 @@
-ghost use Rattle.std.specs.Prelude.{◌≡◌, Some, false, true, ◌<◌, ◌≤◌, ◌-◌, [], ◌∷◌, length, IfOk, IfErr, IfSome};
+ghost use Rattle.std.specs.Prelude.{◌≡◌, Some, false, true, ◌<◌, ◌≤◌, ◌-◌, [], ◌∷◌, length, IfOk};
+ghost use Rattle.std.specs.Prelude.{IfErr, IfSome};
 ghost use Rattle.smith_bytes.specs.Draws.{choose_at};
 ghost use Rattle.smith_bytes.specs.Source.{KeepsPieces};
 ghost use Rattle.smith_types.specs.Entities.{addresses, page_log2};
 ghost use Rattle.smith_instr.specs.Contexts.{IsValid, address};
 ghost use Rattle.smith_instr.specs.MemoryTypes.{IsAccess, stored};
 ghost use Rattle.smith_instr.specs.ReferenceTypes.{narrower};
-ghost use Rattle.smith_code_memory.specs.MemoryChoices.{growth_node, load_at, memory_at, store_at, store_node};
+ghost use Rattle.smith_code_memory.specs.MemoryChoices.{growth_node, load_at, memory_at, store_at};
+ghost use Rattle.smith_code_memory.specs.MemoryChoices.{store_node};
 ghost use Rattle.smith_code_nodes.specs.Chosen.{or_nop};
 ghost use Rattle.smith_code_nodes.specs.Chosen.{giving};
-ghost use Rattle.smith_code_memory.specs.Accesses.{access_at, bytes_of, most_bytes, offset_at, place_at};
+ghost use Rattle.smith_code_memory.specs.Accesses.{access_at, bytes_of, most_bytes, offset_at};
+ghost use Rattle.smith_code_memory.specs.Accesses.{place_at};
 ghost use Rattle.smith_code_nodes.specs.Nodes.{IsNode, IsOffer};
 ghost use Rattle.smith_code_nodes.specs.Offered.{is_address, is_addressed, offered};
 ghost use Rattle.smith_code_memory.specs.MemoryRows.{loads_of, stores};
@@ -79,8 +82,10 @@ pub(crate) fn draw_access(
     u: &mut Unstructured<'_>,
 ) -> Option<Access>
     requires scope { IsScope (bare scope.now) }
-    ensures exact { access_at scope.now.config.now scope.now.memories.now log2_bytes u.old ≡ (result, u.new) }
-    ensures access { IfSome result (λ access. IsAccess scope.now.memories.now access.at access.wide) }
+    ensures exact { access_at scope.now.config.now scope.now.memories.now log2_bytes u.old
+        ≡ (result, u.new) }
+    ensures access { IfSome result (λ access.
+        IsAccess scope.now.memories.now access.at access.wide) }
     ensures aligned { IfSome result (λ access. access.at.align ≤ log2_bytes) }
     ensures left { KeepsPieces u.old u.new }
 {
@@ -231,7 +236,9 @@ pub(crate) fn is_address(value: ValType, wide: bool) -> bool
 /// Chooses a memory whose addresses have the type `wanted`, if there is one.
 fn choose_addressed(scope: &Scope<'_>, wanted: ValType, u: &mut Unstructured<'_>) -> Option<u32>
     requires scope { IsScope (bare scope.now) }
-    ensures exact { choose_at (offered (is_addressed (bare scope.now) wanted) (indexed (length scope.now.memories.now))) u.old ≡ (result, u.new) }
+    ensures exact { choose_at (offered (is_addressed (bare scope.now) wanted)
+        (indexed (length scope.now.memories.now))) u.old
+        ≡ (result, u.new) }
     ensures below { IfSome result (λ index. index < length scope.now.memories.now) }
     ensures offered { IfSome result (λ index. is_addressed (bare scope.now) wanted index ≡ true) }
     ensures left { KeepsPieces u.old u.new }
@@ -250,8 +257,11 @@ pub fn choose_load(
 ) -> Result<Option<Node>, Error>
     requires scope { IsScope (bare scope.now) }
     requires wanted { IsValid (bare scope.now) wanted }
-    ensures exact { IfOk result (λ chosen. load_at scope.now.config.now (where_stands scope.now draft.now) wanted u.old ≡ (chosen, u.new)) }
-    ensures offer { IsOffer (where_stands scope.now draft.now) draft.now.set.items (wanted ∷ []) result }
+    ensures exact { IfOk result (λ chosen.
+        load_at scope.now.config.now (where_stands scope.now draft.now) wanted u.old
+        ≡ (chosen, u.new)) }
+    ensures offer { IsOffer (where_stands scope.now draft.now) draft.now.set.items
+        (wanted ∷ []) result }
     ensures memory { IfErr result (λ e. e ≡ Error.Memory) }
     ensures left { KeepsPieces u.old u.new }
 {
@@ -280,7 +290,9 @@ pub fn choose_store(
     u: &mut Unstructured<'_>,
 ) -> Result<Node, Error>
     requires scope { IsScope (bare scope.now) }
-    ensures exact { IfOk result (λ node. or_nop (store_at scope.now.config.now (where_stands scope.now draft.now) u.old) ≡ (node, u.new)) }
+    ensures exact { IfOk result (λ node.
+        or_nop (store_at scope.now.config.now (where_stands scope.now draft.now) u.old)
+        ≡ (node, u.new)) }
     ensures node { IfOk result (IsNode (where_stands scope.now draft.now) draft.now.set.items []) }
     ensures memory { IfErr result (λ e. e ≡ Error.Memory) }
     ensures left { KeepsPieces u.old u.new }
@@ -297,7 +309,9 @@ fn store_of(
     u: &mut Unstructured<'_>,
 ) -> Result<Node, Error>
     requires scope { IsScope (bare scope.now) }
-    ensures exact { IfOk result (λ node. or_nop (giving (store_node op) (access_at scope.now.config.now (where_stands scope.now draft.now).memories (stored op).1 u.old)) ≡ (node, u.new)) }
+    ensures exact { IfOk result (λ node. or_nop (giving (store_node op) (access_at
+        scope.now.config.now (where_stands scope.now draft.now).memories (stored op).1 u.old))
+        ≡ (node, u.new)) }
     ensures node { IfOk result (IsNode (where_stands scope.now draft.now) draft.now.set.items []) }
     ensures memory { IfErr result (λ e. e ≡ Error.Memory) }
     ensures left { KeepsPieces u.old u.new }
@@ -319,8 +333,10 @@ pub fn choose_memory(
     u: &mut Unstructured<'_>,
 ) -> Result<Option<Node>, Error>
     requires scope { IsScope (bare scope.now) }
-    ensures exact { IfOk result (λ chosen. memory_at (where_stands scope.now draft.now) wanted u.old ≡ (chosen, u.new)) }
-    ensures offer { IsOffer (where_stands scope.now draft.now) draft.now.set.items (wanted ∷ []) result }
+    ensures exact { IfOk result (λ chosen.
+        memory_at (where_stands scope.now draft.now) wanted u.old ≡ (chosen, u.new)) }
+    ensures offer { IsOffer (where_stands scope.now draft.now) draft.now.set.items
+        (wanted ∷ []) result }
     ensures memory { IfErr result (λ e. e ≡ Error.Memory) }
     ensures left { KeepsPieces u.old u.new }
 {
@@ -342,7 +358,8 @@ fn choose_growth(
 ) -> Result<Option<Node>, Error>
     requires addressed { is_addressed (bare scope.now) wanted index ≡ true }
     ensures exact { IfOk result (λ chosen. chosen ≡ Some (growth_node wanted index true)) }
-    ensures offer { IsOffer (where_stands scope.now draft.now) draft.now.set.items (wanted ∷ []) result }
+    ensures offer { IsOffer (where_stands scope.now draft.now) draft.now.set.items
+        (wanted ∷ []) result }
     ensures memory { IfErr result (λ e. e ≡ Error.Memory) }
 {
     let node = plain(alloc, &[wanted], Instr::Memory(MemoryInstr::Grow(index)), 0)?;
@@ -358,7 +375,8 @@ fn choose_size(
 ) -> Result<Option<Node>, Error>
     requires addressed { is_addressed (bare scope.now) wanted index ≡ true }
     ensures exact { IfOk result (λ chosen. chosen ≡ Some (growth_node wanted index false)) }
-    ensures offer { IsOffer (where_stands scope.now draft.now) draft.now.set.items (wanted ∷ []) result }
+    ensures offer { IsOffer (where_stands scope.now draft.now) draft.now.set.items
+        (wanted ∷ []) result }
     ensures memory { IfErr result (λ e. e ≡ Error.Memory) }
 {
     let node = plain(alloc, &[], Instr::Memory(MemoryInstr::Size(index)), 0)?;

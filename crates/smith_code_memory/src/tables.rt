@@ -1,4 +1,5 @@
-ghost use Rattle.std.specs.Prelude.{◌≡◌, ◌<◌, true, IsTrue, [], ◌∷◌, length, slice_get, Some, IfOk, IfErr, IfSome};
+ghost use Rattle.std.specs.Prelude.{◌≡◌, ◌<◌, true, IsTrue, [], ◌∷◌, length, slice_get, Some, IfOk};
+ghost use Rattle.std.specs.Prelude.{IfErr, IfSome};
 ghost use Rattle.smith_bytes.specs.Draws.{choose_at};
 ghost use Rattle.smith_bytes.specs.Source.{KeepsPieces};
 ghost use Rattle.smith_types.specs.Subtyping.{IsValInRange};
@@ -10,7 +11,14 @@ ghost use Rattle.smith_code_nodes.specs.Chosen.{giving};
 ghost use Rattle.smith_code_nodes.specs.Nodes.{IsNode, IsOffer};
 ghost use Rattle.smith_code_nodes.specs.Offered.{offered};
 ghost use Rattle.smith_code_nodes.specs.Scopes.{IsScope, bare, indexed, where_stands};
-ghost use Rattle.smith_code_memory.specs.TableChoices.{elem_drop_at, held_table_at, is_segment_below, is_table_addressed, is_table_below, table_change_at, table_changes, table_copied, table_copy_at, table_fill_node, table_get_at, table_growth_at, table_growth_node, table_init_at, table_initialized, table_set_node, table_value_at};
+ghost use Rattle.smith_code_memory.specs.TableChoices.{elem_drop_at, held_table_at};
+ghost use Rattle.smith_code_memory.specs.TableChoices.{is_segment_below, is_table_addressed};
+ghost use Rattle.smith_code_memory.specs.TableChoices.{is_table_below, table_change_at};
+ghost use Rattle.smith_code_memory.specs.TableChoices.{table_changes, table_copied, table_copy_at};
+ghost use Rattle.smith_code_memory.specs.TableChoices.{table_fill_node, table_get_at};
+ghost use Rattle.smith_code_memory.specs.TableChoices.{table_growth_at, table_growth_node};
+ghost use Rattle.smith_code_memory.specs.TableChoices.{table_init_at, table_initialized};
+ghost use Rattle.smith_code_memory.specs.TableChoices.{table_set_node, table_value_at};
 
 use crate::memories::{address, is_address, narrower};
 use smith_bytes::{Error, Unstructured};
@@ -57,7 +65,8 @@ impl<'a> Offer for TableOffer<'a> {
     ghost use Rattle.smith_code_nodes.specs.Scopes.{IsScope, bare, indexed};
     ghost use Rattle.smith_code_memory.specs.TableChoices.{is_table_below};
 
-    ghost ready = { λ self. IsScope (bare self.scope.now) × IsValInRange (bare self.scope.now).types self.wanted };
+    ghost ready = { λ self.
+        IsScope (bare self.scope.now) × IsValInRange (bare self.scope.now).types self.wanted };
 
     ghost size = { λ self. indexed (length self.scope.now.tables.now) };
 
@@ -86,7 +95,8 @@ impl<'a> Offer for SegmentOffer<'a> {
     ghost use Rattle.smith_code_nodes.specs.Scopes.{IsScope, bare, indexed};
     ghost use Rattle.smith_code_memory.specs.TableChoices.{is_segment_below};
 
-    ghost ready = { λ self. IsScope (bare self.scope.now) × IsValInRange (bare self.scope.now).types self.wanted };
+    ghost ready = { λ self.
+        IsScope (bare self.scope.now) × IsValInRange (bare self.scope.now).types self.wanted };
 
     ghost size = { λ self. indexed (length self.scope.now.elements.now) };
 
@@ -146,8 +156,10 @@ pub fn choose_table_value(
 ) -> Result<Option<Node>, Error>
     requires scope { IsScope (bare scope.now) }
     requires wanted { IsValid (bare scope.now) wanted }
-    ensures exact { IfOk result (λ chosen. table_value_at (where_stands scope.now draft.now) wanted u.old ≡ (chosen, u.new)) }
-    ensures offer { IsOffer (where_stands scope.now draft.now) draft.now.set.items (wanted ∷ []) result }
+    ensures exact { IfOk result (λ chosen.
+        table_value_at (where_stands scope.now draft.now) wanted u.old ≡ (chosen, u.new)) }
+    ensures offer { IsOffer (where_stands scope.now draft.now) draft.now.set.items
+        (wanted ∷ []) result }
     ensures memory { IfErr result (λ e. e ≡ Error.Memory) }
     ensures left { KeepsPieces u.old u.new }
 {
@@ -161,7 +173,9 @@ pub fn choose_table_value(
 fn choose_table_below(scope: &Scope<'_>, wanted: ValType, u: &mut Unstructured<'_>) -> Option<u32>
     requires scope { IsScope (bare scope.now) }
     requires wanted { IsValInRange (bare scope.now).types wanted }
-    ensures exact { choose_at (offered (is_table_below (bare scope.now) wanted) (indexed (length scope.now.tables.now))) u.old ≡ (result, u.new) }
+    ensures exact { choose_at (offered (is_table_below (bare scope.now) wanted)
+        (indexed (length scope.now.tables.now))) u.old
+        ≡ (result, u.new) }
     ensures below { IfSome result (λ index. index < length scope.now.tables.now) }
     ensures offered { IfSome result (λ index. is_table_below (bare scope.now) wanted index ≡ true) }
     ensures left { KeepsPieces u.old u.new }
@@ -180,8 +194,10 @@ fn choose_table_get(
 ) -> Result<Option<Node>, Error>
     requires scope { IsScope (bare scope.now) }
     requires wanted { IsValid (bare scope.now) wanted }
-    ensures exact { IfOk result (λ chosen. table_get_at (where_stands scope.now draft.now) wanted u.old ≡ (chosen, u.new)) }
-    ensures offer { IsOffer (where_stands scope.now draft.now) draft.now.set.items (wanted ∷ []) result }
+    ensures exact { IfOk result (λ chosen.
+        table_get_at (where_stands scope.now draft.now) wanted u.old ≡ (chosen, u.new)) }
+    ensures offer { IsOffer (where_stands scope.now draft.now) draft.now.set.items
+        (wanted ∷ []) result }
     ensures memory { IfErr result (λ e. e ≡ Error.Memory) }
     ensures left { KeepsPieces u.old u.new }
 {
@@ -204,9 +220,12 @@ fn choose_table_addressed(
     wanted: ValType,
     u: &mut Unstructured<'_>,
 ) -> Option<u32>
-    ensures exact { choose_at (offered (is_table_addressed (bare scope.now) wanted) (indexed (length scope.now.tables.now))) u.old ≡ (result, u.new) }
+    ensures exact { choose_at (offered (is_table_addressed (bare scope.now) wanted)
+        (indexed (length scope.now.tables.now))) u.old
+        ≡ (result, u.new) }
     ensures below { IfSome result (λ index. index < length scope.now.tables.now) }
-    ensures offered { IfSome result (λ index. is_table_addressed (bare scope.now) wanted index ≡ true) }
+    ensures offered { IfSome result (λ index.
+        is_table_addressed (bare scope.now) wanted index ≡ true) }
     ensures left { KeepsPieces u.old u.new }
 {
     let index = choose_offered(&TableAddressOffer { scope, wanted }, u)?;
@@ -223,8 +242,10 @@ fn choose_table_growth(
     u: &mut Unstructured<'_>,
 ) -> Result<Option<Node>, Error>
     requires scope { IsScope (bare scope.now) }
-    ensures exact { IfOk result (λ chosen. table_growth_at (where_stands scope.now draft.now) wanted u.old ≡ (chosen, u.new)) }
-    ensures offer { IsOffer (where_stands scope.now draft.now) draft.now.set.items (wanted ∷ []) result }
+    ensures exact { IfOk result (λ chosen.
+        table_growth_at (where_stands scope.now draft.now) wanted u.old ≡ (chosen, u.new)) }
+    ensures offer { IsOffer (where_stands scope.now draft.now) draft.now.set.items
+        (wanted ∷ []) result }
     ensures memory { IfErr result (λ e. e ≡ Error.Memory) }
     ensures left { KeepsPieces u.old u.new }
 {
@@ -247,8 +268,10 @@ fn growth_of(
     requires scope { IsScope (bare scope.now) }
     requires below { index < length scope.now.tables.now }
     requires addressed { is_table_addressed (bare scope.now) wanted index ≡ true }
-    ensures exact { IfOk result (λ chosen. chosen ≡ table_growth_node (where_stands scope.now draft.now) wanted grown index) }
-    ensures offer { IsOffer (where_stands scope.now draft.now) draft.now.set.items (wanted ∷ []) result }
+    ensures exact { IfOk result (λ chosen.
+        chosen ≡ table_growth_node (where_stands scope.now draft.now) wanted grown index) }
+    ensures offer { IsOffer (where_stands scope.now draft.now) draft.now.set.items
+        (wanted ∷ []) result }
     ensures memory { IfErr result (λ e. e ≡ Error.Memory) }
 {
     if grown {
@@ -273,7 +296,8 @@ pub fn choose_table_change(
     u: &mut Unstructured<'_>,
 ) -> Result<Node, Error>
     requires scope { IsScope (bare scope.now) }
-    ensures exact { IfOk result (λ node. or_nop (table_change_at (where_stands scope.now draft.now) u.old) ≡ (node, u.new)) }
+    ensures exact { IfOk result (λ node.
+        or_nop (table_change_at (where_stands scope.now draft.now) u.old) ≡ (node, u.new)) }
     ensures node { IfOk result (IsNode (where_stands scope.now draft.now) draft.now.set.items []) }
     ensures memory { IfErr result (λ e. e ≡ Error.Memory) }
     ensures left { KeepsPieces u.old u.new }
@@ -308,7 +332,9 @@ fn choose_table_set(
     u: &mut Unstructured<'_>,
 ) -> Result<Node, Error>
     requires scope { IsScope (bare scope.now) }
-    ensures exact { IfOk result (λ node. or_nop (giving table_set_node (held_table_at (where_stands scope.now draft.now) u.old)) ≡ (node, u.new)) }
+    ensures exact { IfOk result (λ node.
+        or_nop (giving table_set_node (held_table_at (where_stands scope.now draft.now) u.old))
+        ≡ (node, u.new)) }
     ensures node { IfOk result (IsNode (where_stands scope.now draft.now) draft.now.set.items []) }
     ensures memory { IfErr result (λ e. e ≡ Error.Memory) }
     ensures left { KeepsPieces u.old u.new }
@@ -328,7 +354,9 @@ fn choose_table_fill(
     u: &mut Unstructured<'_>,
 ) -> Result<Node, Error>
     requires scope { IsScope (bare scope.now) }
-    ensures exact { IfOk result (λ node. or_nop (giving table_fill_node (held_table_at (where_stands scope.now draft.now) u.old)) ≡ (node, u.new)) }
+    ensures exact { IfOk result (λ node.
+        or_nop (giving table_fill_node (held_table_at (where_stands scope.now draft.now) u.old))
+        ≡ (node, u.new)) }
     ensures node { IfOk result (IsNode (where_stands scope.now draft.now) draft.now.set.items []) }
     ensures memory { IfErr result (λ e. e ≡ Error.Memory) }
     ensures left { KeepsPieces u.old u.new }
@@ -349,7 +377,8 @@ fn choose_table_copy(
     u: &mut Unstructured<'_>,
 ) -> Result<Node, Error>
     requires scope { IsScope (bare scope.now) }
-    ensures exact { IfOk result (λ node. or_nop (table_copy_at (where_stands scope.now draft.now) u.old) ≡ (node, u.new)) }
+    ensures exact { IfOk result (λ node.
+        or_nop (table_copy_at (where_stands scope.now draft.now) u.old) ≡ (node, u.new)) }
     ensures node { IfOk result (IsNode (where_stands scope.now draft.now) draft.now.set.items []) }
     ensures memory { IfErr result (λ e. e ≡ Error.Memory) }
     ensures left { KeepsPieces u.old u.new }
@@ -370,7 +399,8 @@ fn copy_into(
 ) -> Result<Node, Error>
     requires scope { IsScope (bare scope.now) }
     requires into { slice_get scope.now.tables.now into.0 ≡ Some into.1 }
-    ensures exact { IfOk result (λ node. or_nop (table_copied (where_stands scope.now draft.now) into u.old) ≡ (node, u.new)) }
+    ensures exact { IfOk result (λ node.
+        or_nop (table_copied (where_stands scope.now draft.now) into u.old) ≡ (node, u.new)) }
     ensures node { IfOk result (IsNode (where_stands scope.now draft.now) draft.now.set.items []) }
     ensures memory { IfErr result (λ e. e ≡ Error.Memory) }
     ensures left { KeepsPieces u.old u.new }
@@ -400,7 +430,8 @@ fn choose_table_init(
     u: &mut Unstructured<'_>,
 ) -> Result<Node, Error>
     requires scope { IsScope (bare scope.now) }
-    ensures exact { IfOk result (λ node. or_nop (table_init_at (where_stands scope.now draft.now) u.old) ≡ (node, u.new)) }
+    ensures exact { IfOk result (λ node.
+        or_nop (table_init_at (where_stands scope.now draft.now) u.old) ≡ (node, u.new)) }
     ensures node { IfOk result (IsNode (where_stands scope.now draft.now) draft.now.set.items []) }
     ensures memory { IfErr result (λ e. e ≡ Error.Memory) }
     ensures left { KeepsPieces u.old u.new }
@@ -421,7 +452,8 @@ fn init_of(
 ) -> Result<Node, Error>
     requires scope { IsScope (bare scope.now) }
     requires into { slice_get scope.now.tables.now into.0 ≡ Some into.1 }
-    ensures exact { IfOk result (λ node. or_nop (table_initialized (where_stands scope.now draft.now) into u.old) ≡ (node, u.new)) }
+    ensures exact { IfOk result (λ node.
+        or_nop (table_initialized (where_stands scope.now draft.now) into u.old) ≡ (node, u.new)) }
     ensures node { IfOk result (IsNode (where_stands scope.now draft.now) draft.now.set.items []) }
     ensures memory { IfErr result (λ e. e ≡ Error.Memory) }
     ensures left { KeepsPieces u.old u.new }
@@ -446,8 +478,11 @@ pub fn choose_segment_below(
 ) -> Option<u32>
     requires scope { IsScope (bare scope.now) }
     requires wanted { IsValInRange (bare scope.now).types wanted }
-    ensures exact { choose_at (offered (is_segment_below (bare scope.now) wanted) (indexed (length scope.now.elements.now))) u.old ≡ (result, u.new) }
-    ensures offered { IfSome result (λ segment. is_segment_below (bare scope.now) wanted segment ≡ true) }
+    ensures exact { choose_at (offered (is_segment_below (bare scope.now) wanted)
+        (indexed (length scope.now.elements.now))) u.old
+        ≡ (result, u.new) }
+    ensures offered { IfSome result (λ segment.
+        is_segment_below (bare scope.now) wanted segment ≡ true) }
     ensures left { KeepsPieces u.old u.new }
 {
     let segment = choose_offered(&SegmentOffer { scope, wanted }, u)?;
@@ -460,7 +495,8 @@ fn choose_elem_drop(
     draft: &Draft,
     u: &mut Unstructured<'_>,
 ) -> Result<Node, Error>
-    ensures exact { IfOk result (λ node. or_nop (elem_drop_at (where_stands scope.now draft.now) u.old) ≡ (node, u.new)) }
+    ensures exact { IfOk result (λ node.
+        or_nop (elem_drop_at (where_stands scope.now draft.now) u.old) ≡ (node, u.new)) }
     ensures node { IfOk result (IsNode (where_stands scope.now draft.now) draft.now.set.items []) }
     ensures memory { IfErr result (λ e. e ≡ Error.Memory) }
     ensures left { KeepsPieces u.old u.new }

@@ -5,7 +5,9 @@ ghost use Rattle.smith_instr.specs.MemoryTypes.{IsAccess, IsLane, vector_bytes};
 ghost use Rattle.smith_code_nodes.specs.Chosen.{or_nop};
 ghost use Rattle.smith_code_nodes.specs.Nodes.{IsNode, IsOffer};
 ghost use Rattle.smith_code_nodes.specs.Scopes.{IsScope, bare, where_stands};
-ghost use Rattle.smith_code_memory.specs.VectorChoices.{lane_access_at, load_lane_at, store_lane_at, vector_load_at, vector_store_at};
+ghost use Rattle.smith_code_memory.specs.VectorChoices.{lane_access_at, load_lane_at};
+ghost use Rattle.smith_code_memory.specs.VectorChoices.{store_lane_at, vector_load_at};
+ghost use Rattle.smith_code_memory.specs.VectorChoices.{vector_store_at};
 
 use crate::memories::{Access, address, draw_access};
 use crate::vector_rows::vector_loads;
@@ -26,8 +28,10 @@ pub(crate) fn choose_vector_load(
 ) -> Result<Option<Node>, Error>
     requires scope { IsScope (bare scope.now) }
     requires simd { IsTrue (bare scope.now).features.simd }
-    ensures exact { IfOk result (λ chosen. vector_load_at scope.now.config.now scope.now.memories.now u.old ≡ (chosen, u.new)) }
-    ensures offer { IsOffer (where_stands scope.now draft.now) draft.now.set.items (V128 ∷ []) result }
+    ensures exact { IfOk result (λ chosen.
+        vector_load_at scope.now.config.now scope.now.memories.now u.old ≡ (chosen, u.new)) }
+    ensures offer { IsOffer (where_stands scope.now draft.now) draft.now.set.items
+        (V128 ∷ []) result }
     ensures memory { IfErr result (λ e. e ≡ Error.Memory) }
     ensures left { KeepsPieces u.old u.new }
 {
@@ -66,8 +70,10 @@ struct LaneAccess {
 /// Draws a lane, and an access to one of the memories for it. Returns none if there is no memory.
 fn draw_lane_access(scope: &Scope<'_>, u: &mut Unstructured<'_>) -> Option<LaneAccess>
     requires scope { IsScope (bare scope.now) }
-    ensures exact { lane_access_at scope.now.config.now scope.now.memories.now u.old ≡ (result, u.new) }
-    ensures access { IfSome result (λ to. IsAccess scope.now.memories.now to.access.at to.access.wide) }
+    ensures exact { lane_access_at scope.now.config.now scope.now.memories.now u.old
+        ≡ (result, u.new) }
+    ensures access { IfSome result (λ to.
+        IsAccess scope.now.memories.now to.access.at to.access.wide) }
     ensures aligned { IfSome result (λ to. to.access.at.align ≤ to.log2_bytes) }
     ensures lane { IfSome result (λ to. IsLane to.log2_bytes to.lane) }
     ensures left { KeepsPieces u.old u.new }
@@ -104,8 +110,10 @@ pub(crate) fn choose_load_lane(
 ) -> Result<Option<Node>, Error>
     requires scope { IsScope (bare scope.now) }
     requires simd { IsTrue (bare scope.now).features.simd }
-    ensures exact { IfOk result (λ chosen. load_lane_at scope.now.config.now scope.now.memories.now u.old ≡ (chosen, u.new)) }
-    ensures offer { IsOffer (where_stands scope.now draft.now) draft.now.set.items (V128 ∷ []) result }
+    ensures exact { IfOk result (λ chosen.
+        load_lane_at scope.now.config.now scope.now.memories.now u.old ≡ (chosen, u.new)) }
+    ensures offer { IsOffer (where_stands scope.now draft.now) draft.now.set.items
+        (V128 ∷ []) result }
     ensures memory { IfErr result (λ e. e ≡ Error.Memory) }
     ensures left { KeepsPieces u.old u.new }
 {
@@ -130,7 +138,9 @@ pub fn choose_vector_store(
     u: &mut Unstructured<'_>,
 ) -> Result<Node, Error>
     requires scope { IsScope (bare scope.now) }
-    ensures exact { IfOk result (λ node. or_nop (vector_store_at scope.now.config.now (where_stands scope.now draft.now) u.old) ≡ (node, u.new)) }
+    ensures exact { IfOk result (λ node.
+        or_nop (vector_store_at scope.now.config.now (where_stands scope.now draft.now) u.old)
+        ≡ (node, u.new)) }
     ensures node { IfOk result (IsNode (where_stands scope.now draft.now) draft.now.set.items []) }
     ensures memory { IfErr result (λ e. e ≡ Error.Memory) }
     ensures left { KeepsPieces u.old u.new }
@@ -153,7 +163,9 @@ pub fn choose_store_lane(
     u: &mut Unstructured<'_>,
 ) -> Result<Node, Error>
     requires scope { IsScope (bare scope.now) }
-    ensures exact { IfOk result (λ node. or_nop (store_lane_at scope.now.config.now (where_stands scope.now draft.now) u.old) ≡ (node, u.new)) }
+    ensures exact { IfOk result (λ node.
+        or_nop (store_lane_at scope.now.config.now (where_stands scope.now draft.now) u.old)
+        ≡ (node, u.new)) }
     ensures node { IfOk result (IsNode (where_stands scope.now draft.now) draft.now.set.items []) }
     ensures memory { IfErr result (λ e. e ≡ Error.Memory) }
     ensures left { KeepsPieces u.old u.new }

@@ -1,5 +1,7 @@
 ghost use Rattle.std.specs.Prelude.{◌≡◌};
-ghost use Rattle.smith_code_memory.specs.VectorRows.{f32_vector_rows, f64_vector_rows, i32_vector_rows, i64_vector_rows, v128_vector_rows, vector_loads, vector_rows};
+ghost use Rattle.smith_code_memory.specs.VectorRows.{f32_vector_rows, f64_vector_rows};
+ghost use Rattle.smith_code_memory.specs.VectorRows.{i32_vector_rows, i64_vector_rows};
+ghost use Rattle.smith_code_memory.specs.VectorRows.{v128_vector_rows, vector_loads, vector_rows};
 
 use smith_instr::{
     IntShape, LaneExtract, LaneShape, RelaxedBinary, RelaxedFloatBinary, RelaxedFloatTernary,

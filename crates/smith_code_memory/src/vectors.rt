@@ -5,7 +5,9 @@ ghost use Rattle.smith_instr.specs.Contexts.{IsValid};
 ghost use Rattle.smith_instr.specs.VectorTypes.{HasVectorType, extracted, lanes};
 ghost use Rattle.smith_code_nodes.specs.Nodes.{IsOffer};
 ghost use Rattle.smith_code_nodes.specs.Scopes.{IsScope, bare, where_stands};
-ghost use Rattle.smith_code_memory.specs.VectorChoices.{any_vector_at, lanes_at, shuffled_at, vector_at, vector_choice_at, vector_families, vector_row_at};
+ghost use Rattle.smith_code_memory.specs.VectorChoices.{any_vector_at, lanes_at, shuffled_at};
+ghost use Rattle.smith_code_memory.specs.VectorChoices.{vector_at, vector_choice_at};
+ghost use Rattle.smith_code_memory.specs.VectorChoices.{vector_families, vector_row_at};
 ghost use Rattle.smith_code_memory.specs.VectorRows.{vector_operands, vector_result, vector_rows};
 
 use crate::vector_memory::{choose_load_lane, choose_vector_load};
@@ -54,8 +56,11 @@ pub fn choose_vector(
 ) -> Result<Option<Node>, Error>
     requires scope { IsScope (bare scope.now) }
     requires wanted { IsValid (bare scope.now) wanted }
-    ensures exact { IfOk result (λ chosen. vector_at scope.now.config.now (where_stands scope.now draft.now) wanted u.old ≡ (chosen, u.new)) }
-    ensures offer { IsOffer (where_stands scope.now draft.now) draft.now.set.items (wanted ∷ []) result }
+    ensures exact { IfOk result (λ chosen.
+        vector_at scope.now.config.now (where_stands scope.now draft.now) wanted u.old
+        ≡ (chosen, u.new)) }
+    ensures offer { IsOffer (where_stands scope.now draft.now) draft.now.set.items
+        (wanted ∷ []) result }
     ensures memory { IfErr result (λ e. e ≡ Error.Memory) }
     ensures left { KeepsPieces u.old u.new }
 {
@@ -82,8 +87,10 @@ fn choose_any_vector(
     requires scope { IsScope (bare scope.now) }
     requires simd { IsTrue (bare scope.now).features.simd }
     requires wanted { IsValid (bare scope.now) wanted }
-    ensures exact { IfOk result (λ chosen. any_vector_at scope.now.config.now scope.now.memories.now wanted u.old ≡ (chosen, u.new)) }
-    ensures offer { IsOffer (where_stands scope.now draft.now) draft.now.set.items (wanted ∷ []) result }
+    ensures exact { IfOk result (λ chosen.
+        any_vector_at scope.now.config.now scope.now.memories.now wanted u.old ≡ (chosen, u.new)) }
+    ensures offer { IsOffer (where_stands scope.now draft.now) draft.now.set.items
+        (wanted ∷ []) result }
     ensures memory { IfErr result (λ e. e ≡ Error.Memory) }
     ensures left { KeepsPieces u.old u.new }
 {
@@ -101,8 +108,10 @@ fn choose_vector_value(
 ) -> Result<Option<Node>, Error>
     requires scope { IsScope (bare scope.now) }
     requires simd { IsTrue (bare scope.now).features.simd }
-    ensures exact { IfOk result (λ chosen. vector_choice_at scope.now.config.now scope.now.memories.now u.old ≡ (chosen, u.new)) }
-    ensures offer { IsOffer (where_stands scope.now draft.now) draft.now.set.items (V128 ∷ []) result }
+    ensures exact { IfOk result (λ chosen.
+        vector_choice_at scope.now.config.now scope.now.memories.now u.old ≡ (chosen, u.new)) }
+    ensures offer { IsOffer (where_stands scope.now draft.now) draft.now.set.items
+        (V128 ∷ []) result }
     ensures memory { IfErr result (λ e. e ≡ Error.Memory) }
     ensures left { KeepsPieces u.old u.new }
 {
@@ -127,7 +136,8 @@ fn choose_row(
     requires simd { IsTrue (bare scope.now).features.simd }
     requires rows { rows.now ≡ vector_rows wanted }
     ensures exact { IfOk result (λ chosen. vector_row_at wanted u.old ≡ (chosen, u.new)) }
-    ensures offer { IsOffer (where_stands scope.now draft.now) draft.now.set.items (wanted ∷ []) result }
+    ensures offer { IsOffer (where_stands scope.now draft.now) draft.now.set.items
+        (wanted ∷ []) result }
     ensures memory { IfErr result (λ e. e ≡ Error.Memory) }
     ensures left { KeepsPieces u.old u.new }
 {

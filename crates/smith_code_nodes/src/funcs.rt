@@ -1,8 +1,10 @@
-ghost use Rattle.std.specs.Prelude.{◌≡◌, ◌<◌, true, length, slice_get, None, Some, IfSome, MatchOption};
+ghost use Rattle.std.specs.Prelude.{◌≡◌, ◌<◌, true, length, slice_get, None, Some, IfSome};
+ghost use Rattle.std.specs.Prelude.{MatchOption};
 ghost use Rattle.smith_bytes.specs.Draws.{choose_at};
 ghost use Rattle.smith_bytes.specs.Source.{KeepsPieces};
 ghost use Rattle.smith_instr.specs.Contexts.{AreValid, IsValid};
-ghost use Rattle.smith_code_nodes.specs.Offered.{func_in, func_of, function_at, is_callable, is_first_below, offered};
+ghost use Rattle.smith_code_nodes.specs.Offered.{func_in, func_of, function_at, is_callable};
+ghost use Rattle.smith_code_nodes.specs.Offered.{is_first_below, offered};
 ghost use Rattle.smith_code_nodes.specs.Scopes.{IsScope, bare, indexed};
 
 use crate::locals::is_below;
@@ -24,7 +26,8 @@ impl<'a> Offer for CallOffer<'a> {
     ghost use Rattle.smith_code_nodes.specs.Offered.{is_callable};
     ghost use Rattle.smith_code_nodes.specs.Scopes.{IsScope, bare, indexed};
 
-    ghost ready = { λ self. IsScope (bare self.scope.now) × IsValid (bare self.scope.now) self.wanted };
+    ghost ready = { λ self.
+        IsScope (bare self.scope.now) × IsValid (bare self.scope.now) self.wanted };
 
     ghost size = { λ self. indexed (length self.scope.now.funcs.now) };
 
@@ -57,14 +60,16 @@ pub fn is_first_below(scope: &Scope<'_>, function: &FuncType, wanted: ValType) -
 /// Returns the function type of the function at `index`.
 pub fn function_of<'a>(scope: &Scope<'a>, index: usize) -> Option<&'a FuncType>
     requires { index < length scope.now.funcs.now }
-    ensures { MatchOption result (function_at (bare scope.now) index ≡ None) (λ function. function_at (bare scope.now) index ≡ Some function.now) }
+    ensures { MatchOption result (function_at (bare scope.now) index ≡ None) (λ function.
+        function_at (bare scope.now) index ≡ Some function.now) }
 {
     func_type_at(scope, scope.funcs[index] as usize)
 }
 
 /// Returns the function type at `index`, if there is one.
 pub fn func_type_at<'a>(scope: &Scope<'a>, index: usize) -> Option<&'a FuncType>
-    ensures { MatchOption result (func_in (slice_get (bare scope.now).types index) ≡ None) (λ function. func_in (slice_get (bare scope.now).types index) ≡ Some function.now) }
+    ensures { MatchOption result (func_in (slice_get (bare scope.now).types index) ≡ None)
+        (λ function. func_in (slice_get (bare scope.now).types index) ≡ Some function.now) }
 {
     let types = scope.types;
     match types.types().get(index) {
@@ -75,7 +80,8 @@ pub fn func_type_at<'a>(scope: &Scope<'a>, index: usize) -> Option<&'a FuncType>
 
 /// Returns the function type that `ty` is, if it is one.
 pub(crate) fn inner_func<'a>(ty: &'a SubType) -> Option<&'a FuncType>
-    ensures { MatchOption result (func_of ty.now.composite_type.inner ≡ None) (λ function. func_of ty.now.composite_type.inner ≡ Some function.now) }
+    ensures { MatchOption result (func_of ty.now.composite_type.inner ≡ None) (λ function.
+        func_of ty.now.composite_type.inner ≡ Some function.now) }
 {
     match &ty.composite_type.inner {
         CompositeInnerType::Func(function) => Some(function),
@@ -87,7 +93,9 @@ pub(crate) fn inner_func<'a>(ty: &'a SubType) -> Option<&'a FuncType>
 pub fn choose_callable(scope: &Scope<'_>, wanted: ValType, u: &mut Unstructured<'_>) -> Option<u32>
     requires scope { IsScope (bare scope.now) }
     requires wanted { IsValid (bare scope.now) wanted }
-    ensures exact { choose_at (offered (is_callable (bare scope.now) wanted) (indexed (length scope.now.funcs.now))) u.old ≡ (result, u.new) }
+    ensures exact { choose_at
+        (offered (is_callable (bare scope.now) wanted) (indexed (length scope.now.funcs.now))) u.old
+        ≡ (result, u.new) }
     ensures below { IfSome result (λ index. index < length scope.now.funcs.now) }
     ensures offered { IfSome result (λ index. is_callable (bare scope.now) wanted index ≡ true) }
     ensures left { KeepsPieces u.old u.new }

@@ -24,7 +24,8 @@ impl<'a> Offer for GlobalOffer<'a> {
     ghost use Rattle.smith_code_nodes.specs.Offered.{is_global_below};
     ghost use Rattle.smith_code_nodes.specs.Scopes.{IsScope, bare, indexed};
 
-    ghost ready = { λ self. IsScope (bare self.scope.now) × IsValid (bare self.scope.now) self.wanted };
+    ghost ready = { λ self.
+        IsScope (bare self.scope.now) × IsValid (bare self.scope.now) self.wanted };
 
     ghost size = { λ self. indexed (length self.scope.now.globals.now) };
 
@@ -70,9 +71,12 @@ impl<'a> Offer for MutableOffer<'a> {
 pub fn choose_global(scope: &Scope<'_>, wanted: ValType, u: &mut Unstructured<'_>) -> Option<u32>
     requires scope { IsScope (bare scope.now) }
     requires wanted { IsValid (bare scope.now) wanted }
-    ensures exact { choose_at (offered (is_global_below (bare scope.now) wanted) (indexed (length scope.now.globals.now))) u.old ≡ (result, u.new) }
+    ensures exact { choose_at (offered (is_global_below (bare scope.now) wanted)
+        (indexed (length scope.now.globals.now))) u.old
+        ≡ (result, u.new) }
     ensures below { IfSome result (λ index. index < length scope.now.globals.now) }
-    ensures offered { IfSome result (λ index. is_global_below (bare scope.now) wanted index ≡ true) }
+    ensures offered { IfSome result (λ index.
+        is_global_below (bare scope.now) wanted index ≡ true) }
     ensures left { KeepsPieces u.old u.new }
 {
     let index = choose_offered(&GlobalOffer { scope, wanted }, u)?;
@@ -82,7 +86,9 @@ pub fn choose_global(scope: &Scope<'_>, wanted: ValType, u: &mut Unstructured<'_
 /// Chooses a mutable global, if there is one.
 pub fn choose_mutable(scope: &Scope<'_>, u: &mut Unstructured<'_>) -> Option<u32>
     requires scope { IsScope (bare scope.now) }
-    ensures exact { choose_at (offered (is_mutable (bare scope.now)) (indexed (length scope.now.globals.now))) u.old ≡ (result, u.new) }
+    ensures exact { choose_at
+        (offered (is_mutable (bare scope.now)) (indexed (length scope.now.globals.now))) u.old
+        ≡ (result, u.new) }
     ensures below { IfSome result (λ index. index < length scope.now.globals.now) }
     ensures offered { IfSome result (λ index. is_mutable (bare scope.now) index ≡ true) }
     ensures left { KeepsPieces u.old u.new }

@@ -4,7 +4,8 @@ ghost use Rattle.smith_bytes.specs.Source.{KeepsPieces};
 ghost use Rattle.smith_draw.specs.Below.{is_val_below};
 ghost use Rattle.smith_types.specs.Subtyping.{IsValInRange};
 ghost use Rattle.smith_instr.specs.Contexts.{IsValid};
-ghost use Rattle.smith_code_nodes.specs.Offered.{has_default, is_among, is_local_below, is_readable, offered};
+ghost use Rattle.smith_code_nodes.specs.Offered.{has_default, is_among, is_local_below};
+ghost use Rattle.smith_code_nodes.specs.Offered.{is_readable, offered};
 ghost use Rattle.smith_code_nodes.specs.Scopes.{IsScope, bare, indexed};
 
 use crate::offer::{Offer, choose_offered};
@@ -25,7 +26,8 @@ impl<'a> Offer for LocalOffer<'a> {
     ghost use Rattle.smith_code_nodes.specs.Offered.{is_local_below};
     ghost use Rattle.smith_code_nodes.specs.Scopes.{IsScope, bare, indexed};
 
-    ghost ready = { λ self. IsScope (bare self.scope.now) × IsValid (bare self.scope.now) self.wanted };
+    ghost ready = { λ self.
+        IsScope (bare self.scope.now) × IsValid (bare self.scope.now) self.wanted };
 
     ghost size = { λ self. indexed (length self.scope.now.locals.now) };
 
@@ -55,7 +57,8 @@ impl<'a> Offer for SetLocalOffer<'a> {
     ghost use Rattle.smith_code_nodes.specs.Offered.{is_readable};
     ghost use Rattle.smith_code_nodes.specs.Scopes.{IsScope, bare, indexed};
 
-    ghost ready = { λ self. IsScope (bare self.scope.now) × IsValid (bare self.scope.now) self.wanted };
+    ghost ready = { λ self.
+        IsScope (bare self.scope.now) × IsValid (bare self.scope.now) self.wanted };
 
     ghost size = { λ self. indexed (length self.scope.now.locals.now) };
 
@@ -76,7 +79,9 @@ impl<'a> Offer for SetLocalOffer<'a> {
 pub fn choose_local(scope: &Scope<'_>, wanted: ValType, u: &mut Unstructured<'_>) -> Option<u32>
     requires scope { IsScope (bare scope.now) }
     requires wanted { IsValid (bare scope.now) wanted }
-    ensures exact { choose_at (offered (is_local_below (bare scope.now) wanted) (indexed (length scope.now.locals.now))) u.old ≡ (result, u.new) }
+    ensures exact { choose_at (offered (is_local_below (bare scope.now) wanted)
+        (indexed (length scope.now.locals.now))) u.old
+        ≡ (result, u.new) }
     ensures below { IfSome result (λ index. index < length scope.now.locals.now) }
     ensures offered { IfSome result (λ index. is_local_below (bare scope.now) wanted index ≡ true) }
     ensures left { KeepsPieces u.old u.new }
@@ -94,9 +99,12 @@ pub fn choose_set_local(
 ) -> Option<u32>
     requires scope { IsScope (bare scope.now) }
     requires wanted { IsValid (bare scope.now) wanted }
-    ensures exact { choose_at (offered (is_readable (bare scope.now) draft.now.set.items wanted) (indexed (length scope.now.locals.now))) u.old ≡ (result, u.new) }
+    ensures exact { choose_at (offered (is_readable (bare scope.now) draft.now.set.items wanted)
+        (indexed (length scope.now.locals.now))) u.old
+        ≡ (result, u.new) }
     ensures below { IfSome result (λ index. index < length scope.now.locals.now) }
-    ensures offered { IfSome result (λ index. is_readable (bare scope.now) draft.now.set.items wanted index ≡ true) }
+    ensures offered { IfSome result (λ index.
+        is_readable (bare scope.now) draft.now.set.items wanted index ≡ true) }
     ensures left { KeepsPieces u.old u.new }
 {
     let set = draft.set.as_slice();

@@ -1,11 +1,15 @@
-ghost use Rattle.std.specs.Prelude.{◌≡◌, ◌<◌, List, length, ◌∷◌, [], ◌++◌, ◌&&◌, replicate, unwrap_or, Some, None, IfOk, IfErr, OnOk, IsTrue};
+ghost use Rattle.std.specs.Prelude.{◌≡◌, ◌<◌, List, length, ◌∷◌, [], ◌++◌, ◌&&◌, replicate};
+ghost use Rattle.std.specs.Prelude.{unwrap_or, Some, None, IfOk, IfErr, OnOk, IsTrue};
 ghost use Rattle.smith_types.specs.FeatureBits.{features_in};
 ghost use Rattle.smith_types.specs.declared.value_type.ValType.{ValType as Val};
 ghost use Rattle.smith_types.specs.declared.value_type.ValType.TheVariants.{I32};
 ghost use Rattle.smith_instr.specs.declared.control.Catch.{Catch as Clause};
 ghost use Rattle.smith_instr.specs.declared.instr.Instr.TheVariants as instr;
 ghost use Rattle.smith_code_nodes.specs.Scopes.{IsAllowedIn, is_permitted};
-ghost use Rattle.smith_code_nodes.specs.Nodes.{IsHeadAllowed, IsNodeAllowed, blocked, fitting, head_instruction, head_params, is_drop_allowed, is_head_allowed, is_node_allowed, node_of, setting, trying};
+ghost use Rattle.smith_code_nodes.specs.Nodes.{IsHeadAllowed, IsNodeAllowed, blocked, fitting};
+ghost use Rattle.smith_code_nodes.specs.Nodes.{head_instruction, head_params, is_drop_allowed};
+ghost use Rattle.smith_code_nodes.specs.Nodes.{is_head_allowed, is_node_allowed, node_of, setting};
+ghost use Rattle.smith_code_nodes.specs.Nodes.{trying};
 
 use crate::scope::Scope;
 use crate::traps::may_trap;
@@ -87,7 +91,8 @@ pub fn conditional(
     instruction: Instr,
     drops: usize,
 ) -> Result<Node, Error>
-    ensures exact { IfOk result (λ node. node ≡ node_of (operands.now ++ I32 ∷ []) instruction drops) }
+    ensures exact { IfOk result (λ node.
+        node ≡ node_of (operands.now ++ I32 ∷ []) instruction drops) }
     ensures memory { IfErr result (λ e. e ≡ Error.Memory) }
 {
     topped(alloc, operands, ValType::I32, instruction, drops)
@@ -102,7 +107,8 @@ pub fn topped(
     instruction: Instr,
     drops: usize,
 ) -> Result<Node, Error>
-    ensures exact { IfOk result (λ node. node ≡ node_of (operands.now ++ top ∷ []) instruction drops) }
+    ensures exact { IfOk result (λ node.
+        node ≡ node_of (operands.now ++ top ∷ []) instruction drops) }
     ensures memory { IfErr result (λ e. e ≡ Error.Memory) }
 {
     let mut operands = Items::from_slice(alloc, operands)?;
@@ -219,7 +225,8 @@ fn fitting(opening: Option<Opening>, sides: &Sides) -> Option<Opening>
 
 /// Whether the instructions of `node`, except its operands, are allowed in `scope`.
 pub fn is_node_allowed(scope: &Scope<'_>, node: &Node) -> bool
-    ensures exact { result ≡ is_node_allowed (features_in scope.now.features) scope.now.config.now node.now }
+    ensures exact { result
+        ≡ is_node_allowed (features_in scope.now.features) scope.now.config.now node.now }
     ensures allowed { IsTrue result → IsNodeAllowed scope.now node.now }
 {
     if !is_head_allowed(scope, &node.head) {
@@ -229,7 +236,8 @@ pub fn is_node_allowed(scope: &Scope<'_>, node: &Node) -> bool
 }
 
 fn is_head_allowed(scope: &Scope<'_>, head: &Head) -> bool
-    ensures exact { result ≡ is_head_allowed (features_in scope.now.features) scope.now.config.now head.now }
+    ensures exact { result
+        ≡ is_head_allowed (features_in scope.now.features) scope.now.config.now head.now }
     ensures allowed { IsTrue result → IsHeadAllowed scope.now head.now }
 {
     match head {
@@ -251,7 +259,10 @@ fn is_head_allowed(scope: &Scope<'_>, head: &Head) -> bool
 /// Whether a `try_table` of the type `ty` is allowed in `scope`: if `throw` and a `block` of that
 /// type are.
 fn is_try_allowed(scope: &Scope<'_>, ty: BlockType, sides: &Sides) -> bool
-    ensures exact { (clauses : List Clause) → result ≡ (is_permitted (features_in scope.now.features) scope.now.config.now (instr.TryTable ty clauses) && is_drop_allowed (features_in scope.now.features) scope.now.config.now (length sides.now.params)) }
+    ensures exact { (clauses : List Clause) → result ≡ (is_permitted
+        (features_in scope.now.features) scope.now.config.now (instr.TryTable ty clauses)
+        && is_drop_allowed (features_in scope.now.features) scope.now.config.now
+        (length sides.now.params)) }
     ensures drops { IsTrue result → 0 < length sides.now.params → IsAllowedIn scope.now instr.Drop }
 {
     if !is_allowed(scope, &Instr::Throw(0)) {
@@ -261,7 +272,10 @@ fn is_try_allowed(scope: &Scope<'_>, ty: BlockType, sides: &Sides) -> bool
 }
 
 fn is_block_allowed(scope: &Scope<'_>, opening: &Instr, sides: &Sides) -> bool
-    ensures exact { result ≡ (is_permitted (features_in scope.now.features) scope.now.config.now opening.now && is_drop_allowed (features_in scope.now.features) scope.now.config.now (length sides.now.params)) }
+    ensures exact { result
+        ≡ (is_permitted (features_in scope.now.features) scope.now.config.now opening.now
+        && is_drop_allowed (features_in scope.now.features) scope.now.config.now
+        (length sides.now.params)) }
     ensures opening { IsTrue result → IsAllowedIn scope.now opening.now }
     ensures drops { IsTrue result → 0 < length sides.now.params → IsAllowedIn scope.now instr.Drop }
 {
@@ -275,7 +289,8 @@ fn is_block_allowed(scope: &Scope<'_>, opening: &Instr, sides: &Sides) -> bool
 /// not trap.
 #[tactic(auto, unfolding(crate::specs::Scopes::is_permitted))]
 pub fn is_allowed(scope: &Scope<'_>, instruction: &Instr) -> bool
-    ensures exact { result ≡ is_permitted (features_in scope.now.features) scope.now.config.now instruction.now }
+    ensures exact { result
+        ≡ is_permitted (features_in scope.now.features) scope.now.config.now instruction.now }
     ensures allowed { IsTrue result → IsAllowedIn scope.now instruction.now }
 {
     if !instruction.is_enabled(scope.features, scope.config.allowed_instructions) {

@@ -20,7 +20,8 @@ pub fn choose_numeric(
     u: &mut Unstructured<'_>,
 ) -> Result<Option<Node>, Error>
     ensures exact { IfOk result (λ chosen. numeric_at wanted u.old ≡ (chosen, u.new)) }
-    ensures offer { (context : BodyContext) (set : List ℕ) → IsOffer context set (wanted ∷ []) result }
+    ensures offer { (context : BodyContext) (set : List ℕ)
+        → IsOffer context set (wanted ∷ []) result }
     ensures memory { IfErr result (λ e. e ≡ Error.Memory) }
     ensures left { KeepsPieces u.old u.new }
 {
@@ -35,7 +36,8 @@ fn choose_row(
 ) -> Result<Option<Node>, Error>
     requires rows { rows.now ≡ numeric_rows wanted }
     ensures exact { IfOk result (λ chosen. numeric_at wanted u.old ≡ (chosen, u.new)) }
-    ensures offer { (context : BodyContext) (set : List ℕ) → IsOffer context set (wanted ∷ []) result }
+    ensures offer { (context : BodyContext) (set : List ℕ)
+        → IsOffer context set (wanted ∷ []) result }
     ensures memory { IfErr result (λ e. e ≡ Error.Memory) }
     ensures left { KeepsPieces u.old u.new }
 {
@@ -51,7 +53,8 @@ fn choose_row(
 /// Chooses `select`, if `wanted` is a number or vector type.
 pub fn choose_select(alloc: Global, wanted: ValType) -> Result<Option<Node>, Error>
     ensures exact { IfOk result (λ chosen. chosen ≡ select_node wanted) }
-    ensures offer { (context : BodyContext) (set : List ℕ) → IsValid context wanted → IsOffer context set (wanted ∷ []) result }
+    ensures offer { (context : BodyContext) (set : List ℕ) → IsValid context wanted
+        → IsOffer context set (wanted ∷ []) result }
     ensures memory { IfErr result (λ e. e ≡ Error.Memory) }
 {
     if !is_numeric(wanted) {

@@ -1,5 +1,6 @@
 ghost use Rattle.std.specs.Prelude.{◌≡◌};
-ghost use Rattle.smith_code_nodes.specs.NumericRows.{f32_rows, f64_rows, i32_rows, i64_rows, numeric_rows};
+ghost use Rattle.smith_code_nodes.specs.NumericRows.{f32_rows, f64_rows, i32_rows, i64_rows};
+ghost use Rattle.smith_code_nodes.specs.NumericRows.{numeric_rows};
 
 use smith_instr::{
     Conversion, FloatBinary, FloatCompare, FloatUnary, IntBinary, IntCompare, IntUnary,

@@ -30,7 +30,8 @@ pub trait Offer {
 /// Chooses one of the offered items, and returns its index. Returns none if no item is offered.
 pub fn choose_offered<O: Offer>(offer: &O, u: &mut Unstructured<'_>) -> Option<usize>
     requires { O.ready offer.now }
-    ensures exact { choose_at (offered (O.test offer.now) (O.size offer.now)) u.old ≡ (result, u.new) }
+    ensures exact { choose_at (offered (O.test offer.now) (O.size offer.now)) u.old
+        ≡ (result, u.new) }
     ensures below { IfSome result (λ index. index < O.size offer.now) }
     ensures offered { IfSome result (λ index. O.test offer.now index ≡ true) }
     ensures left { KeepsPieces u.old u.new }

@@ -3,7 +3,9 @@ ghost use Rattle.smith_bytes.specs.Source.{KeepsPieces};
 ghost use Rattle.smith_types.specs.declared.value_type.ValType.TheVariants.{I32, Ref};
 ghost use Rattle.smith_instr.specs.Contexts.{BodyContext, IsHeapValid, IsValid, nullable_to};
 ghost use Rattle.smith_code_nodes.specs.Nodes.{IsOffer};
-ghost use Rattle.smith_code_nodes.specs.ReferenceChoices.{eq_node, is_null_node, non_null_node, reference_value_at, referent, referent_at, select_typed_node, test_at};
+ghost use Rattle.smith_code_nodes.specs.ReferenceChoices.{eq_node, is_null_node, non_null_node};
+ghost use Rattle.smith_code_nodes.specs.ReferenceChoices.{reference_value_at, referent};
+ghost use Rattle.smith_code_nodes.specs.ReferenceChoices.{referent_at, select_typed_node, test_at};
 ghost use Rattle.smith_code_nodes.specs.Scopes.{IsScope, bare, where_stands};
 
 use crate::node::{Node, plain};
@@ -16,7 +18,8 @@ use std::alloc::Global;
 /// Chooses `select` of the type `wanted`.
 pub fn choose_select_typed(alloc: Global, wanted: ValType) -> Result<Option<Node>, Error>
     ensures exact { IfOk result (λ chosen. chosen ≡ Some (select_typed_node wanted)) }
-    ensures offer { (context : BodyContext) (set : List ℕ) → IsValid context wanted → IsOffer context set (wanted ∷ []) result }
+    ensures offer { (context : BodyContext) (set : List ℕ) → IsValid context wanted
+        → IsOffer context set (wanted ∷ []) result }
     ensures memory { IfErr result (λ e. e ≡ Error.Memory) }
 {
     let node = plain(
@@ -39,8 +42,10 @@ pub fn choose_reference_value(
 ) -> Result<Option<Node>, Error>
     requires scope { IsScope (bare scope.now) }
     requires wanted { IsValid (bare scope.now) wanted }
-    ensures exact { IfOk result (λ chosen. reference_value_at (where_stands scope.now draft.now) wanted u.old ≡ (chosen, u.new)) }
-    ensures offer { IsOffer (where_stands scope.now draft.now) draft.now.set.items (wanted ∷ []) result }
+    ensures exact { IfOk result (λ chosen.
+        reference_value_at (where_stands scope.now draft.now) wanted u.old ≡ (chosen, u.new)) }
+    ensures offer { IsOffer (where_stands scope.now draft.now) draft.now.set.items
+        (wanted ∷ []) result }
     ensures memory { IfErr result (λ e. e ≡ Error.Memory) }
     ensures left { KeepsPieces u.old u.new }
 {
@@ -54,7 +59,8 @@ pub fn choose_reference_value(
 /// Chooses `ref.as_non_null`, whose result is also of the nullable type.
 fn choose_non_null(alloc: Global, to: RefType) -> Result<Option<Node>, Error>
     ensures exact { IfOk result (λ chosen. chosen ≡ non_null_node to) }
-    ensures offer { (context : BodyContext) (set : List ℕ) → IsValid context (Ref to) → IsOffer context set (Ref to ∷ []) result }
+    ensures offer { (context : BodyContext) (set : List ℕ) → IsValid context (Ref to)
+        → IsOffer context set (Ref to ∷ []) result }
     ensures memory { IfErr result (λ e. e ≡ Error.Memory) }
 {
     let node = plain(
@@ -74,8 +80,10 @@ fn choose_test(
     u: &mut Unstructured<'_>,
 ) -> Result<Option<Node>, Error>
     requires scope { IsScope (bare scope.now) }
-    ensures exact { IfOk result (λ chosen. test_at (bare scope.now).features scope.now.locals.now u.old ≡ (chosen, u.new)) }
-    ensures offer { IsOffer (where_stands scope.now draft.now) draft.now.set.items (I32 ∷ []) result }
+    ensures exact { IfOk result (λ chosen.
+        test_at (bare scope.now).features scope.now.locals.now u.old ≡ (chosen, u.new)) }
+    ensures offer { IsOffer (where_stands scope.now draft.now) draft.now.set.items
+        (I32 ∷ []) result }
     ensures memory { IfErr result (λ e. e ≡ Error.Memory) }
     ensures left { KeepsPieces u.old u.new }
 {
@@ -92,7 +100,8 @@ fn choose_test(
 fn choose_eq(alloc: Global, scope: &Scope<'_>, draft: &Draft) -> Result<Option<Node>, Error>
     requires on { IsTrue (bare scope.now).features.reference_types }
     ensures exact { IfOk result (λ chosen. chosen ≡ eq_node (bare scope.now).features) }
-    ensures offer { IsOffer (where_stands scope.now draft.now) draft.now.set.items (I32 ∷ []) result }
+    ensures offer { IsOffer (where_stands scope.now draft.now) draft.now.set.items
+        (I32 ∷ []) result }
     ensures memory { IfErr result (λ e. e ≡ Error.Memory) }
 {
     if !scope.features.contains(WasmFeatures::GC) {
@@ -117,7 +126,8 @@ fn choose_is_null(
     requires on { IsTrue (bare scope.now).features.reference_types }
     requires valid { IsHeapValid (bare scope.now) heap_type }
     ensures exact { IfOk result (λ chosen. chosen ≡ Some (is_null_node heap_type)) }
-    ensures offer { IsOffer (where_stands scope.now draft.now) draft.now.set.items (I32 ∷ []) result }
+    ensures offer { IsOffer (where_stands scope.now draft.now) draft.now.set.items
+        (I32 ∷ []) result }
     ensures memory { IfErr result (λ e. e ≡ Error.Memory) }
 {
     let node = plain(

@@ -1,5 +1,7 @@
 ghost use Rattle.std.specs.Prelude.{◌≡◌};
-ghost use Rattle.smith_code_nodes.specs.Traps.{divides, may_aggregate_trap, may_memory_trap, may_numeric_trap, may_reference_trap, may_table_trap, may_trap, truncates};
+ghost use Rattle.smith_code_nodes.specs.Traps.{divides, may_aggregate_trap, may_memory_trap};
+ghost use Rattle.smith_code_nodes.specs.Traps.{may_numeric_trap, may_reference_trap};
+ghost use Rattle.smith_code_nodes.specs.Traps.{may_table_trap, may_trap, truncates};
 
 use smith_instr::{
     AggregateInstr, Conversion, Instr, IntBinary, MemoryInstr, NumericInstr, ReferenceInstr,

@@ -2,7 +2,8 @@ ghost use Rattle.std.specs.Prelude.{◌≡◌, IfOk, IsOkAnd};
 ghost use Rattle.smith_bytes.specs.Source.{KeepsPieces};
 ghost use Rattle.smith_config.specs.Faults.{Passes};
 ghost use Rattle.smith_config.specs.Sanitized.{sanitized, IsSanitized};
-ghost use Rattle.smith_config.specs.Arbitrary.{config_at, maximums_at, sizes_at, proposals_at, instruction_kinds_at, rules_at, undrawn_config};
+ghost use Rattle.smith_config.specs.Arbitrary.{config_at, maximums_at, sizes_at, proposals_at};
+ghost use Rattle.smith_config.specs.Arbitrary.{instruction_kinds_at, rules_at, undrawn_config};
 
 use crate::Config;
 use smith_bytes::{Error, Unstructured};

@@ -1,7 +1,8 @@
 ghost use Rattle.std.specs.Prelude.{◌≡◌, ◌↔◌, ◌≤◌, ◌^◌, IsTrue, IsOk, IfErr};
 ghost use Rattle.std.specs.List.{AllByRecursion as Each};
 ghost use Rattle.smith_config.specs.Decided.{AreBoundsInOrder};
-ghost use Rattle.smith_config.specs.Faults.{counts, minimum_of, maximum_of, BoundsApply, HasFault, IsFirstFault, Passes};
+ghost use Rattle.smith_config.specs.Faults.{counts, minimum_of, maximum_of, BoundsApply, HasFault};
+ghost use Rattle.smith_config.specs.Faults.{IsFirstFault, Passes};
 
 use crate::Config;
 use smith_bytes::{ConfigFault, Count};
@@ -103,7 +104,8 @@ impl Config {
 
     /// Returns whether no maximum is too large.
     fn are_few(&self) -> bool
-        ensures { IsTrue result ↔ Each (λ count. maximum_of self.now count ≤ 2 ^ 31) counts × ((self.now.max_memory32_bytes ≤ 2 ^ 32) × (self.now.max_memory64_bytes ≤ 2 ^ 64)) }
+        ensures { IsTrue result ↔ Each (λ count. maximum_of self.now count ≤ 2 ^ 31) counts
+            × ((self.now.max_memory32_bytes ≤ 2 ^ 32) × (self.now.max_memory64_bytes ≤ 2 ^ 64)) }
     {
         self.max_types <= MOST
             && self.max_imports <= MOST

@@ -66,8 +66,10 @@ fn push_exports(
 ) -> Result<Exports, Error>
     requires may { MayExport types.now.types (spaces_in spaces.now) }
     requires within { imports_size ≤ config.now.max_type_size }
-    ensures exact { ReturnsWhy (λ made. (made.exports, u.new)) result (everything_at config.now types.now.types (spaces_in spaces.now) imports_size u.old) }
-    ensures fit { IfOk result (λ made. AreExportsFit config.now types.now.types (spaces_in spaces.now) imports_size made.exports made.type_size) }
+    ensures exact { ReturnsWhy (λ made. (made.exports, u.new)) result
+        (everything_at config.now types.now.types (spaces_in spaces.now) imports_size u.old) }
+    ensures fit { IfOk result (λ made. AreExportsFit config.now types.now.types
+        (spaces_in spaces.now) imports_size made.exports made.type_size) }
     ensures everything { IfOk result (λ made. AreAllExported (spaces_in spaces.now) made.exports) }
     ensures refusal { IfErr result MayRefuseAll }
     ensures left { KeepsPieces u.old u.new }
@@ -101,10 +103,12 @@ pub(crate) fn export_everything(
 ) -> Result<Exports, Error>
     requires may { MayExport types.now.types (spaces_in spaces.now) }
     requires within { imports_size ≤ config.now.max_type_size }
-    ensures exact { ReturnsWhy (λ made. (made.exports, u.new)) result (everything_at config.now types.now.types (spaces_in spaces.now) imports_size u.old) }
+    ensures exact { ReturnsWhy (λ made. (made.exports, u.new)) result
+        (everything_at config.now types.now.types (spaces_in spaces.now) imports_size u.old) }
     ensures valid { IfOk result (λ made. AreExportsValid (spaces_in spaces.now) made.exports) }
     ensures everything { IfOk result (λ made. AreAllExported (spaces_in spaces.now) made.exports) }
-    ensures type_size { IfOk result (λ made. made.type_size ≡ imports_size + exported_size types.now.types (spaces_in spaces.now) made.exports) }
+    ensures type_size { IfOk result (λ made. made.type_size
+        ≡ imports_size + exported_size types.now.types (spaces_in spaces.now) made.exports) }
     ensures within { IfOk result (λ made. made.type_size ≤ config.now.max_type_size) }
     ensures refusal { IfErr result MayRefuseAll }
     ensures left { KeepsPieces u.old u.new }

@@ -8,7 +8,8 @@ ghost use Rattle.smith_config.specs.Granted.{IsGranted};
 ghost use Rattle.smith_draw.specs.Grounding.{standing_in};
 ghost use Rattle.smith_draw.specs.Drawing.{AlwaysDraws, Draws};
 ghost use Rattle.smith_draw.specs.KeptGrounds.{AreKeptGrounds};
-ghost use Rattle.smith_contents.specs.DrawnBodies.{raw_bytes_at, is_raw_at, instructions_at, body_at, bodies_at};
+ghost use Rattle.smith_contents.specs.DrawnBodies.{raw_bytes_at, is_raw_at, instructions_at};
+ghost use Rattle.smith_contents.specs.DrawnBodies.{body_at, bodies_at};
 ghost use Rattle.smith_rules.specs.Held.{IsRaw};
 
 use smith_bytes::{Error, Unstructured};
@@ -96,7 +97,8 @@ fn draw_over(
     u: &mut Unstructured<'_>,
 ) -> Result<Items<Code>, Error>
     requires { AreKeptGrounds (standing_in config.now spaces.now) grounds.now }
-    ensures { Draws (bodies_at config.now (standing_in config.now spaces.now) count u.old) result u.old u.new }
+    ensures { Draws (bodies_at config.now (standing_in config.now spaces.now) count u.old)
+        result u.old u.new }
 {
     let kept = grounds.standing(config, spaces);
     draw_each_body(alloc, config, &kept, count, u)
@@ -109,7 +111,8 @@ fn draw_bodies(
     count: usize,
     u: &mut Unstructured<'_>,
 ) -> Result<Items<Code>, Error>
-    ensures { Draws (bodies_at config.now (standing_in config.now spaces.now) count u.old) result u.old u.new }
+    ensures { Draws (bodies_at config.now (standing_in config.now spaces.now) count u.old)
+        result u.old u.new }
 {
     let mut grounds = KeptGrounds::new();
     grounds.keep(alloc, config, spaces)?;
@@ -128,12 +131,18 @@ pub fn arbitrary_bodies(
     u: &mut Unstructured<'_>,
 ) -> Result<Items<Code>, Error>
     requires { IsSanitized config.now }
-    ensures draws { Draws (bodies_at config.now (standing_in config.now spaces.now) count u.old) result u.old u.new }
+    ensures draws { Draws (bodies_at config.now (standing_in config.now spaces.now) count u.old)
+        result u.old u.new }
     ensures each { IfOk result (λ bodies. length bodies ≡ count) }
-    ensures valid { IfOk result (All (IsBodyValid (features_of config.now) (length spaces.now.types.now.types) config.now.allow_invalid_funcs)) }
-    ensures floats { config.now.allow_floats ≡ false → IfOk result (λ bodies. All IsNoFloat (flat_map (λ body. body.locals) bodies)) }
-    ensures granted { IfOk result (λ bodies. All (IsGranted config.now (standing_in config.now spaces.now)) (flat_map (λ body. body.locals) bodies)) }
-    ensures no_raw { config.now.allow_invalid_funcs ≡ false → IfOk result (λ bodies. ¬ Any (λ body. IsRaw body.instructions) bodies) }
+    ensures valid { IfOk result (All (IsBodyValid (features_of config.now)
+        (length spaces.now.types.now.types) config.now.allow_invalid_funcs)) }
+    ensures floats { config.now.allow_floats ≡ false
+        → IfOk result (λ bodies. All IsNoFloat (flat_map (λ body. body.locals) bodies)) }
+    ensures granted { IfOk result (λ bodies.
+        All (IsGranted config.now (standing_in config.now spaces.now))
+        (flat_map (λ body. body.locals) bodies)) }
+    ensures no_raw { config.now.allow_invalid_funcs ≡ false
+        → IfOk result (λ bodies. ¬ Any (λ body. IsRaw body.instructions) bodies) }
 {
     let _types = spaces.types.types();
     draw_bodies(alloc, config, spaces, count, u)

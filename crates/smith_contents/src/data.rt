@@ -1,18 +1,24 @@
-ghost use Rattle.std.specs.Prelude.{◌≡◌, [], ◌<◌, ◌≤◌, ◌^◌, true, false, List, take, length, IsTrue, IfOk, IfErr, All};
+ghost use Rattle.std.specs.Prelude.{◌≡◌, [], ◌<◌, ◌≤◌, ◌^◌, true, false, List, take, length};
+ghost use Rattle.std.specs.Prelude.{IsTrue, IfOk, IfErr, All};
 ghost use Rattle.smith_bytes.specs.ByteLists.{byte_list_at};
 ghost use Rattle.smith_bytes.specs.Source.{KeepsPieces};
 ghost use Rattle.smith_bytes.specs.Takes.{Takes};
 ghost use Rattle.smith_types.specs.Entities.{IsMemoryValid, page_log2};
 ghost use Rattle.smith_types.specs.Expressions.{Context};
-ghost use Rattle.smith_types.specs.Segments.{IsDataValid, IsDataInside, IsOffsetValid, IsOffsetInside};
+ghost use Rattle.smith_types.specs.Segments.{IsDataValid, IsDataInside, IsOffsetValid};
+ghost use Rattle.smith_types.specs.Segments.{IsOffsetInside};
 ghost use Rattle.smith_types.specs.declared.entity_type.MemoryType.{MemoryType};
 ghost use Rattle.smith_config.specs.Faults.{Passes};
 ghost use Rattle.smith_config.specs.Features.{features_of};
 ghost use Rattle.smith_draw.specs.ConstScopes.{AreSpacesValid, seen_by};
 ghost use Rattle.smith_draw.specs.Drawing.{AlwaysDraws, Draws};
 ghost use Rattle.smith_bytes.specs.Steps.{ReturnsWhy};
-ghost use Rattle.smith_contents.specs.DataSegments.{HasPages, least_bytes, last_address, constant_offset, address_at, constant_placed_at, placed_at, active_at, passive_at, segment_at, segments_at, data_at};
-ghost use Rattle.smith_contents.specs.DataTargets.{TellOffsets, AreTargets, IsDataFit, MayRefuseData};
+ghost use Rattle.smith_contents.specs.DataSegments.{HasPages, least_bytes, last_address};
+ghost use Rattle.smith_contents.specs.DataSegments.{constant_offset, address_at};
+ghost use Rattle.smith_contents.specs.DataSegments.{constant_placed_at, placed_at, active_at};
+ghost use Rattle.smith_contents.specs.DataSegments.{passive_at, segment_at, segments_at, data_at};
+ghost use Rattle.smith_contents.specs.DataTargets.{TellOffsets, AreTargets, IsDataFit};
+ghost use Rattle.smith_contents.specs.DataTargets.{MayRefuseData};
 ghost use Rattle.smith_contents.specs.PassiveData.{SpellsPassive};
 
 use crate::data_targets::{Targets, offer_memories};
@@ -97,7 +103,8 @@ fn draw_constant(
     requires { page_log2 memory.page_size_log2 ≤ 16 }
     ensures draws { AlwaysDraws (constant_placed_at no_traps memory init u.old) result u.old u.new }
     ensures valid { (context : Context) → IsOffsetValid context memory.memory64 result.0 }
-    ensures inside { IsTrue no_traps → IsOffsetInside result.0 (length result.1) (least_bytes memory) }
+    ensures inside { IsTrue no_traps
+        → IsOffsetInside result.0 (length result.1) (least_bytes memory) }
 {
     let address = draw_address(no_traps, memory, init.len(), u);
     if !no_traps {
@@ -119,9 +126,12 @@ fn draw_offset(
     u: &mut Unstructured<'_>,
 ) -> (Offset, Items<u8>)
     requires { page_log2 memory.page_size_log2 ≤ 16 }
-    ensures draws { AlwaysDraws (placed_at no_traps globals.now memory init u.old) result u.old u.new }
-    ensures valid { (context : Context) → TellOffsets context memory.memory64 globals.now → IsOffsetValid context memory.memory64 result.0 }
-    ensures inside { IsTrue no_traps → globals.now ≡ [] → IsOffsetInside result.0 (length result.1) (least_bytes memory) }
+    ensures draws { AlwaysDraws (placed_at no_traps globals.now memory init u.old)
+        result u.old u.new }
+    ensures valid { (context : Context) → TellOffsets context memory.memory64 globals.now
+        → IsOffsetValid context memory.memory64 result.0 }
+    ensures inside { IsTrue no_traps → globals.now ≡ []
+        → IsOffsetInside result.0 (length result.1) (least_bytes memory) }
 {
     let place = u.int_in_range(0..=globals.len());
     if place == 0 {
@@ -141,7 +151,9 @@ fn draw_active(
     requires some { 0 < length targets.now.memories }
     requires pages { All HasPages targets.now.memories }
     ensures draws { AlwaysDraws (active_at config.now targets.now init u.old) result u.old u.new }
-    ensures fit { (context : Context) (memories : List MemoryType) → AreTargets config.now context memories targets.now → IsDataFit config.now context memories result }
+    ensures fit { (context : Context) (memories : List MemoryType)
+        → AreTargets config.now context memories targets.now
+        → IsDataFit config.now context memories result }
 {
     let (memory_index, memory) = targets.choose(u);
     let globals = targets.globals_for(memory.memory64);
@@ -160,7 +172,8 @@ fn draw_active(
 fn is_passive(config: &Config, targets: &Targets<'_>, u: &mut Unstructured<'_>) -> bool
     ensures draws { AlwaysDraws (passive_at config.now targets.now u.old) result u.old u.new }
     ensures bulk { result ≡ true → IsTrue config.now.bulk_memory_enabled }
-    ensures some { result ≡ false → IsTrue config.now.bulk_memory_enabled → 0 < length targets.now.memories }
+    ensures some { result ≡ false → IsTrue config.now.bulk_memory_enabled
+        → 0 < length targets.now.memories }
 {
     if !config.bulk_memory_enabled {
         return false;
@@ -178,7 +191,9 @@ fn draw_segment(
     requires some { config.now.bulk_memory_enabled ≡ false → 0 < length targets.now.memories }
     requires pages { All HasPages targets.now.memories }
     ensures draws { Draws (segment_at config.now targets.now u.old) result u.old u.new }
-    ensures fit { (context : Context) (memories : List MemoryType) → AreTargets config.now context memories targets.now → IfOk result (IsDataFit config.now context memories) }
+    ensures fit { (context : Context) (memories : List MemoryType)
+        → AreTargets config.now context memories targets.now
+        → IfOk result (IsDataFit config.now context memories) }
 {
     let init = draw_byte_list(alloc, u)?;
     if is_passive(config, targets, u) {
@@ -200,7 +215,9 @@ fn draw_segments(
     requires some { config.now.bulk_memory_enabled ≡ false → 0 < length targets.now.memories }
     requires pages { All HasPages targets.now.memories }
     ensures draws { Draws (segments_at config.now targets.now u.old) result u.old u.new }
-    ensures fit { (context : Context) (memories : List MemoryType) → AreTargets config.now context memories targets.now → IfOk result (All (IsDataFit config.now context memories)) }
+    ensures fit { (context : Context) (memories : List MemoryType)
+        → AreTargets config.now context memories targets.now
+        → IfOk result (All (IsDataFit config.now context memories)) }
 {
     let mut segments = Items::new(alloc);
     for made in 0..config.max_data_segments {
@@ -220,12 +237,16 @@ fn draw_data(
     u: &mut Unstructured<'_>,
 ) -> Result<Items<DataSegment>, Error>
     requires standing { AreSpacesValid config.now spaces.now }
-    requires memories { All (IsMemoryValid (features_of config.now)) spaces.now.entities.memories.now }
+    requires memories { All (IsMemoryValid (features_of config.now))
+        spaces.now.entities.memories.now }
     requires few { length spaces.now.entities.memories.now < 2 ^ 32 }
-    ensures exact { ReturnsWhy (λ segments. (segments, u.new)) result (data_at config.now (seen_by config.now spaces.now true) spaces.now.entities.memories.now u.old) }
-    ensures fit { IfOk result (All (IsDataFit config.now (seen_by config.now spaces.now true) spaces.now.entities.memories.now)) }
+    ensures exact { ReturnsWhy (λ segments. (segments, u.new)) result (data_at config.now
+        (seen_by config.now spaces.now true) spaces.now.entities.memories.now u.old) }
+    ensures fit { IfOk result (All (IsDataFit config.now
+        (seen_by config.now spaces.now true) spaces.now.entities.memories.now)) }
     ensures most { IfOk result (λ segments. length segments ≤ config.now.max_data_segments) }
-    ensures least { config.now.min_data_segments ≤ config.now.max_data_segments → IfOk result (λ segments. config.now.min_data_segments ≤ length segments) }
+    ensures least { config.now.min_data_segments ≤ config.now.max_data_segments
+        → IfOk result (λ segments. config.now.min_data_segments ≤ length segments) }
     ensures refusal { IfErr result (MayRefuseData config.now) }
     ensures left { KeepsPieces u.old u.new }
 {
@@ -259,14 +280,19 @@ pub fn arbitrary_data(
 ) -> Result<Items<DataSegment>, Error>
     requires passes { Passes config.now }
     requires standing { AreSpacesValid config.now spaces.now }
-    requires memories { All (IsMemoryValid (features_of config.now)) spaces.now.entities.memories.now }
+    requires memories { All (IsMemoryValid (features_of config.now))
+        spaces.now.entities.memories.now }
     requires few { length spaces.now.entities.memories.now < 2 ^ 32 }
-    ensures exact { ReturnsWhy (λ segments. (segments, u.new)) result (data_at config.now (seen_by config.now spaces.now true) spaces.now.entities.memories.now u.old) }
-    ensures valid { IfOk result (All (IsDataValid (seen_by config.now spaces.now true) spaces.now.entities.memories.now)) }
-    ensures inside { IsTrue config.now.disallow_traps → IfOk result (All (IsDataInside spaces.now.entities.memories.now)) }
+    ensures exact { ReturnsWhy (λ segments. (segments, u.new)) result (data_at config.now
+        (seen_by config.now spaces.now true) spaces.now.entities.memories.now u.old) }
+    ensures valid { IfOk result
+        (All (IsDataValid (seen_by config.now spaces.now true) spaces.now.entities.memories.now)) }
+    ensures inside { IsTrue config.now.disallow_traps
+        → IfOk result (All (IsDataInside spaces.now.entities.memories.now)) }
     ensures most { IfOk result (λ segments. length segments ≤ config.now.max_data_segments) }
     ensures least { IfOk result (λ segments. config.now.min_data_segments ≤ length segments) }
-    ensures reach { config.now.min_data_segments ≡ 0 → spaces.now.entities.memories.now ≡ [] → IfOk result (λ segments. Takes (SpellsPassive config.now) u.old segments u.new) }
+    ensures reach { config.now.min_data_segments ≡ 0 → spaces.now.entities.memories.now ≡ []
+        → IfOk result (λ segments. Takes (SpellsPassive config.now) u.old segments u.new) }
     ensures refusal { IfErr result (MayRefuseData config.now) }
     ensures left { KeepsPieces u.old u.new }
 {

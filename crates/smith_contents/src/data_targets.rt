@@ -3,7 +3,8 @@ ghost use Rattle.smith_bytes.specs.Source.{KeepsPieces};
 ghost use Rattle.smith_draw.specs.Choices.{chosen_at};
 ghost use Rattle.smith_draw.specs.ConstScopes.{AreSpacesValid, seen_by};
 ghost use Rattle.smith_draw.specs.Drawing.{AlwaysDraws};
-ghost use Rattle.smith_contents.specs.DataSegments.{may_hold_data_at, counting_at, globals_for, no_memory, targets_of};
+ghost use Rattle.smith_contents.specs.DataSegments.{may_hold_data_at, counting_at, globals_for};
+ghost use Rattle.smith_contents.specs.DataSegments.{no_memory, targets_of};
 ghost use Rattle.smith_contents.specs.DataTargets.{AreTargets, indexed};
 
 use crate::offered_indices::OfferedIndices;
@@ -34,7 +35,11 @@ impl<'a> Model for Targets<'a> {
 
     ghost Value = { Targets };
 
-    ghost view = { λ a. record { memories = indexed a.memories.now a.offered.offered; globals32 = a.globals32; globals64 = a.globals64 } };
+    ghost view = { λ a. record {
+      memories = indexed a.memories.now a.offered.offered;
+      globals32 = a.globals32;
+      globals64 = a.globals64;
+    } };
 
     ghost invariant = { λ a. All (λ index. index < length a.memories.now) a.offered.offered };
 }
@@ -48,9 +53,13 @@ impl<'a> Targets<'a> {
         offered: OfferedIndices,
     ) -> Targets<'a>
         requires standing { AreSpacesValid config.now spaces.now }
-        requires within { All (λ index. index < length spaces.now.entities.memories.now) offered.offered }
-        ensures exact { result ≡ targets_of config.now (seen_by config.now spaces.now true) (indexed spaces.now.entities.memories.now offered.offered) }
-        ensures targets { AreTargets config.now (seen_by config.now spaces.now true) spaces.now.entities.memories.now result }
+        requires within { All (λ index. index < length spaces.now.entities.memories.now)
+            offered.offered }
+        ensures exact { result
+            ≡ targets_of config.now (seen_by config.now spaces.now true)
+            (indexed spaces.now.entities.memories.now offered.offered) }
+        ensures targets { AreTargets config.now
+            (seen_by config.now spaces.now true) spaces.now.entities.memories.now result }
     {
         Targets {
             memories: spaces.entities.memories,
@@ -109,8 +118,10 @@ pub(crate) fn offer_memories(
     u: &mut Unstructured<'_>,
 ) -> Result<OfferedIndices, Error>
     requires { length memories.now < 2 ^ 32 }
-    ensures exact { IfOk result (λ drawn. counting_at [] 0 memories.now u.old ≡ (indexed memories.now drawn.offered, u.new)) }
-    ensures within { IfOk result (λ drawn. All (λ index. index < length memories.now) drawn.offered) }
+    ensures exact { IfOk result (λ drawn.
+        counting_at [] 0 memories.now u.old ≡ (indexed memories.now drawn.offered, u.new)) }
+    ensures within { IfOk result (λ drawn.
+        All (λ index. index < length memories.now) drawn.offered) }
     ensures memory { IfErr result (λ e. e ≡ Error.Memory) }
     ensures left { KeepsPieces u.old u.new }
 {

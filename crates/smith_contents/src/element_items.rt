@@ -1,4 +1,5 @@
-ghost use Rattle.std.specs.Prelude.{◌≡◌, ◌<◌, ◌≤◌, ◌^◌, true, false, length, IsTrue, OnOk, IfOk, IfErr, All};
+ghost use Rattle.std.specs.Prelude.{◌≡◌, ◌<◌, ◌≤◌, ◌^◌, true, false, length, IsTrue, OnOk, IfOk};
+ghost use Rattle.std.specs.Prelude.{IfErr, All};
 ghost use Rattle.smith_bytes.specs.Source.{KeepsPieces};
 ghost use Rattle.smith_types.specs.Expressions.{IsConstExpr};
 ghost use Rattle.smith_types.specs.Floats.{HasNoFloat, GivesNoFloat};
@@ -13,7 +14,10 @@ ghost use Rattle.smith_draw.specs.ConstScopes.{AreSpacesValid, seen_by};
 ghost use Rattle.smith_draw.specs.Drawing.{AlwaysDraws, Draws};
 ghost use Rattle.smith_draw.specs.KeptOffers.{AreKeptOffers};
 ghost use Rattle.smith_bytes.specs.Steps.{ReturnsWhy};
-ghost use Rattle.smith_contents.specs.DrawnElements.{IsKindOffered, FitsTable, AreItemsFit, MayDrawElements, MayHoldItems, MayRefuseFunctions, MayRefuseItems, HasUngroundedElements};
+ghost use Rattle.smith_contents.specs.DrawnElements.{IsKindOffered, FitsTable, AreItemsFit};
+ghost use Rattle.smith_contents.specs.DrawnElements.{MayDrawElements, MayHoldItems};
+ghost use Rattle.smith_contents.specs.DrawnElements.{MayRefuseFunctions, MayRefuseItems};
+ghost use Rattle.smith_contents.specs.DrawnElements.{HasUngroundedElements};
 ghost use Rattle.smith_contents.specs.ElementSegments.{
   item_type_at,
   is_funcref,
@@ -68,11 +72,16 @@ pub(crate) fn draw_item_type(
 ) -> Result<RefType, Error>
     requires may { MayDrawElements config.now spaces.now }
     requires standing { standing.now ≡ standing_in config.now spaces.now }
-    requires offered { IsKindOffered config.now spaces.now.types.now.types spaces.now.entities.tables.now choice }
-    ensures draws { Draws (item_type_at config.now (standing_in config.now spaces.now) choice u.old) result u.old u.new }
+    requires offered { IsKindOffered config.now spaces.now.types.now.types
+        spaces.now.entities.tables.now choice }
+    ensures draws { Draws (item_type_at config.now (standing_in config.now spaces.now) choice u.old)
+        result u.old u.new }
     ensures may { IfOk result (MayHoldItems config.now spaces.now) }
     ensures fits { IfOk result (FitsTable spaces.now.types.now.types choice) }
-    ensures needed { IfOk result (λ ty. IsUngrounded config.now (standing_in config.now spaces.now) (Ref ty) → HasUngroundedElements config.now (standing_in config.now spaces.now) spaces.now.entities.tables.now) }
+    ensures needed { IfOk result (λ ty.
+        IsUngrounded config.now (standing_in config.now spaces.now) (Ref ty)
+        → HasUngroundedElements config.now
+        (standing_in config.now spaces.now) spaces.now.entities.tables.now) }
 {
     draw_type_for(alloc, config, standing, choice, u)
 }
@@ -91,7 +100,8 @@ fn is_unshared_type(types: &[SubType], index: u32) -> bool
 /// 2^32 functions.
 fn offer_unshared(alloc: Global, types: &[SubType], funcs: &[u32]) -> Result<OfferedIndices, Error>
     requires few { length funcs.now < 2 ^ 32 }
-    ensures exact { IfOk result (λ unshared. unshared.offered ≡ unshared_funcs types.now funcs.now) }
+    ensures exact { IfOk result (λ unshared.
+        unshared.offered ≡ unshared_funcs types.now funcs.now) }
     ensures memory { IfErr result (λ e. e ≡ Error.Memory) }
 {
     let mut unshared = OfferedIndices::new(alloc);
@@ -124,7 +134,8 @@ fn are_functions(config: &Config, ty: RefType, u: &mut Unstructured<'_>) -> bool
 /// Refuses if `most` items are fewer than `config` requires in a segment.
 fn ask_enough(config: &Config, most: usize) -> Result<(), Error>
     ensures enough { OnOk result (config.now.min_elements ≤ most) }
-    ensures unmet { IfErr result (λ e. (e ≡ Error.IncorrectFormat (Why.Unmet Count.Elements)) × (most < config.now.min_elements)) }
+    ensures unmet { IfErr result (λ e.
+        (e ≡ Error.IncorrectFormat (Why.Unmet Count.Elements)) × (most < config.now.min_elements)) }
 {
     if most < config.min_elements {
         return Err(Error::IncorrectFormat(Why::Unmet(Count::Elements)));
@@ -142,7 +153,8 @@ fn choose_functions(
     u: &mut Unstructured<'_>,
 ) -> Result<Items<u32>, Error>
     requires { 0 < length funcs.now.offered }
-    ensures { Draws (chosen_functions_at config.now funcs.now.offered most u.old) result u.old u.new }
+    ensures { Draws (chosen_functions_at config.now funcs.now.offered most u.old)
+        result u.old u.new }
 {
     let mut items = Items::new(alloc);
     for made in 0..most {
@@ -163,7 +175,8 @@ fn draw_unshared(
     u: &mut Unstructured<'_>,
 ) -> Result<Items<u32>, Error>
     requires few { length spaces.now.entities.funcs.now < 2 ^ 32 }
-    ensures exact { ReturnsWhy (λ items. (items, u.new)) result (functions_at config.now (seen_by config.now spaces.now true) most u.old) }
+    ensures exact { ReturnsWhy (λ items. (items, u.new)) result
+        (functions_at config.now (seen_by config.now spaces.now true) most u.old) }
     ensures few { IfOk result (λ items. length items ≤ most) }
     ensures refusal { IfErr result (MayRefuseFunctions config.now) }
     ensures left { KeepsPieces u.old u.new }
@@ -185,9 +198,11 @@ fn draw_functions(
     u: &mut Unstructured<'_>,
 ) -> Result<Items<u32>, Error>
     requires { AreSpacesValid config.now spaces.now }
-    ensures exact { ReturnsWhy (λ items. (items, u.new)) result (functions_at config.now (seen_by config.now spaces.now true) most u.old) }
+    ensures exact { ReturnsWhy (λ items. (items, u.new)) result
+        (functions_at config.now (seen_by config.now spaces.now true) most u.old) }
     ensures few { IfOk result (λ items. length items ≤ most) }
-    ensures fit { (ty : RefType) → IsTrue (is_funcref ty) → IfOk result (λ items. AreItemsFit config.now (seen_by config.now spaces.now true) ty (listed.Functions items)) }
+    ensures fit { (ty : RefType) → IsTrue (is_funcref ty) → IfOk result (λ items.
+        AreItemsFit config.now (seen_by config.now spaces.now true) ty (listed.Functions items)) }
     ensures refusal { IfErr result (MayRefuseFunctions config.now) }
     ensures left { KeepsPieces u.old u.new }
 {
@@ -207,11 +222,14 @@ fn draw_expression_item(
     requires references { IsTrue config.now.reference_types_enabled }
     requires may { MayHoldItems config.now spaces.now ty }
     requires kept { AreKeptOffers (seen_by config.now spaces.now true) kept.old }
-    ensures exact { IfOk result (λ drawn. expression_item_at config.now (seen_by config.now spaces.now true) ty u.old ≡ (drawn, u.new)) }
+    ensures exact { IfOk result (λ drawn.
+        expression_item_at config.now (seen_by config.now spaces.now true) ty u.old
+        ≡ (drawn, u.new)) }
     ensures typed { IfOk result (IsConstExpr (seen_by config.now spaces.now true) (Ref ty)) }
     ensures floats { All HasNoFloat spaces.now.types.now.types → IfOk result (All GivesNoFloat) }
     ensures kept { OnOk result (AreKeptOffers (seen_by config.now spaces.now true) kept.new) }
-    ensures refusal { IfErr result (MayRefuseConstExpr config.now (standing_in config.now spaces.now) (Ref ty)) }
+    ensures refusal { IfErr result
+        (MayRefuseConstExpr config.now (standing_in config.now spaces.now) (Ref ty)) }
     ensures left { KeepsPieces u.old u.new }
 {
     draw_const_expr(alloc, config, spaces, ValType::Ref(ty), true, kept, u)
@@ -228,10 +246,14 @@ fn draw_each_expression(
 ) -> Result<Items<Items<ConstInstr>>, Error>
     requires references { IsTrue config.now.reference_types_enabled }
     requires may { MayHoldItems config.now spaces.now ty }
-    ensures exact { IfOk result (λ drawn. drawn_expressions_at config.now (seen_by config.now spaces.now true) ty most u.old ≡ (drawn, u.new)) }
+    ensures exact { IfOk result (λ drawn.
+        drawn_expressions_at config.now (seen_by config.now spaces.now true) ty most u.old
+        ≡ (drawn, u.new)) }
     ensures typed { IfOk result (All (IsConstExpr (seen_by config.now spaces.now true) (Ref ty))) }
-    ensures floats { All HasNoFloat spaces.now.types.now.types → IfOk result (All (All GivesNoFloat)) }
-    ensures refusal { IfErr result (MayRefuseConstExpr config.now (standing_in config.now spaces.now) (Ref ty)) }
+    ensures floats { All HasNoFloat spaces.now.types.now.types
+        → IfOk result (All (All GivesNoFloat)) }
+    ensures refusal { IfErr result
+        (MayRefuseConstExpr config.now (standing_in config.now spaces.now) (Ref ty)) }
     ensures left { KeepsPieces u.old u.new }
 {
     let mut kept = KeptOffers::new(alloc);
@@ -256,10 +278,13 @@ fn draw_expressions(
 ) -> Result<Items<Items<ConstInstr>>, Error>
     requires references { IsTrue config.now.reference_types_enabled }
     requires may { MayHoldItems config.now spaces.now ty }
-    ensures exact { ReturnsWhy (λ items. (items, u.new)) result (expressions_at config.now (seen_by config.now spaces.now true) ty most u.old) }
+    ensures exact { ReturnsWhy (λ items. (items, u.new)) result
+        (expressions_at config.now (seen_by config.now spaces.now true) ty most u.old) }
     ensures few { IfOk result (λ items. length items ≤ most) }
-    ensures fit { IfOk result (λ items. AreItemsFit config.now (seen_by config.now spaces.now true) ty (listed.Expressions items)) }
-    ensures refusal { IfErr result (MayRefuseItems config.now (standing_in config.now spaces.now) ty) }
+    ensures fit { IfOk result (λ items.
+        AreItemsFit config.now (seen_by config.now spaces.now true) ty (listed.Expressions items)) }
+    ensures refusal { IfErr result
+        (MayRefuseItems config.now (standing_in config.now spaces.now) ty) }
     ensures left { KeepsPieces u.old u.new }
 {
     ask_enough(config, most)?;
@@ -277,10 +302,12 @@ pub(crate) fn draw_items(
     u: &mut Unstructured<'_>,
 ) -> Result<Elements, Error>
     requires may { MayHoldItems config.now spaces.now ty }
-    ensures exact { ReturnsWhy (λ items. (items, u.new)) result (items_at config.now (seen_by config.now spaces.now true) ty most u.old) }
+    ensures exact { ReturnsWhy (λ items. (items, u.new)) result
+        (items_at config.now (seen_by config.now spaces.now true) ty most u.old) }
     ensures few { IfOk result (λ items. item_count items ≤ most) }
     ensures fit { IfOk result (AreItemsFit config.now (seen_by config.now spaces.now true) ty) }
-    ensures refusal { IfErr result (MayRefuseItems config.now (standing_in config.now spaces.now) ty) }
+    ensures refusal { IfErr result
+        (MayRefuseItems config.now (standing_in config.now spaces.now) ty) }
     ensures left { KeepsPieces u.old u.new }
 {
     if are_functions(config, ty, u) {

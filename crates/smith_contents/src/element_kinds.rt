@@ -3,7 +3,8 @@ ghost use Rattle.smith_bytes.specs.Source.{KeepsPieces};
 ghost use Rattle.smith_config.specs.declared.config.Config.{Config};
 ghost use Rattle.smith_draw.specs.Drawing.{AlwaysDraws, Draws};
 ghost use Rattle.smith_contents.specs.DrawnElements.{IsKindOffered, MayDrawElements};
-ghost use Rattle.smith_contents.specs.ElementSegments.{is_plain_func, is_funcref, is_offered_at, element_kinds_at};
+ghost use Rattle.smith_contents.specs.ElementSegments.{is_plain_func, is_funcref, is_offered_at};
+ghost use Rattle.smith_contents.specs.ElementSegments.{element_kinds_at};
 ghost use Rattle.smith_contents.specs.OfferedKinds.{kinds_over};
 
 use crate::offered_indices::OfferedIndices;
@@ -66,7 +67,9 @@ fn draw_tables(
     u: &mut Unstructured<'_>,
 ) -> Result<OfferedIndices, Error>
     requires { length tables.now < 2 ^ 32 }
-    ensures kinds { (config : Config) → IfOk result (λ drawn. element_kinds_at config tables.now u.old ≡ (kinds_over config tables.now drawn.offered, u.new)) }
+    ensures kinds { (config : Config)
+        → IfOk result (λ drawn. element_kinds_at config tables.now u.old
+        ≡ (kinds_over config tables.now drawn.offered, u.new)) }
     ensures within { IfOk result (λ drawn. All (λ index. index < length tables.now) drawn.offered) }
     ensures memory { IfErr result (λ e. e ≡ Error.Memory) }
     ensures left { KeepsPieces u.old u.new }
@@ -90,9 +93,12 @@ pub(crate) fn offer_kinds<'a>(
     u: &mut Unstructured<'_>,
 ) -> Result<OfferedKinds<'a>, Error>
     requires { MayDrawElements config.now spaces.now }
-    ensures draws { Draws (element_kinds_at config.now spaces.now.entities.tables.now u.old) result u.old u.new }
-    ensures offered { IfOk result (All (IsKindOffered config.now spaces.now.types.now.types spaces.now.entities.tables.now)) }
-    ensures bulk { IfOk result (λ kinds. length kinds ≡ 0 → config.now.bulk_memory_enabled ≡ false) }
+    ensures draws { Draws (element_kinds_at config.now spaces.now.entities.tables.now u.old)
+        result u.old u.new }
+    ensures offered { IfOk result
+        (All (IsKindOffered config.now spaces.now.types.now.types spaces.now.entities.tables.now)) }
+    ensures bulk { IfOk result (λ kinds.
+        length kinds ≡ 0 → config.now.bulk_memory_enabled ≡ false) }
 {
     let tables = spaces.entities.tables;
     let offered = draw_tables(alloc, tables, u)?;

@@ -5,7 +5,9 @@ ghost use Rattle.smith_types.specs.Segments.{IsOffsetValid, IsOffsetInside};
 ghost use Rattle.smith_draw.specs.ConstScopes.{AreSpacesValid, seen_by};
 ghost use Rattle.smith_draw.specs.Drawing.{AlwaysDraws};
 ghost use Rattle.smith_contents.specs.DrawnElements.{FitsAddresses, IsPlaced, IsKindDrawn};
-ghost use Rattle.smith_contents.specs.ElementSegments.{most_offset, constant_offset, hint_at, constant_offset_at, is_global_wanted_at, table_offset_at, element_kind_at};
+ghost use Rattle.smith_contents.specs.ElementSegments.{most_offset, constant_offset, hint_at};
+ghost use Rattle.smith_contents.specs.ElementSegments.{constant_offset_at, is_global_wanted_at};
+ghost use Rattle.smith_contents.specs.ElementSegments.{table_offset_at, element_kind_at};
 
 use crate::element_kinds::KindChoice;
 use crate::offset_globals::OffsetGlobals;
@@ -109,8 +111,11 @@ fn draw_table_offset(
 ) -> (Offset, Option<u64>)
     requires standing { AreSpacesValid config.now spaces.now }
     requires fits { table.now.minimum ≤ most_elements table.now.table64 }
-    ensures draws { AlwaysDraws (table_offset_at config.now (seen_by config.now spaces.now true) table.now u.old) result u.old u.new }
-    ensures placed { IsPlaced config.now (seen_by config.now spaces.now true) table.now result.0 result.1 }
+    ensures draws { AlwaysDraws
+        (table_offset_at config.now (seen_by config.now spaces.now true) table.now u.old)
+        result u.old u.new }
+    ensures placed { IsPlaced config.now
+        (seen_by config.now spaces.now true) table.now result.0 result.1 }
 {
     let globals = OffsetGlobals::new(config, spaces, table.table64);
     if !is_global_wanted(globals.len(), u) {
@@ -130,7 +135,9 @@ pub(crate) fn draw_kind(
 ) -> (ElementKind, Option<u64>)
     requires standing { AreSpacesValid config.now spaces.now }
     requires fits { FitsAddresses choice }
-    ensures draws { AlwaysDraws (element_kind_at config.now (seen_by config.now spaces.now true) choice u.old) result u.old u.new }
+    ensures draws { AlwaysDraws
+        (element_kind_at config.now (seen_by config.now spaces.now true) choice u.old)
+        result u.old u.new }
     ensures placed { IsKindDrawn config.now (seen_by config.now spaces.now true) choice result }
 {
     match choice {

@@ -1,4 +1,5 @@
-ghost use Rattle.std.specs.Prelude.{◌≡◌, ◌+◌, ◌<◌, ◌≤◌, true, [], length, IsTrue, IfOk, IfErr, All, if◌then◌else◌};
+ghost use Rattle.std.specs.Prelude.{◌≡◌, ◌+◌, ◌<◌, ◌≤◌, true, [], length, IsTrue, IfOk, IfErr, All};
+ghost use Rattle.std.specs.Prelude.{if◌then◌else◌};
 ghost use Rattle.std.specs.List.{flat_map};
 ghost use Rattle.smith_bytes.specs.Source.{KeepsPieces};
 ghost use Rattle.smith_bytes.specs.Takes.{Takes};
@@ -11,8 +12,11 @@ ghost use Rattle.smith_bytes.specs.Spelling.{SpellsEmpty};
 ghost use Rattle.smith_bytes.specs.Steps.{ReturnsWhy};
 ghost use Rattle.smith_rules.specs.Held.{HasItems, expressions_of};
 ghost use Rattle.smith_config.specs.Granted.{HasGroundedItems};
-ghost use Rattle.smith_contents.specs.DrawnElements.{HasUngroundedElements, IsKindOffered, IsElementFit, MayDrawElements, MayRefuseSegment, MayRefuseElements};
-ghost use Rattle.smith_contents.specs.ElementSegments.{most_items, items_in, element_segment_at, element_segments_at, elements_at};
+ghost use Rattle.smith_contents.specs.DrawnElements.{HasUngroundedElements, IsKindOffered};
+ghost use Rattle.smith_contents.specs.DrawnElements.{IsElementFit, MayDrawElements};
+ghost use Rattle.smith_contents.specs.DrawnElements.{MayRefuseSegment, MayRefuseElements};
+ghost use Rattle.smith_contents.specs.ElementSegments.{most_items, items_in, element_segment_at};
+ghost use Rattle.smith_contents.specs.ElementSegments.{element_segments_at, elements_at};
 ghost use Rattle.smith_bytes.specs.Spelling.{SpellsNone};
 
 use crate::element_items::{draw_item_type, draw_items};
@@ -53,12 +57,17 @@ fn draw_segment(
     requires may { MayDrawElements config.now spaces.now }
     requires standing { standing.now ≡ standing_in config.now spaces.now }
     requires some { 0 < length kinds.now }
-    requires offered { All (IsKindOffered config.now spaces.now.types.now.types spaces.now.entities.tables.now) kinds.now }
+    requires offered { All (IsKindOffered config.now spaces.now.types.now.types
+        spaces.now.entities.tables.now) kinds.now }
     requires total { total ≤ config.now.max_elements }
-    ensures within { IfOk result (λ segment. total + item_count segment.items ≤ config.now.max_elements) }
-    ensures exact { ReturnsWhy (λ segment. (segment, u.new)) result (element_segment_at config.now (seen_by config.now spaces.now true) kinds.now total u.old) }
-    ensures fit { IfOk result (IsElementFit config.now (seen_by config.now spaces.now true) spaces.now.entities.tables.now) }
-    ensures refusal { IfErr result (MayRefuseSegment config.now (standing_in config.now spaces.now) spaces.now.entities.tables.now) }
+    ensures within { IfOk result (λ segment.
+        total + item_count segment.items ≤ config.now.max_elements) }
+    ensures exact { ReturnsWhy (λ segment. (segment, u.new)) result
+        (element_segment_at config.now (seen_by config.now spaces.now true) kinds.now total u.old) }
+    ensures fit { IfOk result (IsElementFit config.now
+        (seen_by config.now spaces.now true) spaces.now.entities.tables.now) }
+    ensures refusal { IfErr result (MayRefuseSegment config.now
+        (standing_in config.now spaces.now) spaces.now.entities.tables.now) }
     ensures left { KeepsPieces u.old u.new }
 {
     let choice = kinds.choose(u);
@@ -91,11 +100,17 @@ fn draw_segments(
     requires may { MayDrawElements config.now spaces.now }
     requires standing { standing.now ≡ standing_in config.now spaces.now }
     requires some { 0 < length kinds.now }
-    requires offered { All (IsKindOffered config.now spaces.now.types.now.types spaces.now.entities.tables.now) kinds.now }
-    ensures exact { ReturnsWhy (λ segments. (segments, u.new)) result (element_segments_at config.now (seen_by config.now spaces.now true) kinds.now config.now.max_element_segments [] u.old) }
-    ensures fit { IfOk result (All (IsElementFit config.now (seen_by config.now spaces.now true) spaces.now.entities.tables.now)) }
-    ensures most { IfOk result (λ segments. (length segments ≤ config.now.max_element_segments) × (items_in segments ≤ config.now.max_elements)) }
-    ensures refusal { IfErr result (MayRefuseSegment config.now (standing_in config.now spaces.now) spaces.now.entities.tables.now) }
+    requires offered { All (IsKindOffered config.now spaces.now.types.now.types
+        spaces.now.entities.tables.now) kinds.now }
+    ensures exact { ReturnsWhy (λ segments. (segments, u.new)) result
+        (element_segments_at config.now
+        (seen_by config.now spaces.now true) kinds.now config.now.max_element_segments [] u.old) }
+    ensures fit { IfOk result (All (IsElementFit config.now
+        (seen_by config.now spaces.now true) spaces.now.entities.tables.now)) }
+    ensures most { IfOk result (λ segments. (length segments ≤ config.now.max_element_segments)
+        × (items_in segments ≤ config.now.max_elements)) }
+    ensures refusal { IfErr result (MayRefuseSegment config.now
+        (standing_in config.now spaces.now) spaces.now.entities.tables.now) }
     ensures left { KeepsPieces u.old u.new }
 {
     let mut segments = Items::new(alloc);
@@ -113,8 +128,10 @@ fn draw_segments(
 
 /// Returns no segment. Refuses if `config` requires segments.
 fn none(alloc: Global, config: &Config) -> Result<Items<ElementSegment>, Error>
-    ensures none { IfOk result (λ segments. (segments ≡ []) × (config.now.min_element_segments ≡ 0)) }
-    ensures unmet { IfErr result (λ e. (e ≡ Error.IncorrectFormat (Why.Unmet Count.ElementSegments)) × (0 < config.now.min_element_segments)) }
+    ensures none { IfOk result (λ segments.
+        (segments ≡ []) × (config.now.min_element_segments ≡ 0)) }
+    ensures unmet { IfErr result (λ e. (e ≡ Error.IncorrectFormat (Why.Unmet Count.ElementSegments))
+        × (0 < config.now.min_element_segments)) }
 {
     if config.min_element_segments > 0 {
         return Err(Error::IncorrectFormat(Why::Unmet(Count::ElementSegments)));
@@ -130,10 +147,14 @@ fn draw_elements(
     u: &mut Unstructured<'_>,
 ) -> Result<Items<ElementSegment>, Error>
     requires may { MayDrawElements config.now spaces.now }
-    ensures exact { ReturnsWhy (λ segments. (segments, u.new)) result (elements_at config.now (seen_by config.now spaces.now true) spaces.now.entities.tables.now u.old) }
-    ensures fit { IfOk result (All (IsElementFit config.now (seen_by config.now spaces.now true) spaces.now.entities.tables.now)) }
-    ensures most { IfOk result (λ segments. (length segments ≤ config.now.max_element_segments) × (items_in segments ≤ config.now.max_elements)) }
-    ensures refusal { IfErr result (MayRefuseElements config.now (standing_in config.now spaces.now) spaces.now.entities.tables.now) }
+    ensures exact { ReturnsWhy (λ segments. (segments, u.new)) result (elements_at config.now
+        (seen_by config.now spaces.now true) spaces.now.entities.tables.now u.old) }
+    ensures fit { IfOk result (All (IsElementFit config.now
+        (seen_by config.now spaces.now true) spaces.now.entities.tables.now)) }
+    ensures most { IfOk result (λ segments. (length segments ≤ config.now.max_element_segments)
+        × (items_in segments ≤ config.now.max_elements)) }
+    ensures refusal { IfErr result (MayRefuseElements config.now
+        (standing_in config.now spaces.now) spaces.now.entities.tables.now) }
     ensures left { KeepsPieces u.old u.new }
 {
     let kinds = offer_kinds(alloc, config, spaces, u)?;
@@ -170,17 +191,29 @@ pub fn arbitrary_elements(
     u: &mut Unstructured<'_>,
 ) -> Result<Items<ElementSegment>, Error>
     requires may { MayDrawElements config.now spaces.now }
-    ensures exact { ReturnsWhy (λ segments. (segments, u.new)) result (elements_at config.now (seen_by config.now spaces.now true) spaces.now.entities.tables.now u.old) }
-    ensures valid { IfOk result (All (IsElementValid (seen_by config.now spaces.now true) spaces.now.entities.tables.now)) }
-    ensures inside { IsTrue config.now.disallow_traps → IfOk result (All (IsElementInside spaces.now.entities.tables.now)) }
-    ensures most { IfOk result (λ segments. (length segments ≤ config.now.max_element_segments) × (items_in segments ≤ config.now.max_elements)) }
+    ensures exact { ReturnsWhy (λ segments. (segments, u.new)) result (elements_at config.now
+        (seen_by config.now spaces.now true) spaces.now.entities.tables.now u.old) }
+    ensures valid { IfOk result
+        (All (IsElementValid (seen_by config.now spaces.now true) spaces.now.entities.tables.now)) }
+    ensures inside { IsTrue config.now.disallow_traps
+        → IfOk result (All (IsElementInside spaces.now.entities.tables.now)) }
+    ensures most { IfOk result (λ segments. (length segments ≤ config.now.max_element_segments)
+        × (items_in segments ≤ config.now.max_elements)) }
     ensures least { IfOk result (λ segments. config.now.min_element_segments ≤ length segments) }
-    ensures enough { IfOk result (All (λ (segment : ElementSegment). HasItems config.now spaces.now.types.now.types spaces.now.entities.funcs.now segment.items)) }
-    ensures floats { All HasNoFloat spaces.now.types.now.types → IfOk result (λ segments. All (All GivesNoFloat) (flat_map (λ (segment : ElementSegment). expressions_of segment.items) segments)) }
-    ensures grounded { ¬ HasUngroundedElements config.now (standing_in config.now spaces.now) spaces.now.entities.tables.now → IfOk result (All (HasGroundedItems config.now (standing_in config.now spaces.now))) }
+    ensures enough { IfOk result (All (λ (segment : ElementSegment). HasItems config.now
+        spaces.now.types.now.types spaces.now.entities.funcs.now segment.items)) }
+    ensures floats { All HasNoFloat spaces.now.types.now.types
+        → IfOk result (λ segments. All (All GivesNoFloat)
+        (flat_map (λ (segment : ElementSegment). expressions_of segment.items) segments)) }
+    ensures grounded { ¬ HasUngroundedElements config.now
+        (standing_in config.now spaces.now) spaces.now.entities.tables.now
+        → IfOk result (All (HasGroundedItems config.now (standing_in config.now spaces.now))) }
     ensures none { config.now.min_element_segments ≡ 0 → spaces.now.entities.tables.now ≡ []
-        → IfOk result (λ segments. Takes (SpellsEmpty (SpellsNone (if config.now.bulk_memory_enabled then config.now.max_element_segments else 0))) u.old segments u.new) }
-    ensures refusal { IfErr result (MayRefuseElements config.now (standing_in config.now spaces.now) spaces.now.entities.tables.now) }
+        → IfOk result (λ segments. Takes (SpellsEmpty (SpellsNone
+        (if config.now.bulk_memory_enabled then config.now.max_element_segments else 0)))
+        u.old segments u.new) }
+    ensures refusal { IfErr result (MayRefuseElements config.now
+        (standing_in config.now spaces.now) spaces.now.entities.tables.now) }
     ensures left { KeepsPieces u.old u.new }
 {
     draw_elements(alloc, config, spaces, u)

@@ -1,12 +1,15 @@
-ghost use Rattle.std.specs.Prelude.{◌≡◌, ◌+◌, ◌<◌, ◌^◌, nat_lt, length, slice_index_or, All, if◌then◌else◌};
+ghost use Rattle.std.specs.Prelude.{◌≡◌, ◌+◌, ◌<◌, ◌^◌, nat_lt, length, slice_index_or, All};
+ghost use Rattle.std.specs.Prelude.{if◌then◌else◌};
 ghost use Rattle.smith_types.specs.Entities.{IsFuncTypeIndex};
 ghost use Rattle.smith_types.specs.IndexSpaces.{spaces_in};
 ghost use Rattle.smith_types.specs.Sizes.{size_in};
 ghost use Rattle.smith_draw.specs.Choices.{chosen_at};
 ghost use Rattle.smith_draw.specs.Drawing.{AlwaysDraws};
 ghost use Rattle.smith_draw.specs.TypeUses.{places_from};
-ghost use Rattle.smith_contents.specs.Exporting.{is_func_below, candidates, candidate_row, candidate_rows, offered_kinds};
-ghost use Rattle.smith_contents.specs.Exported.{HasSizeIn32Bits, IsFuncWithin, MayOffer, IsCandidate};
+ghost use Rattle.smith_contents.specs.Exporting.{is_func_below, candidates, candidate_row};
+ghost use Rattle.smith_contents.specs.Exporting.{candidate_rows, offered_kinds};
+ghost use Rattle.smith_contents.specs.Exported.{HasSizeIn32Bits, IsFuncWithin, MayOffer};
+ghost use Rattle.smith_contents.specs.Exported.{IsCandidate};
 
 use smith_bytes::Unstructured;
 use smith_draw::{choose_enabled, count_enabled};
@@ -70,7 +73,8 @@ fn func_at(types: &TypeSpace, funcs: &[u32], left: u32, mut place: usize) -> u32
     requires sized { All HasSizeIn32Bits types.now.types }
     requires valid { All (IsFuncTypeIndex types.now.types) funcs.now }
     requires few { length funcs.now < 2 ^ 32 }
-    ensures { result ≡ slice_index_or (places_from (is_func_below types.now.types left) 0 funcs.now) place 0 }
+    ensures { result
+        ≡ slice_index_or (places_from (is_func_below types.now.types left) 0 funcs.now) place 0 }
 {
     for (index, func) in funcs.iter().enumerate() {
         if !is_func_below(types, left, *func) {
@@ -104,8 +108,10 @@ fn func_candidate_at(types: &TypeSpace, funcs: &[u32], most: u32, left: u32, pla
     requires valid { All (IsFuncTypeIndex types.now.types) funcs.now }
     requires most { All (IsFuncWithin types.now.types most) funcs.now }
     requires few { length funcs.now < 2 ^ 32 }
-    requires within { place < length (places_from (is_func_below types.now.types left) 0 funcs.now) }
-    ensures { result ≡ slice_index_or (places_from (is_func_below types.now.types left) 0 funcs.now) place 0 }
+    requires within { place
+        < length (places_from (is_func_below types.now.types left) 0 funcs.now) }
+    ensures { result
+        ≡ slice_index_or (places_from (is_func_below types.now.types left) 0 funcs.now) place 0 }
 {
     if left > most {
         return place as u32;
@@ -151,7 +157,8 @@ fn candidate_at(
 ) -> u32
     requires may { MayOffer types.now.types (spaces_in spaces.now) most }
     requires within { place < length (candidates types.now.types (spaces_in spaces.now) left kind) }
-    ensures { result ≡ slice_index_or (candidates types.now.types (spaces_in spaces.now) left kind) place 0 }
+    ensures { result
+        ≡ slice_index_or (candidates types.now.types (spaces_in spaces.now) left kind) place 0 }
 {
     match kind {
         ExportKind::Func => func_candidate_at(types, spaces.funcs.as_slice(), most, left, place),
@@ -171,7 +178,9 @@ pub(crate) fn choose_candidate(
 ) -> u32
     requires may { MayOffer types.now.types (spaces_in spaces.now) most }
     requires some { 0 < length (candidates types.now.types (spaces_in spaces.now) left kind) }
-    ensures draws { AlwaysDraws (chosen_at 0 (candidates types.now.types (spaces_in spaces.now) left kind) u.old) result u.old u.new }
+    ensures draws { AlwaysDraws
+        (chosen_at 0 (candidates types.now.types (spaces_in spaces.now) left kind) u.old)
+        result u.old u.new }
     ensures candidate { IsCandidate types.now.types (spaces_in spaces.now) left kind result }
 {
     let last = count_candidates(types, spaces, most, left, kind) - 1;
@@ -214,7 +223,8 @@ fn candidate_rows(
 /// Whether an item may be exported if `left` of the type size is left.
 pub(crate) fn has_candidates(types: &TypeSpace, spaces: &IndexSpaces, most: u32, left: u32) -> bool
     requires { MayOffer types.now.types (spaces_in spaces.now) most }
-    ensures { result ≡ nat_lt 0 (length (offered_kinds types.now.types (spaces_in spaces.now) left)) }
+    ensures { result
+        ≡ nat_lt 0 (length (offered_kinds types.now.types (spaces_in spaces.now) left)) }
 {
     count_enabled(&candidate_rows(types, spaces, most, left)) > 0
 }
@@ -229,7 +239,8 @@ pub(crate) fn choose_export_kind(
 ) -> ExportKind
     requires may { MayOffer types.now.types (spaces_in spaces.now) most }
     requires some { 0 < length (offered_kinds types.now.types (spaces_in spaces.now) left) }
-    ensures draws { AlwaysDraws (chosen_at ExportKind.Memory (offered_kinds types.now.types (spaces_in spaces.now) left) u.old) result u.old u.new }
+    ensures draws { AlwaysDraws (chosen_at ExportKind.Memory
+        (offered_kinds types.now.types (spaces_in spaces.now) left) u.old) result u.old u.new }
     ensures offered { 0 < length (candidates types.now.types (spaces_in spaces.now) left result) }
 {
     choose_enabled(&candidate_rows(types, spaces, most, left), u)

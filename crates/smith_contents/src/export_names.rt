@@ -14,9 +14,12 @@ pub(crate) fn draw_export_name(
     names: &mut HashSet<String>,
     u: &mut Unstructured<'_>,
 ) -> Result<Name, Error>
-    ensures exact { (exports : List Export) → HasNames names.old exports → length exports < 2 ^ 64 → IfOk result (λ name. export_name_at exports u.old ≡ (name, u.new)) }
-    ensures fresh { (exports : List Export) → HasNames names.old exports → IfOk result (λ name. is_exported exports name ≡ false) }
-    ensures names { (exports : List Export) (added : Export) → HasNames names.old exports → IfOk result (λ name. added.0 ≡ name → HasNames names.new (exports ++ added ∷ [])) }
+    ensures exact { (exports : List Export) → HasNames names.old exports → length exports < 2 ^ 64
+        → IfOk result (λ name. export_name_at exports u.old ≡ (name, u.new)) }
+    ensures fresh { (exports : List Export) → HasNames names.old exports
+        → IfOk result (λ name. is_exported exports name ≡ false) }
+    ensures names { (exports : List Export) (added : Export) → HasNames names.old exports
+        → IfOk result (λ name. added.0 ≡ name → HasNames names.new (exports ++ added ∷ [])) }
     ensures memory { IfErr result (λ e. e ≡ Error.Memory) }
     ensures left { KeepsPieces u.old u.new }
 {

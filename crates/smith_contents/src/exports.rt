@@ -1,4 +1,5 @@
-ghost use Rattle.std.specs.Prelude.{◌≡◌, ◌<◌, ◌≤◌, ◌+◌, ◌-◌, ◌^◌, ◌++◌, ◌∷◌, [], false, nat_lt, length, List, IsTrue, IfOk, IfErr};
+ghost use Rattle.std.specs.Prelude.{◌≡◌, ◌<◌, ◌≤◌, ◌+◌, ◌-◌, ◌^◌, ◌++◌, ◌∷◌, [], false, nat_lt};
+ghost use Rattle.std.specs.Prelude.{length, List, IsTrue, IfOk, IfErr};
 ghost use Rattle.smith_bytes.specs.Source.{KeepsPieces};
 ghost use Rattle.smith_bytes.specs.Takes.{Takes};
 ghost use Rattle.smith_types.specs.Exports.{AreExportsValid};
@@ -7,8 +8,11 @@ ghost use Rattle.smith_bytes.specs.Steps.{ReturnsWhy};
 ghost use Rattle.smith_bytes.specs.Spelling.{SpellsEmpty};
 ghost use Rattle.smith_bytes.specs.Spelling.{SpellsNone};
 ghost use Rattle.smith_rules.specs.ExportedItems.{Export, exported_size, AreAllExported};
-ghost use Rattle.smith_contents.specs.Exporting.{is_exported, HasNames, export_at, offered_kinds, exports_from, free_exports_at};
-ghost use Rattle.smith_contents.specs.Exported.{MayOffer, MayExportFreely, MayDrawExports, IsCandidate, AreExported, MayRefuseFree, MayRefuseExports};
+ghost use Rattle.smith_contents.specs.Exporting.{is_exported, HasNames, export_at, offered_kinds};
+ghost use Rattle.smith_contents.specs.Exporting.{exports_from, free_exports_at};
+ghost use Rattle.smith_contents.specs.Exported.{MayOffer, MayExportFreely, MayDrawExports};
+ghost use Rattle.smith_contents.specs.Exported.{IsCandidate, AreExported, MayRefuseFree};
+ghost use Rattle.smith_contents.specs.Exported.{MayRefuseExports};
 ghost use Rattle.smith_contents.specs.AllExports.{exports_at};
 
 use crate::all_exports::export_everything;
@@ -36,10 +40,14 @@ fn draw_export(
     requires may { MayOffer types.now.types (spaces_in spaces.now) most }
     requires some { 0 < length (offered_kinds types.now.types (spaces_in spaces.now) left) }
     ensures exact { (exports : List Export) → HasNames names.old exports → length exports < 2 ^ 64
-        → IfOk result (λ one. export_at types.now.types (spaces_in spaces.now) left exports u.old ≡ (one, u.new)) }
-    ensures fresh { (exports : List Export) → HasNames names.old exports → IfOk result (λ one. is_exported exports one.0 ≡ false) }
-    ensures names { (exports : List Export) → HasNames names.old exports → IfOk result (λ one. HasNames names.new (exports ++ one ∷ [])) }
-    ensures candidate { IfOk result (λ one. IsCandidate types.now.types (spaces_in spaces.now) left one.1 one.2) }
+        → IfOk result (λ one.
+        export_at types.now.types (spaces_in spaces.now) left exports u.old ≡ (one, u.new)) }
+    ensures fresh { (exports : List Export) → HasNames names.old exports
+        → IfOk result (λ one. is_exported exports one.0 ≡ false) }
+    ensures names { (exports : List Export) → HasNames names.old exports
+        → IfOk result (λ one. HasNames names.new (exports ++ one ∷ [])) }
+    ensures candidate { IfOk result (λ one.
+        IsCandidate types.now.types (spaces_in spaces.now) left one.1 one.2) }
     ensures memory { IfErr result (λ e. e ≡ Error.Memory) }
     ensures left { KeepsPieces u.old u.new }
 {
@@ -60,10 +68,15 @@ fn push_exports(
     u: &mut Unstructured<'_>,
 ) -> Result<Exports, Error>
     requires may { MayExportFreely config.now types.now.types (spaces_in spaces.now) imports_size }
-    ensures exact { IfOk result (λ made. exports_from config.now types.now.types (spaces_in spaces.now) imports_size config.now.max_exports [] u.old ≡ (made.exports, u.new)) }
-    ensures kept { IfOk result (λ made. AreExported config.now types.now.types (spaces_in spaces.now) imports_size made.exports made.type_size) }
+    ensures exact { IfOk result (λ made. exports_from config.now types.now.types
+        (spaces_in spaces.now) imports_size config.now.max_exports [] u.old
+        ≡ (made.exports, u.new)) }
+    ensures kept { IfOk result (λ made. AreExported config.now types.now.types
+        (spaces_in spaces.now) imports_size made.exports made.type_size) }
     ensures none_left { IfOk result (λ made. length made.exports < config.now.min_exports
-        → nat_lt 0 (length (offered_kinds types.now.types (spaces_in spaces.now) (config.now.max_type_size - made.type_size))) ≡ false) }
+        → nat_lt 0 (length (offered_kinds types.now.types (spaces_in spaces.now)
+        (config.now.max_type_size - made.type_size)))
+        ≡ false) }
     ensures memory { IfErr result (λ e. e ≡ Error.Memory) }
     ensures left { KeepsPieces u.old u.new }
 {
@@ -96,8 +109,10 @@ fn draw_exports(
     u: &mut Unstructured<'_>,
 ) -> Result<Exports, Error>
     requires may { MayExportFreely config.now types.now.types (spaces_in spaces.now) imports_size }
-    ensures exact { ReturnsWhy (λ made. (made.exports, u.new)) result (free_exports_at config.now types.now.types (spaces_in spaces.now) imports_size u.old) }
-    ensures kept { IfOk result (λ made. AreExported config.now types.now.types (spaces_in spaces.now) imports_size made.exports made.type_size) }
+    ensures exact { ReturnsWhy (λ made. (made.exports, u.new)) result
+        (free_exports_at config.now types.now.types (spaces_in spaces.now) imports_size u.old) }
+    ensures kept { IfOk result (λ made. AreExported config.now types.now.types
+        (spaces_in spaces.now) imports_size made.exports made.type_size) }
     ensures least { IfOk result (λ made. config.now.min_exports ≤ length made.exports) }
     ensures refusal { IfErr result (MayRefuseFree config.now) }
     ensures left { KeepsPieces u.old u.new }
@@ -120,14 +135,17 @@ fn draw_free_exports(
     u: &mut Unstructured<'_>,
 ) -> Result<Exports, Error>
     requires may { MayExportFreely config.now types.now.types (spaces_in spaces.now) imports_size }
-    ensures exact { ReturnsWhy (λ made. (made.exports, u.new)) result (free_exports_at config.now types.now.types (spaces_in spaces.now) imports_size u.old) }
+    ensures exact { ReturnsWhy (λ made. (made.exports, u.new)) result
+        (free_exports_at config.now types.now.types (spaces_in spaces.now) imports_size u.old) }
     ensures valid { IfOk result (λ made. AreExportsValid (spaces_in spaces.now) made.exports) }
     ensures most { IfOk result (λ made. length made.exports ≤ config.now.max_exports) }
     ensures least { IfOk result (λ made. config.now.min_exports ≤ length made.exports) }
-    ensures type_size { IfOk result (λ made. made.type_size ≡ imports_size + exported_size types.now.types (spaces_in spaces.now) made.exports) }
+    ensures type_size { IfOk result (λ made. made.type_size
+        ≡ imports_size + exported_size types.now.types (spaces_in spaces.now) made.exports) }
     ensures within { IfOk result (λ made. made.type_size ≤ config.now.max_type_size) }
     ensures refusal { IfErr result (MayRefuseFree config.now) }
-    ensures none { config.now.min_exports ≡ 0 → IfOk result (λ made. Takes (SpellsEmpty (SpellsNone config.now.max_exports)) u.old made.exports u.new) }
+    ensures none { config.now.min_exports ≡ 0 → IfOk result (λ made.
+        Takes (SpellsEmpty (SpellsNone config.now.max_exports)) u.old made.exports u.new) }
     ensures left { KeepsPieces u.old u.new }
 {
     draw_exports(alloc, config, types, spaces, imports_size, u)
@@ -159,16 +177,22 @@ pub fn arbitrary_exports(
     u: &mut Unstructured<'_>,
 ) -> Result<Exports, Error>
     requires may { MayDrawExports config.now types.now.types (spaces_in spaces.now) imports_size }
-    ensures exact { ReturnsWhy (λ made. (made.exports, u.new)) result (exports_at config.now types.now.types (spaces_in spaces.now) imports_size u.old) }
+    ensures exact { ReturnsWhy (λ made. (made.exports, u.new)) result
+        (exports_at config.now types.now.types (spaces_in spaces.now) imports_size u.old) }
     ensures valid { IfOk result (λ made. AreExportsValid (spaces_in spaces.now) made.exports) }
-    ensures most { config.now.export_everything ≡ false → IfOk result (λ made. length made.exports ≤ config.now.max_exports) }
-    ensures least { config.now.export_everything ≡ false → IfOk result (λ made. config.now.min_exports ≤ length made.exports) }
-    ensures everything { IsTrue config.now.export_everything → IfOk result (λ made. AreAllExported (spaces_in spaces.now) made.exports) }
-    ensures type_size { IfOk result (λ made. made.type_size ≡ imports_size + exported_size types.now.types (spaces_in spaces.now) made.exports) }
+    ensures most { config.now.export_everything ≡ false
+        → IfOk result (λ made. length made.exports ≤ config.now.max_exports) }
+    ensures least { config.now.export_everything ≡ false
+        → IfOk result (λ made. config.now.min_exports ≤ length made.exports) }
+    ensures everything { IsTrue config.now.export_everything
+        → IfOk result (λ made. AreAllExported (spaces_in spaces.now) made.exports) }
+    ensures type_size { IfOk result (λ made. made.type_size
+        ≡ imports_size + exported_size types.now.types (spaces_in spaces.now) made.exports) }
     ensures within { IfOk result (λ made. made.type_size ≤ config.now.max_type_size) }
     ensures refusal { IfErr result (MayRefuseExports config.now) }
     ensures none { config.now.export_everything ≡ false → config.now.min_exports ≡ 0
-        → IfOk result (λ made. Takes (SpellsEmpty (SpellsNone config.now.max_exports)) u.old made.exports u.new) }
+        → IfOk result (λ made.
+        Takes (SpellsEmpty (SpellsNone config.now.max_exports)) u.old made.exports u.new) }
     ensures left { KeepsPieces u.old u.new }
 {
     if config.export_everything {

@@ -1,4 +1,5 @@
-ghost use Rattle.std.specs.Prelude.{◌≡◌, ◌<◌, ◌+◌, ◌^◌, ◌++◌, ◌∷◌, [], length, slice_index_or, IsTrue, ◌↔◌, OnOk, IfErr};
+ghost use Rattle.std.specs.Prelude.{◌≡◌, ◌<◌, ◌+◌, ◌^◌, ◌++◌, ◌∷◌, [], length, slice_index_or};
+ghost use Rattle.std.specs.Prelude.{IsTrue, ◌↔◌, OnOk, IfErr};
 ghost use Rattle.smith_draw.specs.Choices.{chosen_at};
 ghost use Rattle.smith_draw.specs.Drawing.{AlwaysDraws};
 
@@ -42,7 +43,8 @@ impl OfferedIndices {
     /// Offers the next index.
     pub(crate) fn offer(&mut self)
         requires { self.old.end + 1 < 2 ^ 32 }
-        ensures { self.new ≡ record { end = self.old.end + 1; offered = self.old.offered ++ self.old.end ∷ [] } }
+        ensures { self.new
+            ≡ record { end = self.old.end + 1; offered = self.old.offered ++ self.old.end ∷ [] } }
     {
         self.count += 1;
     }
@@ -50,7 +52,8 @@ impl OfferedIndices {
     /// Leaves out the next index.
     pub(crate) fn leave_out(&mut self) -> Result<(), Error>
         requires { self.old.end + 1 < 2 ^ 32 }
-        ensures ok { OnOk result (self.new ≡ record { end = self.old.end + 1; offered = self.old.offered }) }
+        ensures ok { OnOk result
+            (self.new ≡ record { end = self.old.end + 1; offered = self.old.offered }) }
         ensures memory { IfErr result (λ e. e ≡ Error.Memory) }
     {
         let below = self.count;

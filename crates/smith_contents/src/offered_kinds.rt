@@ -140,7 +140,9 @@ fn count_unnamed(tables: &[TableType], offered: &OfferedIndices) -> usize
 fn named_at(tables: &[TableType], offered: &OfferedIndices, place: usize) -> KindChoice
     requires within { All (λ index. index < length tables.now) offered.now.offered }
     requires inside { place < length offered.now.offered }
-    ensures { result ≡ KindChoice.Active (Some (slice_index_or offered.now.offered place 0)) (table_at tables.now (slice_index_or offered.now.offered place 0)) }
+    ensures { result
+        ≡ KindChoice.Active (Some (slice_index_or offered.now.offered place 0))
+        (table_at tables.now (slice_index_or offered.now.offered place 0)) }
 {
     let index = offered.at(place);
     KindChoice::Active(Some(index), tables[index as usize])

@@ -1,4 +1,5 @@
-ghost use Rattle.std.specs.Prelude.{◌≡◌, ◌<◌, ◌≤◌, ◌^◌, [], true, Bool, length, slice_index_or, IsTrue};
+ghost use Rattle.std.specs.Prelude.{◌≡◌, ◌<◌, ◌≤◌, ◌^◌, [], true, Bool, length, slice_index_or};
+ghost use Rattle.std.specs.Prelude.{IsTrue};
 ghost use Rattle.smith_draw.specs.Choices.{chosen_at};
 ghost use Rattle.smith_draw.specs.ConstScopes.{AreSpacesValid, seen_by, visible_end};
 ghost use Rattle.smith_draw.specs.Drawing.{AlwaysDraws};
@@ -41,7 +42,8 @@ impl<'a> OffsetGlobals<'a> {
     /// else of 32 bits. There are none with `disallow_traps`.
     pub(crate) fn new(config: &Config, spaces: &'a Spaces<'_>, wide: bool) -> OffsetGlobals<'a>
         requires { AreSpacesValid config.now spaces.now }
-        ensures exact { result ≡ offset_globals config.now (seen_by config.now spaces.now true) wide }
+        ensures exact { result
+            ≡ offset_globals config.now (seen_by config.now spaces.now true) wide }
         ensures tell { TellOffsets (seen_by config.now spaces.now true) wide result }
         ensures none { IsTrue config.now.disallow_traps → result ≡ [] }
     {
@@ -99,7 +101,9 @@ fn visible_end(config: &Config, spaces: &Spaces<'_>) -> usize
 /// `disallow_traps`.
 fn read_globals<'a>(config: &Config, spaces: &'a Spaces<'_>) -> &'a [GlobalType]
     requires { AreSpacesValid config.now spaces.now }
-    ensures exact { (wide : Bool) → telling_from wide 0 result.now ≡ offset_globals config.now (seen_by config.now spaces.now true) wide }
+    ensures exact { (wide : Bool)
+        → telling_from wide 0 result.now
+        ≡ offset_globals config.now (seen_by config.now spaces.now true) wide }
     ensures few { length result.now < 2 ^ 32 }
 {
     if config.disallow_traps {

@@ -101,7 +101,9 @@ pub fn arbitrary_start(
     ensures draws { AlwaysDraws (start_at config.now types.now funcs.now u.old) result u.old u.new }
     ensures valid { IsStartValid types.now funcs.now result }
     ensures off { config.now.allow_start_export ≡ false → result ≡ None }
-    ensures none { Takes (SpellsSuch (λ start. start ≡ None) (λ _. SpellsNoStart config.now types.now funcs.now)) u.old result u.new }
+    ensures none { Takes
+        (SpellsSuch (λ start. start ≡ None) (λ _. SpellsNoStart config.now types.now funcs.now))
+        u.old result u.new }
 {
     draw_start(config, types, funcs, u)
 }

@@ -4,7 +4,8 @@ ghost use Rattle.smith_types.specs.Floats.{HasNoFloat};
 ghost use Rattle.smith_types.specs.IndexSpaces.{spaces_in};
 ghost use Rattle.smith_defined.specs.Definitions.{definitions_at};
 ghost use Rattle.smith_bytes.specs.Steps.{ReturnsWhy};
-ghost use Rattle.smith_defined.specs.Defined.{nothing_defined, drawn_beside, MayDefine, MayRefuseDefined, AreDefinedMore, HaveNoFloats};
+ghost use Rattle.smith_defined.specs.Defined.{nothing_defined, drawn_beside, MayDefine};
+ghost use Rattle.smith_defined.specs.Defined.{MayRefuseDefined, AreDefinedMore, HaveNoFloats};
 
 use crate::funcs::define_funcs;
 use crate::globals::define_globals;
@@ -75,10 +76,15 @@ pub fn define(
     u: &mut Unstructured<'_>,
 ) -> Result<(), Error>
     requires may { MayDefine config.now types.now (spaces_in spaces.old) definitions.old }
-    ensures exact { ReturnsWhy (λ _. ((spaces_in spaces.new, definitions.new), u.new)) result (definitions_at config.now types.now.types (spaces_in spaces.old) definitions.old u.old) }
-    ensures defined { OnOk result (AreDefinedMore config.now types.now (spaces_in spaces.old) definitions.old (spaces_in spaces.new) definitions.new) }
-    ensures floats { config.now.allow_floats ≡ false → All HasNoFloat types.now.types → HaveNoFloats (spaces_in spaces.old) definitions.old → OnOk result (HaveNoFloats (spaces_in spaces.new) definitions.new) }
-    ensures refusal { IfErr result (MayRefuseDefined config.now (drawn_beside config.now types.now.types (spaces_in spaces.old) definitions.old)) }
+    ensures exact { ReturnsWhy (λ _. ((spaces_in spaces.new, definitions.new), u.new)) result
+        (definitions_at config.now types.now.types (spaces_in spaces.old) definitions.old u.old) }
+    ensures defined { OnOk result (AreDefinedMore config.now types.now
+        (spaces_in spaces.old) definitions.old (spaces_in spaces.new) definitions.new) }
+    ensures floats { config.now.allow_floats ≡ false → All HasNoFloat types.now.types
+        → HaveNoFloats (spaces_in spaces.old) definitions.old
+        → OnOk result (HaveNoFloats (spaces_in spaces.new) definitions.new) }
+    ensures refusal { IfErr result (MayRefuseDefined config.now
+        (drawn_beside config.now types.now.types (spaces_in spaces.old) definitions.old)) }
     ensures left { KeepsPieces u.old u.new }
 {
     let tags_before = spaces.tags.len();

@@ -30,9 +30,11 @@ fn push_funcs(
     u: &mut Unstructured<'_>,
 ) -> Result<(), Error>
     requires few_types { length types.now.types < 2 ^ 32 }
-    ensures exact { ReturnsWhy (λ _. (funcs.new, u.new)) result (funcs_at config.now types.now.types funcs.old u.old) }
+    ensures exact { ReturnsWhy (λ _. (funcs.new, u.new)) result
+        (funcs_at config.now types.now.types funcs.old u.old) }
     ensures refusal { IfErr result (λ e. (e ≡ Error.Memory)
-        ⊎ ((e ≡ Error.IncorrectFormat (Why.Unmet Count.Funcs)) × (0 < config.now.min_funcs) × (length (func_types types.now.types) ≡ 0))) }
+        ⊎ ((e ≡ Error.IncorrectFormat (Why.Unmet Count.Funcs)) × (0 < config.now.min_funcs)
+        × (length (func_types types.now.types) ≡ 0))) }
     ensures left { KeepsPieces u.old u.new }
 {
     let choices = list_types(alloc, TypeUse::DefinedFunc, types.types())?;
@@ -60,11 +62,15 @@ pub(crate) fn define_funcs(
     requires valid { AreTypesValid (features_of config.now) types.now }
     requires least { config.now.min_types ≤ length types.now.types }
     requires few_types { length types.now.types < 2 ^ 32 }
-    ensures exact { ReturnsWhy (λ _. (funcs.new, u.new)) result (funcs_at config.now types.now.types funcs.old u.old) }
-    ensures filled { OnOk result (IsFilled config.now.min_funcs config.now.max_funcs funcs.old funcs.new) }
-    ensures valid { All (IsFuncTypeIndex types.now.types) funcs.old → OnOk result (All (IsFuncTypeIndex types.now.types) funcs.new) }
+    ensures exact { ReturnsWhy (λ _. (funcs.new, u.new)) result
+        (funcs_at config.now types.now.types funcs.old u.old) }
+    ensures filled { OnOk result
+        (IsFilled config.now.min_funcs config.now.max_funcs funcs.old funcs.new) }
+    ensures valid { All (IsFuncTypeIndex types.now.types) funcs.old
+        → OnOk result (All (IsFuncTypeIndex types.now.types) funcs.new) }
     ensures refusal { IfErr result (MayRefuse config.now) }
-    ensures reach { config.now.min_funcs ≡ 0 → funcs.old ≡ [] → OnOk result (Takes (SpellsFuncs config.now types.now.types) u.old funcs.new u.new) }
+    ensures reach { config.now.min_funcs ≡ 0 → funcs.old ≡ []
+        → OnOk result (Takes (SpellsFuncs config.now types.now.types) u.old funcs.new u.new) }
     ensures left { KeepsPieces u.old u.new }
 {
     push_funcs(alloc, config, types, funcs, u)

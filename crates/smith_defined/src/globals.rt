@@ -1,4 +1,5 @@
-ghost use Rattle.std.specs.Prelude.{◌≡◌, ◌<◌, ◌≤◌, ◌^◌, ℕ, true, false, List, [], map, length, IfOk, IfErr, OnOk, All};
+ghost use Rattle.std.specs.Prelude.{◌≡◌, ◌<◌, ◌≤◌, ◌^◌, ℕ, true, false, List, [], map, length};
+ghost use Rattle.std.specs.Prelude.{IfOk, IfErr, OnOk, All};
 ghost use Rattle.smith_bytes.specs.Source.{KeepsPieces};
 ghost use Rattle.smith_bytes.specs.Takes.{Takes};
 ghost use Rattle.smith_types.specs.Entities.{IsGlobalValid};
@@ -12,7 +13,8 @@ ghost use Rattle.smith_draw.specs.ConstScopes.{AreSpacesValid, seen_by};
 ghost use Rattle.smith_draw.specs.Grounding.{standing_in};
 ghost use Rattle.smith_draw.specs.KeptOffers.{AreKeptOffers};
 ghost use Rattle.smith_config.specs.Granted.{HasGroundedValue};
-ghost use Rattle.smith_defined.specs.Defined.{IsFilled, AreAdded, MayInitialise, MayRefuseDrawn, AreGlobalsDefined, drawn_over};
+ghost use Rattle.smith_defined.specs.Defined.{IsFilled, AreAdded, MayInitialise, MayRefuseDrawn};
+ghost use Rattle.smith_defined.specs.Defined.{AreGlobalsDefined, drawn_over};
 ghost use Rattle.smith_defined.specs.Definitions.{scope_among, initialised_at, globals_at};
 ghost use Rattle.smith_defined.specs.NumberedGlobals.{SpellsGlobals};
 
@@ -37,12 +39,18 @@ fn draw_initialised_global(
     requires spaces { AreSpacesValid config.now spaces.now }
     requires standing { standing.now ≡ standing_in config.now spaces.now }
     requires kept { AreKeptOffers (seen_by config.now spaces.now true) kept.old }
-    ensures exact { IfOk result (λ drawn. initialised_at config.now (seen_by config.now spaces.now true) u.old ≡ (drawn, u.new)) }
-    ensures valid { IfOk result (λ drawn. IsGlobalValid (features_of config.now) spaces.now.types.now.types drawn.0) }
-    ensures initialised { IfOk result (λ drawn. IsConstExpr (seen_by config.now spaces.now true) drawn.0.val_type drawn.1.1) }
-    ensures floats { config.now.allow_floats ≡ false → IfOk result (λ drawn. IsNoFloat drawn.0.val_type) }
-    ensures grounded { IfOk result (λ drawn. HasGroundedValue config.now (standing_in config.now spaces.now) drawn.0) }
-    ensures constants { config.now.allow_floats ≡ false → All HasNoFloat spaces.now.types.now.types → IfOk result (λ drawn. All GivesNoFloat drawn.1.1) }
+    ensures exact { IfOk result (λ drawn.
+        initialised_at config.now (seen_by config.now spaces.now true) u.old ≡ (drawn, u.new)) }
+    ensures valid { IfOk result (λ drawn.
+        IsGlobalValid (features_of config.now) spaces.now.types.now.types drawn.0) }
+    ensures initialised { IfOk result (λ drawn.
+        IsConstExpr (seen_by config.now spaces.now true) drawn.0.val_type drawn.1.1) }
+    ensures floats { config.now.allow_floats ≡ false
+        → IfOk result (λ drawn. IsNoFloat drawn.0.val_type) }
+    ensures grounded { IfOk result (λ drawn.
+        HasGroundedValue config.now (standing_in config.now spaces.now) drawn.0) }
+    ensures constants { config.now.allow_floats ≡ false → All HasNoFloat spaces.now.types.now.types
+        → IfOk result (λ drawn. All GivesNoFloat drawn.1.1) }
     ensures kept { OnOk result (AreKeptOffers (seen_by config.now spaces.now true) kept.new) }
     ensures refusal { IfErr result (MayRefuseDrawn config.now (standing_in config.now spaces.now)) }
     ensures left { KeepsPieces u.old u.new }
@@ -66,20 +74,36 @@ fn push_globals<'a>(
     initials: &mut Items<(u32, Items<ConstInstr>)>,
     u: &mut Unstructured<'_>,
 ) -> Result<(), Error>
-    requires may { MayInitialise config.now types.now (scope_among types.now.types funcs.now imported_funcs imported_globals globals.old) }
-    requires standing { standing.now ≡ drawn_over config.now (scope_among types.now.types funcs.now imported_funcs imported_globals globals.old) }
+    requires may { MayInitialise config.now types.now
+        (scope_among types.now.types funcs.now imported_funcs imported_globals globals.old) }
+    requires standing { standing.now ≡ drawn_over config.now (scope_among types.now.types funcs.now
+        imported_funcs imported_globals globals.old) }
     requires valid { All (IsGlobalValid (features_of config.now) types.now.types) globals.old }
     requires imported { imported_globals ≤ length globals.old }
     requires few { length globals.old < 2 ^ 32 }
-    ensures exact { OnOk result (globals_at config.now (scope_among types.now.types funcs.now imported_funcs imported_globals globals.old) globals.old initials.old u.old ≡ ((globals.new, initials.new), u.new)) }
-    ensures valid { OnOk result (All (IsGlobalValid (features_of config.now) types.now.types) globals.new) }
-    ensures defined { AreGlobalsDefined config.now (scope_among types.now.types funcs.now imported_funcs imported_globals globals.old) globals.old initials.old
-        → OnOk result (AreGlobalsDefined config.now (scope_among types.now.types funcs.now imported_funcs imported_globals globals.old) globals.new initials.new) }
-    ensures grounded { OnOk result (AreAdded (HasGroundedValue config.now (drawn_over config.now (scope_among types.now.types funcs.now imported_funcs imported_globals globals.old))) globals.old globals.new) }
-    ensures floats { config.now.allow_floats ≡ false → All (λ (global : GlobalType). IsNoFloat global.val_type) globals.old → OnOk result (All (λ (global : GlobalType). IsNoFloat global.val_type) globals.new) }
-    ensures constants { config.now.allow_floats ≡ false → All HasNoFloat types.now.types → All (All GivesNoFloat) (map (λ (one : ℕ × List ConstInstr). one.1) initials.old)
-        → OnOk result (All (All GivesNoFloat) (map (λ (one : ℕ × List ConstInstr). one.1) initials.new)) }
-    ensures refusal { IfErr result (MayRefuseDrawn config.now (drawn_over config.now (scope_among types.now.types funcs.now imported_funcs imported_globals globals.old))) }
+    ensures exact { OnOk result (globals_at config.now (scope_among types.now.types funcs.now
+        imported_funcs imported_globals globals.old) globals.old initials.old u.old
+        ≡ ((globals.new, initials.new), u.new)) }
+    ensures valid { OnOk result
+        (All (IsGlobalValid (features_of config.now) types.now.types) globals.new) }
+    ensures defined { AreGlobalsDefined config.now
+        (scope_among types.now.types funcs.now imported_funcs imported_globals globals.old)
+        globals.old initials.old
+        → OnOk result (AreGlobalsDefined config.now
+        (scope_among types.now.types funcs.now imported_funcs imported_globals globals.old)
+        globals.new initials.new) }
+    ensures grounded { OnOk result (AreAdded (HasGroundedValue config.now (drawn_over config.now
+        (scope_among types.now.types funcs.now imported_funcs imported_globals globals.old)))
+        globals.old globals.new) }
+    ensures floats { config.now.allow_floats ≡ false
+        → All (λ (global : GlobalType). IsNoFloat global.val_type) globals.old
+        → OnOk result (All (λ (global : GlobalType). IsNoFloat global.val_type) globals.new) }
+    ensures constants { config.now.allow_floats ≡ false → All HasNoFloat types.now.types
+        → All (All GivesNoFloat) (map (λ (one : ℕ × List ConstInstr). one.1) initials.old)
+        → OnOk result (All (All GivesNoFloat)
+        (map (λ (one : ℕ × List ConstInstr). one.1) initials.new)) }
+    ensures refusal { IfErr result (MayRefuseDrawn config.now (drawn_over config.now
+        (scope_among types.now.types funcs.now imported_funcs imported_globals globals.old))) }
     ensures left { KeepsPieces u.old u.new }
 {
     let before = globals.len();
@@ -125,23 +149,41 @@ pub(crate) fn define_globals<'a>(
     initials: &mut Items<(u32, Items<ConstInstr>)>,
     u: &mut Unstructured<'_>,
 ) -> Result<(), Error>
-    requires may { MayInitialise config.now types.now (scope_among types.now.types funcs.now imported_funcs imported_globals globals.old) }
-    requires standing { standing.now ≡ drawn_over config.now (scope_among types.now.types funcs.now imported_funcs imported_globals globals.old) }
+    requires may { MayInitialise config.now types.now
+        (scope_among types.now.types funcs.now imported_funcs imported_globals globals.old) }
+    requires standing { standing.now ≡ drawn_over config.now (scope_among types.now.types funcs.now
+        imported_funcs imported_globals globals.old) }
     requires valid { All (IsGlobalValid (features_of config.now) types.now.types) globals.old }
     requires imported { imported_globals ≤ length globals.old }
     requires few { length globals.old < 2 ^ 32 }
-    ensures exact { OnOk result (globals_at config.now (scope_among types.now.types funcs.now imported_funcs imported_globals globals.old) globals.old initials.old u.old ≡ ((globals.new, initials.new), u.new)) }
-    ensures filled { OnOk result (IsFilled config.now.min_globals config.now.max_globals globals.old globals.new) }
-    ensures valid { OnOk result (All (IsGlobalValid (features_of config.now) types.now.types) globals.new) }
-    ensures defined { AreGlobalsDefined config.now (scope_among types.now.types funcs.now imported_funcs imported_globals globals.old) globals.old initials.old
-        → OnOk result (AreGlobalsDefined config.now (scope_among types.now.types funcs.now imported_funcs imported_globals globals.old) globals.new initials.new) }
-    ensures grounded { OnOk result (AreAdded (HasGroundedValue config.now (drawn_over config.now (scope_among types.now.types funcs.now imported_funcs imported_globals globals.old))) globals.old globals.new) }
-    ensures floats { config.now.allow_floats ≡ false → All (λ (global : GlobalType). IsNoFloat global.val_type) globals.old → OnOk result (All (λ (global : GlobalType). IsNoFloat global.val_type) globals.new) }
-    ensures constants { config.now.allow_floats ≡ false → All HasNoFloat types.now.types → All (All GivesNoFloat) (map (λ (one : ℕ × List ConstInstr). one.1) initials.old)
-        → OnOk result (All (All GivesNoFloat) (map (λ (one : ℕ × List ConstInstr). one.1) initials.new)) }
+    ensures exact { OnOk result (globals_at config.now (scope_among types.now.types funcs.now
+        imported_funcs imported_globals globals.old) globals.old initials.old u.old
+        ≡ ((globals.new, initials.new), u.new)) }
+    ensures filled { OnOk result
+        (IsFilled config.now.min_globals config.now.max_globals globals.old globals.new) }
+    ensures valid { OnOk result
+        (All (IsGlobalValid (features_of config.now) types.now.types) globals.new) }
+    ensures defined { AreGlobalsDefined config.now
+        (scope_among types.now.types funcs.now imported_funcs imported_globals globals.old)
+        globals.old initials.old
+        → OnOk result (AreGlobalsDefined config.now
+        (scope_among types.now.types funcs.now imported_funcs imported_globals globals.old)
+        globals.new initials.new) }
+    ensures grounded { OnOk result (AreAdded (HasGroundedValue config.now (drawn_over config.now
+        (scope_among types.now.types funcs.now imported_funcs imported_globals globals.old)))
+        globals.old globals.new) }
+    ensures floats { config.now.allow_floats ≡ false
+        → All (λ (global : GlobalType). IsNoFloat global.val_type) globals.old
+        → OnOk result (All (λ (global : GlobalType). IsNoFloat global.val_type) globals.new) }
+    ensures constants { config.now.allow_floats ≡ false → All HasNoFloat types.now.types
+        → All (All GivesNoFloat) (map (λ (one : ℕ × List ConstInstr). one.1) initials.old)
+        → OnOk result (All (All GivesNoFloat)
+        (map (λ (one : ℕ × List ConstInstr). one.1) initials.new)) }
     ensures reach { config.now.min_globals ≡ 0 → globals.old ≡ [] → initials.old ≡ []
-        → OnOk result (Takes (SpellsGlobals config.now) u.old (globals.new, map (λ (one : ℕ × List ConstInstr). one.1) initials.new) u.new) }
-    ensures refusal { IfErr result (MayRefuseDrawn config.now (drawn_over config.now (scope_among types.now.types funcs.now imported_funcs imported_globals globals.old))) }
+        → OnOk result (Takes (SpellsGlobals config.now) u.old
+        (globals.new, map (λ (one : ℕ × List ConstInstr). one.1) initials.new) u.new) }
+    ensures refusal { IfErr result (MayRefuseDrawn config.now (drawn_over config.now
+        (scope_among types.now.types funcs.now imported_funcs imported_globals globals.old))) }
     ensures left { KeepsPieces u.old u.new }
 {
     push_globals(

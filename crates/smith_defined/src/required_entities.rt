@@ -10,9 +10,11 @@ ghost use Rattle.smith_draw.specs.ConstScopes.{AreSpacesValid, seen_by};
 ghost use Rattle.smith_draw.specs.KeptOffers.{AreKeptOffers};
 ghost use Rattle.smith_types.specs.Imports.{entity_spaces};
 ghost use Rattle.smith_defined.specs.Defined.{AreWithin, drawn_beside};
-ghost use Rattle.smith_defined.specs.Required.{MayDefineMore, IsInitialised, IsDefinedMore, MayRefuseInitial, MayRefuseEntity};
+ghost use Rattle.smith_defined.specs.Required.{MayDefineMore, IsInitialised, IsDefinedMore};
+ghost use Rattle.smith_defined.specs.Required.{MayRefuseInitial, MayRefuseEntity};
 ghost use Rattle.smith_bytes.specs.Steps.{Returns, is_memory};
-ghost use Rattle.smith_defined.specs.RequiredExports.{next_index, several, scope_beside, defined_with_at, entity_required_at};
+ghost use Rattle.smith_defined.specs.RequiredExports.{next_index, several, scope_beside};
+ghost use Rattle.smith_defined.specs.RequiredExports.{defined_with_at, entity_required_at};
 
 use crate::definitions::Definitions;
 use crate::standing::standing;
@@ -55,8 +57,12 @@ fn several(config: &Config, spaces: &IndexSpaces, added: &EntityType) -> Option<
 fn scope<'a>(types: &'a TypeSpace, spaces: &'a IndexSpaces, definitions: &Definitions) -> Spaces<'a>
     requires within { AreWithin (spaces_in spaces.now) definitions.now }
     ensures types { result.types.now ≡ types.now }
-    ensures seen { (config : Configuration) (allow_defined : Bool) → seen_by config result allow_defined ≡ scope_beside config types.now.types (spaces_in spaces.now) definitions.now allow_defined }
-    ensures valid { (config : Configuration) → MayDefineMore config types.now (spaces_in spaces.now) definitions.now 1 → AreSpacesValid config result }
+    ensures seen { (config : Configuration) (allow_defined : Bool)
+        → seen_by config result allow_defined
+        ≡ scope_beside config types.now.types (spaces_in spaces.now) definitions.now allow_defined }
+    ensures valid { (config : Configuration)
+        → MayDefineMore config types.now (spaces_in spaces.now) definitions.now 1
+        → AreSpacesValid config result }
 {
     standing(
         types,
@@ -80,11 +86,18 @@ fn define_table(
 ) -> Result<(), Error>
     requires may { MayDefineMore config.now types.now (spaces_in spaces.now) definitions.old 1 }
     requires valid { IsTableValid (features_of config.now) types.now.types table }
-    requires kept { AreKeptOffers (scope_beside config.now types.now.types (spaces_in spaces.now) definitions.old false) kept.old }
-    ensures exact { Returns is_memory (λ _. (definitions.new, u.new)) result (defined_with_at config.now types.now.types (spaces_in spaces.now) definitions.old (EntityType.Table table) u.old) }
-    ensures initialised { OnOk result (IsInitialised config.now types.now.types (spaces_in spaces.now) definitions.old definitions.new (EntityType.Table table)) }
-    ensures kept { OnOk result (AreKeptOffers (scope_beside config.now types.now.types (spaces_in spaces.now) definitions.old false) kept.new) }
-    ensures refusal { IfErr result (MayRefuseConstExpr config.now (drawn_beside config.now types.now.types (spaces_in spaces.now) definitions.old) (Ref table.element_type)) }
+    requires kept { AreKeptOffers (scope_beside config.now types.now.types
+        (spaces_in spaces.now) definitions.old false) kept.old }
+    ensures exact { Returns is_memory (λ _. (definitions.new, u.new)) result
+        (defined_with_at config.now types.now.types (spaces_in spaces.now) definitions.old
+        (EntityType.Table table) u.old) }
+    ensures initialised { OnOk result (IsInitialised config.now types.now.types
+        (spaces_in spaces.now) definitions.old definitions.new (EntityType.Table table)) }
+    ensures kept { OnOk result (AreKeptOffers (scope_beside config.now types.now.types
+        (spaces_in spaces.now) definitions.old false) kept.new) }
+    ensures refusal { IfErr result (MayRefuseConstExpr config.now
+        (drawn_beside config.now types.now.types (spaces_in spaces.now) definitions.old)
+        (Ref table.element_type)) }
     ensures left { KeepsPieces u.old u.new }
 {
     let spaces = scope(types, spaces, definitions);
@@ -106,11 +119,18 @@ fn define_global(
 ) -> Result<(), Error>
     requires may { MayDefineMore config.now types.now (spaces_in spaces.now) definitions.old 1 }
     requires valid { IsGlobalValid (features_of config.now) types.now.types global }
-    requires kept { AreKeptOffers (scope_beside config.now types.now.types (spaces_in spaces.now) definitions.old true) kept.old }
-    ensures exact { Returns is_memory (λ _. (definitions.new, u.new)) result (defined_with_at config.now types.now.types (spaces_in spaces.now) definitions.old (EntityType.Global global) u.old) }
-    ensures initialised { OnOk result (IsInitialised config.now types.now.types (spaces_in spaces.now) definitions.old definitions.new (EntityType.Global global)) }
-    ensures kept { OnOk result (AreKeptOffers (scope_beside config.now types.now.types (spaces_in spaces.now) definitions.old true) kept.new) }
-    ensures refusal { IfErr result (MayRefuseConstExpr config.now (drawn_beside config.now types.now.types (spaces_in spaces.now) definitions.old) global.val_type) }
+    requires kept { AreKeptOffers (scope_beside config.now types.now.types
+        (spaces_in spaces.now) definitions.old true) kept.old }
+    ensures exact { Returns is_memory (λ _. (definitions.new, u.new)) result
+        (defined_with_at config.now types.now.types (spaces_in spaces.now) definitions.old
+        (EntityType.Global global) u.old) }
+    ensures initialised { OnOk result (IsInitialised config.now types.now.types
+        (spaces_in spaces.now) definitions.old definitions.new (EntityType.Global global)) }
+    ensures kept { OnOk result (AreKeptOffers (scope_beside config.now types.now.types
+        (spaces_in spaces.now) definitions.old true) kept.new) }
+    ensures refusal { IfErr result (MayRefuseConstExpr config.now
+        (drawn_beside config.now types.now.types (spaces_in spaces.now) definitions.old)
+        global.val_type) }
     ensures left { KeepsPieces u.old u.new }
 {
     let index = spaces.globals.len() as u32;
@@ -132,12 +152,18 @@ fn define_initial(
     u: &mut Unstructured<'_>,
 ) -> Result<(), Error>
     requires may { MayDefineMore config.now types.now (spaces_in spaces.now) definitions.old 1 }
-    requires valid { AreEntitiesValid (features_of config.now) types.now.types (entity_spaces added) }
-    requires kept { AreKeptOffers (scope_beside config.now types.now.types (spaces_in spaces.now) definitions.old true) kept.old }
-    ensures exact { Returns is_memory (λ _. (definitions.new, u.new)) result (defined_with_at config.now types.now.types (spaces_in spaces.now) definitions.old added u.old) }
-    ensures initialised { OnOk result (IsInitialised config.now types.now.types (spaces_in spaces.now) definitions.old definitions.new added) }
-    ensures kept { OnOk result (AreKeptOffers (scope_beside config.now types.now.types (spaces_in spaces.now) definitions.old true) kept.new) }
-    ensures refusal { IfErr result (MayRefuseInitial config.now (drawn_beside config.now types.now.types (spaces_in spaces.now) definitions.old) added) }
+    requires valid { AreEntitiesValid (features_of config.now) types.now.types
+        (entity_spaces added) }
+    requires kept { AreKeptOffers (scope_beside config.now types.now.types
+        (spaces_in spaces.now) definitions.old true) kept.old }
+    ensures exact { Returns is_memory (λ _. (definitions.new, u.new)) result (defined_with_at
+        config.now types.now.types (spaces_in spaces.now) definitions.old added u.old) }
+    ensures initialised { OnOk result (IsInitialised config.now types.now.types
+        (spaces_in spaces.now) definitions.old definitions.new added) }
+    ensures kept { OnOk result (AreKeptOffers (scope_beside config.now types.now.types
+        (spaces_in spaces.now) definitions.old true) kept.new) }
+    ensures refusal { IfErr result (MayRefuseInitial config.now
+        (drawn_beside config.now types.now.types (spaces_in spaces.now) definitions.old) added) }
     ensures left { KeepsPieces u.old u.new }
 {
     match added {
@@ -168,12 +194,19 @@ pub(crate) fn define_entity(
     u: &mut Unstructured<'_>,
 ) -> Result<(), Error>
     requires may { MayDefineMore config.now types.now (spaces_in spaces.old) definitions.old 1 }
-    requires valid { AreEntitiesValid (features_of config.now) types.now.types (entity_spaces added) }
-    requires kept { AreKeptOffers (scope_beside config.now types.now.types (spaces_in spaces.old) definitions.old true) kept.old }
-    ensures exact { Returns is_memory (λ _. ((spaces_in spaces.new, definitions.new), u.new)) result (entity_required_at config.now types.now.types (spaces_in spaces.old) definitions.old added u.old) }
-    ensures defined { OnOk result (IsDefinedMore config.now types.now.types (spaces_in spaces.old) definitions.old (spaces_in spaces.new) definitions.new added) }
-    ensures kept { OnOk result (AreKeptOffers (scope_beside config.now types.now.types (spaces_in spaces.new) definitions.new true) kept.new) }
-    ensures refusal { IfErr result (MayRefuseEntity config.now (drawn_beside config.now types.now.types (spaces_in spaces.old) definitions.old) added) }
+    requires valid { AreEntitiesValid (features_of config.now) types.now.types
+        (entity_spaces added) }
+    requires kept { AreKeptOffers (scope_beside config.now types.now.types
+        (spaces_in spaces.old) definitions.old true) kept.old }
+    ensures exact { Returns is_memory (λ _. ((spaces_in spaces.new, definitions.new), u.new)) result
+        (entity_required_at config.now types.now.types
+        (spaces_in spaces.old) definitions.old added u.old) }
+    ensures defined { OnOk result (IsDefinedMore config.now types.now.types
+        (spaces_in spaces.old) definitions.old (spaces_in spaces.new) definitions.new added) }
+    ensures kept { OnOk result (AreKeptOffers (scope_beside config.now types.now.types
+        (spaces_in spaces.new) definitions.new true) kept.new) }
+    ensures refusal { IfErr result (MayRefuseEntity config.now
+        (drawn_beside config.now types.now.types (spaces_in spaces.old) definitions.old) added) }
     ensures left { KeepsPieces u.old u.new }
 {
     if let Some(why) = several(config, spaces, &added) {

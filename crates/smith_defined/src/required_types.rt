@@ -1,8 +1,10 @@
-ghost use Rattle.std.specs.Prelude.{◌≡◌, ◌<◌, ◌+◌, ◌^◌, true, None, Some, length, slice_get, MatchOption, IfOk, IfErr, OnOk};
+ghost use Rattle.std.specs.Prelude.{◌≡◌, ◌<◌, ◌+◌, ◌^◌, true, None, Some, length, slice_get};
+ghost use Rattle.std.specs.Prelude.{MatchOption, IfOk, IfErr, OnOk};
 ghost use Rattle.smith_types.specs.Groups.{space_of};
 ghost use Rattle.smith_config.specs.Shapes.{shape_types};
 ghost use Rattle.smith_defined.specs.Required.{HasNoSupertypes};
-ghost use Rattle.smith_defined.specs.RequiredExports.{with_own_group, with_type_of, of_own_type, types_over, entity_over};
+ghost use Rattle.smith_defined.specs.RequiredExports.{with_own_group, with_type_of, of_own_type};
+ghost use Rattle.smith_defined.specs.RequiredExports.{types_over, entity_over};
 
 use smith_bytes::Error;
 use smith_config::Shape;
@@ -11,7 +13,8 @@ use std::alloc::Global;
 
 /// Finds the type at `index` among the types of `groups`, if it exists.
 fn type_at(groups: &[Items<SubType>], index: usize) -> Option<&SubType>
-    ensures { MatchOption result (slice_get (space_of groups.now).types index ≡ None) (λ ty. slice_get (space_of groups.now).types index ≡ Some ty.now) }
+    ensures { MatchOption result (slice_get (space_of groups.now).types index ≡ None) (λ ty.
+        slice_get (space_of groups.now).types index ≡ Some ty.now) }
 {
     let mut left = index;
     for group in groups {
@@ -33,7 +36,8 @@ fn push_own_type(
 ) -> Result<u32, Error>
     requires room { length types.old.types + 1 < 2 ^ 32 }
     requires roots { HasNoSupertypes (space_of groups.now).types }
-    ensures types { OnOk result (types.new ≡ with_own_group types.old (slice_get (space_of groups.now).types index)) }
+    ensures types { OnOk result
+        (types.new ≡ with_own_group types.old (slice_get (space_of groups.now).types index)) }
     ensures index { IfOk result (λ own. own ≡ length types.old.types) }
     ensures memory { IfErr result (λ e. e ≡ Error.Memory) }
 {
@@ -56,7 +60,8 @@ fn of_own_type(
 ) -> Result<EntityType, Error>
     requires room { length types.old.types + 1 < 2 ^ 32 }
     requires roots { HasNoSupertypes (shape_types shape.now) }
-    ensures types { OnOk result (types.new ≡ with_type_of (shape_types shape.now) types.old theirs) }
+    ensures types { OnOk result
+        (types.new ≡ with_type_of (shape_types shape.now) types.old theirs) }
     ensures entity { IfOk result (λ own. own ≡ of_own_type types.old theirs) }
     ensures memory { IfErr result (λ e. e ≡ Error.Memory) }
 {
@@ -81,7 +86,8 @@ pub(crate) fn entity_over(
 ) -> Result<EntityType, Error>
     requires room { length types.old.types + 1 < 2 ^ 32 }
     requires roots { own_types ≡ true → HasNoSupertypes (shape_types shape.now) }
-    ensures types { OnOk result (types.new ≡ types_over own_types (shape_types shape.now) types.old theirs) }
+    ensures types { OnOk result
+        (types.new ≡ types_over own_types (shape_types shape.now) types.old theirs) }
     ensures entity { IfOk result (λ over. over ≡ entity_over own_types types.old theirs) }
     ensures memory { IfErr result (λ e. e ≡ Error.Memory) }
 {

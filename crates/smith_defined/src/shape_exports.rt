@@ -1,4 +1,5 @@
-ghost use Rattle.std.specs.Prelude.{◌≡◌, ◌<◌, ◌≤◌, ◌+◌, ◌^◌, ◌++◌, ◌∷◌, [], true, false, length, List, IsTrue, IfOk, IfErr, OnOk, All};
+ghost use Rattle.std.specs.Prelude.{◌≡◌, ◌<◌, ◌≤◌, ◌+◌, ◌^◌, ◌++◌, ◌∷◌, [], true, false, length};
+ghost use Rattle.std.specs.Prelude.{List, IsTrue, IfOk, IfErr, OnOk, All};
 ghost use Rattle.std.specs.List.{AllZip};
 ghost use Rattle.smith_bytes.specs.Source.{KeepsPieces};
 ghost use Rattle.smith_bytes.specs.declared.error.Count.{Count};
@@ -8,7 +9,8 @@ ghost use Rattle.smith_types.specs.Exports.{AreExportsValid};
 ghost use Rattle.smith_types.specs.Grown.{Extends, AreSpacesGrown};
 ghost use Rattle.smith_types.specs.Imports.{IndexSpaces as Spaces, imported_spaces};
 ghost use Rattle.smith_types.specs.IndexSpaces.{spaces_in};
-ghost use Rattle.smith_config.specs.Shapes.{most_listed, shape_imports, shape_spaces, shape_types, IsShapeValid};
+ghost use Rattle.smith_config.specs.Shapes.{most_listed, shape_imports, shape_spaces, shape_types};
+ghost use Rattle.smith_config.specs.Shapes.{IsShapeValid};
 ghost use Rattle.smith_draw.specs.ConstBounds.{HoldsUngroundedField};
 ghost use Rattle.smith_draw.specs.KeptOffers.{AreKeptOffers};
 ghost use Rattle.smith_draw.specs.FuncSizes.{HasFewValues};
@@ -16,9 +18,12 @@ ghost use Rattle.smith_rules.specs.Bounds.{items_of_exports};
 ghost use Rattle.smith_rules.specs.ShapeImports.{count_in};
 ghost use Rattle.smith_rules.specs.ExportedItems.{IsStanding, Export};
 ghost use Rattle.smith_defined.specs.Defined.{StandsBehind, drawn_beside};
-ghost use Rattle.smith_defined.specs.Required.{AddsLimitsOf, AddsTypesOf, MayDefineMore, MayRequire, IsRequiredMore, AreRequired, MayLackIn, MayRefuseRequired, MayRefuseExported};
+ghost use Rattle.smith_defined.specs.Required.{AddsLimitsOf, AddsTypesOf, MayDefineMore};
+ghost use Rattle.smith_defined.specs.Required.{MayRequire, IsRequiredMore, AreRequired, MayLackIn};
+ghost use Rattle.smith_defined.specs.Required.{MayRefuseRequired, MayRefuseExported};
 ghost use Rattle.smith_bytes.specs.Steps.{Returns, is_memory};
-ghost use Rattle.smith_defined.specs.RequiredExports.{entity_of, scope_beside, standing_with, export_required_at, required_at};
+ghost use Rattle.smith_defined.specs.RequiredExports.{entity_of, scope_beside, standing_with};
+ghost use Rattle.smith_defined.specs.RequiredExports.{export_required_at, required_at};
 ghost use Rattle.smith_rules.specs.ShapesKept.{IsSameExport, IsSameType};
 
 use crate::definitions::Definitions;
@@ -51,12 +56,22 @@ fn make_export(
     requires shape { MayRequire own_types config.now shape.now types.old }
     requires may { MayDefineMore config.now types.old (spaces_in spaces.old) definitions.old 1 }
     requires room { length types.old.types + 1 < 2 ^ 32 }
-    requires kept { AreKeptOffers (scope_beside config.now types.old.types (spaces_in spaces.old) definitions.old true) kept.old }
-    ensures exact { (before : List Export) → Returns is_memory (λ made. (standing_with types.new (spaces_in spaces.new) definitions.new (before ++ made ∷ []), u.new)) result
-        (export_required_at own_types config.now shape.now one.now (standing_with types.old (spaces_in spaces.old) definitions.old before) u.old (entity_of (shape_spaces shape.now) one.now.1 one.now.2)) }
-    ensures required { IfOk result (IsRequiredMore own_types config.now shape.now types.old (spaces_in spaces.old) definitions.old types.new (spaces_in spaces.new) definitions.new one.now) }
-    ensures kept { OnOk result (AreKeptOffers (scope_beside config.now types.new.types (spaces_in spaces.new) definitions.new true) kept.new) }
-    ensures refusal { IfErr result (MayRefuseExported config.now (drawn_beside config.now types.old.types (spaces_in spaces.old) definitions.old) shape.now one.now) }
+    requires kept { AreKeptOffers (scope_beside config.now types.old.types
+        (spaces_in spaces.old) definitions.old true) kept.old }
+    ensures exact { (before : List Export) → Returns is_memory (λ made. (
+      standing_with types.new (spaces_in spaces.new) definitions.new (before ++ made ∷ []),
+      u.new,
+    )) result (export_required_at own_types config.now shape.now one.now
+        (standing_with types.old (spaces_in spaces.old) definitions.old before) u.old
+        (entity_of (shape_spaces shape.now) one.now.1 one.now.2)) }
+    ensures required { IfOk result
+        (IsRequiredMore own_types config.now shape.now types.old (spaces_in spaces.old)
+        definitions.old types.new (spaces_in spaces.new) definitions.new one.now) }
+    ensures kept { OnOk result (AreKeptOffers (scope_beside config.now types.new.types
+        (spaces_in spaces.new) definitions.new true) kept.new) }
+    ensures refusal { IfErr result (MayRefuseExported config.now
+        (drawn_beside config.now types.old.types (spaces_in spaces.old) definitions.old)
+        shape.now one.now) }
     ensures left { KeepsPieces u.old u.new }
 {
     let theirs = entity_of_shape(shape, imported, one.1, one.2);
@@ -79,12 +94,17 @@ fn push_exports(
     u: &mut Unstructured<'_>,
 ) -> Result<Items<(Name, ExportKind, u32)>, Error>
     requires shape { MayRequire own_types config.now shape.now types.old }
-    requires may { MayDefineMore config.now types.old (spaces_in spaces.old) definitions.old (length shape.now.exports) }
+    requires may { MayDefineMore config.now types.old (spaces_in spaces.old) definitions.old
+        (length shape.now.exports) }
     requires room { length types.old.types + length shape.now.exports < 2 ^ 32 }
-    ensures exact { Returns is_memory (λ exports. (standing_with types.new (spaces_in spaces.new) definitions.new exports, u.new)) result
-        (required_at own_types config.now shape.now types.old (spaces_in spaces.old) definitions.old u.old) }
-    ensures required { IfOk result (AreRequired own_types config.now shape.now types.old (spaces_in spaces.old) definitions.old types.new (spaces_in spaces.new) definitions.new) }
-    ensures refusal { IfErr result (MayRefuseRequired config.now (drawn_beside config.now types.old.types (spaces_in spaces.old) definitions.old) shape.now) }
+    ensures exact { Returns is_memory
+        (λ exports. (standing_with types.new (spaces_in spaces.new) definitions.new exports, u.new))
+        result (required_at own_types config.now shape.now types.old
+        (spaces_in spaces.old) definitions.old u.old) }
+    ensures required { IfOk result (AreRequired own_types config.now shape.now types.old
+        (spaces_in spaces.old) definitions.old types.new (spaces_in spaces.new) definitions.new) }
+    ensures refusal { IfErr result (MayRefuseRequired config.now (drawn_beside config.now
+        types.old.types (spaces_in spaces.old) definitions.old) shape.now) }
     ensures left { KeepsPieces u.old u.new }
 {
     let imported = imported_spaces_of(alloc, shape.imports.as_slice())?;
@@ -133,24 +153,45 @@ pub fn make_required_exports(
     u: &mut Unstructured<'_>,
 ) -> Result<Items<(Name, ExportKind, u32)>, Error>
     requires valid { IsShapeValid Exports config.now shape.now }
-    requires may { MayDefineMore config.now types.old (spaces_in spaces.old) definitions.old (length shape.now.exports) }
+    requires may { MayDefineMore config.now types.old (spaces_in spaces.old) definitions.old
+        (length shape.now.exports) }
     requires room { length types.old.types + length shape.now.exports < 2 ^ 32 }
-    ensures exact { Returns is_memory (λ exports. (standing_with types.new (spaces_in spaces.new) definitions.new exports, u.new)) result
-        (required_at true config.now shape.now types.old (spaces_in spaces.old) definitions.old u.old) }
-    ensures kept { IfOk result (λ exports. AllZip (IsSameExport (IsSameType types.new.types (shape_types shape.now)) (spaces_in spaces.new) (shape_spaces shape.now)) exports shape.now.exports) }
+    ensures exact { Returns is_memory
+        (λ exports. (standing_with types.new (spaces_in spaces.new) definitions.new exports, u.new))
+        result (required_at true config.now shape.now types.old
+        (spaces_in spaces.old) definitions.old u.old) }
+    ensures kept { IfOk result (λ exports.
+        AllZip (IsSameExport (IsSameType types.new.types (shape_types shape.now))
+        (spaces_in spaces.new) (shape_spaces shape.now)) exports shape.now.exports) }
     ensures valid { IfOk result (AreExportsValid (spaces_in spaces.new)) }
-    ensures stands { (imported : Spaces) → StandsBehind config.now imported types.old (spaces_in spaces.old) definitions.old → OnOk result (StandsBehind config.now imported types.new (spaces_in spaces.new) definitions.new) }
+    ensures stands { (imported : Spaces)
+        → StandsBehind config.now imported types.old (spaces_in spaces.old) definitions.old
+        → OnOk result
+        (StandsBehind config.now imported types.new (spaces_in spaces.new) definitions.new) }
     ensures types { OnOk result (Extends types.old.types types.new.types) }
     ensures groups { OnOk result (Extends types.old.groups types.new.groups) }
-    ensures types_most { OnOk result (length types.new.types ≤ length types.old.types + items_of_exports Types shape.now) }
-    ensures lacking { OnOk result (HoldsUngroundedField config.now (drawn_beside config.now types.new.types (spaces_in spaces.new) definitions.new) → HoldsUngroundedField config.now (drawn_beside config.now types.old.types (spaces_in spaces.old) definitions.old)) }
+    ensures types_most { OnOk result
+        (length types.new.types ≤ length types.old.types + items_of_exports Types shape.now) }
+    ensures lacking { OnOk result (HoldsUngroundedField config.now
+        (drawn_beside config.now types.new.types (spaces_in spaces.new) definitions.new)
+        → HoldsUngroundedField config.now
+        (drawn_beside config.now types.old.types (spaces_in spaces.old) definitions.old)) }
     ensures types_of { OnOk result (AddsTypesOf shape.now types.old.types types.new.types) }
-    ensures few_values { All (HasFewValues most_listed) types.old.types → OnOk result (All (HasFewValues most_listed) types.new.types) }
+    ensures few_values { All (HasFewValues most_listed) types.old.types
+        → OnOk result (All (HasFewValues most_listed) types.new.types) }
     ensures spaces { OnOk result (AreSpacesGrown (spaces_in spaces.old) (spaces_in spaces.new)) }
-    ensures limits { OnOk result (AddsLimitsOf shape.now (spaces_in spaces.old) (spaces_in spaces.new)) }
-    ensures counted { (count : Count) → (count ≡ Types → ⊥) → OnOk result (count_in (spaces_in spaces.new) count ≡ count_in (spaces_in spaces.old) count + items_of_exports count shape.now) }
-    ensures refusal { IfErr result (MayRefuseRequired config.now (drawn_beside config.now types.old.types (spaces_in spaces.old) definitions.old) shape.now) }
-    ensures memory { (MayLackIn config.now (drawn_beside config.now types.old.types (spaces_in spaces.old) definitions.old) shape.now → ⊥) → IsTrue config.now.reference_types_enabled → 2 ≤ config.now.max_memories → IfErr result (λ e. e ≡ Error.Memory) }
+    ensures limits { OnOk result
+        (AddsLimitsOf shape.now (spaces_in spaces.old) (spaces_in spaces.new)) }
+    ensures counted { (count : Count) → (count ≡ Types → ⊥)
+        → OnOk result (count_in (spaces_in spaces.new) count
+        ≡ count_in (spaces_in spaces.old) count + items_of_exports count shape.now) }
+    ensures refusal { IfErr result (MayRefuseRequired config.now (drawn_beside config.now
+        types.old.types (spaces_in spaces.old) definitions.old) shape.now) }
+    ensures memory { (MayLackIn config.now
+        (drawn_beside config.now types.old.types (spaces_in spaces.old) definitions.old) shape.now
+        → ⊥)
+        → IsTrue config.now.reference_types_enabled → 2 ≤ config.now.max_memories
+        → IfErr result (λ e. e ≡ Error.Memory) }
     ensures left { KeepsPieces u.old u.new }
 {
     push_exports(alloc, config, true, shape, types, spaces, definitions, u)
@@ -171,19 +212,35 @@ pub fn make_shape_exports(
 ) -> Result<Items<(Name, ExportKind, u32)>, Error>
     requires valid { IsShapeValid ModuleShape config.now shape.now }
     requires types { Extends (shape_types shape.now) types.old.types }
-    requires may { MayDefineMore config.now types.old (spaces_in spaces.old) definitions.old (length shape.now.exports) }
+    requires may { MayDefineMore config.now types.old (spaces_in spaces.old) definitions.old
+        (length shape.now.exports) }
     requires room { length types.old.types + length shape.now.exports < 2 ^ 32 }
-    ensures exact { Returns is_memory (λ exports. (standing_with types.new (spaces_in spaces.new) definitions.new exports, u.new)) result
-        (required_at false config.now shape.now types.old (spaces_in spaces.old) definitions.old u.old) }
-    ensures kept { IfOk result (λ exports. AllZip (IsSameExport (λ mine yours. mine ≡ yours) (spaces_in spaces.new) (shape_spaces shape.now)) exports shape.now.exports) }
+    ensures exact { Returns is_memory
+        (λ exports. (standing_with types.new (spaces_in spaces.new) definitions.new exports, u.new))
+        result (required_at false config.now shape.now types.old
+        (spaces_in spaces.old) definitions.old u.old) }
+    ensures kept { IfOk result (λ exports. AllZip
+        (IsSameExport (λ mine yours. mine ≡ yours) (spaces_in spaces.new) (shape_spaces shape.now))
+        exports shape.now.exports) }
     ensures valid { IfOk result (AreExportsValid (spaces_in spaces.new)) }
-    ensures stands { (imported : Spaces) → StandsBehind config.now imported types.old (spaces_in spaces.old) definitions.old → OnOk result (StandsBehind config.now imported types.new (spaces_in spaces.new) definitions.new) }
+    ensures stands { (imported : Spaces)
+        → StandsBehind config.now imported types.old (spaces_in spaces.old) definitions.old
+        → OnOk result
+        (StandsBehind config.now imported types.new (spaces_in spaces.new) definitions.new) }
     ensures types { OnOk result (types.new ≡ types.old) }
     ensures spaces { OnOk result (AreSpacesGrown (spaces_in spaces.old) (spaces_in spaces.new)) }
-    ensures limits { OnOk result (AddsLimitsOf shape.now (spaces_in spaces.old) (spaces_in spaces.new)) }
-    ensures counted { (count : Count) → (count ≡ Types → ⊥) → OnOk result (count_in (spaces_in spaces.new) count ≡ count_in (spaces_in spaces.old) count + items_of_exports count shape.now) }
-    ensures refusal { IfErr result (MayRefuseRequired config.now (drawn_beside config.now types.old.types (spaces_in spaces.old) definitions.old) shape.now) }
-    ensures memory { (MayLackIn config.now (drawn_beside config.now types.old.types (spaces_in spaces.old) definitions.old) shape.now → ⊥) → IsTrue config.now.reference_types_enabled → 2 ≤ config.now.max_memories → IfErr result (λ e. e ≡ Error.Memory) }
+    ensures limits { OnOk result
+        (AddsLimitsOf shape.now (spaces_in spaces.old) (spaces_in spaces.new)) }
+    ensures counted { (count : Count) → (count ≡ Types → ⊥)
+        → OnOk result (count_in (spaces_in spaces.new) count
+        ≡ count_in (spaces_in spaces.old) count + items_of_exports count shape.now) }
+    ensures refusal { IfErr result (MayRefuseRequired config.now (drawn_beside config.now
+        types.old.types (spaces_in spaces.old) definitions.old) shape.now) }
+    ensures memory { (MayLackIn config.now
+        (drawn_beside config.now types.old.types (spaces_in spaces.old) definitions.old) shape.now
+        → ⊥)
+        → IsTrue config.now.reference_types_enabled → 2 ≤ config.now.max_memories
+        → IfErr result (λ e. e ≡ Error.Memory) }
     ensures left { KeepsPieces u.old u.new }
 {
     push_exports(alloc, config, false, shape, types, spaces, definitions, u)

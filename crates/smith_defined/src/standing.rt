@@ -45,7 +45,8 @@ pub(crate) fn standing_imported<'a>(
     ensures funcs { result.entities.funcs.now ≡ funcs.now }
     ensures imported_funcs { result.entities.imported_funcs ≡ imported_funcs }
     ensures globals { result.entities.globals.now ≡ take imported_globals globals.now }
-    ensures imported_globals { result.entities.imported_globals ≡ length result.entities.globals.now }
+    ensures imported_globals { result.entities.imported_globals
+        ≡ length result.entities.globals.now }
 {
     let imported = &globals[..imported_globals];
     standing(types, funcs, imported_funcs, imported, imported.len())

@@ -9,7 +9,8 @@ ghost use Rattle.smith_config.specs.EntityBounds.{IsTableWithin};
 ghost use Rattle.smith_draw.specs.ConstScopes.{seen_by};
 ghost use Rattle.smith_draw.specs.KeptOffers.{AreKeptOffers};
 ghost use Rattle.smith_bytes.specs.Spelling.{SpellsEmpty};
-ghost use Rattle.smith_defined.specs.Defined.{IsFilled, AreAdded, MayInitialise, MayRefuseDrawn, drawn_over, scope_of_spaces};
+ghost use Rattle.smith_defined.specs.Defined.{IsFilled, AreAdded, MayInitialise, MayRefuseDrawn};
+ghost use Rattle.smith_defined.specs.Defined.{drawn_over, scope_of_spaces};
 ghost use Rattle.smith_defined.specs.DefinedTables.{IsTableFit, AreTablesDrawn};
 ghost use Rattle.smith_defined.specs.Definitions.{table_at, tables_at};
 ghost use Rattle.smith_rules.specs.Promises.{initial_of};
@@ -33,12 +34,15 @@ fn draw_initialised_table(
 ) -> Result<(TableType, Option<Items<ConstInstr>>), Error>
     requires may { MayInitialise config.now spaces.now.types.now (scope_of_spaces spaces.now) }
     requires standing { standing.now ≡ drawn_over config.now (scope_of_spaces spaces.now) }
-    requires imported_globals { spaces.now.entities.imported_globals ≡ length spaces.now.entities.globals.now }
+    requires imported_globals { spaces.now.entities.imported_globals
+        ≡ length spaces.now.entities.globals.now }
     requires kept { AreKeptOffers (seen_by config.now spaces.now false) kept.old }
-    ensures exact { IfOk result (λ drawn. table_at config.now (scope_of_spaces spaces.now) u.old ≡ (drawn, u.new)) }
+    ensures exact { IfOk result (λ drawn.
+        table_at config.now (scope_of_spaces spaces.now) u.old ≡ (drawn, u.new)) }
     ensures fit { IfOk result (IsTableFit config.now (scope_of_spaces spaces.now)) }
     ensures kept { OnOk result (AreKeptOffers (seen_by config.now spaces.now false) kept.new) }
-    ensures refusal { IfErr result (MayRefuseDrawn config.now (drawn_over config.now (scope_of_spaces spaces.now))) }
+    ensures refusal { IfErr result
+        (MayRefuseDrawn config.now (drawn_over config.now (scope_of_spaces spaces.now))) }
     ensures left { KeepsPieces u.old u.new }
 {
     let table = draw_table_type(config, standing, u);
@@ -58,10 +62,15 @@ fn push_tables(
 ) -> Result<(), Error>
     requires may { MayInitialise config.now spaces.now.types.now (scope_of_spaces spaces.now) }
     requires standing { standing.now ≡ drawn_over config.now (scope_of_spaces spaces.now) }
-    requires imported_globals { spaces.now.entities.imported_globals ≡ length spaces.now.entities.globals.now }
-    ensures exact { OnOk result (tables_at config.now (scope_of_spaces spaces.now) tables.old initials.old u.old ≡ ((tables.new, initials.new), u.new)) }
-    ensures drawn { OnOk result (AreTablesDrawn config.now (scope_of_spaces spaces.now) tables.old tables.new initials.old initials.new) }
-    ensures refusal { IfErr result (MayRefuseDrawn config.now (drawn_over config.now (scope_of_spaces spaces.now))) }
+    requires imported_globals { spaces.now.entities.imported_globals
+        ≡ length spaces.now.entities.globals.now }
+    ensures exact { OnOk result
+        (tables_at config.now (scope_of_spaces spaces.now) tables.old initials.old u.old
+        ≡ ((tables.new, initials.new), u.new)) }
+    ensures drawn { OnOk result (AreTablesDrawn config.now
+        (scope_of_spaces spaces.now) tables.old tables.new initials.old initials.new) }
+    ensures refusal { IfErr result
+        (MayRefuseDrawn config.now (drawn_over config.now (scope_of_spaces spaces.now))) }
     ensures left { KeepsPieces u.old u.new }
 {
     let before = tables.len();
@@ -95,16 +104,29 @@ pub(crate) fn define_tables(
 ) -> Result<(), Error>
     requires may { MayInitialise config.now spaces.now.types.now (scope_of_spaces spaces.now) }
     requires standing { standing.now ≡ drawn_over config.now (scope_of_spaces spaces.now) }
-    requires imported_globals { spaces.now.entities.imported_globals ≡ length spaces.now.entities.globals.now }
-    ensures exact { OnOk result (tables_at config.now (scope_of_spaces spaces.now) tables.old initials.old u.old ≡ ((tables.new, initials.new), u.new)) }
-    ensures filled { OnOk result (IsFilled config.now.min_tables config.now.max_tables tables.old tables.new) }
-    ensures valid { All (IsTableValid (features_of config.now) spaces.now.types.now.types) tables.old → OnOk result (All (IsTableValid (features_of config.now) spaces.now.types.now.types) tables.new) }
+    requires imported_globals { spaces.now.entities.imported_globals
+        ≡ length spaces.now.entities.globals.now }
+    ensures exact { OnOk result
+        (tables_at config.now (scope_of_spaces spaces.now) tables.old initials.old u.old
+        ≡ ((tables.new, initials.new), u.new)) }
+    ensures filled { OnOk result
+        (IsFilled config.now.min_tables config.now.max_tables tables.old tables.new) }
+    ensures valid { All
+        (IsTableValid (features_of config.now) spaces.now.types.now.types) tables.old
+        → OnOk result
+        (All (IsTableValid (features_of config.now) spaces.now.types.now.types) tables.new) }
     ensures within { OnOk result (AreAdded (IsTableWithin config.now) tables.old tables.new) }
-    ensures several { (1 < length tables.old → IsTrue (features_of config.now).reference_types) → OnOk result (1 < length tables.new → IsTrue (features_of config.now).reference_types) }
-    ensures drawn { OnOk result (AreTablesDrawn config.now (scope_of_spaces spaces.now) tables.old tables.new initials.old initials.new) }
-    ensures floats { All HasNoFloat spaces.now.types.now.types → All (All GivesNoFloat) (flat_map initial_of initials.old) → OnOk result (All (All GivesNoFloat) (flat_map initial_of initials.new)) }
-    ensures none { config.now.min_tables ≡ 0 → tables.old ≡ [] → OnOk result (Takes (SpellsEmpty (SpellsNone config.now.max_tables)) u.old tables.new u.new) }
-    ensures refusal { IfErr result (MayRefuseDrawn config.now (drawn_over config.now (scope_of_spaces spaces.now))) }
+    ensures several { (1 < length tables.old → IsTrue (features_of config.now).reference_types)
+        → OnOk result (1 < length tables.new → IsTrue (features_of config.now).reference_types) }
+    ensures drawn { OnOk result (AreTablesDrawn config.now
+        (scope_of_spaces spaces.now) tables.old tables.new initials.old initials.new) }
+    ensures floats { All HasNoFloat spaces.now.types.now.types
+        → All (All GivesNoFloat) (flat_map initial_of initials.old)
+        → OnOk result (All (All GivesNoFloat) (flat_map initial_of initials.new)) }
+    ensures none { config.now.min_tables ≡ 0 → tables.old ≡ [] → OnOk result (Takes
+        (SpellsEmpty (SpellsNone config.now.max_tables)) u.old tables.new u.new) }
+    ensures refusal { IfErr result
+        (MayRefuseDrawn config.now (drawn_over config.now (scope_of_spaces spaces.now))) }
     ensures left { KeepsPieces u.old u.new }
 {
     push_tables(alloc, config, spaces, standing, tables, initials, u)

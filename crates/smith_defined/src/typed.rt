@@ -19,7 +19,9 @@ fn choose_types(
     u: &mut Unstructured<'_>,
 ) -> Result<(), Error>
     requires some { 0 < length choices.now }
-    ensures { DrawsInto (behind items.old (items_defined_at (λ _. chosen_at 0 choices.now) least most (length items.old) u.old)) items.new result u.old u.new }
+    ensures { DrawsInto (behind items.old
+        (items_defined_at (λ _. chosen_at 0 choices.now) least most (length items.old) u.old))
+        items.new result u.old u.new }
 {
     let before = items.len();
     let needed = least.saturating_sub(before);
@@ -44,9 +46,11 @@ pub(crate) fn define_typed(
     items: &mut Items<u32>,
     u: &mut Unstructured<'_>,
 ) -> Result<(), Error>
-    ensures exact { ReturnsWhy (λ _. (items.new, u.new)) result (type_indices_at count choices.now least most items.old u.old) }
+    ensures exact { ReturnsWhy (λ _. (items.new, u.new)) result
+        (type_indices_at count choices.now least most items.old u.old) }
     ensures refusal { IfErr result (λ e. (e ≡ Error.Memory)
-        ⊎ ((e ≡ Error.IncorrectFormat (Why.Unmet count)) × (0 < least) × (length choices.now ≡ 0))) }
+        ⊎ ((e ≡ Error.IncorrectFormat (Why.Unmet count)) × (0 < least)
+        × (length choices.now ≡ 0))) }
     ensures left { KeepsPieces u.old u.new }
 {
     if !choices.is_empty() {

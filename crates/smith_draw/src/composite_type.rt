@@ -1,9 +1,11 @@
 ghost use Rattle.std.specs.Prelude.{◌≡◌, false, IsTrue, IfOk, All, length, ◌≤◌};
 ghost use Rattle.smith_bytes.specs.Takes.{Takes, SpellsSuch};
-ghost use Rattle.smith_types.specs.declared.composite_type.CompositeInnerType.TheVariants.{Func, Struct};
+ghost use Rattle.smith_types.specs.declared.composite_type.CompositeInnerType.TheVariants.{Func};
+ghost use Rattle.smith_types.specs.declared.composite_type.CompositeInnerType.TheVariants.{Struct};
 ghost use Rattle.smith_types.specs.Flags.{IsInnerEnabled};
 ghost use Rattle.smith_types.specs.Matching.{IsFuncInRange, IsFieldInRange, IsInnerInRange};
-ghost use Rattle.smith_types.specs.ValidTypes.{values_of, IsFuncTypeValid, IsValTypeValid, IsShareable};
+ghost use Rattle.smith_types.specs.ValidTypes.{values_of, IsFuncTypeValid, IsValTypeValid};
+ghost use Rattle.smith_types.specs.ValidTypes.{IsShareable};
 ghost use Rattle.smith_config.specs.Features.{features_of};
 ghost use Rattle.smith_config.specs.Sanitized.{IsSanitized};
 ghost use Rattle.smith_draw.specs.Drawing.{AlwaysDraws, Draws};
@@ -19,7 +21,8 @@ ghost use Rattle.smith_draw.specs.CompositeTypes.{
   inner_of_number_at,
   composite_type_at,
 };
-ghost use Rattle.smith_draw.specs.Spelling.{RefersTo, SpellsFuncType, SpellsStructType, SpellsCompositeType};
+ghost use Rattle.smith_draw.specs.Spelling.{RefersTo, SpellsFuncType, SpellsStructType};
+ghost use Rattle.smith_draw.specs.Spelling.{SpellsCompositeType};
 
 use crate::field_type::draw_field_type;
 use crate::spaces::{Spaces, orderly};
@@ -43,7 +46,8 @@ pub(crate) fn draw_val_types(
     most: usize,
     u: &mut Unstructured<'_>,
 ) -> Result<Items<ValType>, Error>
-    ensures { Draws (val_types_at config.now standing.now must_share limit most u.old) result u.old u.new }
+    ensures { Draws (val_types_at config.now standing.now must_share limit most u.old)
+        result u.old u.new }
 {
     let classes = value_classes(config);
     let mut drawn = Items::new(alloc);
@@ -66,7 +70,8 @@ fn draw_func_type(
     limit: u32,
     u: &mut Unstructured<'_>,
 ) -> Result<FuncType, Error>
-    ensures { Draws (func_type_at config.now standing.now must_share limit u.old) result u.old u.new }
+    ensures { Draws (func_type_at config.now standing.now must_share limit u.old)
+        result u.old u.new }
 {
     let most_results = if config.multi_value_enabled { 20 } else { 1 };
     let params = draw_val_types(alloc, config, standing, must_share, limit, 20, u)?;
@@ -85,7 +90,8 @@ pub(crate) fn draw_fields(
     mut fields: Items<FieldType>,
     u: &mut Unstructured<'_>,
 ) -> Result<Items<FieldType>, Error>
-    ensures { Draws (fields_until_at config.now standing.now must_share limit end fields u.old) result u.old u.new }
+    ensures { Draws (fields_until_at config.now standing.now must_share limit end fields u.old)
+        result u.old u.new }
 {
     for made in fields.len()..end {
         fields.push(draw_field_type(config, standing, must_share, limit, u))?;
@@ -102,7 +108,8 @@ fn draw_struct_type(
     limit: u32,
     u: &mut Unstructured<'_>,
 ) -> Result<StructType, Error>
-    ensures { Draws (struct_type_at config.now standing.now must_share limit u.old) result u.old u.new }
+    ensures { Draws (struct_type_at config.now standing.now must_share limit u.old)
+        result u.old u.new }
 {
     let count = u.int_in_range(0..=20usize);
     let none = Items::with_capacity(alloc, count)?;
@@ -129,7 +136,8 @@ fn draw_inner_of_number(
     number: u8,
     u: &mut Unstructured<'_>,
 ) -> Result<CompositeInnerType, Error>
-    ensures { Draws (inner_of_number_at config.now standing.now must_share limit number u.old) result u.old u.new }
+    ensures { Draws (inner_of_number_at config.now standing.now must_share limit number u.old)
+        result u.old u.new }
 {
     match number {
         0 => {
@@ -180,12 +188,18 @@ pub fn arbitrary_func_type(
 ) -> Result<FuncType, Error>
     requires sanitized { IsSanitized config.now }
     requires may_share { IsTrue must_share → IsTrue config.now.shared_everything_threads_enabled }
-    ensures draws { Draws (func_type_at config.now (standing_in config.now spaces.now) must_share limit u.old) result u.old u.new }
-    ensures granted { IfOk result (λ drawn. All (IsGranted config.now (standing_in config.now spaces.now)) (values_of (Func drawn))) }
+    ensures draws { Draws
+        (func_type_at config.now (standing_in config.now spaces.now) must_share limit u.old)
+        result u.old u.new }
+    ensures granted { IfOk result (λ drawn.
+        All (IsGranted config.now (standing_in config.now spaces.now)) (values_of (Func drawn))) }
     ensures valid { IfOk result (IsFuncTypeValid (features_of config.now) limit) }
     ensures stands { IfOk result (IsFuncInRange spaces.now.types.now.types) }
-    ensures shared { IsTrue must_share → IfOk result (λ drawn. All (IsShareable spaces.now.types.now.types) (values_of (Func drawn))) }
-    ensures reach { must_share ≡ false → IfOk result (λ drawn. Takes (SpellsSuch (λ function. All (RefersTo config.now spaces.now.types.now.types) (values_of (Func function))) (SpellsFuncType config.now limit)) u.old drawn u.new) }
+    ensures shared { IsTrue must_share → IfOk result (λ drawn.
+        All (IsShareable spaces.now.types.now.types) (values_of (Func drawn))) }
+    ensures reach { must_share ≡ false → IfOk result (λ drawn. Takes (SpellsSuch (λ function.
+        All (RefersTo config.now spaces.now.types.now.types) (values_of (Func function)))
+        (SpellsFuncType config.now limit)) u.old drawn u.new) }
 {
     orderly(spaces);
     let standing = Standing::over(config, spaces);
@@ -209,13 +223,21 @@ pub fn arbitrary_struct_type(
 ) -> Result<StructType, Error>
     requires sanitized { IsSanitized config.now }
     requires may_share { IsTrue must_share → IsTrue config.now.shared_everything_threads_enabled }
-    ensures draws { Draws (struct_type_at config.now (standing_in config.now spaces.now) must_share limit u.old) result u.old u.new }
-    ensures granted { IfOk result (λ drawn. All (IsGranted config.now (standing_in config.now spaces.now)) (values_of (Struct drawn))) }
+    ensures draws { Draws
+        (struct_type_at config.now (standing_in config.now spaces.now) must_share limit u.old)
+        result u.old u.new }
+    ensures granted { IfOk result (λ drawn.
+        All (IsGranted config.now (standing_in config.now spaces.now)) (values_of (Struct drawn))) }
     ensures few { IfOk result (λ drawn. length drawn.fields ≤ 20) }
-    ensures valid { IfOk result (λ drawn. All (IsValTypeValid (features_of config.now) limit) (values_of (Struct drawn))) }
-    ensures stands { IfOk result (λ drawn. All (IsFieldInRange spaces.now.types.now.types) drawn.fields) }
-    ensures shared { IsTrue must_share → IfOk result (λ drawn. All (IsShareable spaces.now.types.now.types) (values_of (Struct drawn))) }
-    ensures reach { must_share ≡ false → IfOk result (λ drawn. Takes (SpellsSuch (λ structure. All (RefersTo config.now spaces.now.types.now.types) (values_of (Struct structure))) (SpellsStructType config.now limit)) u.old drawn u.new) }
+    ensures valid { IfOk result (λ drawn.
+        All (IsValTypeValid (features_of config.now) limit) (values_of (Struct drawn))) }
+    ensures stands { IfOk result (λ drawn.
+        All (IsFieldInRange spaces.now.types.now.types) drawn.fields) }
+    ensures shared { IsTrue must_share → IfOk result (λ drawn.
+        All (IsShareable spaces.now.types.now.types) (values_of (Struct drawn))) }
+    ensures reach { must_share ≡ false → IfOk result (λ drawn. Takes (SpellsSuch (λ structure.
+        All (RefersTo config.now spaces.now.types.now.types) (values_of (Struct structure)))
+        (SpellsStructType config.now limit)) u.old drawn u.new) }
 {
     orderly(spaces);
     let standing = Standing::over(config, spaces);
@@ -237,14 +259,22 @@ pub fn arbitrary_composite_type(
     u: &mut Unstructured<'_>,
 ) -> Result<CompositeType, Error>
     requires sanitized { IsSanitized config.now }
-    ensures draws { Draws (composite_type_at config.now (standing_in config.now spaces.now) limit u.old) result u.old u.new }
-    ensures granted { IfOk result (λ drawn. All (IsGranted config.now (standing_in config.now spaces.now)) (values_of drawn.inner)) }
+    ensures draws { Draws
+        (composite_type_at config.now (standing_in config.now spaces.now) limit u.old)
+        result u.old u.new }
+    ensures granted { IfOk result (λ drawn.
+        All (IsGranted config.now (standing_in config.now spaces.now)) (values_of drawn.inner)) }
     ensures enabled { IfOk result (λ drawn. IsInnerEnabled (features_of config.now) drawn.inner) }
-    ensures may_be_shared { IfOk result (λ drawn. IsTrue drawn.shared → IsTrue config.now.shared_everything_threads_enabled) }
-    ensures valid { IfOk result (λ drawn. All (IsValTypeValid (features_of config.now) limit) (values_of drawn.inner)) }
+    ensures may_be_shared { IfOk result (λ drawn.
+        IsTrue drawn.shared → IsTrue config.now.shared_everything_threads_enabled) }
+    ensures valid { IfOk result (λ drawn.
+        All (IsValTypeValid (features_of config.now) limit) (values_of drawn.inner)) }
     ensures stands { IfOk result (λ drawn. IsInnerInRange spaces.now.types.now.types drawn.inner) }
-    ensures shared { IfOk result (λ drawn. IsTrue drawn.shared → All (IsShareable spaces.now.types.now.types) (values_of drawn.inner)) }
-    ensures reach { IfOk result (λ drawn. Takes (SpellsSuch (λ composite. All (RefersTo config.now spaces.now.types.now.types) (values_of composite.inner)) (SpellsCompositeType config.now limit)) u.old drawn u.new) }
+    ensures shared { IfOk result (λ drawn. IsTrue drawn.shared
+        → All (IsShareable spaces.now.types.now.types) (values_of drawn.inner)) }
+    ensures reach { IfOk result (λ drawn. Takes (SpellsSuch (λ composite.
+        All (RefersTo config.now spaces.now.types.now.types) (values_of composite.inner))
+        (SpellsCompositeType config.now limit)) u.old drawn u.new) }
 {
     orderly(spaces);
     let standing = Standing::over(config, spaces);

@@ -32,7 +32,8 @@ fn enabled_at(table: &[(ExportKind, bool)], mut place: usize) -> ExportKind
 #[tactic(auto, using(crate::proofs::EnabledLemmas::length_enabled), unfolding(crate::specs::Choices::chosen_at))]
 pub fn choose_enabled(table: &[(ExportKind, bool)], u: &mut Unstructured<'_>) -> ExportKind
     requires { 0 < length (enabled table.now) }
-    ensures { AlwaysDraws (chosen_at ExportKind.Memory (enabled table.now) u.old) result u.old u.new }
+    ensures { AlwaysDraws (chosen_at ExportKind.Memory (enabled table.now) u.old)
+        result u.old u.new }
 {
     let last = count_enabled(table) - 1;
     let place = u.int_in_range(0..=last);

@@ -1,10 +1,13 @@
-ghost use Rattle.std.specs.Prelude.{◌≡◌, ◌≤◌, ◌/◌, ◌^◌, ◌⊎◌, ◌||◌, Bool, IsTrue, IfSome, IsOk, IfOk};
+ghost use Rattle.std.specs.Prelude.{◌≡◌, ◌≤◌, ◌/◌, ◌^◌, ◌⊎◌, ◌||◌, Bool, IsTrue, IfSome, IsOk};
+ghost use Rattle.std.specs.Prelude.{IfOk};
 ghost use Rattle.smith_types.specs.Entities.{IsMemoryValid, page_log2};
 ghost use Rattle.smith_config.specs.Features.{features_of};
 ghost use Rattle.smith_draw.specs.Callers.{PassesButImports};
 ghost use Rattle.smith_draw.specs.Drawing.{AlwaysDraws, Draws};
 ghost use Rattle.smith_config.specs.EntityBounds.{IsMemoryWithin};
-ghost use Rattle.smith_draw.specs.Memories.{shared_memory_at, memory64_at, stated_page_at, page_size_at, least_pages, drawn_pages, likely_pages, memtype_at};
+ghost use Rattle.smith_draw.specs.Memories.{shared_memory_at, memory64_at, stated_page_at};
+ghost use Rattle.smith_draw.specs.Memories.{page_size_at, least_pages, drawn_pages, likely_pages};
+ghost use Rattle.smith_draw.specs.Memories.{memtype_at};
 
 use crate::limits::arbitrary_limits64;
 use smith_bytes::{Error, Unstructured};
@@ -50,7 +53,8 @@ fn draw_stated_page(u: &mut Unstructured<'_>) -> Option<u32>
 fn draw_page_size(config: &Config, u: &mut Unstructured<'_>) -> Option<u32>
     ensures draws { AlwaysDraws (page_size_at config.now u.old) result u.old u.new }
     ensures small { page_log2 result ≤ 16 }
-    ensures sizes { IfSome result (λ log2. ((log2 ≡ 0) ⊎ (log2 ≡ 16)) × IsTrue config.now.custom_page_sizes_enabled) }
+    ensures sizes { IfSome result (λ log2.
+        ((log2 ≡ 0) ⊎ (log2 ≡ 16)) × IsTrue config.now.custom_page_sizes_enabled) }
 {
     if !config.custom_page_sizes_enabled {
         return None;
@@ -98,7 +102,8 @@ fn drawn_pages(config: &Config, memory64: bool, page_size: Option<u32>) -> u64
 fn likely_pages(config: &Config, most: u64, page_size: Option<u32>) -> u64
     requires size { page_log2 page_size ≤ 16 }
     requires some { least_pages config.now ≤ most }
-    ensures exact { (memory64 : Bool) → most ≡ drawn_pages config.now memory64 page_size → result ≡ likely_pages config.now memory64 page_size }
+    ensures exact { (memory64 : Bool) → most ≡ drawn_pages config.now memory64 page_size
+        → result ≡ likely_pages config.now memory64 page_size }
     ensures above { least_pages config.now ≤ result }
     ensures within { result ≤ most }
 {
@@ -151,7 +156,8 @@ fn draw_memory_type(config: &Config, u: &mut Unstructured<'_>) -> MemoryType
 pub fn arbitrary_memtype(config: &Config, u: &mut Unstructured<'_>) -> Result<MemoryType, Error>
     ensures ok { IsOk result }
     ensures draws { Draws (memtype_at config.now u.old) result u.old u.new }
-    ensures valid { PassesButImports config.now → IfOk result (IsMemoryValid (features_of config.now)) }
+    ensures valid { PassesButImports config.now
+        → IfOk result (IsMemoryValid (features_of config.now)) }
     ensures within { IfOk result (IsMemoryWithin config.now) }
 {
     Ok(draw_memory_type(config, u))

@@ -26,7 +26,8 @@ fn draw_storage_type(
     limit: u32,
     u: &mut Unstructured<'_>,
 ) -> StorageType
-    ensures { AlwaysDraws (storage_type_at config.now standing.now must_share limit u.old) result u.old u.new }
+    ensures { AlwaysDraws (storage_type_at config.now standing.now must_share limit u.old)
+        result u.old u.new }
 {
     match u.int_in_range(0..=2u8) {
         0 => StorageType::I8,
@@ -43,7 +44,8 @@ pub(crate) fn draw_field_type(
     limit: u32,
     u: &mut Unstructured<'_>,
 ) -> FieldType
-    ensures { AlwaysDraws (field_type_at config.now standing.now must_share limit u.old) result u.old u.new }
+    ensures { AlwaysDraws (field_type_at config.now standing.now must_share limit u.old)
+        result u.old u.new }
 {
     let element_type = draw_storage_type(config, standing, must_share, limit, u);
     let mutable = u.arbitrary();
@@ -73,12 +75,19 @@ pub fn arbitrary_storage_type(
     requires sanitized { IsSanitized config.now }
     requires may_share { IsTrue must_share → IsTrue config.now.shared_everything_threads_enabled }
     ensures ok { IsOk result }
-    ensures draws { Draws (storage_type_at config.now (standing_in config.now spaces.now) must_share limit u.old) result u.old u.new }
-    ensures granted { IfOk result (λ drawn. All (IsGranted config.now (standing_in config.now spaces.now)) (values_of_storage drawn)) }
-    ensures valid { IfOk result (λ drawn. All (IsValTypeValid (features_of config.now) limit) (values_of_storage drawn)) }
+    ensures draws { Draws
+        (storage_type_at config.now (standing_in config.now spaces.now) must_share limit u.old)
+        result u.old u.new }
+    ensures granted { IfOk result (λ drawn.
+        All (IsGranted config.now (standing_in config.now spaces.now)) (values_of_storage drawn)) }
+    ensures valid { IfOk result (λ drawn.
+        All (IsValTypeValid (features_of config.now) limit) (values_of_storage drawn)) }
     ensures stands { IfOk result (IsStorageInRange spaces.now.types.now.types) }
-    ensures shared { IsTrue must_share → IfOk result (λ drawn. All (IsShareable spaces.now.types.now.types) (values_of_storage drawn)) }
-    ensures reach { must_share ≡ false → IfOk result (λ drawn. Takes (SpellsSuch (λ storage. All (RefersTo config.now spaces.now.types.now.types) (values_of_storage storage)) (SpellsStorage config.now limit)) u.old drawn u.new) }
+    ensures shared { IsTrue must_share → IfOk result (λ drawn.
+        All (IsShareable spaces.now.types.now.types) (values_of_storage drawn)) }
+    ensures reach { must_share ≡ false → IfOk result (λ drawn. Takes (SpellsSuch (λ storage.
+        All (RefersTo config.now spaces.now.types.now.types) (values_of_storage storage))
+        (SpellsStorage config.now limit)) u.old drawn u.new) }
 {
     orderly(spaces);
     let standing = Standing::over(config, spaces);
@@ -105,12 +114,20 @@ pub fn arbitrary_field_type(
     requires sanitized { IsSanitized config.now }
     requires may_share { IsTrue must_share → IsTrue config.now.shared_everything_threads_enabled }
     ensures ok { IsOk result }
-    ensures draws { Draws (field_type_at config.now (standing_in config.now spaces.now) must_share limit u.old) result u.old u.new }
-    ensures granted { IfOk result (λ drawn. All (IsGranted config.now (standing_in config.now spaces.now)) (values_of_storage drawn.element_type)) }
-    ensures valid { IfOk result (λ drawn. All (IsValTypeValid (features_of config.now) limit) (values_of_storage drawn.element_type)) }
+    ensures draws { Draws
+        (field_type_at config.now (standing_in config.now spaces.now) must_share limit u.old)
+        result u.old u.new }
+    ensures granted { IfOk result (λ drawn.
+        All (IsGranted config.now (standing_in config.now spaces.now))
+        (values_of_storage drawn.element_type)) }
+    ensures valid { IfOk result (λ drawn. All (IsValTypeValid (features_of config.now) limit)
+        (values_of_storage drawn.element_type)) }
     ensures stands { IfOk result (IsFieldInRange spaces.now.types.now.types) }
-    ensures shared { IsTrue must_share → IfOk result (λ drawn. All (IsShareable spaces.now.types.now.types) (values_of_storage drawn.element_type)) }
-    ensures reach { must_share ≡ false → IfOk result (λ drawn. Takes (SpellsSuch (λ field. All (RefersTo config.now spaces.now.types.now.types) (values_of_storage field.element_type)) (SpellsField config.now limit)) u.old drawn u.new) }
+    ensures shared { IsTrue must_share → IfOk result (λ drawn.
+        All (IsShareable spaces.now.types.now.types) (values_of_storage drawn.element_type)) }
+    ensures reach { must_share ≡ false → IfOk result (λ drawn. Takes (SpellsSuch (λ field.
+        All (RefersTo config.now spaces.now.types.now.types) (values_of_storage field.element_type))
+        (SpellsField config.now limit)) u.old drawn u.new) }
 {
     orderly(spaces);
     let standing = Standing::over(config, spaces);

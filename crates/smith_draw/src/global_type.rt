@@ -29,7 +29,8 @@ fn is_global_shared(
     val_type: ValType,
     u: &mut Unstructured<'_>,
 ) -> bool
-    ensures { AlwaysDraws (global_sharedness_at config.now types.now val_type u.old) result u.old u.new }
+    ensures { AlwaysDraws (global_sharedness_at config.now types.now val_type u.old)
+        result u.old u.new }
 {
     match val_type {
         ValType::Ref(reference) => is_reference_shared(types, reference),
@@ -60,11 +61,15 @@ pub fn draw_global_type(
 ) -> GlobalType
     requires { IsSanitized config.now }
     ensures draws { AlwaysDraws (global_type_at config.now standing.now u.old) result u.old u.new }
-    ensures valid { (space : Space) → space.types ≡ standing.now.types → AreTypesValid (features_of config.now) space → IsGlobalValid (features_of config.now) space.types result }
+    ensures valid { (space : Space) → space.types ≡ standing.now.types
+        → AreTypesValid (features_of config.now) space
+        → IsGlobalValid (features_of config.now) space.types result }
     ensures floats { config.now.allow_floats ≡ false → IsNoFloat result.val_type }
     ensures nullable { config.now.non_nullable_enabled ≡ false → ¬ IsNonNullable result.val_type }
     ensures grounded { ¬ IsUngrounded config.now standing.now result.val_type }
-    ensures reach { Takes (SpellsSuch (λ global. global ≡ mutable_i32) (λ _. SpellsMutableI32 config.now)) u.old result u.new }
+    ensures reach { Takes
+        (SpellsSuch (λ global. global ≡ mutable_i32) (λ _. SpellsMutableI32 config.now))
+        u.old result u.new }
 {
     standing.orderly();
     draw_global(config, standing, u)
@@ -87,12 +92,19 @@ pub fn arbitrary_global_type(
 ) -> Result<GlobalType, Error>
     requires { IsSanitized config.now }
     ensures ok { IsOk result }
-    ensures draws { Draws (global_type_at config.now (standing_in config.now spaces.now) u.old) result u.old u.new }
-    ensures valid { AreTypesValid (features_of config.now) spaces.now.types.now → IfOk result (IsGlobalValid (features_of config.now) spaces.now.types.now.types) }
-    ensures floats { config.now.allow_floats ≡ false → IfOk result (λ drawn. IsNoFloat drawn.val_type) }
-    ensures nullable { config.now.non_nullable_enabled ≡ false → IfOk result (λ drawn. ¬ IsNonNullable drawn.val_type) }
-    ensures grounded { IfOk result (λ drawn. ¬ IsUngrounded config.now (standing_in config.now spaces.now) drawn.val_type) }
-    ensures reach { IfOk result (λ drawn. Takes (SpellsSuch (λ global. global ≡ mutable_i32) (λ _. SpellsMutableI32 config.now)) u.old drawn u.new) }
+    ensures draws { Draws (global_type_at config.now (standing_in config.now spaces.now) u.old)
+        result u.old u.new }
+    ensures valid { AreTypesValid (features_of config.now) spaces.now.types.now
+        → IfOk result (IsGlobalValid (features_of config.now) spaces.now.types.now.types) }
+    ensures floats { config.now.allow_floats ≡ false
+        → IfOk result (λ drawn. IsNoFloat drawn.val_type) }
+    ensures nullable { config.now.non_nullable_enabled ≡ false
+        → IfOk result (λ drawn. ¬ IsNonNullable drawn.val_type) }
+    ensures grounded { IfOk result (λ drawn.
+        ¬ IsUngrounded config.now (standing_in config.now spaces.now) drawn.val_type) }
+    ensures reach { IfOk result (λ drawn.
+        Takes (SpellsSuch (λ global. global ≡ mutable_i32) (λ _. SpellsMutableI32 config.now))
+        u.old drawn u.new) }
 {
     Ok(draw_global_type(config, &Standing::over(config, spaces), u))
 }

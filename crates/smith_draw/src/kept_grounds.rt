@@ -30,7 +30,8 @@ impl KeptGrounds {
 
     /// Starts a record over `types` without functions, so that functions can be noted.
     pub fn begin(&mut self, alloc: Global, config: &Config, types: &TypeSpace) -> Result<(), Error>
-        ensures none { (context : Context) → context.types ≡ types.now.types → context.funcs ≡ [] → OnOk result (AreKeptGrounds context self.new) }
+        ensures none { (context : Context) → context.types ≡ types.now.types → context.funcs ≡ []
+            → OnOk result (AreKeptGrounds context self.new) }
         ensures memory { IfErr result (λ e. e ≡ Error.Memory) }
     {
         self.kept = None;
@@ -43,7 +44,9 @@ impl KeptGrounds {
 
     /// Notes a function whose type has the index `index` in `types`, as [`FuncGrounds::note`] does.
     pub fn note(&mut self, types: &TypeSpace, index: u32, exact: bool)
-        ensures { (before after : Context) → before.types ≡ types.now.types → IsFunctionAdded before after index exact → AreKeptGrounds before self.old → AreKeptGrounds after self.new }
+        ensures { (before after : Context) → before.types ≡ types.now.types
+            → IsFunctionAdded before after index exact → AreKeptGrounds before self.old
+            → AreKeptGrounds after self.new }
     {
         if let Some(grounds) = &mut self.kept {
             grounds.note(types, index, exact);
@@ -96,7 +99,8 @@ fn note_functions(config: &Config, spaces: &Spaces<'_>, grounds: &mut FuncGround
 
 /// Returns whether a reference to the function `function` of `spaces` is exact.
 fn is_exact(config: &Config, spaces: &Spaces<'_>, function: usize) -> bool
-    ensures { result ≡ (nat_le spaces.now.entities.imported_funcs function && config.now.custom_descriptors_enabled) }
+    ensures { result ≡ (nat_le spaces.now.entities.imported_funcs function
+        && config.now.custom_descriptors_enabled) }
 {
     function >= spaces.entities.imported_funcs && config.custom_descriptors_enabled
 }

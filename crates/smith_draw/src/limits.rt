@@ -78,7 +78,8 @@ pub fn arbitrary_limits64(
 ) -> (u64, Option<u64>)
     requires low { least ≤ inbounds }
     requires high { inbounds ≤ most }
-    ensures draws { AlwaysDraws (limits64_at least most required inbounds u.old) result u.old u.new }
+    ensures draws { AlwaysDraws (limits64_at least most required inbounds u.old)
+        result u.old u.new }
     ensures minimum { (least ≤ result.0) × (result.0 ≤ most) }
     ensures maximum { IfSome result.1 (λ maximum. (result.0 ≤ maximum) × (maximum ≤ most)) }
     ensures required { required ≡ true → IsSome result.1 }

@@ -41,12 +41,15 @@ pub fn arbitrary_locals(
     u: &mut Unstructured<'_>,
 ) -> Result<Items<ValType>, Error>
     requires { IsSanitized config.now }
-    ensures draws { Draws (locals_at config.now (standing_in config.now spaces.now) u.old) result u.old u.new }
+    ensures draws { Draws (locals_at config.now (standing_in config.now spaces.now) u.old)
+        result u.old u.new }
     ensures most { IfOk result (λ locals. length locals ≤ 100) }
     ensures granted { IfOk result (All (IsGranted config.now (standing_in config.now spaces.now))) }
-    ensures valid { IfOk result (All (IsValTypeValid (features_of config.now) (length spaces.now.types.now.types))) }
+    ensures valid { IfOk result
+        (All (IsValTypeValid (features_of config.now) (length spaces.now.types.now.types))) }
     ensures floats { config.now.allow_floats ≡ false → IfOk result (All IsNoFloat) }
-    ensures nullable { config.now.non_nullable_enabled ≡ false → IfOk result (All (λ ty. ¬ IsNonNullable ty)) }
+    ensures nullable { config.now.non_nullable_enabled ≡ false
+        → IfOk result (All (λ ty. ¬ IsNonNullable ty)) }
 {
     orderly(spaces);
     draw_locals(alloc, config, &Standing::over(config, spaces), u)

@@ -1,7 +1,10 @@
-ghost use Rattle.std.specs.Prelude.{◌≡◌, ◌<◌, ◌↔◌, ◌⊎◌, false, IsTrue, Some, IfOk, drop, filter, length, map, ◌++◌, slice_get, ◌||◌, not, All};
+ghost use Rattle.std.specs.Prelude.{◌≡◌, ◌<◌, ◌↔◌, ◌⊎◌, false, IsTrue, Some, IfOk, drop, filter};
+ghost use Rattle.std.specs.Prelude.{length, map, ◌++◌, slice_get, ◌||◌, not, All};
 ghost use Rattle.smith_bytes.specs.Draws.{choose_at};
-ghost use Rattle.smith_types.specs.Subtyping.{IsBelow, IsRefBelow, IsValBelow, IsInRange, IsValInRange};
-ghost use Rattle.smith_types.specs.Matching.{IsStorageMatch, IsFieldMatch, IsFuncMatch, IsStorageInRange, IsFieldInRange, IsFuncInRange};
+ghost use Rattle.smith_types.specs.Subtyping.{IsBelow, IsRefBelow, IsValBelow, IsInRange};
+ghost use Rattle.smith_types.specs.Subtyping.{IsValInRange};
+ghost use Rattle.smith_types.specs.Matching.{IsStorageMatch, IsFieldMatch, IsFuncMatch};
+ghost use Rattle.smith_types.specs.Matching.{IsStorageInRange, IsFieldInRange, IsFuncInRange};
 ghost use Rattle.smith_types.specs.ValidTypes.{
   IsHeapTypeValid,
   IsRefTypeValid,
@@ -27,7 +30,8 @@ ghost use Rattle.smith_draw.specs.Kept.{
   IsStorageShareable,
   IsFuncShareable,
 };
-ghost use Rattle.smith_draw.specs.Offered.{abstract_subtypes, gc_subtypes, kinds_below, of_kinds, subtypes_offered};
+ghost use Rattle.smith_draw.specs.Offered.{abstract_subtypes, gc_subtypes, kinds_below, of_kinds};
+ghost use Rattle.smith_draw.specs.Offered.{subtypes_offered};
 ghost use Rattle.smith_draw.specs.MatchingTypes.{
   first_and_passing,
   references_offered,
@@ -75,7 +79,8 @@ fn draw_subtype(
     ty: HeapType,
     u: &mut Unstructured<'_>,
 ) -> HeapType
-    ensures { AlwaysDraws (chosen_at ty (gc_subtypes config.now space.now.types ty) u.old) result u.old u.new }
+    ensures { AlwaysDraws (chosen_at ty (gc_subtypes config.now space.now.types ty) u.old)
+        result u.old u.new }
 {
     match ty {
         HeapType::Abstract { shared, ty } => draw_abstract_subtype(space, shared, ty, u),
@@ -91,7 +96,9 @@ fn draw_abstract_subtype(
     ty: AbstractHeapType,
     u: &mut Unstructured<'_>,
 ) -> HeapType
-    ensures { AlwaysDraws (chosen_at (Abstract shared ty) (map (Abstract shared) (abstract_subtypes ty) ++ of_kinds space.now.types shared (kinds_below ty)) u.old) result u.old u.new }
+    ensures { AlwaysDraws
+        (chosen_at (Abstract shared ty) (map (Abstract shared) (abstract_subtypes ty)
+        ++ of_kinds space.now.types shared (kinds_below ty)) u.old) result u.old u.new }
 {
     let abstracts = abstract_subtypes(ty);
     let kinds = kinds_below(ty);
@@ -107,7 +114,9 @@ fn draw_concrete_subtype(
     index: u32,
     u: &mut Unstructured<'_>,
 ) -> HeapType
-    ensures { AlwaysDraws (chosen_at (Concrete index) (gc_subtypes config.now space.now.types (Concrete index)) u.old) result u.old u.new }
+    ensures { AlwaysDraws
+        (chosen_at (Concrete index) (gc_subtypes config.now space.now.types (Concrete index)) u.old)
+        result u.old u.new }
 {
     let count = count_concrete_subtypes(config, space, index);
     let place = u.int_in_range(0..=count - 1);
@@ -121,7 +130,8 @@ fn draw_grounded_heap_type(
     ty: HeapType,
     u: &mut Unstructured<'_>,
 ) -> HeapType
-    ensures { AlwaysDraws (chosen_at ty (first_and_passing (is_grounded standing.now) (subtypes_offered config.now standing.now.types ty)) u.old) result u.old u.new }
+    ensures { AlwaysDraws (chosen_at ty (first_and_passing (is_grounded standing.now)
+        (subtypes_offered config.now standing.now.types ty)) u.old) result u.old u.new }
 {
     if !config.gc_enabled {
         return ty;
@@ -137,7 +147,8 @@ fn draw_grounded_heap_type(
 /// Counts the grounded types among the subtypes of `ty` that are offered with garbage collection,
 /// without `ty` itself.
 fn count_grounded(config: &Config, standing: &Standing<'_>, ty: HeapType) -> usize
-    ensures { result ≡ length (filter (is_grounded standing.now) (drop 1 (gc_subtypes config.now standing.now.types ty))) }
+    ensures { result ≡ length (filter (is_grounded standing.now)
+        (drop 1 (gc_subtypes config.now standing.now.types ty))) }
 {
     let space = standing.types();
     let mut grounded = 0;
@@ -158,8 +169,11 @@ fn offered_grounded(
     ty: HeapType,
     place: usize,
 ) -> HeapType
-    requires { place < length (filter (is_grounded standing.now) (drop 1 (gc_subtypes config.now standing.now.types ty))) }
-    ensures { slice_get (filter (is_grounded standing.now) (drop 1 (gc_subtypes config.now standing.now.types ty))) place ≡ Some result }
+    requires { place < length (filter (is_grounded standing.now)
+        (drop 1 (gc_subtypes config.now standing.now.types ty))) }
+    ensures { slice_get (filter (is_grounded standing.now)
+        (drop 1 (gc_subtypes config.now standing.now.types ty))) place
+        ≡ Some result }
 {
     let space = standing.types();
     let mut left = place;
@@ -190,7 +204,8 @@ fn draw_referent(
     ty: RefType,
     u: &mut Unstructured<'_>,
 ) -> Result<HeapType, Error>
-    ensures { Draws (chosen_at ty.heap_type (references_offered config.now standing.now ty) u.old) result u.old u.new }
+    ensures { Draws (chosen_at ty.heap_type (references_offered config.now standing.now ty) u.old)
+        result u.old u.new }
 {
     if are_all_offered(config, ty) {
         return draw_matching_heap_type(config, standing.types(), ty.heap_type, u);
@@ -257,7 +272,8 @@ pub(crate) fn draw_matching_field_type(
     field: FieldType,
     u: &mut Unstructured<'_>,
 ) -> Result<FieldType, Error>
-    ensures { Draws (matching_field_type_at config.now standing.now field u.old) result u.old u.new }
+    ensures { Draws (matching_field_type_at config.now standing.now field u.old)
+        result u.old u.new }
 {
     if field.mutable {
         return Ok(field);
@@ -290,7 +306,8 @@ impl<'a> Replacement<ValType> for Matching<'a> {
 }
 
 impl<'a> Replacement<FieldType> for Matching<'a> {
-    ghost draw_at = { λ matching. matching_field_type_at matching.config.now matching.standing.now };
+    ghost draw_at = { λ matching.
+        matching_field_type_at matching.config.now matching.standing.now };
 
     fn draw(
         &self,
@@ -310,7 +327,8 @@ pub(crate) fn draw_matching_func_type(
     function: &FuncType,
     u: &mut Unstructured<'_>,
 ) -> Result<FuncType, Error>
-    ensures { Draws (matching_func_type_at config.now standing.now function.now u.old) result u.old u.new }
+    ensures { Draws (matching_func_type_at config.now standing.now function.now u.old)
+        result u.old u.new }
 {
     let above = Above {
         config,
@@ -332,12 +350,18 @@ pub fn arbitrary_matching_heap_type(
     ty: HeapType,
     u: &mut Unstructured<'_>,
 ) -> Result<HeapType, Error>
-    ensures draws { Draws (matching_heap_type_at config.now spaces.now.types.now.types ty u.old) result u.old u.new }
-    ensures offered { IfOk result (λ drawn. choose_at (subtypes_offered config.now spaces.now.types.now.types ty) u.old ≡ (Some drawn, u.new)) }
+    ensures draws { Draws (matching_heap_type_at config.now spaces.now.types.now.types ty u.old)
+        result u.old u.new }
+    ensures offered { IfOk result (λ drawn.
+        choose_at (subtypes_offered config.now spaces.now.types.now.types ty) u.old
+        ≡ (Some drawn, u.new)) }
     ensures below { IfOk result (λ drawn. IsBelow spaces.now.types.now.types drawn ty) }
-    ensures shared { IfOk result (λ drawn. IsHeapTypeShared spaces.now.types.now.types drawn ↔ IsHeapTypeShared spaces.now.types.now.types ty) }
-    ensures valid { IfOk result (StaysValid (IsHeapTypeValid (features_of config.now)) (features_of config.now) spaces.now.types.now.types ty) }
-    ensures stands { IfOk result (λ drawn. IsInRange spaces.now.types.now.types ty → IsInRange spaces.now.types.now.types drawn) }
+    ensures shared { IfOk result (λ drawn. IsHeapTypeShared spaces.now.types.now.types drawn
+        ↔ IsHeapTypeShared spaces.now.types.now.types ty) }
+    ensures valid { IfOk result (StaysValid (IsHeapTypeValid (features_of config.now))
+        (features_of config.now) spaces.now.types.now.types ty) }
+    ensures stands { IfOk result (λ drawn.
+        IsInRange spaces.now.types.now.types ty → IsInRange spaces.now.types.now.types drawn) }
 {
     orderly(spaces);
     draw_matching_heap_type(config, spaces.types, ty, u)
@@ -357,13 +381,21 @@ pub fn arbitrary_matching_ref_type(
     ty: RefType,
     u: &mut Unstructured<'_>,
 ) -> Result<RefType, Error>
-    ensures draws { Draws (matching_ref_type_at config.now (standing_in config.now spaces.now) ty u.old) result u.old u.new }
+    ensures draws { Draws
+        (matching_ref_type_at config.now (standing_in config.now spaces.now) ty u.old)
+        result u.old u.new }
     ensures below { IfOk result (λ drawn. IsRefBelow spaces.now.types.now.types drawn ty) }
     ensures nullable { IfOk result (λ drawn. drawn.nullable ≡ ty.nullable) }
-    ensures granted { IsTrue config.now.non_nullable_enabled → ty.nullable ≡ false → IfOk result (λ drawn. (drawn.heap_type ≡ ty.heap_type) ⊎ IsGrounded (standing_in config.now spaces.now) drawn.heap_type) }
-    ensures shared { IfOk result (λ drawn. IsHeapTypeShared spaces.now.types.now.types drawn.heap_type ↔ IsHeapTypeShared spaces.now.types.now.types ty.heap_type) }
-    ensures valid { IfOk result (StaysValid (IsRefTypeValid (features_of config.now)) (features_of config.now) spaces.now.types.now.types ty) }
-    ensures stands { IfOk result (λ drawn. IsInRange spaces.now.types.now.types ty.heap_type → IsInRange spaces.now.types.now.types drawn.heap_type) }
+    ensures granted { IsTrue config.now.non_nullable_enabled → ty.nullable ≡ false
+        → IfOk result (λ drawn. (drawn.heap_type ≡ ty.heap_type)
+        ⊎ IsGrounded (standing_in config.now spaces.now) drawn.heap_type) }
+    ensures shared { IfOk result (λ drawn.
+        IsHeapTypeShared spaces.now.types.now.types drawn.heap_type
+        ↔ IsHeapTypeShared spaces.now.types.now.types ty.heap_type) }
+    ensures valid { IfOk result (StaysValid (IsRefTypeValid (features_of config.now))
+        (features_of config.now) spaces.now.types.now.types ty) }
+    ensures stands { IfOk result (λ drawn. IsInRange spaces.now.types.now.types ty.heap_type
+        → IsInRange spaces.now.types.now.types drawn.heap_type) }
 {
     orderly(spaces);
     let standing = Standing::over(config, spaces);
@@ -380,12 +412,18 @@ pub fn arbitrary_matching_val_type(
     ty: ValType,
     u: &mut Unstructured<'_>,
 ) -> Result<ValType, Error>
-    ensures draws { Draws (matching_val_type_at config.now (standing_in config.now spaces.now) ty u.old) result u.old u.new }
+    ensures draws { Draws
+        (matching_val_type_at config.now (standing_in config.now spaces.now) ty u.old)
+        result u.old u.new }
     ensures below { IfOk result (λ drawn. IsValBelow spaces.now.types.now.types drawn ty) }
-    ensures granted { IsGranted config.now (standing_in config.now spaces.now) ty → IfOk result (IsGranted config.now (standing_in config.now spaces.now)) }
-    ensures shared { IfOk result (λ drawn. IsShareable spaces.now.types.now.types drawn ↔ IsShareable spaces.now.types.now.types ty) }
-    ensures valid { IfOk result (StaysValid (IsValTypeValid (features_of config.now)) (features_of config.now) spaces.now.types.now.types ty) }
-    ensures stands { IfOk result (λ drawn. IsValInRange spaces.now.types.now.types ty → IsValInRange spaces.now.types.now.types drawn) }
+    ensures granted { IsGranted config.now (standing_in config.now spaces.now) ty
+        → IfOk result (IsGranted config.now (standing_in config.now spaces.now)) }
+    ensures shared { IfOk result (λ drawn.
+        IsShareable spaces.now.types.now.types drawn ↔ IsShareable spaces.now.types.now.types ty) }
+    ensures valid { IfOk result (StaysValid (IsValTypeValid (features_of config.now))
+        (features_of config.now) spaces.now.types.now.types ty) }
+    ensures stands { IfOk result (λ drawn. IsValInRange spaces.now.types.now.types ty
+        → IsValInRange spaces.now.types.now.types drawn) }
 {
     orderly(spaces);
     let standing = Standing::over(config, spaces);
@@ -402,12 +440,20 @@ pub fn arbitrary_matching_storage_type(
     ty: StorageType,
     u: &mut Unstructured<'_>,
 ) -> Result<StorageType, Error>
-    ensures draws { Draws (matching_storage_type_at config.now (standing_in config.now spaces.now) ty u.old) result u.old u.new }
+    ensures draws { Draws
+        (matching_storage_type_at config.now (standing_in config.now spaces.now) ty u.old)
+        result u.old u.new }
     ensures below { IfOk result (λ drawn. IsStorageMatch spaces.now.types.now.types drawn ty) }
-    ensures granted { All (IsGranted config.now (standing_in config.now spaces.now)) (values_of_storage ty) → IfOk result (λ drawn. All (IsGranted config.now (standing_in config.now spaces.now)) (values_of_storage drawn)) }
-    ensures shared { IfOk result (λ drawn. IsStorageShareable spaces.now.types.now.types drawn ↔ IsStorageShareable spaces.now.types.now.types ty) }
-    ensures valid { IfOk result (StaysValid (IsStorageValid (features_of config.now)) (features_of config.now) spaces.now.types.now.types ty) }
-    ensures stands { IfOk result (λ drawn. IsStorageInRange spaces.now.types.now.types ty → IsStorageInRange spaces.now.types.now.types drawn) }
+    ensures granted { All (IsGranted config.now (standing_in config.now spaces.now))
+        (values_of_storage ty)
+        → IfOk result (λ drawn.
+        All (IsGranted config.now (standing_in config.now spaces.now)) (values_of_storage drawn)) }
+    ensures shared { IfOk result (λ drawn. IsStorageShareable spaces.now.types.now.types drawn
+        ↔ IsStorageShareable spaces.now.types.now.types ty) }
+    ensures valid { IfOk result (StaysValid (IsStorageValid (features_of config.now))
+        (features_of config.now) spaces.now.types.now.types ty) }
+    ensures stands { IfOk result (λ drawn. IsStorageInRange spaces.now.types.now.types ty
+        → IsStorageInRange spaces.now.types.now.types drawn) }
 {
     orderly(spaces);
     let standing = Standing::over(config, spaces);
@@ -424,12 +470,21 @@ pub fn arbitrary_matching_field_type(
     field: FieldType,
     u: &mut Unstructured<'_>,
 ) -> Result<FieldType, Error>
-    ensures draws { Draws (matching_field_type_at config.now (standing_in config.now spaces.now) field u.old) result u.old u.new }
+    ensures draws { Draws
+        (matching_field_type_at config.now (standing_in config.now spaces.now) field u.old)
+        result u.old u.new }
     ensures below { IfOk result (λ drawn. IsFieldMatch spaces.now.types.now.types drawn field) }
-    ensures granted { All (IsGranted config.now (standing_in config.now spaces.now)) (values_of_storage field.element_type) → IfOk result (λ drawn. All (IsGranted config.now (standing_in config.now spaces.now)) (values_of_storage drawn.element_type)) }
-    ensures shared { IfOk result (λ drawn. IsStorageShareable spaces.now.types.now.types drawn.element_type ↔ IsStorageShareable spaces.now.types.now.types field.element_type) }
-    ensures valid { IfOk result (StaysValid (IsFieldValid (features_of config.now)) (features_of config.now) spaces.now.types.now.types field) }
-    ensures stands { IfOk result (λ drawn. IsFieldInRange spaces.now.types.now.types field → IsFieldInRange spaces.now.types.now.types drawn) }
+    ensures granted { All (IsGranted config.now (standing_in config.now spaces.now))
+        (values_of_storage field.element_type)
+        → IfOk result (λ drawn. All (IsGranted config.now (standing_in config.now spaces.now))
+        (values_of_storage drawn.element_type)) }
+    ensures shared { IfOk result (λ drawn.
+        IsStorageShareable spaces.now.types.now.types drawn.element_type
+        ↔ IsStorageShareable spaces.now.types.now.types field.element_type) }
+    ensures valid { IfOk result (StaysValid (IsFieldValid (features_of config.now))
+        (features_of config.now) spaces.now.types.now.types field) }
+    ensures stands { IfOk result (λ drawn. IsFieldInRange spaces.now.types.now.types field
+        → IsFieldInRange spaces.now.types.now.types drawn) }
 {
     orderly(spaces);
     let standing = Standing::over(config, spaces);
@@ -446,12 +501,21 @@ pub fn arbitrary_matching_func_type(
     function: &FuncType,
     u: &mut Unstructured<'_>,
 ) -> Result<FuncType, Error>
-    ensures draws { Draws (matching_func_type_at config.now (standing_in config.now spaces.now) function.now u.old) result u.old u.new }
-    ensures below { IfOk result (λ drawn. IsFuncMatch spaces.now.types.now.types drawn function.now) }
-    ensures granted { All (IsGranted config.now (standing_in config.now spaces.now)) function.now.results → IfOk result (λ drawn. All (IsGranted config.now (standing_in config.now spaces.now)) (values_of (Func drawn))) }
-    ensures shared { IfOk result (λ drawn. IsFuncShareable spaces.now.types.now.types drawn ↔ IsFuncShareable spaces.now.types.now.types function.now) }
-    ensures valid { IfOk result (StaysValid (IsFuncTypeValid (features_of config.now)) (features_of config.now) spaces.now.types.now.types function.now) }
-    ensures stands { IfOk result (λ drawn. IsFuncInRange spaces.now.types.now.types function.now → IsFuncInRange spaces.now.types.now.types drawn) }
+    ensures draws { Draws
+        (matching_func_type_at config.now (standing_in config.now spaces.now) function.now u.old)
+        result u.old u.new }
+    ensures below { IfOk result (λ drawn.
+        IsFuncMatch spaces.now.types.now.types drawn function.now) }
+    ensures granted { All (IsGranted config.now (standing_in config.now spaces.now))
+        function.now.results
+        → IfOk result (λ drawn.
+        All (IsGranted config.now (standing_in config.now spaces.now)) (values_of (Func drawn))) }
+    ensures shared { IfOk result (λ drawn. IsFuncShareable spaces.now.types.now.types drawn
+        ↔ IsFuncShareable spaces.now.types.now.types function.now) }
+    ensures valid { IfOk result (StaysValid (IsFuncTypeValid (features_of config.now))
+        (features_of config.now) spaces.now.types.now.types function.now) }
+    ensures stands { IfOk result (λ drawn. IsFuncInRange spaces.now.types.now.types function.now
+        → IsFuncInRange spaces.now.types.now.types drawn) }
 {
     orderly(spaces);
     let standing = Standing::over(config, spaces);

@@ -34,7 +34,9 @@ fn draw_matching_struct_type(
     limit: u32,
     u: &mut Unstructured<'_>,
 ) -> Result<StructType, Error>
-    ensures { Draws (matching_struct_type_at config.now standing.now must_share limit structure.now u.old) result u.old u.new }
+    ensures { Draws
+        (matching_struct_type_at config.now standing.now must_share limit structure.now u.old)
+        result u.old u.new }
 {
     let extra = u.int_in_range(0..=5usize);
     let matching = Matching { config, standing };
@@ -54,7 +56,8 @@ fn draw_matching_inner(
     inner: &CompositeInnerType,
     u: &mut Unstructured<'_>,
 ) -> Result<CompositeInnerType, Error>
-    ensures { Draws (matching_inner_at config.now standing.now must_share limit inner.now u.old) result u.old u.new }
+    ensures { Draws (matching_inner_at config.now standing.now must_share limit inner.now u.old)
+        result u.old u.new }
 {
     match inner {
         CompositeInnerType::Array(array) => {
@@ -84,7 +87,8 @@ pub(crate) fn draw_matching_composite_type(
     composite: &CompositeType,
     u: &mut Unstructured<'_>,
 ) -> Result<CompositeType, Error>
-    ensures { Draws (matching_composite_type_at config.now standing.now limit composite.now u.old) result u.old u.new }
+    ensures { Draws (matching_composite_type_at config.now standing.now limit composite.now u.old)
+        result u.old u.new }
 {
     let shared = composite.shared;
     let inner = draw_matching_inner(alloc, config, standing, shared, limit, &composite.inner, u)?;
@@ -113,14 +117,24 @@ pub fn arbitrary_matching_struct_type(
 ) -> Result<StructType, Error>
     requires sanitized { IsSanitized config.now }
     requires may_share { IsTrue must_share → IsTrue config.now.shared_everything_threads_enabled }
-    ensures draws { Draws (matching_struct_type_at config.now (standing_in config.now spaces.now) must_share limit structure.now u.old) result u.old u.new }
-    ensures below { IfOk result (λ drawn. AreFieldsMatched spaces.now.types.now.types drawn.fields structure.now.fields) }
-    ensures granted { All (IsGranted config.now (standing_in config.now spaces.now)) (values_of (Struct structure.now)) → IfOk result (λ drawn. All (IsGranted config.now (standing_in config.now spaces.now)) (values_of (Struct drawn))) }
-    ensures valid { length spaces.now.types.now.types ≤ limit → All (IsSharingEnabled (features_of config.now)) spaces.now.types.now.types
+    ensures draws { Draws (matching_struct_type_at config.now
+        (standing_in config.now spaces.now) must_share limit structure.now u.old)
+        result u.old u.new }
+    ensures below { IfOk result (λ drawn.
+        AreFieldsMatched spaces.now.types.now.types drawn.fields structure.now.fields) }
+    ensures granted { All (IsGranted config.now (standing_in config.now spaces.now))
+        (values_of (Struct structure.now))
+        → IfOk result (λ drawn.
+        All (IsGranted config.now (standing_in config.now spaces.now)) (values_of (Struct drawn))) }
+    ensures valid { length spaces.now.types.now.types ≤ limit
+        → All (IsSharingEnabled (features_of config.now)) spaces.now.types.now.types
         → All (IsValTypeValid (features_of config.now) limit) (values_of (Struct structure.now))
-        → IfOk result (λ drawn. All (IsValTypeValid (features_of config.now) limit) (values_of (Struct drawn))) }
-    ensures shared { IsTrue must_share → All (IsShareable spaces.now.types.now.types) (values_of (Struct structure.now))
-        → IfOk result (λ drawn. All (IsShareable spaces.now.types.now.types) (values_of (Struct drawn))) }
+        → IfOk result (λ drawn.
+        All (IsValTypeValid (features_of config.now) limit) (values_of (Struct drawn))) }
+    ensures shared { IsTrue must_share
+        → All (IsShareable spaces.now.types.now.types) (values_of (Struct structure.now))
+        → IfOk result (λ drawn.
+        All (IsShareable spaces.now.types.now.types) (values_of (Struct drawn))) }
 {
     orderly(spaces);
     let standing = Standing::over(config, spaces);

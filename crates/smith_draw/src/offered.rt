@@ -13,7 +13,8 @@ ghost use Rattle.std.specs.Prelude.{
   slice_get,
   if◌then◌else◌,
 };
-ghost use Rattle.smith_types.specs.declared.value_type.HeapType.TheVariants.{Abstract, Concrete, Exact};
+ghost use Rattle.smith_types.specs.declared.value_type.HeapType.TheVariants.{Abstract, Concrete};
+ghost use Rattle.smith_types.specs.declared.value_type.HeapType.TheVariants.{Exact};
 ghost use Rattle.smith_types.specs.declared.value_type.AbstractHeapType.TheVariants.{Array, Struct};
 ghost use Rattle.smith_types.specs.Types.{IsOrderly};
 ghost use Rattle.smith_draw.specs.Offered.{
@@ -78,7 +79,8 @@ fn count_abstract(
     kinds: &[AbstractHeapType],
 ) -> usize
     requires few { length abstracts.now + length kinds.now < 2 ^ 8 }
-    ensures { result ≡ length (map (Abstract shared) abstracts.now ++ of_kinds space.now.types shared kinds.now) }
+    ensures { result ≡ length (map (Abstract shared) abstracts.now
+        ++ of_kinds space.now.types shared kinds.now) }
 {
     let mut count = abstracts.len();
     for kind in kinds {
@@ -129,8 +131,11 @@ pub(crate) fn offered_abstract(
     kinds: &[AbstractHeapType],
     place: usize,
 ) -> HeapType
-    requires { place < length (map (Abstract shared) abstracts.now ++ of_kinds space.now.types shared kinds.now) }
-    ensures { slice_get (map (Abstract shared) abstracts.now ++ of_kinds space.now.types shared kinds.now) place ≡ Some result }
+    requires { place < length (map (Abstract shared) abstracts.now
+        ++ of_kinds space.now.types shared kinds.now) }
+    ensures { slice_get
+        (map (Abstract shared) abstracts.now ++ of_kinds space.now.types shared kinds.now) place
+        ≡ Some result }
 {
     if place < abstracts.len() {
         return HeapType::Abstract {
@@ -195,8 +200,10 @@ fn offered_concrete_supertype(space: &TypeSpace, index: u32, place: usize) -> He
 fn offered_above(space: &TypeSpace, index: u32, ty: &SubType, place: usize) -> HeapType
     requires orderly { IsOrderly space.now.types }
     requires stands { slice_get space.now.types index ≡ Some ty.now }
-    requires inside { place < length (kinds_at space.now.types index ++ ancestors space.now.types index) }
-    ensures { slice_get (kinds_at space.now.types index ++ ancestors space.now.types index) place ≡ Some result }
+    requires inside { place
+        < length (kinds_at space.now.types index ++ ancestors space.now.types index) }
+    ensures { slice_get (kinds_at space.now.types index ++ ancestors space.now.types index) place
+        ≡ Some result }
 {
     let depth = space.depth(index);
     let kinds = supertypes_of_inner(&ty.composite_type.inner);
@@ -282,7 +289,8 @@ pub(crate) fn offered_concrete_subtype(
     place: usize,
 ) -> HeapType
     requires { place < length (gc_subtypes config.now space.now.types (Concrete index)) }
-    ensures { slice_get (gc_subtypes config.now space.now.types (Concrete index)) place ≡ Some result }
+    ensures { slice_get (gc_subtypes config.now space.now.types (Concrete index)) place
+        ≡ Some result }
 {
     if place == 0 {
         return HeapType::Concrete(index);
@@ -305,8 +313,11 @@ fn offered_below(
 ) -> HeapType
     requires few { direct < 2 ^ 32 }
     requires counted { direct ≡ length (direct_subtypes space.now.types index) }
-    requires inside { place < length (exact_subtypes config.now space.now.types index ++ bottom_at space.now.types index) }
-    ensures { slice_get (exact_subtypes config.now space.now.types index ++ bottom_at space.now.types index) place ≡ Some result }
+    requires inside { place < length (exact_subtypes config.now space.now.types index
+        ++ bottom_at space.now.types index) }
+    ensures { slice_get
+        (exact_subtypes config.now space.now.types index ++ bottom_at space.now.types index) place
+        ≡ Some result }
 {
     if !config.custom_descriptors_enabled {
         return offered_bottom(space.types(), index);

@@ -1,4 +1,6 @@
-ghost use Rattle.std.specs.Prelude.{◌≡◌, ℕ, ◌≤◌, ◌<◌, ◌+◌, ◌-◌, ◌^◌, ◌++◌, ◌∷◌, [], true, false, length, take, drop, Some, slice_get, slice_index_or, IsTrue, OnOk, OnErr, IfOk, IfErr, All};
+ghost use Rattle.std.specs.Prelude.{◌≡◌, ℕ, ◌≤◌, ◌<◌, ◌+◌, ◌-◌, ◌^◌, ◌++◌, ◌∷◌, [], true, false};
+ghost use Rattle.std.specs.Prelude.{length, take, drop, Some, slice_get, slice_index_or, IsTrue};
+ghost use Rattle.std.specs.Prelude.{OnOk, OnErr, IfOk, IfErr, All};
 ghost use Rattle.smith_bytes.specs.Source.{KeepsPieces};
 ghost use Rattle.smith_bytes.specs.Takes.{Takes};
 ghost use Rattle.smith_types.specs.Expressions.{Context};
@@ -44,7 +46,8 @@ use std::ops::Range;
 /// in `types` and has the same kind and sharedness, and `types` has fewer than 2^32 - 1 types.
 pub fn add_type(types: &mut TypeSpace, added: SubType) -> Result<u32, Error>
     requires { MayFollow types.old.types added }
-    ensures ok { OnOk result (types.new ≡ record types.old { types = types.old.types ++ added ∷ [] }) }
+    ensures ok { OnOk result
+        (types.new ≡ record types.old { types = types.old.types ++ added ∷ [] }) }
     ensures index { IfOk result (λ index. index ≡ length types.old.types) }
     ensures stands { IfOk result (λ index. slice_get types.new.types index ≡ Some added) }
     ensures err { OnErr result (types.new ≡ types.old) }
@@ -64,7 +67,9 @@ fn add_types(
     u: &mut Unstructured<'_>,
 ) -> Result<(), Error>
     requires few { limit + 1 < 2 ^ 32 }
-    ensures draws { DrawsInto (types_until_at config.now (functions_in config.now entities.now) limit types.old.types u.old) types.new.types result u.old u.new }
+    ensures draws { DrawsInto (types_until_at config.now
+        (functions_in config.now entities.now) limit types.old.types u.old)
+        types.new.types result u.old u.new }
     ensures groups { OnOk result (types.new.groups ≡ types.old.groups) }
 {
     for made in types.types().len()..limit as usize {
@@ -81,7 +86,8 @@ fn draw_group_size(
     u: &mut Unstructured<'_>,
 ) -> usize
     requires { 0 < most }
-    ensures draws { AlwaysDraws (group_size_at config.now allow_empty most u.old) result u.old u.new }
+    ensures draws { AlwaysDraws (group_size_at config.now allow_empty most u.old)
+        result u.old u.new }
     ensures within { result ≤ most }
 {
     if !config.gc_enabled {
@@ -103,7 +109,9 @@ fn add_new_group(
 ) -> Result<(), Error>
     requires room { length types.old.types < config.now.max_types }
     requires few { config.now.max_types ≤ 2 ^ 31 }
-    ensures { DrawsInto (new_group_at config.now (functions_in config.now entities.now) allow_empty types.old u.old) types.new result u.old u.new }
+    ensures { DrawsInto
+        (new_group_at config.now (functions_in config.now entities.now) allow_empty types.old u.old)
+        types.new result u.old u.new }
 {
     let start = types.types().len();
     let size = draw_group_size(config, allow_empty, config.max_types - start, u);
@@ -118,7 +126,9 @@ fn add_copies(alloc: Global, types: &mut TypeSpace, start: usize, end: usize) ->
     requires ordered { start ≤ end }
     requires inside { end ≤ length types.old.types }
     requires few { length types.old.types + (end - start) + 1 < 2 ^ 32 }
-    ensures exact { OnOk result (types.new ≡ record types.old { types = types.old.types ++ take (end - start) (drop start types.old.types) }) }
+    ensures exact { OnOk result (types.new ≡ record types.old {
+      types = types.old.types ++ take (end - start) (drop start types.old.types);
+    }) }
     ensures memory { IfErr result (λ e. e ≡ Error.Memory) }
 {
     for index in start..end {
@@ -167,7 +177,8 @@ fn clone_group(
     requires some { 0 < length types.old.groups }
     requires room { length types.old.types < config.now.max_types }
     requires few { config.now.max_types ≤ 2 ^ 31 }
-    ensures exact { IfOk result (λ added. clone_rec_group_at config.now allow_empty types.old u.old ≡ (added, (types.new, u.new))) }
+    ensures exact { IfOk result (λ added.
+        clone_rec_group_at config.now allow_empty types.old u.old ≡ (added, (types.new, u.new))) }
     ensures kept { IfOk result (λ added. added ≡ false → types.new ≡ types.old) }
     ensures memory { IfErr result (λ e. e ≡ Error.Memory) }
     ensures left { KeepsPieces u.old u.new }
@@ -206,7 +217,9 @@ fn add_rec_group(
 ) -> Result<(), Error>
     requires room { length types.old.types < config.now.max_types }
     requires few { config.now.max_types ≤ 2 ^ 31 }
-    ensures { DrawsInto (rec_group_at config.now (functions_in config.now entities.now) allow_empty types.old u.old) types.new result u.old u.new }
+    ensures { DrawsInto
+        (rec_group_at config.now (functions_in config.now entities.now) allow_empty types.old u.old)
+        types.new result u.old u.new }
 {
     if !is_clone_wanted(config, types, u) {
         return add_new_group(alloc, config, types, entities, allow_empty, u);
@@ -228,7 +241,9 @@ fn add_least_types(
 ) -> Result<(), Error>
     requires ordered { config.now.min_types ≤ config.now.max_types }
     requires few { config.now.max_types ≤ 2 ^ 31 }
-    ensures { DrawsInto (least_types_at config.now (functions_in config.now entities.now) config.now.min_types types.old u.old) types.new result u.old u.new }
+    ensures { DrawsInto (least_types_at config.now
+        (functions_in config.now entities.now) config.now.min_types types.old u.old)
+        types.new result u.old u.new }
 {
     while types.types().len() < config.min_types {
         add_rec_group(alloc, config, types, entities, false, u)?;
@@ -245,7 +260,8 @@ fn add_more_types(
     u: &mut Unstructured<'_>,
 ) -> Result<(), Error>
     requires few { config.now.max_types ≤ 2 ^ 31 }
-    ensures { DrawsInto (more_types_at config.now (functions_in config.now entities.now) (length u.old + 1) types.old u.old) types.new result u.old u.new }
+    ensures { DrawsInto (more_types_at config.now (functions_in config.now entities.now)
+        (length u.old + 1) types.old u.old) types.new result u.old u.new }
 {
     while types.types().len() < config.max_types {
         if !u.arbitrary::<bool>() {
@@ -266,7 +282,8 @@ fn add_all_types(
 ) -> Result<(), Error>
     requires ordered { config.now.min_types ≤ config.now.max_types }
     requires few { config.now.max_types ≤ 2 ^ 31 }
-    ensures { DrawsInto (types_at config.now (functions_in config.now entities.now) types.old u.old) types.new result u.old u.new }
+    ensures { DrawsInto (types_at config.now (functions_in config.now entities.now) types.old u.old)
+        types.new result u.old u.new }
 {
     add_least_types(alloc, config, types, entities, u)?;
     add_more_types(alloc, config, types, entities, u)
@@ -291,11 +308,15 @@ pub fn clone_rec_group(
     requires passes { PassesButImports config.now }
     requires room { length types.old.types < config.now.max_types }
     requires some { 0 < length types.old.groups }
-    ensures exact { IfOk result (λ added. clone_rec_group_at config.now allow_empty types.old u.old ≡ (added, (types.new, u.new))) }
-    ensures valid { AreTypesValid (features_of config.now) types.old → OnOk result (AreTypesValid (features_of config.now) types.new) }
+    ensures exact { IfOk result (λ added.
+        clone_rec_group_at config.now allow_empty types.old u.old ≡ (added, (types.new, u.new))) }
+    ensures valid { AreTypesValid (features_of config.now) types.old
+        → OnOk result (AreTypesValid (features_of config.now) types.new) }
     ensures most { OnOk result (length types.new.types ≤ config.now.max_types) }
     ensures kept { IfOk result (λ added. added ≡ false → types.new ≡ types.old) }
-    ensures granted { (context : Context) → AreTypesGranted config.now (over context types.old.types) → OnOk result (AreTypesGranted config.now (over context types.new.types)) }
+    ensures granted { (context : Context)
+        → AreTypesGranted config.now (over context types.old.types)
+        → OnOk result (AreTypesGranted config.now (over context types.new.types)) }
     ensures memory { IfErr result (λ e. e ≡ Error.Memory) }
     ensures left { KeepsPieces u.old u.new }
 {
@@ -323,12 +344,20 @@ pub fn arbitrary_rec_group(
     requires passes { PassesButImports config.now }
     requires sanitized { IsSanitized config.now }
     requires room { length types.old.types < config.now.max_types }
-    ensures draws { DrawsInto (rec_group_at config.now (functions_in config.now entities.now) allow_empty types.old u.old) types.new result u.old u.new }
-    ensures valid { AreTypesValid (features_of config.now) types.old → OnOk result (AreTypesValid (features_of config.now) types.new) }
+    ensures draws { DrawsInto
+        (rec_group_at config.now (functions_in config.now entities.now) allow_empty types.old u.old)
+        types.new result u.old u.new }
+    ensures valid { AreTypesValid (features_of config.now) types.old
+        → OnOk result (AreTypesValid (features_of config.now) types.new) }
     ensures most { OnOk result (length types.new.types ≤ config.now.max_types) }
-    ensures some { OnOk result (allow_empty ≡ false → length types.old.types < length types.new.types) }
-    ensures granted { AreTypesGranted config.now (over (functions_in config.now entities.now) types.old.types) → OnOk result (AreTypesGranted config.now (over (functions_in config.now entities.now) types.new.types)) }
-    ensures reach { allow_empty ≡ true → All IsRoot types.old.types → OnOk result (Takes (SpellsAdded config.now types.old) u.old types.new u.new) }
+    ensures some { OnOk result
+        (allow_empty ≡ false → length types.old.types < length types.new.types) }
+    ensures granted { AreTypesGranted config.now
+        (over (functions_in config.now entities.now) types.old.types)
+        → OnOk result
+        (AreTypesGranted config.now (over (functions_in config.now entities.now) types.new.types)) }
+    ensures reach { allow_empty ≡ true → All IsRoot types.old.types
+        → OnOk result (Takes (SpellsAdded config.now types.old) u.old types.new u.new) }
 {
     let _groups = types.types();
     add_rec_group(alloc, config, types, entities, allow_empty, u)
@@ -351,16 +380,33 @@ pub fn arbitrary_types(
 ) -> Result<(), Error>
     requires passes { PassesButImports config.now }
     requires sanitized { IsSanitized config.now }
-    ensures draws { DrawsInto (types_at config.now (functions_in config.now entities.now) types.old u.old) types.new result u.old u.new }
-    ensures valid { AreTypesValid (features_of config.now) types.old → OnOk result (AreTypesValid (features_of config.now) types.new) }
-    ensures most { AreTypesValid (features_of config.now) types.old → length types.old.types ≤ config.now.max_types → OnOk result (length types.new.types ≤ config.now.max_types) }
-    ensures least { AreTypesValid (features_of config.now) types.old → OnOk result (config.now.min_types ≤ length types.new.types) }
-    ensures floats { config.now.allow_floats ≡ false → All HasNoFloat types.old.types → OnOk result (All HasNoFloat types.new.types) }
-    ensures few_values { (most : ℕ) → 20 ≤ most → All (HasFewValues most) types.old.types → OnOk result (All (HasFewValues most) types.new.types) }
-    ensures nullable { config.now.non_nullable_enabled ≡ false → ¬ HoldsNonNullableField types.old.types → OnOk result (¬ HoldsNonNullableField types.new.types) }
-    ensures grounded { ¬ HoldsUngroundedField config.now (over (functions_in config.now entities.now) types.old.types) → OnOk result (¬ HoldsUngroundedField config.now (over (functions_in config.now entities.now) types.new.types)) }
-    ensures granted { AreTypesGranted config.now (over (functions_in config.now entities.now) types.old.types) → OnOk result (AreTypesGranted config.now (over (functions_in config.now entities.now) types.new.types)) }
-    ensures reach { config.now.min_types ≡ 0 → types.old ≡ space_of [] → OnOk result (Takes (SpellsSpace config.now) u.old types.new u.new) }
+    ensures draws { DrawsInto
+        (types_at config.now (functions_in config.now entities.now) types.old u.old) types.new
+        result u.old u.new }
+    ensures valid { AreTypesValid (features_of config.now) types.old
+        → OnOk result (AreTypesValid (features_of config.now) types.new) }
+    ensures most { AreTypesValid (features_of config.now) types.old
+        → length types.old.types ≤ config.now.max_types
+        → OnOk result (length types.new.types ≤ config.now.max_types) }
+    ensures least { AreTypesValid (features_of config.now) types.old
+        → OnOk result (config.now.min_types ≤ length types.new.types) }
+    ensures floats { config.now.allow_floats ≡ false → All HasNoFloat types.old.types
+        → OnOk result (All HasNoFloat types.new.types) }
+    ensures few_values { (most : ℕ) → 20 ≤ most → All (HasFewValues most) types.old.types
+        → OnOk result (All (HasFewValues most) types.new.types) }
+    ensures nullable { config.now.non_nullable_enabled ≡ false
+        → ¬ HoldsNonNullableField types.old.types
+        → OnOk result (¬ HoldsNonNullableField types.new.types) }
+    ensures grounded { ¬ HoldsUngroundedField config.now
+        (over (functions_in config.now entities.now) types.old.types)
+        → OnOk result (¬ HoldsUngroundedField config.now
+        (over (functions_in config.now entities.now) types.new.types)) }
+    ensures granted { AreTypesGranted config.now
+        (over (functions_in config.now entities.now) types.old.types)
+        → OnOk result
+        (AreTypesGranted config.now (over (functions_in config.now entities.now) types.new.types)) }
+    ensures reach { config.now.min_types ≡ 0 → types.old ≡ space_of []
+        → OnOk result (Takes (SpellsSpace config.now) u.old types.new u.new) }
 {
     let _types = types.types();
     add_all_types(alloc, config, types, entities, u)

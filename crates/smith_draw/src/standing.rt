@@ -3,7 +3,8 @@ ghost use Rattle.smith_types.specs.Types.{IsOrderly};
 ghost use Rattle.smith_types.specs.Subtyping.{IsInRange};
 ghost use Rattle.smith_types.specs.Expressions.{reference_to, function_reference};
 ghost use Rattle.smith_types.specs.FuncGrounds.{AreFuncGrounds};
-ghost use Rattle.smith_draw.specs.Grounding.{standing_in, functions_in, over, any_from, function_grounds, is_grounded};
+ghost use Rattle.smith_draw.specs.Grounding.{standing_in, functions_in, over, any_from};
+ghost use Rattle.smith_draw.specs.Grounding.{function_grounds, is_grounded};
 
 use crate::spaces::{Entities, Spaces};
 use smith_config::Config;
@@ -30,9 +31,12 @@ impl<'a> Model for Standing<'a> {
 
     ghost Value = { Context };
 
-    ghost view = { λ a. context_of (features_of a.config.now) a.types.now.types a.funcs.now a.imported_funcs };
+    ghost view = { λ a.
+        context_of (features_of a.config.now) a.types.now.types a.funcs.now a.imported_funcs };
 
-    ghost invariant = { λ a. IfSome a.grounds (λ grounds. AreFuncGrounds (context_of (features_of a.config.now) a.types.now.types a.funcs.now a.imported_funcs) grounds.now) };
+    ghost invariant = { λ a. IfSome a.grounds (λ grounds. AreFuncGrounds
+        (context_of (features_of a.config.now) a.types.now.types a.funcs.now a.imported_funcs)
+        grounds.now) };
 }
 
 impl<'a> Standing<'a> {
@@ -74,7 +78,8 @@ impl<'a> Standing<'a> {
         spaces: &Spaces<'a>,
         grounds: Option<&'a FuncGrounds>,
     ) -> Standing<'a>
-        requires { IfSome grounds (λ kept. AreFuncGrounds (standing_in config.now spaces.now) kept.now) }
+        requires { IfSome grounds (λ kept.
+            AreFuncGrounds (standing_in config.now spaces.now) kept.now) }
         ensures { result ≡ standing_in config.now spaces.now }
     {
         Standing {

@@ -1,4 +1,5 @@
-ghost use Rattle.std.specs.Prelude.{◌≡◌, ◌<◌, ◌+◌, ◌^◌, None, Some, length, slice_get, IsTrue, IsSome, IfOk, All, false};
+ghost use Rattle.std.specs.Prelude.{◌≡◌, ◌<◌, ◌+◌, ◌^◌, None, Some, length, slice_get, IsTrue};
+ghost use Rattle.std.specs.Prelude.{IsSome, IfOk, All, false};
 ghost use Rattle.smith_bytes.specs.Takes.{Takes, SpellsSuch};
 ghost use Rattle.smith_types.specs.Space.{MayFollow};
 ghost use Rattle.smith_types.specs.OpenTypes.{AreTypesOpen};
@@ -78,7 +79,8 @@ fn draw_sub_type_below(
     index: u32,
     u: &mut Unstructured<'_>,
 ) -> Result<SubType, Error>
-    ensures { Draws (sub_type_below_at config.now standing.now limit index (slice_get standing.now.types index) u.old) result u.old u.new }
+    ensures { Draws (sub_type_below_at config.now standing.now limit index
+        (slice_get standing.now.types index) u.old) result u.old u.new }
 {
     match standing.types().types().get(index as usize) {
         Some(supertype) => {
@@ -108,7 +110,8 @@ fn draw_sub_type_of(
     u: &mut Unstructured<'_>,
 ) -> Result<SubType, Error>
     requires { 0 < length indices.now }
-    ensures { Draws (sub_type_of_at config.now standing.now limit indices.now u.old) result u.old u.new }
+    ensures { Draws (sub_type_of_at config.now standing.now limit indices.now u.old)
+        result u.old u.new }
 {
     let index = choose(indices, u);
     draw_sub_type_below(alloc, config, standing, limit, index, u)
@@ -136,7 +139,9 @@ pub(crate) fn draw_sub_type(
     limit: u32,
     u: &mut Unstructured<'_>,
 ) -> Result<SubType, Error>
-    ensures { Draws (sub_type_at config.now (over (functions_in config.now entities.now) types.now.types) limit u.old) result u.old u.new }
+    ensures { Draws (sub_type_at config.now
+        (over (functions_in config.now entities.now) types.now.types) limit u.old)
+        result u.old u.new }
 {
     let standing = Standing::beside(config, types, entities);
     let indices = supertypes(types);
@@ -161,11 +166,17 @@ pub fn arbitrary_sub_type(
     u: &mut Unstructured<'_>,
 ) -> Result<SubType, Error>
     requires sanitized { IsSanitized config.now }
-    ensures draws { Draws (sub_type_at config.now (standing_in config.now spaces.now) limit u.old) result u.old u.new }
-    ensures valid { AreTypesOpen (features_of config.now) limit spaces.now.types.now → IfOk result (IsTypeValid (features_of config.now) spaces.now.types.now.types limit) }
+    ensures draws { Draws (sub_type_at config.now (standing_in config.now spaces.now) limit u.old)
+        result u.old u.new }
+    ensures valid { AreTypesOpen (features_of config.now) limit spaces.now.types.now
+        → IfOk result (IsTypeValid (features_of config.now) spaces.now.types.now.types limit) }
     ensures follows { IfOk result (HasSuperType spaces.now.types.now.types) }
-    ensures granted { AreTypesGranted config.now (standing_in config.now spaces.now) → IfOk result (HasGranted config.now (standing_in config.now spaces.now)) }
-    ensures reach { All IsRoot spaces.now.types.now.types → IfOk result (λ drawn. Takes (SpellsSuch (λ t. All (RefersTo config.now spaces.now.types.now.types) (values_of t.composite_type.inner)) (SpellsSubType config.now spaces.now.types.now.types limit)) u.old drawn u.new) }
+    ensures granted { AreTypesGranted config.now (standing_in config.now spaces.now)
+        → IfOk result (HasGranted config.now (standing_in config.now spaces.now)) }
+    ensures reach { All IsRoot spaces.now.types.now.types
+        → IfOk result (λ drawn. Takes (SpellsSuch (λ t.
+        All (RefersTo config.now spaces.now.types.now.types) (values_of t.composite_type.inner))
+        (SpellsSubType config.now spaces.now.types.now.types limit)) u.old drawn u.new) }
 {
     orderly(spaces);
     draw_sub_type(alloc, config, spaces.types, &spaces.entities, limit, u)
@@ -189,11 +200,14 @@ pub fn arbitrary_sub_type_of_super_type(
     requires sanitized { IsSanitized config.now }
     requires gc { IsTrue config.now.gc_enabled }
     requires some { SomeMayHaveSubtypes spaces.now.types.now.types }
-    ensures draws { Draws (sub_type_of_at config.now (standing_in config.now spaces.now) limit (supertypes spaces.now.types.now.types) u.old) result u.old u.new }
+    ensures draws { Draws (sub_type_of_at config.now (standing_in config.now spaces.now) limit
+        (supertypes spaces.now.types.now.types) u.old) result u.old u.new }
     ensures below { IfOk result (λ drawn. IsSome drawn.supertype) }
-    ensures valid { AreTypesOpen (features_of config.now) limit spaces.now.types.now → IfOk result (IsTypeValid (features_of config.now) spaces.now.types.now.types limit) }
+    ensures valid { AreTypesOpen (features_of config.now) limit spaces.now.types.now
+        → IfOk result (IsTypeValid (features_of config.now) spaces.now.types.now.types limit) }
     ensures follows { IfOk result (HasSuperType spaces.now.types.now.types) }
-    ensures granted { AreTypesGranted config.now (standing_in config.now spaces.now) → IfOk result (HasGranted config.now (standing_in config.now spaces.now)) }
+    ensures granted { AreTypesGranted config.now (standing_in config.now spaces.now)
+        → IfOk result (HasGranted config.now (standing_in config.now spaces.now)) }
 {
     orderly(spaces);
     let indices = supertypes(spaces.types);

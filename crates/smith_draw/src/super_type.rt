@@ -1,12 +1,15 @@
 ghost use Rattle.std.specs.Prelude.{◌≡◌, ◌↔◌, true, Some, IfOk};
 ghost use Rattle.smith_bytes.specs.Draws.{choose_at};
-ghost use Rattle.smith_types.specs.Subtyping.{IsBelow, IsRefBelow, IsValBelow, IsInRange, IsValInRange};
-ghost use Rattle.smith_types.specs.ValidTypes.{IsHeapTypeValid, IsRefTypeValid, IsValTypeValid, IsHeapTypeShared, IsShareable};
+ghost use Rattle.smith_types.specs.Subtyping.{IsBelow, IsRefBelow, IsValBelow, IsInRange};
+ghost use Rattle.smith_types.specs.Subtyping.{IsValInRange};
+ghost use Rattle.smith_types.specs.ValidTypes.{IsHeapTypeValid, IsRefTypeValid, IsValTypeValid};
+ghost use Rattle.smith_types.specs.ValidTypes.{IsHeapTypeShared, IsShareable};
 ghost use Rattle.smith_config.specs.Features.{features_of};
 ghost use Rattle.smith_draw.specs.Drawing.{Draws};
 ghost use Rattle.smith_draw.specs.Kept.{StaysValid};
 ghost use Rattle.smith_draw.specs.Offered.{supertypes_offered};
-ghost use Rattle.smith_draw.specs.MatchingTypes.{super_heap_type_at, super_ref_type_at, super_val_type_at};
+ghost use Rattle.smith_draw.specs.MatchingTypes.{super_heap_type_at, super_ref_type_at};
+ghost use Rattle.smith_draw.specs.MatchingTypes.{super_val_type_at};
 
 use crate::each::Replacement;
 use crate::offered::{count_supertypes, offered_supertype};
@@ -95,12 +98,18 @@ pub fn arbitrary_super_type_of_heap_type(
     ty: HeapType,
     u: &mut Unstructured<'_>,
 ) -> Result<HeapType, Error>
-    ensures draws { Draws (super_heap_type_at config.now spaces.now.types.now.types ty u.old) result u.old u.new }
-    ensures offered { IfOk result (λ drawn. choose_at (supertypes_offered config.now spaces.now.types.now.types ty) u.old ≡ (Some drawn, u.new)) }
+    ensures draws { Draws (super_heap_type_at config.now spaces.now.types.now.types ty u.old)
+        result u.old u.new }
+    ensures offered { IfOk result (λ drawn.
+        choose_at (supertypes_offered config.now spaces.now.types.now.types ty) u.old
+        ≡ (Some drawn, u.new)) }
     ensures above { IfOk result (λ drawn. IsBelow spaces.now.types.now.types ty drawn) }
-    ensures shared { IfOk result (λ drawn. IsHeapTypeShared spaces.now.types.now.types drawn ↔ IsHeapTypeShared spaces.now.types.now.types ty) }
-    ensures valid { IfOk result (StaysValid (IsHeapTypeValid (features_of config.now)) (features_of config.now) spaces.now.types.now.types ty) }
-    ensures stands { IfOk result (λ drawn. IsInRange spaces.now.types.now.types ty → IsInRange spaces.now.types.now.types drawn) }
+    ensures shared { IfOk result (λ drawn. IsHeapTypeShared spaces.now.types.now.types drawn
+        ↔ IsHeapTypeShared spaces.now.types.now.types ty) }
+    ensures valid { IfOk result (StaysValid (IsHeapTypeValid (features_of config.now))
+        (features_of config.now) spaces.now.types.now.types ty) }
+    ensures stands { IfOk result (λ drawn.
+        IsInRange spaces.now.types.now.types ty → IsInRange spaces.now.types.now.types drawn) }
 {
     orderly(spaces);
     draw_super_heap_type(config, spaces.types, ty, u)
@@ -116,12 +125,17 @@ pub fn arbitrary_super_type_of_ref_type(
     ty: RefType,
     u: &mut Unstructured<'_>,
 ) -> Result<RefType, Error>
-    ensures draws { Draws (super_ref_type_at config.now spaces.now.types.now.types ty u.old) result u.old u.new }
+    ensures draws { Draws (super_ref_type_at config.now spaces.now.types.now.types ty u.old)
+        result u.old u.new }
     ensures above { IfOk result (λ drawn. IsRefBelow spaces.now.types.now.types ty drawn) }
     ensures nullable { IfOk result (λ drawn. drawn.nullable ≡ true) }
-    ensures shared { IfOk result (λ drawn. IsHeapTypeShared spaces.now.types.now.types drawn.heap_type ↔ IsHeapTypeShared spaces.now.types.now.types ty.heap_type) }
-    ensures valid { IfOk result (StaysValid (IsRefTypeValid (features_of config.now)) (features_of config.now) spaces.now.types.now.types ty) }
-    ensures stands { IfOk result (λ drawn. IsInRange spaces.now.types.now.types ty.heap_type → IsInRange spaces.now.types.now.types drawn.heap_type) }
+    ensures shared { IfOk result (λ drawn.
+        IsHeapTypeShared spaces.now.types.now.types drawn.heap_type
+        ↔ IsHeapTypeShared spaces.now.types.now.types ty.heap_type) }
+    ensures valid { IfOk result (StaysValid (IsRefTypeValid (features_of config.now))
+        (features_of config.now) spaces.now.types.now.types ty) }
+    ensures stands { IfOk result (λ drawn. IsInRange spaces.now.types.now.types ty.heap_type
+        → IsInRange spaces.now.types.now.types drawn.heap_type) }
 {
     orderly(spaces);
     draw_super_ref_type(alloc, config, spaces.types, ty, u)
@@ -137,11 +151,15 @@ pub fn arbitrary_super_type_of_val_type(
     ty: ValType,
     u: &mut Unstructured<'_>,
 ) -> Result<ValType, Error>
-    ensures draws { Draws (super_val_type_at config.now spaces.now.types.now.types ty u.old) result u.old u.new }
+    ensures draws { Draws (super_val_type_at config.now spaces.now.types.now.types ty u.old)
+        result u.old u.new }
     ensures above { IfOk result (λ drawn. IsValBelow spaces.now.types.now.types ty drawn) }
-    ensures shared { IfOk result (λ drawn. IsShareable spaces.now.types.now.types drawn ↔ IsShareable spaces.now.types.now.types ty) }
-    ensures valid { IfOk result (StaysValid (IsValTypeValid (features_of config.now)) (features_of config.now) spaces.now.types.now.types ty) }
-    ensures stands { IfOk result (λ drawn. IsValInRange spaces.now.types.now.types ty → IsValInRange spaces.now.types.now.types drawn) }
+    ensures shared { IfOk result (λ drawn.
+        IsShareable spaces.now.types.now.types drawn ↔ IsShareable spaces.now.types.now.types ty) }
+    ensures valid { IfOk result (StaysValid (IsValTypeValid (features_of config.now))
+        (features_of config.now) spaces.now.types.now.types ty) }
+    ensures stands { IfOk result (λ drawn. IsValInRange spaces.now.types.now.types ty
+        → IsValInRange spaces.now.types.now.types drawn) }
 {
     orderly(spaces);
     draw_super_val_type(alloc, config, spaces.types, ty, u)

@@ -45,9 +45,12 @@ pub fn draw_table_type(
 ) -> TableType
     requires { IsSanitized config.now }
     ensures draws { AlwaysDraws (table_type_at config.now standing.now u.old) result u.old u.new }
-    ensures valid { (space : Space) → space.types ≡ standing.now.types → AreTypesValid (features_of config.now) space → IsTableValid (features_of config.now) space.types result }
+    ensures valid { (space : Space) → space.types ≡ standing.now.types
+        → AreTypesValid (features_of config.now) space
+        → IsTableValid (features_of config.now) space.types result }
     ensures within { IsTableWithin config.now result }
-    ensures nullable { config.now.non_nullable_enabled ≡ false → result.element_type.nullable ≡ true }
+    ensures nullable { config.now.non_nullable_enabled ≡ false
+        → result.element_type.nullable ≡ true }
     ensures grounded { ¬ IsUngrounded config.now standing.now (Ref result.element_type) }
 {
     let types = standing.types().types();
@@ -85,11 +88,15 @@ pub fn arbitrary_table_type(
 ) -> Result<TableType, Error>
     requires { IsSanitized config.now }
     ensures ok { IsOk result }
-    ensures draws { Draws (table_type_at config.now (standing_in config.now spaces.now) u.old) result u.old u.new }
-    ensures valid { AreTypesValid (features_of config.now) spaces.now.types.now → IfOk result (IsTableValid (features_of config.now) spaces.now.types.now.types) }
+    ensures draws { Draws (table_type_at config.now (standing_in config.now spaces.now) u.old)
+        result u.old u.new }
+    ensures valid { AreTypesValid (features_of config.now) spaces.now.types.now
+        → IfOk result (IsTableValid (features_of config.now) spaces.now.types.now.types) }
     ensures within { IfOk result (IsTableWithin config.now) }
-    ensures nullable { config.now.non_nullable_enabled ≡ false → IfOk result (λ drawn. drawn.element_type.nullable ≡ true) }
-    ensures grounded { IfOk result (λ drawn. ¬ IsUngrounded config.now (standing_in config.now spaces.now) (Ref drawn.element_type)) }
+    ensures nullable { config.now.non_nullable_enabled ≡ false
+        → IfOk result (λ drawn. drawn.element_type.nullable ≡ true) }
+    ensures grounded { IfOk result (λ drawn.
+        ¬ IsUngrounded config.now (standing_in config.now spaces.now) (Ref drawn.element_type)) }
 {
     Ok(draw_table_type(config, &Standing::over(config, spaces), u))
 }

@@ -2,7 +2,8 @@ ghost use Rattle.std.specs.Prelude.{◌≡◌, ◌<◌, ◌^◌, length, slice_i
 ghost use Rattle.smith_types.specs.Entities.{IsTagValid};
 ghost use Rattle.smith_draw.specs.Choices.{chosen_at};
 ghost use Rattle.smith_draw.specs.Drawing.{AlwaysDraws, Draws};
-ghost use Rattle.smith_draw.specs.TypeUses.{is_function, gives_nothing, is_tag_type, is_unshared_function, may_be_used, types_for, IsUsable};
+ghost use Rattle.smith_draw.specs.TypeUses.{is_function, gives_nothing, is_tag_type};
+ghost use Rattle.smith_draw.specs.TypeUses.{is_unshared_function, may_be_used, types_for, IsUsable};
 ghost use Rattle.smith_draw.specs.declared.type_use.TypeUse.TheVariants.{Tag};
 
 use crate::spaces::Spaces;
@@ -106,7 +107,8 @@ fn type_at(for_use: TypeUse, types: &[SubType], mut place: usize) -> u32
 fn choose_type(for_use: TypeUse, types: &[SubType], u: &mut Unstructured<'_>) -> u32
     requires few { length types.now < 2 ^ 32 }
     requires some { 0 < length (types_for for_use types.now) }
-    ensures draws { AlwaysDraws (chosen_at 0 (types_for for_use types.now) u.old) result u.old u.new }
+    ensures draws { AlwaysDraws (chosen_at 0 (types_for for_use types.now) u.old)
+        result u.old u.new }
     ensures usable { IsUsable for_use types.now result }
 {
     let last = count_types(for_use, types) - 1;
@@ -129,7 +131,8 @@ pub fn arbitrary_tag_type(
 ) -> Result<u32, Error>
     requires { 0 < length (types_for Tag spaces.now.types.now.types) }
     ensures ok { IsOk result }
-    ensures draws { Draws (chosen_at 0 (types_for Tag spaces.now.types.now.types) u.old) result u.old u.new }
+    ensures draws { Draws (chosen_at 0 (types_for Tag spaces.now.types.now.types) u.old)
+        result u.old u.new }
     ensures valid { IfOk result (IsTagValid spaces.now.types.now.types) }
 {
     Ok(choose_type(TypeUse::Tag, spaces.types.types(), u))

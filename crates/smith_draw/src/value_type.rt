@@ -133,7 +133,8 @@ fn draw_type_index(
     limit: u32,
     u: &mut Unstructured<'_>,
 ) -> Option<u32>
-    ensures { AlwaysDraws (type_index_at config.now types.now must_share limit u.old) result u.old u.new }
+    ensures { AlwaysDraws (type_index_at config.now types.now must_share limit u.old)
+        result u.old u.new }
 {
     if !is_index_wanted(config, limit, u) {
         return None;
@@ -150,7 +151,8 @@ fn draw_heap_type(
     limit: u32,
     u: &mut Unstructured<'_>,
 ) -> HeapType
-    ensures { AlwaysDraws (heap_type_at config.now types.now must_share limit u.old) result u.old u.new }
+    ensures { AlwaysDraws (heap_type_at config.now types.now must_share limit u.old)
+        result u.old u.new }
 {
     match draw_type_index(config, types, must_share, limit, u) {
         Some(index) => HeapType::Concrete(index),
@@ -184,7 +186,8 @@ pub fn draw_ref_type(
     limit: u32,
     u: &mut Unstructured<'_>,
 ) -> RefType
-    ensures { AlwaysDraws (ref_type_at config.now standing.now must_share limit u.old) result u.old u.new }
+    ensures { AlwaysDraws (ref_type_at config.now standing.now must_share limit u.old)
+        result u.old u.new }
 {
     if !config.reference_types_enabled {
         return RefType {
@@ -229,7 +232,8 @@ fn draw_value_of_class(
     class: ValueClass,
     u: &mut Unstructured<'_>,
 ) -> ValType
-    ensures { AlwaysDraws (value_of_class_at config.now standing.now must_share limit class u.old) result u.old u.new }
+    ensures { AlwaysDraws (value_of_class_at config.now standing.now must_share limit class u.old)
+        result u.old u.new }
 {
     match class {
         ValueClass::I32 => ValType::I32,
@@ -254,7 +258,8 @@ pub(crate) fn draw_val_type_among(
     u: &mut Unstructured<'_>,
 ) -> ValType
     requires { classes.now ≡ enabled (value_classes config.now) }
-    ensures { AlwaysDraws (val_type_at config.now standing.now must_share limit u.old) result u.old u.new }
+    ensures { AlwaysDraws (val_type_at config.now standing.now must_share limit u.old)
+        result u.old u.new }
 {
     let class = choose(classes, u);
     draw_value_of_class(config, standing, must_share, limit, class, u)
@@ -267,7 +272,8 @@ pub(crate) fn draw_val_type(
     limit: u32,
     u: &mut Unstructured<'_>,
 ) -> ValType
-    ensures { AlwaysDraws (val_type_at config.now standing.now must_share limit u.old) result u.old u.new }
+    ensures { AlwaysDraws (val_type_at config.now standing.now must_share limit u.old)
+        result u.old u.new }
 {
     draw_val_type_among(
         config,
@@ -297,11 +303,15 @@ pub fn arbitrary_heap_type(
     requires sanitized { IsSanitized config.now }
     requires may_share { IsTrue must_share → IsTrue config.now.shared_everything_threads_enabled }
     ensures ok { IsOk result }
-    ensures draws { Draws (heap_type_at config.now spaces.now.types.now.types must_share limit u.old) result u.old u.new }
+    ensures draws { Draws
+        (heap_type_at config.now spaces.now.types.now.types must_share limit u.old)
+        result u.old u.new }
     ensures valid { IfOk result (IsHeapTypeValid (features_of config.now) limit) }
     ensures stands { IfOk result (IsInRange spaces.now.types.now.types) }
     ensures shared { IsTrue must_share → IfOk result (IsHeapTypeShared spaces.now.types.now.types) }
-    ensures reach { must_share ≡ false → IfOk result (λ drawn. Takes (SpellsSuch (IsInRange spaces.now.types.now.types) (SpellsHeapType config.now limit)) u.old drawn u.new) }
+    ensures reach { must_share ≡ false → IfOk result (λ drawn.
+        Takes (SpellsSuch (IsInRange spaces.now.types.now.types) (SpellsHeapType config.now limit))
+        u.old drawn u.new) }
 {
     Ok(draw_heap_type(config, spaces.types.types(), must_share, limit, u))
 }
@@ -330,12 +340,18 @@ pub fn arbitrary_ref_type(
     requires sanitized { IsSanitized config.now }
     requires may_share { IsTrue must_share → IsTrue config.now.shared_everything_threads_enabled }
     ensures ok { IsOk result }
-    ensures draws { Draws (ref_type_at config.now (standing_in config.now spaces.now) must_share limit u.old) result u.old u.new }
-    ensures granted { IfOk result (λ drawn. drawn.nullable ≡ false → IsGrounded (standing_in config.now spaces.now) drawn.heap_type) }
+    ensures draws { Draws
+        (ref_type_at config.now (standing_in config.now spaces.now) must_share limit u.old)
+        result u.old u.new }
+    ensures granted { IfOk result (λ drawn.
+        drawn.nullable ≡ false → IsGrounded (standing_in config.now spaces.now) drawn.heap_type) }
     ensures valid { IfOk result (IsRefTypeValid (features_of config.now) limit) }
     ensures stands { IfOk result (λ drawn. IsInRange spaces.now.types.now.types drawn.heap_type) }
-    ensures shared { IsTrue must_share → IfOk result (λ drawn. IsHeapTypeShared spaces.now.types.now.types drawn.heap_type) }
-    ensures reach { must_share ≡ false → IfOk result (λ drawn. Takes (SpellsSuch (λ reference. RefersTo config.now spaces.now.types.now.types (Ref reference)) (SpellsRefType config.now limit)) u.old drawn u.new) }
+    ensures shared { IsTrue must_share
+        → IfOk result (λ drawn. IsHeapTypeShared spaces.now.types.now.types drawn.heap_type) }
+    ensures reach { must_share ≡ false → IfOk result (λ drawn. Takes
+        (SpellsSuch (λ reference. RefersTo config.now spaces.now.types.now.types (Ref reference))
+        (SpellsRefType config.now limit)) u.old drawn u.new) }
 {
     orderly(spaces);
     let standing = Standing::over(config, spaces);
@@ -361,12 +377,16 @@ pub fn arbitrary_valtype(
     requires sanitized { IsSanitized config.now }
     requires may_share { IsTrue must_share → IsTrue config.now.shared_everything_threads_enabled }
     ensures ok { IsOk result }
-    ensures draws { Draws (val_type_at config.now (standing_in config.now spaces.now) must_share limit u.old) result u.old u.new }
+    ensures draws { Draws
+        (val_type_at config.now (standing_in config.now spaces.now) must_share limit u.old)
+        result u.old u.new }
     ensures granted { IfOk result (IsGranted config.now (standing_in config.now spaces.now)) }
     ensures valid { IfOk result (IsValTypeValid (features_of config.now) limit) }
     ensures stands { IfOk result (IsValInRange spaces.now.types.now.types) }
     ensures shared { IsTrue must_share → IfOk result (IsShareable spaces.now.types.now.types) }
-    ensures reach { must_share ≡ false → IfOk result (λ drawn. Takes (SpellsSuch (RefersTo config.now spaces.now.types.now.types) (SpellsValType config.now limit)) u.old drawn u.new) }
+    ensures reach { must_share ≡ false → IfOk result (λ drawn. Takes (SpellsSuch
+        (RefersTo config.now spaces.now.types.now.types) (SpellsValType config.now limit))
+        u.old drawn u.new) }
 {
     orderly(spaces);
     let standing = Standing::over(config, spaces);

@@ -44,8 +44,10 @@ fn write_middle(module: &Module, sink: &mut Sink) -> Result<(), EncodeError>
 
 // Writes the sections from the start section on, with `bodies` in the code section.
 fn write_back<B: Encode>(module: &Module, bodies: &B, sink: &mut Sink) -> Result<(), EncodeError>
-    ensures writes { OnOk result (Writes (IsBack «module».now (B.spells bodies.now)) sink.old sink.new) }
-    ensures fault { IfErr result (IsFault (IsTooLong «module».now ⊎ (B.is_long bodies.now ⊎ IsLongContent (B.spells bodies.now)))) }
+    ensures writes { OnOk result
+        (Writes (IsBack «module».now (B.spells bodies.now)) sink.old sink.new) }
+    ensures fault { IfErr result (IsFault
+        (IsTooLong «module».now ⊎ (B.is_long bodies.now ⊎ IsLongContent (B.spells bodies.now)))) }
 {
     write_start(module, sink)?;
     write_elements(module, sink)?;
@@ -74,7 +76,8 @@ fn write_back<B: Encode>(module: &Module, bodies: &B, sink: &mut Sink) -> Result
 pub fn encode(alloc: Global, module: &Module) -> Result<Vec<u8>, EncodeError>
     ensures spelled { IfOk result (λ bytes. IsModule (contents_of «module».now) bytes.items) }
     ensures sections { IfOk result (λ bytes. HasSections (section_ids «module».now) bytes.items) }
-    ensures written { IfOk result (λ bytes. IsWritten «module».now (AreOwnBodies «module».now) bytes.items) }
+    ensures written { IfOk result (λ bytes.
+        IsWritten «module».now (AreOwnBodies «module».now) bytes.items) }
     ensures fault { IfErr result (IsFault (IsTooLong «module».now)) }
 {
     let bodies = Listed {
@@ -98,10 +101,13 @@ pub fn encode_with_bodies<B: Encode>(
     module: &Module,
     bodies: &B,
 ) -> Result<Vec<u8>, EncodeError>
-    ensures spelled { IfOk result (λ bytes. IsModuleAround (contents_of «module».now) (IsSectionIf (is_filled «module».now.code) 10 (B.spells bodies.now)) bytes.items) }
+    ensures spelled { IfOk result (λ bytes. IsModuleAround (contents_of «module».now)
+        (IsSectionIf (is_filled «module».now.code) 10 (B.spells bodies.now)) bytes.items) }
     ensures sections { IfOk result (λ bytes. HasSections (section_ids «module».now) bytes.items) }
-    ensures written { IfOk result (λ bytes. IsWritten «module».now (B.spells bodies.now) bytes.items) }
-    ensures fault { IfErr result (IsFault (IsTooLong «module».now ⊎ (B.is_long bodies.now ⊎ IsLongContent (B.spells bodies.now)))) }
+    ensures written { IfOk result (λ bytes.
+        IsWritten «module».now (B.spells bodies.now) bytes.items) }
+    ensures fault { IfErr result (IsFault
+        (IsTooLong «module».now ⊎ (B.is_long bodies.now ⊎ IsLongContent (B.spells bodies.now)))) }
 {
     let mut sink = Sink::new(alloc);
     write_preamble(&mut sink)?;

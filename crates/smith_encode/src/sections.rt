@@ -15,7 +15,8 @@ ghost use Rattle.smith_sections.specs.Long.{IsLongContent};
 ghost use Rattle.smith_sections.specs.Sections.{IsSectionIf};
 ghost use Rattle.smith_sections.specs.Modules.{IsStartSection};
 ghost use Rattle.smith_encode.specs.Contents.{defined, contents_of};
-ghost use Rattle.smith_encode.specs.Layout.{is_filled, writes_types, writes_imports, writes_data_count};
+ghost use Rattle.smith_encode.specs.Layout.{is_filled, writes_types, writes_imports};
+ghost use Rattle.smith_encode.specs.Layout.{writes_data_count};
 ghost use Rattle.smith_encode.specs.TooLong.{IsTooLong};
 
 use smith_binary::{EncodeError, Sink};
@@ -62,7 +63,8 @@ fn writes_data_count(module: &Module) -> bool
 
 /// Writes the type section.
 pub(crate) fn write_types(module: &Module, sink: &mut Sink) -> Result<(), EncodeError>
-    ensures writes { OnOk result (Writes (IsSectionIf (writes_types «module».now) 1 (IsList IsRecGroup (contents_of «module».now).types)) sink.old sink.new) }
+    ensures writes { OnOk result (Writes (IsSectionIf (writes_types «module».now) 1
+        (IsList IsRecGroup (contents_of «module».now).types)) sink.old sink.new) }
     ensures fault { IfErr result (IsFault (IsTooLong «module».now)) }
 {
     let groups = Listed {
@@ -76,7 +78,8 @@ pub(crate) fn write_types(module: &Module, sink: &mut Sink) -> Result<(), Encode
 
 /// Writes the import section.
 pub(crate) fn write_imports(module: &Module, sink: &mut Sink) -> Result<(), EncodeError>
-    ensures writes { OnOk result (Writes (IsSectionIf (writes_imports «module».now) 2 (IsList IsImportGroup «module».now.imports)) sink.old sink.new) }
+    ensures writes { OnOk result (Writes (IsSectionIf (writes_imports «module».now) 2
+        (IsList IsImportGroup «module».now.imports)) sink.old sink.new) }
     ensures fault { IfErr result (IsFault (IsTooLong «module».now)) }
 {
     let imports = Listed {
@@ -88,7 +91,9 @@ pub(crate) fn write_imports(module: &Module, sink: &mut Sink) -> Result<(), Enco
 
 /// Writes the function section.
 pub(crate) fn write_functions(module: &Module, sink: &mut Sink) -> Result<(), EncodeError>
-    ensures writes { OnOk result (Writes (IsSectionIf (is_filled (defined «module».now.num_defined_funcs «module».now.funcs)) 3 (IsList IsIndex (contents_of «module».now).functions)) sink.old sink.new) }
+    ensures writes { OnOk result
+        (Writes (IsSectionIf (is_filled (defined «module».now.num_defined_funcs «module».now.funcs))
+        3 (IsList IsIndex (contents_of «module».now).functions)) sink.old sink.new) }
     ensures fault { IfErr result (IsFault (IsTooLong «module».now)) }
 {
     let functions = Listed {
@@ -100,7 +105,10 @@ pub(crate) fn write_functions(module: &Module, sink: &mut Sink) -> Result<(), En
 
 /// Writes the table section.
 pub(crate) fn write_tables(module: &Module, sink: &mut Sink) -> Result<(), EncodeError>
-    ensures writes { OnOk result (Writes (IsSectionIf (is_filled «module».now.defined_tables) 4 (IsList IsTableWritten (zip (defined (length «module».now.defined_tables) «module».now.tables) «module».now.defined_tables))) sink.old sink.new) }
+    ensures writes { OnOk result (Writes
+        (IsSectionIf (is_filled «module».now.defined_tables) 4 (IsList IsTableWritten (zip (defined
+        (length «module».now.defined_tables) «module».now.tables) «module».now.defined_tables)))
+        sink.old sink.new) }
     ensures fault { IfErr result (IsFault (IsTooLong «module».now)) }
 {
     let initialisers = module.defined_tables();
@@ -114,7 +122,9 @@ pub(crate) fn write_tables(module: &Module, sink: &mut Sink) -> Result<(), Encod
 
 /// Writes the memory section.
 pub(crate) fn write_memories(module: &Module, sink: &mut Sink) -> Result<(), EncodeError>
-    ensures writes { OnOk result (Writes (IsSectionIf (is_filled (defined «module».now.num_defined_memories «module».now.memories)) 5 (IsList IsMemoryType (contents_of «module».now).memories)) sink.old sink.new) }
+    ensures writes { OnOk result (Writes
+        (IsSectionIf (is_filled (defined «module».now.num_defined_memories «module».now.memories)) 5
+        (IsList IsMemoryType (contents_of «module».now).memories)) sink.old sink.new) }
     ensures fault { IfErr result (IsFault (IsTooLong «module».now)) }
 {
     let memories = Listed {
@@ -126,7 +136,9 @@ pub(crate) fn write_memories(module: &Module, sink: &mut Sink) -> Result<(), Enc
 
 /// Writes the tag section.
 pub(crate) fn write_tags(module: &Module, sink: &mut Sink) -> Result<(), EncodeError>
-    ensures writes { OnOk result (Writes (IsSectionIf (is_filled (defined «module».now.num_defined_tags «module».now.tags)) 13 (IsList IsTagType (contents_of «module».now).tags)) sink.old sink.new) }
+    ensures writes { OnOk result
+        (Writes (IsSectionIf (is_filled (defined «module».now.num_defined_tags «module».now.tags))
+        13 (IsList IsTagType (contents_of «module».now).tags)) sink.old sink.new) }
     ensures fault { IfErr result (IsFault (IsTooLong «module».now)) }
 {
     let tags = Listed {
@@ -138,7 +150,8 @@ pub(crate) fn write_tags(module: &Module, sink: &mut Sink) -> Result<(), EncodeE
 
 /// Writes the global section.
 pub(crate) fn write_globals(module: &Module, sink: &mut Sink) -> Result<(), EncodeError>
-    ensures writes { OnOk result (Writes (IsSectionIf (is_filled «module».now.defined_globals) 6 (IsList IsGlobal (contents_of «module».now).globals)) sink.old sink.new) }
+    ensures writes { OnOk result (Writes (IsSectionIf (is_filled «module».now.defined_globals) 6
+        (IsList IsGlobal (contents_of «module».now).globals)) sink.old sink.new) }
     ensures fault { IfErr result (IsFault (IsTooLong «module».now)) }
 {
     let definitions = module.defined_globals();
@@ -152,7 +165,8 @@ pub(crate) fn write_globals(module: &Module, sink: &mut Sink) -> Result<(), Enco
 
 /// Writes the export section.
 pub(crate) fn write_exports(module: &Module, sink: &mut Sink) -> Result<(), EncodeError>
-    ensures writes { OnOk result (Writes (IsSectionIf (is_filled «module».now.exports) 7 (IsList IsExport «module».now.exports)) sink.old sink.new) }
+    ensures writes { OnOk result (Writes (IsSectionIf (is_filled «module».now.exports) 7
+        (IsList IsExport «module».now.exports)) sink.old sink.new) }
     ensures fault { IfErr result (IsFault (IsTooLong «module».now)) }
 {
     let exports = Listed {
@@ -175,7 +189,8 @@ pub(crate) fn write_start(module: &Module, sink: &mut Sink) -> Result<(), Encode
 
 /// Writes the element section.
 pub(crate) fn write_elements(module: &Module, sink: &mut Sink) -> Result<(), EncodeError>
-    ensures writes { OnOk result (Writes (IsSectionIf (is_filled «module».now.elems) 9 (IsList IsElementWritten «module».now.elems)) sink.old sink.new) }
+    ensures writes { OnOk result (Writes (IsSectionIf (is_filled «module».now.elems) 9
+        (IsList IsElementWritten «module».now.elems)) sink.old sink.new) }
     ensures fault { IfErr result (IsFault (IsTooLong «module».now)) }
 {
     let elements = Listed {
@@ -187,7 +202,8 @@ pub(crate) fn write_elements(module: &Module, sink: &mut Sink) -> Result<(), Enc
 
 /// Writes the data count section.
 pub(crate) fn write_data_count(module: &Module, sink: &mut Sink) -> Result<(), EncodeError>
-    ensures writes { OnOk result (Writes (IsSectionIf (writes_data_count «module».now) 12 (IsUnsigned 32 (length «module».now.segments))) sink.old sink.new) }
+    ensures writes { OnOk result (Writes (IsSectionIf (writes_data_count «module».now) 12
+        (IsUnsigned 32 (length «module».now.segments))) sink.old sink.new) }
     ensures fault { IfErr result (IsFault (IsTooLong «module».now)) }
 {
     let count = Count(module.data().len());
@@ -200,15 +216,18 @@ pub(crate) fn write_bodies<B: Encode>(
     bodies: &B,
     sink: &mut Sink,
 ) -> Result<(), EncodeError>
-    ensures writes { OnOk result (Writes (IsSectionIf (is_filled «module».now.code) 10 (B.spells bodies.now)) sink.old sink.new) }
-    ensures fault { IfErr result (IsFault (B.is_long bodies.now ⊎ IsLongContent (B.spells bodies.now))) }
+    ensures writes { OnOk result (Writes
+        (IsSectionIf (is_filled «module».now.code) 10 (B.spells bodies.now)) sink.old sink.new) }
+    ensures fault { IfErr result
+        (IsFault (B.is_long bodies.now ⊎ IsLongContent (B.spells bodies.now))) }
 {
     write_section_if(is_filled(module.code()), 10, bodies, sink)
 }
 
 /// Writes the data section.
 pub(crate) fn write_segments(module: &Module, sink: &mut Sink) -> Result<(), EncodeError>
-    ensures writes { OnOk result (Writes (IsSectionIf (is_filled «module».now.segments) 11 (IsList IsDataWritten «module».now.segments)) sink.old sink.new) }
+    ensures writes { OnOk result (Writes (IsSectionIf (is_filled «module».now.segments) 11
+        (IsList IsDataWritten «module».now.segments)) sink.old sink.new) }
     ensures fault { IfErr result (IsFault (IsTooLong «module».now)) }
 {
     let segments = Listed {

@@ -6,7 +6,8 @@ ghost use Rattle.smith_types.specs.ExampleFeatures.{usual_features};
 ghost use Rattle.smith_types.specs.ExampleTypes.{nullable, plain};
 ghost use Rattle.smith_types.specs.Flags.{funcref};
 ghost use Rattle.smith_types.specs.Segments.{IsElementValid};
-ghost use Rattle.smith_types.specs.declared.const_instr.ConstInstr.TheVariants.{I32Const, I64Const, RefNull};
+ghost use Rattle.smith_types.specs.declared.const_instr.ConstInstr.TheVariants.{I32Const, I64Const};
+ghost use Rattle.smith_types.specs.declared.const_instr.ConstInstr.TheVariants.{RefNull};
 ghost use Rattle.smith_types.specs.declared.segments.ElementKind.TheVariants as kind;
 ghost use Rattle.smith_types.specs.declared.segments.Elements.TheVariants.{Functions, Expressions};
 ghost use Rattle.smith_types.specs.declared.segments.Offset.TheVariants.{Const32};
@@ -46,27 +47,56 @@ fn the_preamble_is_a_module()
 
 // Element segments in the abstract syntax.
 fn element_segments()
-    ensures of_functions { IsElementTyped (context_with usual_features 3) (table funcref 2 None ∷ []) (record { ty = func_ref false; items = func_items (0 ∷ 1 ∷ []); mode = active 0 (I32Const (pos 0) ∷ []) }) }
-    ensures of_a_function_that_is_not_there { ¬ IsElementTyped (context_with usual_features 3) [] (record { ty = func_ref false; items = func_items (2 ∷ []); mode = passive }) }
-    ensures null_among_those_that_are_not_null { ¬ IsElementTyped (context_with usual_features 3) [] (record { ty = func_ref false; items = (RefNull (plain heap.Func) ∷ []) ∷ []; mode = passive }) }
-    ensures of_an_unknown_type { ¬ IsElementTyped (context_with usual_features 3) [] (record { ty = nullable (Concrete 6); items = []; mode = passive }) }
-    ensures into_no_table { ¬ IsElementTyped (context_with usual_features 3) [] (record { ty = func_ref false; items = []; mode = active 0 (I32Const (pos 0) ∷ []) }) }
-    ensures with_a_wide_offset { ¬ IsElementTyped (context_with usual_features 3) (table funcref 2 None ∷ []) (record { ty = func_ref false; items = []; mode = active 0 (I64Const (pos 0) ∷ []) }) }
+    ensures of_functions { IsElementTyped (context_with usual_features 3)
+        (table funcref 2 None ∷ []) (record {
+          ty = func_ref false;
+          items = func_items (0 ∷ 1 ∷ []);
+          mode = active 0 (I32Const (pos 0) ∷ []);
+        }) }
+    ensures of_a_function_that_is_not_there { ¬ IsElementTyped (context_with usual_features 3) []
+        (record { ty = func_ref false; items = func_items (2 ∷ []); mode = passive }) }
+    ensures null_among_those_that_are_not_null { ¬ IsElementTyped (context_with usual_features 3) []
+        (record {
+          ty = func_ref false;
+          items = (RefNull (plain heap.Func) ∷ []) ∷ [];
+          mode = passive;
+        }) }
+    ensures of_an_unknown_type { ¬ IsElementTyped (context_with usual_features 3) []
+        (record { ty = nullable (Concrete 6); items = []; mode = passive }) }
+    ensures into_no_table { ¬ IsElementTyped (context_with usual_features 3) []
+        (record { ty = func_ref false; items = []; mode = active 0 (I32Const (pos 0) ∷ []) }) }
+    ensures with_a_wide_offset { ¬ IsElementTyped (context_with usual_features 3)
+        (table funcref 2 None ∷ [])
+        (record { ty = func_ref false; items = []; mode = active 0 (I64Const (pos 0) ∷ []) }) }
 {}
 
 // A list of functions of one type is valid as a part of a module, but not in the abstract syntax.
 fn lists_of_functions_of_one_type()
-    ensures part { IsElementValid (context_with usual_features 3) (table (nullable (Concrete 0)) 1 None ∷ []) (record { kind = kind.Active None (Const32 (pos 0)); ty = nullable (Concrete 0); items = Functions (0 ∷ []) }) }
+    ensures part { IsElementValid (context_with usual_features 3)
+        (table (nullable (Concrete 0)) 1 None ∷ []) (record {
+          kind = kind.Active None (Const32 (pos 0));
+          ty = nullable (Concrete 0);
+          items = Functions (0 ∷ []);
+        }) }
     ensures listed { ¬ AreListedAsFuncref (Functions (0 ∷ [])) (nullable (Concrete 0)) }
     ensures of_funcref { AreListedAsFuncref (Functions (0 ∷ [])) funcref }
     ensures of_expressions { AreListedAsFuncref (Expressions []) (nullable (Concrete 0)) }
-    ensures in_the_abstract_syntax { ¬ IsElementTyped (context_with usual_features 3) (table (nullable (Concrete 0)) 1 None ∷ []) (element_of (record { kind = kind.Active None (Const32 (pos 0)); ty = nullable (Concrete 0); items = Functions (0 ∷ []) })) }
+    ensures in_the_abstract_syntax { ¬ IsElementTyped (context_with usual_features 3)
+        (table (nullable (Concrete 0)) 1 None ∷ []) (element_of (record {
+          kind = kind.Active None (Const32 (pos 0));
+          ty = nullable (Concrete 0);
+          items = Functions (0 ∷ []);
+        })) }
 {}
 
 // Data segments in the abstract syntax.
 fn data_segments()
-    ensures passive { IsDataTyped (context_with usual_features 3) [] (record { bytes = 0 ∷ []; mode = kept }) }
-    ensures into_a_memory { IsDataTyped (context_with usual_features 3) (memory 1 None ∷ []) (record { bytes = []; mode = in_memory 0 (I32Const (pos 0) ∷ []) }) }
-    ensures into_no_memory { ¬ IsDataTyped (context_with usual_features 3) [] (record { bytes = []; mode = in_memory 0 (I32Const (pos 0) ∷ []) }) }
-    ensures with_a_narrow_offset { ¬ IsDataTyped (context_with usual_features 3) (all_addresses ∷ []) (record { bytes = []; mode = in_memory 0 (I32Const (pos 0) ∷ []) }) }
+    ensures passive { IsDataTyped (context_with usual_features 3) []
+        (record { bytes = 0 ∷ []; mode = kept }) }
+    ensures into_a_memory { IsDataTyped (context_with usual_features 3) (memory 1 None ∷ [])
+        (record { bytes = []; mode = in_memory 0 (I32Const (pos 0) ∷ []) }) }
+    ensures into_no_memory { ¬ IsDataTyped (context_with usual_features 3) []
+        (record { bytes = []; mode = in_memory 0 (I32Const (pos 0) ∷ []) }) }
+    ensures with_a_narrow_offset { ¬ IsDataTyped (context_with usual_features 3)
+        (all_addresses ∷ []) (record { bytes = []; mode = in_memory 0 (I32Const (pos 0) ∷ []) }) }
 {}

@@ -25,17 +25,23 @@ pub fn modules_are_unambiguous()
 /// Proves that the bytes of a body that is not raw are the instructions that check its counters of
 /// fuel, then `unreachable`.
 pub fn bodies_are_checked()
-    ensures { (counters : List ℕ) → All (λ (counter : ℕ). counter < 2 ^ 32) counters → IsChecked counters (body_bytes counters Unreachable) }
+    ensures { (counters : List ℕ) → All (λ (counter : ℕ). counter < 2 ^ 32) counters
+        → IsChecked counters (body_bytes counters Unreachable) }
 {}
 
 /// Proves that a valid element segment is valid in the abstract syntax, if functions are listed
 /// only for the type `funcref`. Its type there matches its own.
 pub fn valid_elements_stay_valid()
-    ensures typed { (context : Context) (tables : List TableType) (segment : ElementSegment) → IsElementValid context tables segment → AreListedAsFuncref segment.items segment.ty → IsElementTyped context tables (element_of segment) }
-    ensures below { (types : List SubType) (segment : ElementSegment) → AreListedAsFuncref segment.items segment.ty → IsRefBelow types (element_of segment).ty segment.ty }
+    ensures typed { (context : Context) (tables : List TableType) (segment : ElementSegment)
+        → IsElementValid context tables segment → AreListedAsFuncref segment.items segment.ty
+        → IsElementTyped context tables (element_of segment) }
+    ensures below { (types : List SubType) (segment : ElementSegment)
+        → AreListedAsFuncref segment.items segment.ty
+        → IsRefBelow types (element_of segment).ty segment.ty }
 {}
 
 /// Proves that a valid data segment is valid in the abstract syntax.
 pub fn valid_data_segments_stay_valid()
-    ensures { (context : Context) (memories : List MemoryType) (segment : DataSegment) → IsDataValid context memories segment → IsDataTyped context memories (data_of segment) }
+    ensures { (context : Context) (memories : List MemoryType) (segment : DataSegment)
+        → IsDataValid context memories segment → IsDataTyped context memories (data_of segment) }
 {}

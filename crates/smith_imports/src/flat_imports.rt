@@ -12,7 +12,8 @@ fn push_items(
     from: &Name,
     items: &[ImportItem],
 ) -> Result<(), Error>
-    ensures ok { OnOk result (flat.new ≡ flat.old ++ map (λ (item : Item). import_of from.now item.name item.entity_type) items.now) }
+    ensures ok { OnOk result (flat.new ≡ flat.old
+        ++ map (λ (item : Item). import_of from.now item.name item.entity_type) items.now) }
     ensures memory { IfErr result (λ e. e ≡ Error.Memory) }
 {
     for item in items {
@@ -32,7 +33,8 @@ fn push_names(
     entity_type: EntityType,
     names: &[Name],
 ) -> Result<(), Error>
-    ensures ok { OnOk result (flat.new ≡ flat.old ++ map (λ name. import_of from.now name entity_type) names.now) }
+    ensures ok { OnOk result
+        (flat.new ≡ flat.old ++ map (λ name. import_of from.now name entity_type) names.now) }
     ensures memory { IfErr result (λ e. e ≡ Error.Memory) }
 {
     for name in names {

@@ -4,7 +4,9 @@ ghost use Rattle.smith_types.specs.Imports.{IsImportsValid, flattened, imports_o
 ghost use Rattle.smith_types.specs.declared.imports.Import.{Import};
 ghost use Rattle.smith_config.specs.Features.{features_of};
 ghost use Rattle.smith_draw.specs.Drawing.{Draws, AlwaysDraws};
-ghost use Rattle.smith_imports.specs.AvailableImports.{may_join, group_begun, joins_at, group_begun_at, joined_at, grouped_at, AreGroupsOf};
+ghost use Rattle.smith_imports.specs.AvailableImports.{may_join, group_begun, joins_at};
+ghost use Rattle.smith_imports.specs.AvailableImports.{group_begun_at, joined_at, grouped_at};
+ghost use Rattle.smith_imports.specs.AvailableImports.{AreGroupsOf};
 
 use crate::import_groups::{GroupKind, draw_group_kind, push_import};
 use smith_bytes::{Error, Unstructured};
@@ -95,9 +97,13 @@ fn add_next(
     next: &Import,
     u: &mut Unstructured<'_>,
 ) -> Result<Imports, Error>
-    ensures exact { (more : List Import) → IfOk result (λ last. joined_at config.now made.old group (next.now ∷ more) u.old ≡ joined_at config.now made.new last more u.new) }
-    ensures groups { (imports : List Import) → AreGroupsOf (features_of config.now) imports (made.old ++ group ∷ [])
-        → IfOk result (λ last. AreGroupsOf (features_of config.now) (imports ++ next.now ∷ []) (made.new ++ last ∷ [])) }
+    ensures exact { (more : List Import)
+        → IfOk result (λ last. joined_at config.now made.old group (next.now ∷ more) u.old
+        ≡ joined_at config.now made.new last more u.new) }
+    ensures groups { (imports : List Import)
+        → AreGroupsOf (features_of config.now) imports (made.old ++ group ∷ [])
+        → IfOk result (λ last.
+        AreGroupsOf (features_of config.now) (imports ++ next.now ∷ []) (made.new ++ last ∷ [])) }
     ensures memory { IfErr result (λ e. e ≡ Error.Memory) }
     ensures left { KeepsPieces u.old u.new }
 {

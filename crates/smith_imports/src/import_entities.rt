@@ -1,10 +1,13 @@
-ghost use Rattle.std.specs.Prelude.{◌≡◌, ◌<◌, ◌+◌, ◌^◌, true, None, Some, IsTrue, IfOk, IfSome, if◌then◌else◌};
+ghost use Rattle.std.specs.Prelude.{◌≡◌, ◌<◌, ◌+◌, ◌^◌, true, None, Some, IsTrue, IfOk, IfSome};
+ghost use Rattle.std.specs.Prelude.{if◌then◌else◌};
 ghost use Rattle.smith_types.specs.Sizes.{size_in};
 ghost use Rattle.smith_draw.specs.Drawing.{Draws};
-ghost use Rattle.smith_imports.specs.Imported.{MayImport, IsEntityFit, IsFitBeside, IsNext, MayEndAt, spaces_of};
+ghost use Rattle.smith_imports.specs.Imported.{MayImport, IsEntityFit, IsFitBeside, IsNext};
+ghost use Rattle.smith_imports.specs.Imported.{MayEndAt, spaces_of};
 ghost use Rattle.smith_draw.specs.KeptGrounds.{AreKeptGrounds};
 ghost use Rattle.smith_types.specs.Exports.{entity_kind};
-ghost use Rattle.smith_imports.specs.ImportedEntities.{has_room, may_import, import_scope, entity_of_kind_at, fits, entity_at, again};
+ghost use Rattle.smith_imports.specs.ImportedEntities.{has_room, may_import, import_scope};
+ghost use Rattle.smith_imports.specs.ImportedEntities.{entity_of_kind_at, fits, entity_at, again};
 
 use crate::import_kinds::{draw_kind, has_room};
 use crate::import_types::ImportTypes;
@@ -38,7 +41,8 @@ fn standing_behind<'a>(
     imported: &'a Imported,
     grounds: &'a KeptGrounds,
 ) -> Standing<'a>
-    requires { AreKeptGrounds (import_scope config.now types.now.types (spaces_of imported.now)) grounds.now }
+    requires { AreKeptGrounds
+        (import_scope config.now types.now.types (spaces_of imported.now)) grounds.now }
     ensures { result ≡ import_scope config.now types.now.types (spaces_of imported.now) }
 {
     let funcs = imported.spaces.funcs.as_slice();
@@ -62,9 +66,12 @@ fn draw_entity_of_kind(
     u: &mut Unstructured<'_>,
 ) -> Result<EntityType, Error>
     requires may { MayImport config.now types.now }
-    requires kept { AreKeptGrounds (import_scope config.now types.now.types (spaces_of imported.now)) grounds.now }
+    requires kept { AreKeptGrounds
+        (import_scope config.now types.now.types (spaces_of imported.now)) grounds.now }
     requires kind { may_import config.now types.now.types kind ≡ true }
-    ensures draws { Draws (entity_of_kind_at config.now (import_scope config.now types.now.types (spaces_of imported.now)) kind u.old) result u.old u.new }
+    ensures draws { Draws (entity_of_kind_at config.now
+        (import_scope config.now types.now.types (spaces_of imported.now)) kind u.old)
+        result u.old u.new }
     ensures kind { IfOk result (λ added. entity_kind added ≡ kind) }
     ensures fit { IfOk result (IsFitBeside config.now types.now.types (spaces_of imported.now)) }
 {
@@ -98,9 +105,12 @@ fn if_fits(
 ) -> Option<EntityType>
     requires fit { IsFitBeside config.now types.now.types (spaces_of imported.now) added }
     requires room { has_room config.now (spaces_of imported.now) (entity_kind added) ≡ true }
-    ensures exact { result ≡ (if fits config.now types.now.types imported.now.type_size added then Some added else None) }
-    ensures next { IfSome result (IsNext config.now types.now.types (spaces_of imported.now) imported.now.type_size) }
-    ensures ended { result ≡ None → MayEndAt config.now (spaces_of imported.now) imported.now.type_size }
+    ensures exact { result ≡ (if fits config.now types.now.types imported.now.type_size added
+        then Some added else None) }
+    ensures next { IfSome result
+        (IsNext config.now types.now.types (spaces_of imported.now) imported.now.type_size) }
+    ensures ended { result ≡ None
+        → MayEndAt config.now (spaces_of imported.now) imported.now.type_size }
 {
     if fits(config, types, imported.type_size, &added) {
         Some(added)
@@ -120,10 +130,15 @@ pub(crate) fn draw_entity(
     u: &mut Unstructured<'_>,
 ) -> Result<Option<EntityType>, Error>
     requires may { MayImport config.now types.now }
-    requires kept { AreKeptGrounds (import_scope config.now types.now.types (spaces_of imported.now)) grounds.now }
-    ensures draws { Draws (entity_at config.now types.now.types (spaces_of imported.now) imported.now.type_size u.old) result u.old u.new }
-    ensures next { IfOk result (λ drawn. IfSome drawn (IsNext config.now types.now.types (spaces_of imported.now) imported.now.type_size)) }
-    ensures ended { IfOk result (λ drawn. drawn ≡ None → MayEndAt config.now (spaces_of imported.now) imported.now.type_size) }
+    requires kept { AreKeptGrounds
+        (import_scope config.now types.now.types (spaces_of imported.now)) grounds.now }
+    ensures draws { Draws
+        (entity_at config.now types.now.types (spaces_of imported.now) imported.now.type_size u.old)
+        result u.old u.new }
+    ensures next { IfOk result (λ drawn. IfSome drawn
+        (IsNext config.now types.now.types (spaces_of imported.now) imported.now.type_size)) }
+    ensures ended { IfOk result (λ drawn.
+        drawn ≡ None → MayEndAt config.now (spaces_of imported.now) imported.now.type_size) }
 {
     let Some(kind) = draw_kind(config, types, imported, u) else {
         return Ok(None);
@@ -141,9 +156,12 @@ pub(crate) fn again(
     added: EntityType,
 ) -> Option<EntityType>
     requires fit { IsFitBeside config.now types.now.types (spaces_of imported.now) added }
-    ensures exact { result ≡ again config.now types.now.types (spaces_of imported.now) imported.now.type_size added }
-    ensures next { IfSome result (IsNext config.now types.now.types (spaces_of imported.now) imported.now.type_size) }
-    ensures ended { result ≡ None → MayEndAt config.now (spaces_of imported.now) imported.now.type_size }
+    ensures exact { result
+        ≡ again config.now types.now.types (spaces_of imported.now) imported.now.type_size added }
+    ensures next { IfSome result
+        (IsNext config.now types.now.types (spaces_of imported.now) imported.now.type_size) }
+    ensures ended { result ≡ None
+        → MayEndAt config.now (spaces_of imported.now) imported.now.type_size }
 {
     if !has_room(config, imported, kind_of(&added)) {
         return None;

@@ -54,9 +54,12 @@ pub(crate) fn draw_kind(
     imported: &Imported,
     u: &mut Unstructured<'_>,
 ) -> Option<ExportKind>
-    ensures draws { AlwaysDraws (kind_at config.now types.now.types (spaces_of imported.now) u.old) result u.old u.new }
-    ensures offered { IfSome result (MayImportKind config.now types.now.types (spaces_of imported.now)) }
-    ensures full { result ≡ None → has_room config.now (spaces_of imported.now) ExportKind.Table ≡ false }
+    ensures draws { AlwaysDraws (kind_at config.now types.now.types (spaces_of imported.now) u.old)
+        result u.old u.new }
+    ensures offered { IfSome result
+        (MayImportKind config.now types.now.types (spaces_of imported.now)) }
+    ensures full { result ≡ None
+        → has_room config.now (spaces_of imported.now) ExportKind.Table ≡ false }
 {
     let table = [
         kind_row(config, types, imported, ExportKind::Tag),

@@ -1,9 +1,11 @@
-ghost use Rattle.std.specs.Prelude.{◌≡◌, ◌++◌, ◌∷◌, [], false, string_bytes, IsTrue, IfOk, IfErr, List};
+ghost use Rattle.std.specs.Prelude.{◌≡◌, ◌++◌, ◌∷◌, [], false, string_bytes, IsTrue, IfOk, IfErr};
+ghost use Rattle.std.specs.Prelude.{List};
 ghost use Rattle.std.specs.HashSet.{hash_set_len};
 ghost use Rattle.std.specs.Fmt.{decimal};
 ghost use Rattle.smith_bytes.specs.Source.{KeepsPieces};
 ghost use Rattle.smith_types.specs.declared.imports.Import.{Import};
-ghost use Rattle.smith_imports.specs.ImportNames.{import_name_at, is_taken, has_pair, KnowsPairs, AddsPair};
+ghost use Rattle.smith_imports.specs.ImportNames.{import_name_at, is_taken, has_pair, KnowsPairs};
+ghost use Rattle.smith_imports.specs.ImportNames.{AddsPair};
 ghost use Rattle.smith_bytes.specs.Names.{IsNewName};
 
 use smith_bytes::{Error, Unstructured, limited_string};
@@ -20,7 +22,8 @@ fn new_pair(
     text: String,
 ) -> Result<(String, String), Error>
     ensures from { IfOk result (λ pair. string_bytes pair.0 ≡ string_bytes from) }
-    ensures made { IfOk result (λ pair. IsNewName (has_pair pairs.now (string_bytes from)) (decimal (hash_set_len pairs.now)) (string_bytes text) (string_bytes pair.1)) }
+    ensures made { IfOk result (λ pair. IsNewName (has_pair pairs.now (string_bytes from))
+        (decimal (hash_set_len pairs.now)) (string_bytes text) (string_bytes pair.1)) }
     ensures memory { IfErr result (λ e. e ≡ Error.Memory) }
 {
     let count = pairs.len();
@@ -38,8 +41,10 @@ fn distinct_name(
     pairs: &mut HashSet<(String, String)>,
     text: String,
 ) -> Result<String, Error>
-    ensures made { IfOk result (λ name. IsNewName (has_pair pairs.old from.now) (decimal (hash_set_len pairs.old)) (string_bytes text) (string_bytes name)) }
-    ensures added { IfOk result (λ name. AddsPair pairs.old pairs.new from.now (string_bytes name)) }
+    ensures made { IfOk result (λ name. IsNewName (has_pair pairs.old from.now)
+        (decimal (hash_set_len pairs.old)) (string_bytes text) (string_bytes name)) }
+    ensures added { IfOk result (λ name.
+        AddsPair pairs.old pairs.new from.now (string_bytes name)) }
     ensures memory { IfErr result (λ e. e ≡ Error.Memory) }
 {
     let pair = new_pair(pairs, from.to_string(alloc)?, text)?;
@@ -58,10 +63,13 @@ pub(crate) fn draw_import_name(
     pairs: &mut HashSet<(String, String)>,
     u: &mut Unstructured<'_>,
 ) -> Result<Name, Error>
-    ensures exact { (imports : List Import) → KnowsPairs distinct pairs.old imports → IfOk result (λ name. import_name_at distinct imports from.now u.old ≡ (name, u.new)) }
-    ensures fresh { (imports : List Import) → KnowsPairs distinct pairs.old imports → IfOk result (λ name. IsTrue distinct → is_taken imports from.now name ≡ false) }
+    ensures exact { (imports : List Import) → KnowsPairs distinct pairs.old imports
+        → IfOk result (λ name. import_name_at distinct imports from.now u.old ≡ (name, u.new)) }
+    ensures fresh { (imports : List Import) → KnowsPairs distinct pairs.old imports
+        → IfOk result (λ name. IsTrue distinct → is_taken imports from.now name ≡ false) }
     ensures pairs { (imports : List Import) (added : Import) → KnowsPairs distinct pairs.old imports
-        → IfOk result (λ name. added.«module» ≡ from.now → added.name ≡ name → KnowsPairs distinct pairs.new (imports ++ added ∷ [])) }
+        → IfOk result (λ name. added.«module» ≡ from.now → added.name ≡ name
+        → KnowsPairs distinct pairs.new (imports ++ added ∷ [])) }
     ensures memory { IfErr result (λ e. e ≡ Error.Memory) }
     ensures left { KeepsPieces u.old u.new }
 {

@@ -1,4 +1,5 @@
-ghost use Rattle.std.specs.Prelude.{◌≡◌, ◌<◌, ◌≤◌, ◌+◌, ◌-◌, ◌++◌, true, false, None, [], length, IsTrue, IfOk, IfErr, IfSome, OnOk};
+ghost use Rattle.std.specs.Prelude.{◌≡◌, ◌<◌, ◌≤◌, ◌+◌, ◌-◌, ◌++◌, true, false, None, [], length};
+ghost use Rattle.std.specs.Prelude.{IsTrue, IfOk, IfErr, IfSome, OnOk};
 ghost use Rattle.smith_bytes.specs.Source.{KeepsPieces};
 ghost use Rattle.smith_bytes.specs.Takes.{Takes};
 ghost use Rattle.smith_types.specs.Imports.{IndexSpaces, imports_of, flattened};
@@ -23,7 +24,8 @@ ghost use Rattle.smith_imports.specs.Imported.{
   spaces_of,
 };
 ghost use Rattle.smith_draw.specs.KeptGrounds.{AreKeptGrounds};
-ghost use Rattle.smith_imports.specs.Importing.{next_entity_at, fill_at, filled_at, group_of_kind_at, group_at, groups_at, imports_at};
+ghost use Rattle.smith_imports.specs.Importing.{next_entity_at, fill_at, filled_at};
+ghost use Rattle.smith_imports.specs.Importing.{group_of_kind_at, group_at, groups_at, imports_at};
 
 use crate::import_entities::{again, draw_entity};
 use crate::import_groups::{GroupKind, draw_group_kind, has_imports, module_name, push_import};
@@ -38,7 +40,10 @@ use std::alloc::Global;
 
 /// Records the import of the entity `added` in `grounds`. `types` are the types of the module.
 fn note_import(types: &TypeSpace, grounds: &mut KeptGrounds, added: EntityType)
-    ensures { (config : Configuration) (spaces : IndexSpaces) → AreKeptGrounds (import_scope config types.now.types spaces) grounds.old → AreKeptGrounds (import_scope config types.now.types (with_entity spaces added)) grounds.new }
+    ensures { (config : Configuration) (spaces : IndexSpaces)
+        → AreKeptGrounds (import_scope config types.now.types spaces) grounds.old
+        → AreKeptGrounds
+        (import_scope config types.now.types (with_entity spaces added)) grounds.new }
 {
     let EntityType::Func(index) = added else {
         return;
@@ -57,12 +62,16 @@ fn draw_next_entity(
     u: &mut Unstructured<'_>,
 ) -> Result<Option<EntityType>, Error>
     requires may { MayImport config.now types.now }
-    requires kept { AreKeptGrounds (import_scope config.now types.now.types (spaces_of imported.now)) grounds.now }
+    requires kept { AreKeptGrounds
+        (import_scope config.now types.now.types (spaces_of imported.now)) grounds.now }
     requires ready { IsOpen config.now types.now.types (spaces_of imported.now) group.now }
-    ensures draws { Draws (next_entity_at config.now types.now.types (spaces_of imported.now) imported.now.type_size group.now u.old) result u.old u.new }
-    ensures next { IfOk result (λ drawn. IfSome drawn (IsNext config.now types.now.types (spaces_of imported.now) imported.now.type_size)) }
+    ensures draws { Draws (next_entity_at config.now types.now.types
+        (spaces_of imported.now) imported.now.type_size group.now u.old) result u.old u.new }
+    ensures next { IfOk result (λ drawn. IfSome drawn
+        (IsNext config.now types.now.types (spaces_of imported.now) imported.now.type_size)) }
     ensures of_group { IfOk result (λ drawn. IfSome drawn (IsOfGroup group.now)) }
-    ensures ended { IfOk result (λ drawn. drawn ≡ None → MayEndAt config.now (spaces_of imported.now) imported.now.type_size) }
+    ensures ended { IfOk result (λ drawn.
+        drawn ≡ None → MayEndAt config.now (spaces_of imported.now) imported.now.type_size) }
 {
     match group {
         Imports::Compact2 { entity_type, .. } => Ok(again(
@@ -88,17 +97,28 @@ fn fill(
     u: &mut Unstructured<'_>,
 ) -> Result<bool, Error>
     requires may { MayImport config.now types.now }
-    requires kept { AreKeptGrounds (import_scope config.now types.now.types (spaces_of imported.old)) grounds.old }
+    requires kept { AreKeptGrounds
+        (import_scope config.now types.now.types (spaces_of imported.old)) grounds.old }
     requires ready { IsOpen config.now types.now.types (spaces_of imported.old) group.old }
-    requires counts { Counts types.now.types distinct imported.old (flattened imported.old.groups ++ imports_of group.old) }
-    requires fit { AreImportsFit config.now types.now.types distinct (flattened imported.old.groups ++ imports_of group.old) }
-    ensures exact { IfOk result (λ goes_on. fill_at config.now types.now.types distinct (flattened imported.old.groups) (config.now.max_imports - imported.old.count) group.old u.old ≡ (goes_on, (group.new, u.new))) }
+    requires counts { Counts types.now.types distinct imported.old
+        (flattened imported.old.groups ++ imports_of group.old) }
+    requires fit { AreImportsFit config.now types.now.types distinct
+        (flattened imported.old.groups ++ imports_of group.old) }
+    ensures exact { IfOk result (λ goes_on.
+        fill_at config.now types.now.types distinct (flattened imported.old.groups)
+        (config.now.max_imports - imported.old.count) group.old u.old
+        ≡ (goes_on, (group.new, u.new))) }
     ensures groups { OnOk result (imported.new.groups ≡ imported.old.groups) }
-    ensures kept { OnOk result (AreKeptGrounds (import_scope config.now types.now.types (spaces_of imported.new)) grounds.new) }
-    ensures ready { OnOk result (IsOpen config.now types.now.types (spaces_of imported.new) group.new) }
-    ensures counts { OnOk result (Counts types.now.types distinct imported.new (flattened imported.old.groups ++ imports_of group.new)) }
-    ensures fit { OnOk result (AreImportsFit config.now types.now.types distinct (flattened imported.old.groups ++ imports_of group.new)) }
-    ensures ended { IfOk result (λ goes_on. goes_on ≡ false → MayEndAt config.now (spaces_of imported.new) imported.new.type_size) }
+    ensures kept { OnOk result (AreKeptGrounds
+        (import_scope config.now types.now.types (spaces_of imported.new)) grounds.new) }
+    ensures ready { OnOk result
+        (IsOpen config.now types.now.types (spaces_of imported.new) group.new) }
+    ensures counts { OnOk result (Counts types.now.types distinct imported.new
+        (flattened imported.old.groups ++ imports_of group.new)) }
+    ensures fit { OnOk result (AreImportsFit config.now types.now.types distinct
+        (flattened imported.old.groups ++ imports_of group.new)) }
+    ensures ended { IfOk result (λ goes_on.
+        goes_on ≡ false → MayEndAt config.now (spaces_of imported.new) imported.new.type_size) }
     ensures more { OnOk result (imported.old.count ≤ imported.new.count) }
     ensures memory { IfErr result (λ e. e ≡ Error.Memory) }
     ensures left { KeepsPieces u.old u.new }
@@ -132,14 +152,19 @@ fn add_filled(
     u: &mut Unstructured<'_>,
 ) -> Result<bool, Error>
     requires may { MayImport config.now types.now }
-    requires kept { AreKeptGrounds (import_scope config.now types.now.types (spaces_of imported.old)) grounds.old }
+    requires kept { AreKeptGrounds
+        (import_scope config.now types.now.types (spaces_of imported.old)) grounds.old }
     requires so_far { IsImported config.now types.now.types distinct imported.old }
     requires ready { IsOpen config.now types.now.types (spaces_of imported.old) group }
     requires empty { imports_of group ≡ [] }
-    ensures exact { IfOk result (λ goes_on. filled_at config.now types.now.types distinct imported.old.groups group u.old ≡ (goes_on, (imported.new.groups, u.new))) }
+    ensures exact { IfOk result (λ goes_on.
+        filled_at config.now types.now.types distinct imported.old.groups group u.old
+        ≡ (goes_on, (imported.new.groups, u.new))) }
     ensures so_far { OnOk result (IsImported config.now types.now.types distinct imported.new) }
-    ensures kept { OnOk result (AreKeptGrounds (import_scope config.now types.now.types (spaces_of imported.new)) grounds.new) }
-    ensures ended { IfOk result (λ goes_on. goes_on ≡ false → MayEnd config.now imported.new.count) }
+    ensures kept { OnOk result (AreKeptGrounds
+        (import_scope config.now types.now.types (spaces_of imported.new)) grounds.new) }
+    ensures ended { IfOk result (λ goes_on.
+        goes_on ≡ false → MayEnd config.now imported.new.count) }
     ensures more { IfOk result (λ _. imported.old.count ≤ imported.new.count) }
     ensures memory { IfErr result (λ e. e ≡ Error.Memory) }
     ensures left { KeepsPieces u.old u.new }
@@ -166,14 +191,20 @@ fn add_single(
     u: &mut Unstructured<'_>,
 ) -> Result<bool, Error>
     requires may { MayImport config.now types.now }
-    requires kept { AreKeptGrounds (import_scope config.now types.now.types (spaces_of imported.old)) grounds.old }
+    requires kept { AreKeptGrounds
+        (import_scope config.now types.now.types (spaces_of imported.old)) grounds.old }
     requires so_far { IsImported config.now types.now.types distinct imported.old }
     requires room { imported.old.count < config.now.max_imports }
-    ensures exact { IfOk result (λ goes_on. group_of_kind_at config.now types.now.types distinct imported.old.groups «module» GroupKind.Single u.old ≡ (goes_on, (imported.new.groups, u.new))) }
+    ensures exact { IfOk result (λ goes_on. group_of_kind_at config.now types.now.types distinct
+        imported.old.groups «module» GroupKind.Single u.old
+        ≡ (goes_on, (imported.new.groups, u.new))) }
     ensures so_far { OnOk result (IsImported config.now types.now.types distinct imported.new) }
-    ensures kept { OnOk result (AreKeptGrounds (import_scope config.now types.now.types (spaces_of imported.new)) grounds.new) }
-    ensures ended { IfOk result (λ goes_on. goes_on ≡ false → MayEnd config.now imported.new.count) }
-    ensures advances { IfOk result (λ goes_on. goes_on ≡ true → imported.old.count + length u.new < imported.new.count + length u.old) }
+    ensures kept { OnOk result (AreKeptGrounds
+        (import_scope config.now types.now.types (spaces_of imported.new)) grounds.new) }
+    ensures ended { IfOk result (λ goes_on.
+        goes_on ≡ false → MayEnd config.now imported.new.count) }
+    ensures advances { IfOk result (λ goes_on.
+        goes_on ≡ true → imported.old.count + length u.new < imported.new.count + length u.old) }
     ensures memory { IfErr result (λ e. e ≡ Error.Memory) }
     ensures left { KeepsPieces u.old u.new }
 {
@@ -205,13 +236,18 @@ fn add_of_one_type(
     u: &mut Unstructured<'_>,
 ) -> Result<bool, Error>
     requires may { MayImport config.now types.now }
-    requires kept { AreKeptGrounds (import_scope config.now types.now.types (spaces_of imported.old)) grounds.old }
+    requires kept { AreKeptGrounds
+        (import_scope config.now types.now.types (spaces_of imported.old)) grounds.old }
     requires so_far { IsImported config.now types.now.types distinct imported.old }
     requires enabled { IsTrue config.now.compact_imports_enabled }
-    ensures exact { IfOk result (λ goes_on. group_of_kind_at config.now types.now.types distinct imported.old.groups «module» GroupKind.OfOneType u.old ≡ (goes_on, (imported.new.groups, u.new))) }
+    ensures exact { IfOk result (λ goes_on. group_of_kind_at config.now types.now.types distinct
+        imported.old.groups «module» GroupKind.OfOneType u.old
+        ≡ (goes_on, (imported.new.groups, u.new))) }
     ensures so_far { OnOk result (IsImported config.now types.now.types distinct imported.new) }
-    ensures kept { OnOk result (AreKeptGrounds (import_scope config.now types.now.types (spaces_of imported.new)) grounds.new) }
-    ensures ended { IfOk result (λ goes_on. goes_on ≡ false → MayEnd config.now imported.new.count) }
+    ensures kept { OnOk result (AreKeptGrounds
+        (import_scope config.now types.now.types (spaces_of imported.new)) grounds.new) }
+    ensures ended { IfOk result (λ goes_on.
+        goes_on ≡ false → MayEnd config.now imported.new.count) }
     ensures more { IfOk result (λ _. imported.old.count ≤ imported.new.count) }
     ensures memory { IfErr result (λ e. e ≡ Error.Memory) }
     ensures left { KeepsPieces u.old u.new }
@@ -239,14 +275,20 @@ fn add_group(
     u: &mut Unstructured<'_>,
 ) -> Result<bool, Error>
     requires may { MayImport config.now types.now }
-    requires kept { AreKeptGrounds (import_scope config.now types.now.types (spaces_of imported.old)) grounds.old }
+    requires kept { AreKeptGrounds
+        (import_scope config.now types.now.types (spaces_of imported.old)) grounds.old }
     requires so_far { IsImported config.now types.now.types distinct imported.old }
     requires room { imported.old.count < config.now.max_imports }
-    ensures exact { IfOk result (λ goes_on. group_at config.now types.now.types distinct imported.old.groups u.old ≡ (goes_on, (imported.new.groups, u.new))) }
+    ensures exact { IfOk result (λ goes_on.
+        group_at config.now types.now.types distinct imported.old.groups u.old
+        ≡ (goes_on, (imported.new.groups, u.new))) }
     ensures so_far { OnOk result (IsImported config.now types.now.types distinct imported.new) }
-    ensures kept { OnOk result (AreKeptGrounds (import_scope config.now types.now.types (spaces_of imported.new)) grounds.new) }
-    ensures ended { IfOk result (λ goes_on. goes_on ≡ false → MayEnd config.now imported.new.count) }
-    ensures advances { IfOk result (λ goes_on. goes_on ≡ true → imported.old.count + length u.new < imported.new.count + length u.old) }
+    ensures kept { OnOk result (AreKeptGrounds
+        (import_scope config.now types.now.types (spaces_of imported.new)) grounds.new) }
+    ensures ended { IfOk result (λ goes_on.
+        goes_on ≡ false → MayEnd config.now imported.new.count) }
+    ensures advances { IfOk result (λ goes_on.
+        goes_on ≡ true → imported.old.count + length u.new < imported.new.count + length u.old) }
     ensures memory { IfErr result (λ e. e ≡ Error.Memory) }
     ensures left { KeepsPieces u.old u.new }
 {
@@ -279,12 +321,17 @@ fn add_groups(
     u: &mut Unstructured<'_>,
 ) -> Result<(), Error>
     requires may { MayImport config.now types.now }
-    requires kept { AreKeptGrounds (import_scope config.now types.now.types (spaces_of imported.old)) grounds.old }
+    requires kept { AreKeptGrounds
+        (import_scope config.now types.now.types (spaces_of imported.old)) grounds.old }
     requires so_far { IsImported config.now types.now.types distinct imported.old }
-    ensures exact { OnOk result (groups_at config.now types.now.types distinct (config.now.max_imports + length u.old + 1) imported.old.groups u.old ≡ (imported.new.groups, u.new)) }
+    ensures exact { OnOk result (groups_at config.now types.now.types distinct
+        (config.now.max_imports + length u.old + 1) imported.old.groups u.old
+        ≡ (imported.new.groups, u.new)) }
     ensures so_far { OnOk result (IsImported config.now types.now.types distinct imported.new) }
-    ensures kept { OnOk result (AreKeptGrounds (import_scope config.now types.now.types (spaces_of imported.new)) grounds.new) }
-    ensures least { OnOk result (imported.new.count < config.now.min_imports → MayEnd config.now imported.new.count) }
+    ensures kept { OnOk result (AreKeptGrounds
+        (import_scope config.now types.now.types (spaces_of imported.new)) grounds.new) }
+    ensures least { OnOk result
+        (imported.new.count < config.now.min_imports → MayEnd config.now imported.new.count) }
     ensures memory { IfErr result (λ e. e ≡ Error.Memory) }
     ensures left { KeepsPieces u.old u.new }
 {
@@ -312,9 +359,12 @@ fn add_all_groups(
     requires may { MayImport config.now types.now }
     requires none { HasNoImports imported.old }
     requires so_far { IsImported config.now types.now.types distinct imported.old }
-    ensures exact { OnOk result (groups_at config.now types.now.types distinct (config.now.max_imports + length u.old + 1) imported.old.groups u.old ≡ (imported.new.groups, u.new)) }
+    ensures exact { OnOk result (groups_at config.now types.now.types distinct
+        (config.now.max_imports + length u.old + 1) imported.old.groups u.old
+        ≡ (imported.new.groups, u.new)) }
     ensures so_far { OnOk result (IsImported config.now types.now.types distinct imported.new) }
-    ensures least { OnOk result (imported.new.count < config.now.min_imports → MayEnd config.now imported.new.count) }
+    ensures least { OnOk result
+        (imported.new.count < config.now.min_imports → MayEnd config.now imported.new.count) }
     ensures memory { IfErr result (λ e. e ≡ Error.Memory) }
     ensures left { KeepsPieces u.old u.new }
 {
@@ -340,7 +390,8 @@ fn draw_imports(
 ) -> Result<(), Error>
     requires may { MayImport config.now types.now }
     requires none { HasNoImports imported.old }
-    ensures exact { ReturnsWhy (λ _. (imported.new.groups, u.new)) result (imports_at config.now types.now.types distinct u.old) }
+    ensures exact { ReturnsWhy (λ _. (imported.new.groups, u.new)) result
+        (imports_at config.now types.now.types distinct u.old) }
     ensures so_far { OnOk result (IsImported config.now types.now.types distinct imported.new) }
     ensures least { OnOk result (config.now.min_imports ≤ imported.new.count) }
     ensures refusal { IfErr result (MayRefuseImports config.now) }
@@ -375,11 +426,13 @@ pub fn arbitrary_imports(
 ) -> Result<(), Error>
     requires may { MayImport config.now types.now }
     requires none { HasNoImports imported.old }
-    ensures exact { ReturnsWhy (λ _. (imported.new.groups, u.new)) result (imports_at config.now types.now.types distinct u.old) }
+    ensures exact { ReturnsWhy (λ _. (imported.new.groups, u.new)) result
+        (imports_at config.now types.now.types distinct u.old) }
     ensures so_far { OnOk result (IsImported config.now types.now.types distinct imported.new) }
     ensures least { OnOk result (config.now.min_imports ≤ imported.new.count) }
     ensures refusal { IfErr result (MayRefuseImports config.now) }
-    ensures none { config.now.min_imports ≡ 0 → OnOk result (Takes (SpellsNoImport config.now) u.old imported.new.groups u.new) }
+    ensures none { config.now.min_imports ≡ 0
+        → OnOk result (Takes (SpellsNoImport config.now) u.old imported.new.groups u.new) }
     ensures left { KeepsPieces u.old u.new }
 {
     draw_imports(alloc, config, distinct, types, imported, u)

@@ -21,7 +21,8 @@ fn push_items(
     items: &[ImportItem],
     groups: &mut Items<Imports>,
 ) -> Result<(), Error>
-    ensures ok { OnOk result (groups.new ≡ groups.old ++ map Single (map (λ (item : Item). import_of «module».now item.name item.entity_type) items.now)) }
+    ensures ok { OnOk result (groups.new ≡ groups.old ++ map Single (map
+        (λ (item : Item). import_of «module».now item.name item.entity_type) items.now)) }
     ensures memory { IfErr result (λ e. e ≡ Error.Memory) }
 {
     for item in items {
@@ -41,7 +42,8 @@ fn push_names(
     names: &[Name],
     groups: &mut Items<Imports>,
 ) -> Result<(), Error>
-    ensures ok { OnOk result (groups.new ≡ groups.old ++ map Single (map (λ name. import_of «module».now name entity_type) names.now)) }
+    ensures ok { OnOk result (groups.new ≡ groups.old ++ map Single (map
+        (λ name. import_of «module».now name entity_type) names.now)) }
     ensures memory { IfErr result (λ e. e ≡ Error.Memory) }
 {
     for name in names {
@@ -78,7 +80,8 @@ fn push_kept(
     group: &Imports,
     groups: &mut Items<Imports>,
 ) -> Result<(), Error>
-    ensures ok { OnOk result (groups.new ≡ groups.old ++ kept_of config.now.compact_imports_enabled group.now) }
+    ensures ok { OnOk result
+        (groups.new ≡ groups.old ++ kept_of config.now.compact_imports_enabled group.now) }
     ensures memory { IfErr result (λ e. e ≡ Error.Memory) }
 {
     if !config.compact_imports_enabled {

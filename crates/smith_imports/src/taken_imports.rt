@@ -1,7 +1,9 @@
-ghost use Rattle.std.specs.Prelude.{◌≡◌, ◌<◌, ◌+◌, ◌++◌, ◌∷◌, ◌^◌, [], IsTrue, All, IfOk, IfErr, OnOk, if◌then◌else◌};
+ghost use Rattle.std.specs.Prelude.{◌≡◌, ◌<◌, ◌+◌, ◌++◌, ◌∷◌, ◌^◌, [], IsTrue, All, IfOk, IfErr};
+ghost use Rattle.std.specs.Prelude.{OnOk, if◌then◌else◌};
 ghost use Rattle.smith_types.specs.Sizes.{IsTyped, size_in};
 ghost use Rattle.smith_draw.specs.Drawing.{Draws};
-ghost use Rattle.smith_imports.specs.AvailableImports.{picked_at, fits_beside, CountsTaken, IsImportSized};
+ghost use Rattle.smith_imports.specs.AvailableImports.{picked_at, fits_beside, CountsTaken};
+ghost use Rattle.smith_imports.specs.AvailableImports.{IsImportSized};
 ghost use Rattle.smith_rules.specs.ShapeImports.{is_allowed, is_fitting};
 
 use crate::import_entities::kind_of;
@@ -27,7 +29,8 @@ fn fits(config: &Config, types: &TypeSpace, imported: &Imported, added: &EntityT
     requires few { size_in types.now.types added.now < 2 ^ 32 }
     ensures exact { result ≡ fits_beside config.now types.now.types imported.now added.now }
     ensures count { IsTrue result → imported.now.count + 1 < 2 ^ 64 }
-    ensures sum { IsTrue result → imported.now.type_size + size_in types.now.types added.now < 2 ^ 32 }
+    ensures sum { IsTrue result
+        → imported.now.type_size + size_in types.now.types added.now < 2 ^ 32 }
 {
     let size = types.size_of(added);
     let most = config.max_type_size;
@@ -48,7 +51,9 @@ fn take(
 ) -> Result<(), Error>
     requires sized { IsImportSized types.now.types one.now }
     requires counts { CountsTaken types.now.types imported.old taken.old }
-    ensures taken { OnOk result (taken.new ≡ (if is_fitting config.now types.now.types taken.old one.now then taken.old ++ one.now ∷ [] else taken.old)) }
+    ensures taken { OnOk result
+        (taken.new ≡ (if is_fitting config.now types.now.types taken.old one.now
+        then taken.old ++ one.now ∷ [] else taken.old)) }
     ensures counts { OnOk result (CountsTaken types.now.types imported.new taken.new) }
     ensures memory { IfErr result (λ e. e ≡ Error.Memory) }
 {
@@ -74,7 +79,8 @@ pub(crate) fn take_imports(
 ) -> Result<Items<Import>, Error>
     requires sized { All (IsImportSized types.now.types) offered.now }
     requires none { CountsTaken types.now.types imported.old [] }
-    ensures draws { Draws (picked_at config.now types.now.types [] offered.now u.old) result u.old u.new }
+    ensures draws { Draws (picked_at config.now types.now.types [] offered.now u.old)
+        result u.old u.new }
     ensures counts { IfOk result (CountsTaken types.now.types imported.new) }
 {
     let mut taken = Items::new(alloc);

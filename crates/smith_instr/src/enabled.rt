@@ -96,13 +96,15 @@ fn is_block_enabled(ty: BlockType, features: WasmFeatures) -> bool
 }
 
 fn is_try_enabled(ty: BlockType, features: WasmFeatures) -> bool
-    ensures { result ≡ (is_block_enabled (features_in features) ty && (features_in features).exceptions) }
+    ensures { result
+        ≡ (is_block_enabled (features_in features) ty && (features_in features).exceptions) }
 {
     is_block_enabled(ty, features) && features.contains(WasmFeatures::EXCEPTIONS)
 }
 
 fn is_tail_call_by_reference_enabled(features: WasmFeatures) -> bool
-    ensures { result ≡ ((features_in features).tail_call && (features_in features).function_references) }
+    ensures { result
+        ≡ ((features_in features).tail_call && (features_in features).function_references) }
 {
     features.contains(WasmFeatures::TAIL_CALL)
         && features.contains(WasmFeatures::FUNCTION_REFERENCES)

@@ -56,7 +56,8 @@ pub fn encode_body(
     locals: &[ValType],
     instructions: &[Instr],
 ) -> Result<(), EncodeError>
-    ensures writes { OnOk result (Writes (IsFuncBody locals.now instructions.now) sink.old sink.new) }
+    ensures writes { OnOk result
+        (Writes (IsFuncBody locals.now instructions.now) sink.old sink.new) }
     ensures fault { IfErr result (IsFault (IsLongFunc locals.now instructions.now)) }
 {
     let mut content = sink.fresh();

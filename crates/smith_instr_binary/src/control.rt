@@ -27,7 +27,8 @@ fn write_block_type(ty: BlockType, sink: &mut Sink) -> Result<(), EncodeError>
 
 // Writes the opcode `opcode`, then the type of a block.
 pub(crate) fn write_block(opcode: u8, ty: BlockType, sink: &mut Sink) -> Result<(), EncodeError>
-    ensures writes { OnOk result (Writes (Joined (IsByte opcode) (IsBlockType ty)) sink.old sink.new) }
+    ensures writes { OnOk result
+        (Writes (Joined (IsByte opcode) (IsBlockType ty)) sink.old sink.new) }
     ensures memory { IfErr result (λ e. e ≡ Memory) }
 {
     sink.write_byte(opcode)?;
@@ -59,7 +60,9 @@ pub(crate) fn write_try_table(
     clauses: &[Catch],
     sink: &mut Sink,
 ) -> Result<(), EncodeError>
-    ensures writes { OnOk result (Writes (Joined (IsByte 0x1F) (Joined (IsBlockType ty) (IsList IsCatch clauses.now))) sink.old sink.new) }
+    ensures writes { OnOk result
+        (Writes (Joined (IsByte 0x1F) (Joined (IsBlockType ty) (IsList IsCatch clauses.now)))
+        sink.old sink.new) }
     ensures fault { IfErr result (IsFault (IsLongList IsNeverLong clauses.now)) }
 {
     sink.write_byte(0x1F)?;
@@ -77,7 +80,9 @@ pub(crate) fn write_branch_table(
     last: u32,
     sink: &mut Sink,
 ) -> Result<(), EncodeError>
-    ensures writes { OnOk result (Writes (Joined (IsByte 0x0E) (Joined (IsList IsIndex labels.now) (IsIndex last))) sink.old sink.new) }
+    ensures writes { OnOk result
+        (Writes (Joined (IsByte 0x0E) (Joined (IsList IsIndex labels.now) (IsIndex last)))
+        sink.old sink.new) }
     ensures fault { IfErr result (IsFault (IsLongList IsNeverLong labels.now)) }
 {
     sink.write_byte(0x0E)?;
@@ -107,7 +112,8 @@ pub(crate) fn write_branch_cast(
     cast: BranchCast,
     sink: &mut Sink,
 ) -> Result<(), EncodeError>
-    ensures writes { OnOk result (Writes (Joined (IsPrefixed 0xFB number) (IsBranchCast cast)) sink.old sink.new) }
+    ensures writes { OnOk result
+        (Writes (Joined (IsPrefixed 0xFB number) (IsBranchCast cast)) sink.old sink.new) }
     ensures memory { IfErr result (λ e. e ≡ Memory) }
 {
     write_prefixed(0xFB, number, sink)?;
@@ -119,7 +125,8 @@ pub(crate) fn write_branch_cast(
 
 // Writes `select` of the type `ty`, as a list of one type.
 pub(crate) fn write_typed_select(ty: ValType, sink: &mut Sink) -> Result<(), EncodeError>
-    ensures writes { OnOk result (Writes (Joined (IsByte 0x1C) (IsList IsValType (ty ∷ []))) sink.old sink.new) }
+    ensures writes { OnOk result
+        (Writes (Joined (IsByte 0x1C) (IsList IsValType (ty ∷ []))) sink.old sink.new) }
     ensures memory { IfErr result (λ e. e ≡ Memory) }
 {
     sink.write_byte(0x1C)?;

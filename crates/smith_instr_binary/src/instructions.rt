@@ -25,7 +25,8 @@ use smith_instr::Instr;
 
 // Writes `i32.const`.
 fn write_i32_const(value: i32, sink: &mut Sink) -> Result<(), EncodeError>
-    ensures writes { OnOk result (Writes (Joined (IsByte 0x41) (IsSigned 32 value)) sink.old sink.new) }
+    ensures writes { OnOk result
+        (Writes (Joined (IsByte 0x41) (IsSigned 32 value)) sink.old sink.new) }
     ensures memory { IfErr result (λ e. e ≡ Memory) }
 {
     sink.write_byte(0x41)?;
@@ -34,7 +35,8 @@ fn write_i32_const(value: i32, sink: &mut Sink) -> Result<(), EncodeError>
 
 // Writes `i64.const`.
 fn write_i64_const(value: i64, sink: &mut Sink) -> Result<(), EncodeError>
-    ensures writes { OnOk result (Writes (Joined (IsByte 0x42) (IsSigned 64 value)) sink.old sink.new) }
+    ensures writes { OnOk result
+        (Writes (Joined (IsByte 0x42) (IsSigned 64 value)) sink.old sink.new) }
     ensures memory { IfErr result (λ e. e ≡ Memory) }
 {
     sink.write_byte(0x42)?;
@@ -43,7 +45,8 @@ fn write_i64_const(value: i64, sink: &mut Sink) -> Result<(), EncodeError>
 
 // Writes `f32.const`.
 fn write_f32_const(bits: u32, sink: &mut Sink) -> Result<(), EncodeError>
-    ensures writes { OnOk result (Writes (Joined (IsByte 0x43) (IsLittleEndian 4 bits)) sink.old sink.new) }
+    ensures writes { OnOk result
+        (Writes (Joined (IsByte 0x43) (IsLittleEndian 4 bits)) sink.old sink.new) }
     ensures memory { IfErr result (λ e. e ≡ Memory) }
 {
     sink.write_byte(0x43)?;
@@ -52,7 +55,8 @@ fn write_f32_const(bits: u32, sink: &mut Sink) -> Result<(), EncodeError>
 
 // Writes `f64.const`.
 fn write_f64_const(bits: u64, sink: &mut Sink) -> Result<(), EncodeError>
-    ensures writes { OnOk result (Writes (Joined (IsByte 0x44) (IsLittleEndian 8 bits)) sink.old sink.new) }
+    ensures writes { OnOk result
+        (Writes (Joined (IsByte 0x44) (IsLittleEndian 8 bits)) sink.old sink.new) }
     ensures memory { IfErr result (λ e. e ≡ Memory) }
 {
     sink.write_byte(0x44)?;
@@ -61,7 +65,8 @@ fn write_f64_const(bits: u64, sink: &mut Sink) -> Result<(), EncodeError>
 
 // Writes `atomic.fence`.
 fn write_fence(sink: &mut Sink) -> Result<(), EncodeError>
-    ensures writes { OnOk result (Writes (Joined (IsPrefixed 0xFE 3) (IsByte 0x00)) sink.old sink.new) }
+    ensures writes { OnOk result
+        (Writes (Joined (IsPrefixed 0xFE 3) (IsByte 0x00)) sink.old sink.new) }
     ensures memory { IfErr result (λ e. e ≡ Memory) }
 {
     write_prefixed(0xFE, 3, sink)?;

@@ -49,7 +49,8 @@ pub(crate) fn write_prefixed_access(
     at: MemArg,
     sink: &mut Sink,
 ) -> Result<(), EncodeError>
-    ensures writes { OnOk result (Writes (Joined (IsPrefixed prefix number) (IsMemArg at)) sink.old sink.new) }
+    ensures writes { OnOk result
+        (Writes (Joined (IsPrefixed prefix number) (IsMemArg at)) sink.old sink.new) }
     ensures fault { IfErr result (IsFault (2 ^ 6 ≤ at.align)) }
 {
     write_prefixed(prefix, number, sink)?;
@@ -66,7 +67,8 @@ pub(crate) fn write_lane_access(
     sink: &mut Sink,
 ) -> Result<(), EncodeError>
     requires { first < 200 }
-    ensures writes { OnOk result (Writes (IsLaneAccess first log2_bytes at lane) sink.old sink.new) }
+    ensures writes { OnOk result
+        (Writes (IsLaneAccess first log2_bytes at lane) sink.old sink.new) }
     ensures fault { IfErr result (IsFault ((4 ≤ log2_bytes) ⊎ (2 ^ 6 ≤ at.align))) }
 {
     if log2_bytes >= 4 {

@@ -16,7 +16,8 @@ pub(crate) fn write_prefixed(prefix: u8, number: u32, sink: &mut Sink) -> Result
 
 // Writes the opcode `opcode`, then the index `index`.
 pub(crate) fn write_indexed(opcode: u8, index: u32, sink: &mut Sink) -> Result<(), EncodeError>
-    ensures writes { OnOk result (Writes (Joined (IsByte opcode) (IsIndex index)) sink.old sink.new) }
+    ensures writes { OnOk result
+        (Writes (Joined (IsByte opcode) (IsIndex index)) sink.old sink.new) }
     ensures memory { IfErr result (λ e. e ≡ Memory) }
 {
     sink.write_byte(opcode)?;
@@ -30,7 +31,8 @@ pub(crate) fn write_two_indices(
     second: u32,
     sink: &mut Sink,
 ) -> Result<(), EncodeError>
-    ensures writes { OnOk result (Writes (Joined (IsByte opcode) (Joined (IsIndex first) (IsIndex second))) sink.old sink.new) }
+    ensures writes { OnOk result (Writes
+        (Joined (IsByte opcode) (Joined (IsIndex first) (IsIndex second))) sink.old sink.new) }
     ensures memory { IfErr result (λ e. e ≡ Memory) }
 {
     sink.write_byte(opcode)?;
@@ -45,7 +47,8 @@ pub(crate) fn write_prefixed_index(
     index: u32,
     sink: &mut Sink,
 ) -> Result<(), EncodeError>
-    ensures writes { OnOk result (Writes (Joined (IsPrefixed prefix number) (IsIndex index)) sink.old sink.new) }
+    ensures writes { OnOk result
+        (Writes (Joined (IsPrefixed prefix number) (IsIndex index)) sink.old sink.new) }
     ensures memory { IfErr result (λ e. e ≡ Memory) }
 {
     write_prefixed(prefix, number, sink)?;
@@ -61,7 +64,9 @@ pub(crate) fn write_prefixed_indices(
     second: u32,
     sink: &mut Sink,
 ) -> Result<(), EncodeError>
-    ensures writes { OnOk result (Writes (Joined (IsPrefixed prefix number) (Joined (IsIndex first) (IsIndex second))) sink.old sink.new) }
+    ensures writes { OnOk result
+        (Writes (Joined (IsPrefixed prefix number) (Joined (IsIndex first) (IsIndex second)))
+        sink.old sink.new) }
     ensures memory { IfErr result (λ e. e ≡ Memory) }
 {
     write_prefixed(prefix, number, sink)?;

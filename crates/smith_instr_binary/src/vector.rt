@@ -24,7 +24,8 @@ fn write_numbered(number: u32, sink: &mut Sink) -> Result<(), EncodeError>
 
 // Writes the vector instruction of the number `number`, then the lane `lane`.
 fn write_on_lane(number: u32, lane: u8, sink: &mut Sink) -> Result<(), EncodeError>
-    ensures writes { OnOk result (Writes (Joined (IsNumbered number) (IsByte lane)) sink.old sink.new) }
+    ensures writes { OnOk result
+        (Writes (Joined (IsNumbered number) (IsByte lane)) sink.old sink.new) }
     ensures memory { IfErr result (λ e. e ≡ Memory) }
 {
     write_numbered(number, sink)?;
@@ -33,7 +34,8 @@ fn write_on_lane(number: u32, lane: u8, sink: &mut Sink) -> Result<(), EncodeErr
 
 // Writes the shuffle of `lanes`.
 fn write_shuffle(lanes: [u8; 16], sink: &mut Sink) -> Result<(), EncodeError>
-    ensures writes { OnOk result (Writes (Joined (IsNumbered 13) (IsLanes lanes)) sink.old sink.new) }
+    ensures writes { OnOk result
+        (Writes (Joined (IsNumbered 13) (IsLanes lanes)) sink.old sink.new) }
     ensures memory { IfErr result (λ e. e ≡ Memory) }
 {
     write_numbered(13, sink)?;
@@ -42,7 +44,8 @@ fn write_shuffle(lanes: [u8; 16], sink: &mut Sink) -> Result<(), EncodeError>
 
 // Writes the constant `value`.
 pub(crate) fn write_vector_const(value: i128, sink: &mut Sink) -> Result<(), EncodeError>
-    ensures writes { OnOk result (Writes (Joined (IsNumbered 12) (IsVector value)) sink.old sink.new) }
+    ensures writes { OnOk result
+        (Writes (Joined (IsNumbered 12) (IsVector value)) sink.old sink.new) }
     ensures memory { IfErr result (λ e. e ≡ Memory) }
 {
     write_numbered(12, sink)?;

@@ -1,7 +1,8 @@
 ghost use Rattle.std.specs.Prelude.{ℕ, List, [], ◌∷◌};
 ghost use Rattle.smith_instr.specs.declared.instr.Instr.TheVariants as instr;
 ghost use Rattle.smith_instr_binary.specs.Instructions.{IsInstr};
-ghost use Rattle.smith_instr_binary_examples.specs.ExampleInstructions.{add, all_true, cast, load_word, saturating};
+ghost use Rattle.smith_instr_binary_examples.specs.ExampleInstructions.{add, all_true, cast};
+ghost use Rattle.smith_instr_binary_examples.specs.ExampleInstructions.{load_word, saturating};
 
 fn operators()
     ensures sum { IsInstr add (0x6A ∷ []) }
@@ -21,7 +22,8 @@ fn accesses()
 {}
 
 fn branches()
-    ensures labels { IsInstr (instr.BrTable (1 ∷ 0 ∷ []) 2) (0x0E ∷ 0x02 ∷ 0x01 ∷ 0x00 ∷ 0x02 ∷ []) }
+    ensures labels { IsInstr (instr.BrTable (1 ∷ 0 ∷ []) 2)
+        (0x0E ∷ 0x02 ∷ 0x01 ∷ 0x00 ∷ 0x02 ∷ []) }
     ensures indirect { IsInstr (instr.CallIndirect 1 3) (0x11 ∷ 0x03 ∷ 0x01 ∷ []) }
     ensures table_first { ¬ IsInstr (instr.CallIndirect 1 3) (0x11 ∷ 0x01 ∷ 0x03 ∷ []) }
     ensures on_cast { IsInstr (instr.BrOnCast cast) (0xFB ∷ 0x18 ∷ 0x01 ∷ 0x07 ∷ 0x6E ∷ 0x6C ∷ []) }

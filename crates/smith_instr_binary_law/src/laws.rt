@@ -15,13 +15,16 @@ pub fn instructions_are_unambiguous()
 
 /// Proves that bytes are an expression for at most one list of instructions.
 pub fn expressions_are_unambiguous()
-    ensures { (one other : List Instr) (bytes : List ℕ) → IsExpr one bytes → IsExpr other bytes → one ≡ other }
+    ensures { (one other : List Instr) (bytes : List ℕ) → IsExpr one bytes → IsExpr other bytes
+        → one ≡ other }
 {}
 
 /// Proves that bytes begin with an expression of at most one list of instructions whose blocks all
 /// end, and that it ends in one place.
 pub fn nested_expressions_are_unambiguous()
-    ensures { (one other : List Instr) (piece more rest others : List ℕ) → AreNested [] one → AreNested [] other → IsExpr one piece → IsExpr other more → piece ++ rest ≡ more ++ others → Same one other rest others }
+    ensures { (one other : List Instr) (piece more rest others : List ℕ) → AreNested [] one
+        → AreNested [] other → IsExpr one piece → IsExpr other more → piece ++ rest ≡ more ++ others
+        → Same one other rest others }
 {}
 
 /// Proves that bytes begin with at most one body, which ends in one place. So a decoder that
@@ -32,5 +35,6 @@ pub fn bodies_are_unambiguous()
 
 /// Proves that the blocks of a typed body all end, so that its expression is one of the standard.
 pub fn typed_bodies_are_nested()
-    ensures { (context : BodyContext) (body : List Instr) → IsBodyTyped context body → AreNested [] body }
+    ensures { (context : BodyContext) (body : List Instr) → IsBodyTyped context body
+        → AreNested [] body }
 {}

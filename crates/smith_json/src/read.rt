@@ -20,7 +20,8 @@ use std::alloc::Global;
 /// and its line and column.
 pub fn config(alloc: Global, text: &str) -> Result<Config, ConfigRefusal>
     ensures ok { IfOk result (λ config. ReadsText text.now (Ok (config, []))) }
-    ensures refused { IfErr result (λ refusal. refusal.fault ≢ Fault.OutOfMemory → ReadsText text.now (Err (refusal.fault, string_bytes refusal.field))) }
+    ensures refused { IfErr result (λ refusal. refusal.fault ≢ Fault.OutOfMemory
+        → ReadsText text.now (Err (refusal.fault, string_bytes refusal.field))) }
 {
     let mut config = Config::default();
     match read_text(alloc, text, &mut config) {
@@ -39,7 +40,8 @@ pub fn config(alloc: Global, text: &str) -> Result<Config, ConfigRefusal>
 /// the line and the column.
 pub fn read_text(alloc: Global, text: &str, config: &mut Config) -> Result<(), Refusal>
     ensures ok { OnOk result (ReadsAlone config.old text.now (Ok (config.new, []))) }
-    ensures refused { IfErr result (λ refusal. refusal.fault ≢ Fault.OutOfMemory → ReadsAlone config.old text.now (Err (refusal.fault, string_bytes refusal.field))) }
+    ensures refused { IfErr result (λ refusal. refusal.fault ≢ Fault.OutOfMemory
+        → ReadsAlone config.old text.now (Err (refusal.fault, string_bytes refusal.field))) }
 {
     let mut scratch = Scratch::new(alloc);
     let Ok(mut reader) = Reader::new(text, &mut scratch) else {
@@ -66,7 +68,8 @@ pub fn read_config(
     config: &mut Config,
 ) -> Result<(), Refusal>
     ensures ok { OnOk result (ReadsObject config.old reader.old (Ok (config.new, reader.new))) }
-    ensures refused { IfErr result (λ refusal. refusal.fault ≢ Fault.OutOfMemory → ReadsObject config.old reader.old (Err (refusal.fault, string_bytes refusal.field))) }
+    ensures refused { IfErr result (λ refusal. refusal.fault ≢ Fault.OutOfMemory
+        → ReadsObject config.old reader.old (Err (refusal.fault, string_bytes refusal.field))) }
 {
     let start = reader.offset();
     match reader.next() {
@@ -82,7 +85,8 @@ fn read_members<'a>(
     config: &mut Config,
 ) -> Result<(), Refusal>
     ensures ok { OnOk result (ReadsMembers [] config.old reader.old (Ok (config.new, reader.new))) }
-    ensures refused { IfErr result (λ refusal. refusal.fault ≢ Fault.OutOfMemory → ReadsMembers [] config.old reader.old (Err (refusal.fault, string_bytes refusal.field))) }
+    ensures refused { IfErr result (λ refusal. refusal.fault ≢ Fault.OutOfMemory
+        → ReadsMembers [] config.old reader.old (Err (refusal.fault, string_bytes refusal.field))) }
 {
     let mut given: Vec<&'a str> = Vec::new(alloc);
     loop {
@@ -118,8 +122,11 @@ fn read_member(
     name: &str,
     start: usize,
 ) -> Result<(), Refusal>
-    ensures ok { OnOk result (Sets (field_named name.now) config.old reader.old (Ok (config.new, reader.new))) }
-    ensures refused { IfErr result (λ refusal. refusal.fault ≢ Fault.OutOfMemory → Sets (field_named name.now) config.old reader.old (Err refusal.fault) × (string_bytes refusal.field ≡ name.now)) }
+    ensures ok { OnOk result
+        (Sets (field_named name.now) config.old reader.old (Ok (config.new, reader.new))) }
+    ensures refused { IfErr result (λ refusal. refusal.fault ≢ Fault.OutOfMemory
+        → Sets (field_named name.now) config.old reader.old (Err refusal.fault)
+        × (string_bytes refusal.field ≡ name.now)) }
     ensures shorter { length reader.new ≤ length reader.old }
 {
     let offset = reader.offset();
@@ -143,7 +150,8 @@ fn nameless(alloc: Global, fault: Fault, offset: usize) -> Refusal
 
 /// Returns the refusal of the member `name`.
 fn refused(alloc: Global, fault: Fault, name: &str, offset: usize) -> Refusal
-    ensures { result.fault ≢ Fault.OutOfMemory → (result.fault ≡ fault) × (string_bytes result.field ≡ name.now) }
+    ensures { result.fault ≢ Fault.OutOfMemory
+        → (result.fault ≡ fault) × (string_bytes result.field ≡ name.now) }
 {
     match String::from_str(alloc, name) {
         Ok(field) => Refusal {

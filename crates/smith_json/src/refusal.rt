@@ -51,7 +51,8 @@ pub struct ConfigRefusal {
 impl Refusal {
     /// Returns the refusal with its line and column in `text`, which the reader has read.
     pub fn in_text(self, text: &str) -> ConfigRefusal
-        ensures { (result.fault ≡ self.fault) × (string_bytes result.field ≡ string_bytes self.field) }
+        ensures { (result.fault ≡ self.fault)
+            × (string_bytes result.field ≡ string_bytes self.field) }
     {
         let Refusal {
             fault,

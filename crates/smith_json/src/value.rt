@@ -171,7 +171,8 @@ pub(crate) fn set_field(
     name: &str,
     reader: &mut Reader<'_>,
 ) -> Result<(), Fault>
-    ensures exact { Sets (field_named name.now) config.old reader.old (outcome result config.new reader.new) }
+    ensures exact { Sets (field_named name.now) config.old reader.old
+        (outcome result config.new reader.new) }
     ensures shorter { length reader.new ≤ length reader.old }
 {
     match place_named(name) {
@@ -182,7 +183,8 @@ pub(crate) fn set_field(
 
 /// Reads the value of the field at `place`, and sets it.
 fn read_field(config: &mut Config, place: Place, reader: &mut Reader<'_>) -> Result<(), Fault>
-    ensures exact { Sets (Some (field_of place)) config.old reader.old (outcome result config.new reader.new) }
+    ensures exact { Sets (Some (field_of place)) config.old reader.old
+        (outcome result config.new reader.new) }
     ensures shorter { length reader.new ≤ length reader.old }
 {
     match place {
@@ -200,7 +202,8 @@ fn read_field(config: &mut Config, place: Place, reader: &mut Reader<'_>) -> Res
 
 /// Reads and sets a field of type `usize`.
 fn read_size(config: &mut Config, size: Size, reader: &mut Reader<'_>) -> Result<(), Fault>
-    ensures exact { Sets (Some (field_of (Place.Size size))) config.old reader.old (outcome result config.new reader.new) }
+    ensures exact { Sets (Some (field_of (Place.Size size))) config.old reader.old
+        (outcome result config.new reader.new) }
     ensures shorter { length reader.new ≤ length reader.old }
 {
     if let Some(value) = whole(next(reader), usize::MAX as u128)? {
@@ -211,7 +214,8 @@ fn read_size(config: &mut Config, size: Size, reader: &mut Reader<'_>) -> Result
 
 /// Reads and sets a field of type `u32`.
 fn read_word(config: &mut Config, word: Word, reader: &mut Reader<'_>) -> Result<(), Fault>
-    ensures exact { Sets (Some (field_of (Place.Word word))) config.old reader.old (outcome result config.new reader.new) }
+    ensures exact { Sets (Some (field_of (Place.Word word))) config.old reader.old
+        (outcome result config.new reader.new) }
     ensures shorter { length reader.new ≤ length reader.old }
 {
     if let Some(value) = whole(next(reader), u32::MAX as u128)? {
@@ -222,7 +226,8 @@ fn read_word(config: &mut Config, word: Word, reader: &mut Reader<'_>) -> Result
 
 /// Reads and sets a field of type `u64`.
 fn read_long(config: &mut Config, long: Long, reader: &mut Reader<'_>) -> Result<(), Fault>
-    ensures exact { Sets (Some (field_of (Place.Long long))) config.old reader.old (outcome result config.new reader.new) }
+    ensures exact { Sets (Some (field_of (Place.Long long))) config.old reader.old
+        (outcome result config.new reader.new) }
     ensures shorter { length reader.new ≤ length reader.old }
 {
     if let Some(value) = whole(next(reader), u64::MAX as u128)? {
@@ -233,7 +238,8 @@ fn read_long(config: &mut Config, long: Long, reader: &mut Reader<'_>) -> Result
 
 /// Reads and sets the field of type `u8`.
 fn read_uleb_size(config: &mut Config, reader: &mut Reader<'_>) -> Result<(), Fault>
-    ensures exact { Sets (Some (field_of Place.MinUlebSize)) config.old reader.old (outcome result config.new reader.new) }
+    ensures exact { Sets (Some (field_of Place.MinUlebSize)) config.old reader.old
+        (outcome result config.new reader.new) }
     ensures shorter { length reader.new ≤ length reader.old }
 {
     if let Some(value) = whole(next(reader), u8::MAX as u128)? {
@@ -244,7 +250,8 @@ fn read_uleb_size(config: &mut Config, reader: &mut Reader<'_>) -> Result<(), Fa
 
 /// Reads and sets the field of type `u128`.
 fn read_memory64_bytes(config: &mut Config, reader: &mut Reader<'_>) -> Result<(), Fault>
-    ensures exact { Sets (Some (field_of Place.MaxMemory64Bytes)) config.old reader.old (outcome result config.new reader.new) }
+    ensures exact { Sets (Some (field_of Place.MaxMemory64Bytes)) config.old reader.old
+        (outcome result config.new reader.new) }
     ensures shorter { length reader.new ≤ length reader.old }
 {
     if let Some(value) = whole(next(reader), u128::MAX)? {
@@ -255,7 +262,8 @@ fn read_memory64_bytes(config: &mut Config, reader: &mut Reader<'_>) -> Result<(
 
 /// Reads and sets a flag.
 fn read_flag(config: &mut Config, flag: Flag, reader: &mut Reader<'_>) -> Result<(), Fault>
-    ensures exact { Sets (Some (field_of (Place.Flag flag))) config.old reader.old (outcome result config.new reader.new) }
+    ensures exact { Sets (Some (field_of (Place.Flag flag))) config.old reader.old
+        (outcome result config.new reader.new) }
     ensures shorter { length reader.new ≤ length reader.old }
 {
     if let Some(value) = truth(next(reader))? {
@@ -266,7 +274,8 @@ fn read_flag(config: &mut Config, flag: Flag, reader: &mut Reader<'_>) -> Result
 
 /// Reads and sets the set of kinds of instructions.
 fn read_instructions(config: &mut Config, reader: &mut Reader<'_>) -> Result<(), Fault>
-    ensures exact { Sets (Some (field_of Place.AllowedInstructions)) config.old reader.old (outcome result config.new reader.new) }
+    ensures exact { Sets (Some (field_of Place.AllowedInstructions)) config.old reader.old
+        (outcome result config.new reader.new) }
     ensures shorter { length reader.new ≤ length reader.old }
 {
     if let Some(kinds) = kinds(next(reader))? {
@@ -277,7 +286,8 @@ fn read_instructions(config: &mut Config, reader: &mut Reader<'_>) -> Result<(),
 
 /// Reads and sets the three weights.
 fn read_choices(config: &mut Config, reader: &mut Reader<'_>) -> Result<(), Fault>
-    ensures exact { Sets (Some (field_of Place.MemoryOffsetChoices)) config.old reader.old (outcome result config.new reader.new) }
+    ensures exact { Sets (Some (field_of Place.MemoryOffsetChoices)) config.old reader.old
+        (outcome result config.new reader.new) }
     ensures shorter { length reader.new ≤ length reader.old }
 {
     match next(reader) {

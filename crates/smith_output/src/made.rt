@@ -74,7 +74,8 @@ pub fn binary(
 
 /// Encodes `program` in the binary format.
 fn encoded(alloc: Global, program: &Program) -> Result<Vec<u8>, OutputFault>
-    ensures spelled { IfOk result (λ bytes. IsProgramBinary program.now.«module» program.now.bodies bytes.items) }
+    ensures spelled { IfOk result (λ bytes.
+        IsProgramBinary program.now.«module» program.now.bodies bytes.items) }
     ensures refused { IfErr result (IsUnencoded program.now) }
 {
     match encode(alloc, program) {
@@ -99,8 +100,10 @@ pub fn output(
     manner: Manner,
     u: &mut Unstructured<'_>,
 ) -> Result<Vec<u8>, OutputFault>
-    ensures binary { manner.form ≡ Binary → manner.fuel ≡ None → IfOk result (λ bytes. IsBinaryOf config u.old bytes.items u.new) }
-    ensures refused { manner.form ≡ Binary → manner.fuel ≡ None → IfErr result (IsRefusedFor config u.old u.new) }
+    ensures binary { manner.form ≡ Binary → manner.fuel ≡ None
+        → IfOk result (λ bytes. IsBinaryOf config u.old bytes.items u.new) }
+    ensures refused { manner.form ≡ Binary → manner.fuel ≡ None
+        → IfErr result (IsRefusedFor config u.old u.new) }
 {
     match manner {
         Manner {

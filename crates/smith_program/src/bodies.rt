@@ -1,4 +1,5 @@
-ghost use Rattle.std.specs.Prelude.{◌≡◌, ◌<◌, ◌≤◌, ◌+◌, ◌*◌, ◌++◌, ℕ, All, IfOk, IfErr, IsTrue, Some, length, slice_get};
+ghost use Rattle.std.specs.Prelude.{◌≡◌, ◌<◌, ◌≤◌, ◌+◌, ◌*◌, ◌++◌, ℕ, All, IfOk, IfErr, IsTrue};
+ghost use Rattle.std.specs.Prelude.{Some, length, slice_get};
 ghost use Rattle.smith_bytes.specs.Source.{KeepsPieces};
 ghost use Rattle.smith_types.specs.Entities.{IsFuncAt};
 ghost use Rattle.smith_types.specs.ValidTypes.{IsValTypeValid};
@@ -6,7 +7,8 @@ ghost use Rattle.smith_types.specs.declared.code.Code.{Code as Defined};
 ghost use Rattle.smith_rules.specs.Module.{IsValid, module_features, module_imports};
 ghost use Rattle.smith_instr.specs.Enabled.{IsEnabled};
 ghost use Rattle.smith_instr.specs.Sequences.{IsBodyTyped};
-ghost use Rattle.smith_program.specs.Bodies.{AreDrawnBodies, HasDefinedType, IsDrawnAt, IsOfBody, function_context};
+ghost use Rattle.smith_program.specs.Bodies.{AreDrawnBodies, HasDefinedType, IsDrawnAt, IsOfBody};
+ghost use Rattle.smith_program.specs.Bodies.{function_context};
 ghost use Rattle.smith_program.specs.DrawnBodies.{bodies_at, one_at};
 ghost use Rattle.smith_program.specs.Named.{IsNamed};
 ghost use Rattle.smith_code.specs.Bodies.{body_at};
@@ -90,8 +92,12 @@ fn draw_one(
     requires valid { IsValid «module».now }
     requires named { IsNamed «module».now named.now }
     requires inside { place < length «module».now.code }
-    ensures body { IfOk result (λ body. (code : Defined) → slice_get «module».now.code place ≡ Some code → IsOfBody (IsDrawnAt «module».now place code) code body) }
-    ensures exact { IfOk result (λ body. (code : Defined) → slice_get «module».now.code place ≡ Some code → one_at «module».now place code u.old ≡ (body, u.new)) }
+    ensures body { IfOk result (λ body.
+        (code : Defined) → slice_get «module».now.code place ≡ Some code
+        → IsOfBody (IsDrawnAt «module».now place code) code body) }
+    ensures exact { IfOk result (λ body.
+        (code : Defined) → slice_get «module».now.code place ≡ Some code
+        → one_at «module».now place code u.old ≡ (body, u.new)) }
     ensures refusal { IfErr result (λ e. e ≡ Error.Memory) }
     ensures left { KeepsPieces u.old u.new }
 {
@@ -138,12 +144,19 @@ fn draw_instructions(
     requires valid { IsValid «module».now }
     requires named { IsNamed «module».now named.now }
     requires there { (index : ℕ) × IsFuncAt «module».now.types index function.now }
-    requires locals { All (IsValTypeValid (module_features «module».now) (length «module».now.types)) code.now.locals }
-    ensures typed { IfOk result (IsBodyTyped (function_context «module».now function.now code.now.locals)) }
-    ensures enabled { IfOk result (All (IsEnabled (module_features «module».now) «module».now.config.allowed_instructions)) }
+    requires locals { All
+        (IsValTypeValid (module_features «module».now) (length «module».now.types))
+        code.now.locals }
+    ensures typed { IfOk result
+        (IsBodyTyped (function_context «module».now function.now code.now.locals)) }
+    ensures enabled { IfOk result
+        (All (IsEnabled (module_features «module».now) «module».now.config.allowed_instructions)) }
     ensures trapless { IsTrue «module».now.config.disallow_traps → IfOk result (All IsTrapless) }
-    ensures short { IfOk result (λ body. length body ≤ 1 + length function.now.results + most «module».now.types * «module».now.config.max_instructions) }
-    ensures exact { IfOk result (λ body. body_at «module».now.config (function_context «module».now function.now code.now.locals) «module».now.config.max_instructions u.old ≡ (body, u.new)) }
+    ensures short { IfOk result (λ body. length body ≤ 1 + length function.now.results
+        + most «module».now.types * «module».now.config.max_instructions) }
+    ensures exact { IfOk result (λ body.
+        body_at «module».now.config (function_context «module».now function.now code.now.locals)
+        «module».now.config.max_instructions u.old ≡ (body, u.new)) }
     ensures refusal { IfErr result (λ e. e ≡ Error.Memory) }
     ensures left { KeepsPieces u.old u.new }
 {

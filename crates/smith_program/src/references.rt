@@ -19,7 +19,8 @@ use wasm_smith::Module;
 
 /// Lists the type of each element segment of `module`.
 pub(crate) fn element_types(alloc: Global, module: &Module) -> Result<Items<RefType>, Error>
-    ensures types { IfOk result (λ types. types ≡ map (λ (segment : Segment). segment.ty) «module».now.elems) }
+    ensures types { IfOk result (λ types.
+        types ≡ map (λ (segment : Segment). segment.ty) «module».now.elems) }
     ensures memory { IfErr result (λ e. e ≡ Error.Memory) }
 {
     let mut types = Items::new(alloc);
@@ -44,7 +45,8 @@ pub(crate) fn references_of(alloc: Global, module: &Module) -> Result<Items<u32>
 }
 
 fn push_exported(exports: &[(Name, ExportKind, u32)], named: &mut Items<u32>) -> Result<(), Error>
-    ensures named { OnOk result (named.new ≡ named.old ++ flat_map (λ (export : List ℕ × Kind × ℕ). exported_by export.1 export.2) exports.now) }
+    ensures named { OnOk result (named.new ≡ named.old
+        ++ flat_map (λ (export : List ℕ × Kind × ℕ). exported_by export.1 export.2) exports.now) }
     ensures memory { IfErr result (λ e. e ≡ Error.Memory) }
 {
     for export in exports {
@@ -64,7 +66,8 @@ fn push_export(kind: ExportKind, index: u32, named: &mut Items<u32>) -> Result<(
 }
 
 fn push_of_segments(segments: &[ElementSegment], named: &mut Items<u32>) -> Result<(), Error>
-    ensures named { OnOk result (named.new ≡ named.old ++ flat_map (λ (segment : Segment). named_by_elements segment.items) segments.now) }
+    ensures named { OnOk result (named.new ≡ named.old
+        ++ flat_map (λ (segment : Segment). named_by_elements segment.items) segments.now) }
     ensures memory { IfErr result (λ e. e ≡ Error.Memory) }
 {
     for segment in segments {
@@ -87,7 +90,8 @@ fn push_of_globals(
     globals: &[(u32, Items<ConstInstr>)],
     named: &mut Items<u32>,
 ) -> Result<(), Error>
-    ensures named { OnOk result (named.new ≡ named.old ++ flat_map (λ (global : ℕ × List Constant). named_in global.1) globals.now) }
+    ensures named { OnOk result (named.new
+        ≡ named.old ++ flat_map (λ (global : ℕ × List Constant). named_in global.1) globals.now) }
     ensures memory { IfErr result (λ e. e ≡ Error.Memory) }
 {
     for global in globals {

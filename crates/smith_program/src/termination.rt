@@ -29,8 +29,11 @@ impl Program {
         ensures answer { AnswersFuel default_fuel self.old.«module» self.new.«module» result }
         ensures valid { IsValid self.old.«module» → IsValid self.new.«module» }
         ensures bodies { self.new.bodies ≡ self.old.bodies }
-        ensures typed { AreBodiesOf self.old.«module» self.old.bodies → AreBodiesOf self.new.«module» self.new.bodies }
-        ensures counted { IsValid self.new.«module» → AreBodiesOf self.new.«module» self.new.bodies → AreBodiesOf self.new.«module» (map (counted_body self.new.«module».fuel_globals) self.new.bodies) }
+        ensures typed { AreBodiesOf self.old.«module» self.old.bodies
+            → AreBodiesOf self.new.«module» self.new.bodies }
+        ensures counted { IsValid self.new.«module» → AreBodiesOf self.new.«module» self.new.bodies
+            → AreBodiesOf self.new.«module»
+            (map (counted_body self.new.«module».fuel_globals) self.new.bodies) }
     {
         self.module.ensure_termination(alloc, default_fuel)
     }

@@ -47,8 +47,10 @@ fn write_each(
     bodies: &[Body],
     sink: &mut Sink,
 ) -> Result<(), EncodeError>
-    ensures writes { OnOk result (Writes (Each (IsBodyOf counters.now) (zip codes.now bodies.now)) sink.old sink.new) }
-    ensures fault { IfErr result (IsFault (Any (IsLongBodyOf counters.now) (zip codes.now bodies.now))) }
+    ensures writes { OnOk result
+        (Writes (Each (IsBodyOf counters.now) (zip codes.now bodies.now)) sink.old sink.new) }
+    ensures fault { IfErr result
+        (IsFault (Any (IsLongBodyOf counters.now) (zip codes.now bodies.now))) }
 {
     for place in 0..codes.len().min(bodies.len()) {
         write_body(counters, &codes[place], &bodies[place], sink)?;
@@ -63,7 +65,8 @@ fn write_body(
     body: &Body,
     sink: &mut Sink,
 ) -> Result<(), EncodeError>
-    ensures writes { OnOk result (Writes (IsBodyOf counters.now (code.now, body.now)) sink.old sink.new) }
+    ensures writes { OnOk result
+        (Writes (IsBodyOf counters.now (code.now, body.now)) sink.old sink.new) }
     ensures fault { IfErr result (IsFault (IsLongBodyOf counters.now (code.now, body.now))) }
 {
     match body {
@@ -84,7 +87,8 @@ fn write_drawn(
     instructions: &[Instr],
     sink: &mut Sink,
 ) -> Result<(), EncodeError>
-    ensures writes { OnOk result (Writes (IsFuncBody locals.now (counted counters.now instructions.now)) sink.old sink.new) }
+    ensures writes { OnOk result
+        (Writes (IsFuncBody locals.now (counted counters.now instructions.now)) sink.old sink.new) }
     ensures fault { IfErr result (IsFault (IsLongDrawn counters.now locals.now instructions.now)) }
 {
     let mut content = sink.fresh();

@@ -45,7 +45,8 @@ fn write_checks(counters: &[u32], sink: &mut Sink) -> Result<(), EncodeError>
 
 // Writes `instruction`, then the checks of `counters` if it starts a loop.
 fn write_checked(counters: &[u32], instruction: &Instr, sink: &mut Sink) -> Result<(), EncodeError>
-    ensures writes { OnOk result (Writes (IsInstrs (checked_after counters.now instruction.now)) sink.old sink.new) }
+    ensures writes { OnOk result
+        (Writes (IsInstrs (checked_after counters.now instruction.now)) sink.old sink.new) }
     ensures fault { IfErr result (IsFault (IsLongInstr instruction.now)) }
 {
     encode_instr(sink, instruction)?;
@@ -57,7 +58,8 @@ fn write_checked(counters: &[u32], instruction: &Instr, sink: &mut Sink) -> Resu
 
 // Writes `instructions` in order, with the checks of `counters` after the start of each loop.
 fn write_each(counters: &[u32], instructions: &[Instr], sink: &mut Sink) -> Result<(), EncodeError>
-    ensures writes { OnOk result (Writes (IsInstrs (flat_map (checked_after counters.now) instructions.now)) sink.old sink.new) }
+    ensures writes { OnOk result (Writes
+        (IsInstrs (flat_map (checked_after counters.now) instructions.now)) sink.old sink.new) }
     ensures fault { IfErr result (IsFault (Any IsLongInstr instructions.now)) }
 {
     for instruction in instructions {
@@ -73,7 +75,8 @@ fn write_counted(
     instructions: &[Instr],
     sink: &mut Sink,
 ) -> Result<(), EncodeError>
-    ensures writes { OnOk result (Writes (IsInstrs (counted counters.now instructions.now)) sink.old sink.new) }
+    ensures writes { OnOk result
+        (Writes (IsInstrs (counted counters.now instructions.now)) sink.old sink.new) }
     ensures fault { IfErr result (IsFault (Any IsLongInstr instructions.now)) }
 {
     write_checks(counters, sink)?;
@@ -87,7 +90,8 @@ pub(crate) fn write_expression(
     instructions: &[Instr],
     sink: &mut Sink,
 ) -> Result<(), EncodeError>
-    ensures writes { OnOk result (Writes (IsExpr (counted counters.now instructions.now)) sink.old sink.new) }
+    ensures writes { OnOk result
+        (Writes (IsExpr (counted counters.now instructions.now)) sink.old sink.new) }
     ensures fault { IfErr result (IsFault (Any IsLongInstr instructions.now)) }
 {
     write_counted(counters, instructions, sink)?;

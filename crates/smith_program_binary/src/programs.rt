@@ -24,9 +24,13 @@ use std::alloc::Global;
 /// `TooLong` if a list has 2^32 items or more, or a section or a body 2^32 bytes or more; `Memory`
 /// for lack of memory.
 pub fn encode(alloc: Global, program: &Program) -> Result<Vec<u8>, EncodeError>
-    ensures spelled { IfOk result (λ bytes. IsProgramBinary program.now.«module» program.now.bodies bytes.items) }
-    ensures sections { IfOk result (λ bytes. HasSections (section_ids program.now.«module») bytes.items) }
-    ensures written { IfOk result (λ bytes. IsWritten program.now.«module» (AreBodiesOf program.now.«module».fuel_globals program.now.«module».code program.now.bodies) bytes.items) }
+    ensures spelled { IfOk result (λ bytes.
+        IsProgramBinary program.now.«module» program.now.bodies bytes.items) }
+    ensures sections { IfOk result (λ bytes.
+        HasSections (section_ids program.now.«module») bytes.items) }
+    ensures written { IfOk result (λ bytes. IsWritten program.now.«module»
+        (AreBodiesOf program.now.«module».fuel_globals program.now.«module».code program.now.bodies)
+        bytes.items) }
     ensures fault { IfErr result (IsFault (IsLongProgram program.now.«module» program.now.bodies)) }
 {
     let bodies = Bodies {

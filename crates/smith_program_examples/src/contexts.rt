@@ -12,23 +12,43 @@ ghost use Rattle.smith_instr.specs.declared.instr.Instr.TheVariants as instr;
 ghost use Rattle.smith_instr.specs.declared.reference.ReferenceInstr.TheVariants as reference;
 ghost use Rattle.smith_program.specs.DrawnBodies.{bodies_at};
 ghost use Rattle.smith_program.specs.declared.program.Body.TheVariants as body;
-ghost use Rattle.smith_program_examples.specs.ExamplePrograms.{after_an_import, constant, constant_bytes, narrow_function, one_of, one_unit};
+ghost use Rattle.smith_program_examples.specs.ExamplePrograms.{after_an_import, constant};
+ghost use Rattle.smith_program_examples.specs.ExamplePrograms.{constant_bytes, narrow_function};
+ghost use Rattle.smith_program_examples.specs.ExamplePrograms.{one_of, one_unit};
 
 fn functions()
-    ensures after_an_imported_one { bodies_at after_an_import (constant_bytes 5) ≡ (constant 5 ∷ [], []) }
-    ensures of_the_imported_type { ¬ (bodies_at after_an_import (constant_bytes 5) ≡ (body.Drawn [] ∷ [], constant_bytes 5)) }
-    ensures called_by_itself { bodies_at after_an_import (0 ∷ 8 ∷ []) ≡ (body.Drawn (instr.Call 1 ∷ []) ∷ [], []) }
-    ensures that_is_exported { bodies_at (record (one_of (giving (Ref funcref ∷ []))) { exports = (codes "f", kind.Func, 0) ∷ [] }) (0 ∷ 0 ∷ 3 ∷ []) ≡ (body.Drawn (instr.Reference (reference.Func 0) ∷ []) ∷ [], []) }
-    ensures that_nothing_names { bodies_at (one_of (giving (Ref funcref ∷ []))) (0 ∷ 0 ∷ 3 ∷ []) ≡ (body.Drawn (instr.Reference (reference.Null (Abstract false heap.Func)) ∷ []) ∷ [], []) }
+    ensures after_an_imported_one { bodies_at after_an_import (constant_bytes 5)
+        ≡ (constant 5 ∷ [], []) }
+    ensures of_the_imported_type { ¬ (bodies_at after_an_import (constant_bytes 5)
+        ≡ (body.Drawn [] ∷ [], constant_bytes 5)) }
+    ensures called_by_itself { bodies_at after_an_import (0 ∷ 8 ∷ [])
+        ≡ (body.Drawn (instr.Call 1 ∷ []) ∷ [], []) }
+    ensures that_is_exported { bodies_at
+        (record (one_of (giving (Ref funcref ∷ []))) { exports = (codes "f", kind.Func, 0) ∷ [] })
+        (0 ∷ 0 ∷ 3 ∷ [])
+        ≡ (body.Drawn (instr.Reference (reference.Func 0) ∷ []) ∷ [], []) }
+    ensures that_nothing_names { bodies_at (one_of (giving (Ref funcref ∷ []))) (0 ∷ 0 ∷ 3 ∷ [])
+        ≡ (body.Drawn (instr.Reference (reference.Null (Abstract false heap.Func)) ∷ []) ∷ [], []) }
 {}
 
 fn locals()
-    ensures after_the_parameters { bodies_at (record (one_of (Func (func I64 I32))) { code = record { locals = I32 ∷ []; instructions = Unreachable } ∷ [] }) (0 ∷ 0 ∷ 0 ∷ []) ≡ (body.Drawn (instr.LocalGet 1 ∷ []) ∷ [], []) }
-    ensures without_the_parameters { ¬ (bodies_at (record (one_of (Func (func I64 I32))) { code = record { locals = I32 ∷ []; instructions = Unreachable } ∷ [] }) (0 ∷ 0 ∷ 0 ∷ []) ≡ (body.Drawn (instr.LocalGet 0 ∷ []) ∷ [], [])) }
-    ensures parameter { bodies_at (one_of (Func (func I32 I32))) (0 ∷ 0 ∷ 0 ∷ []) ≡ (body.Drawn (instr.LocalGet 0 ∷ []) ∷ [], []) }
+    ensures after_the_parameters { bodies_at (record (one_of (Func (func I64 I32))) {
+      code = record { locals = I32 ∷ []; instructions = Unreachable } ∷ [];
+    }) (0 ∷ 0 ∷ 0 ∷ []) ≡ (body.Drawn (instr.LocalGet 1 ∷ []) ∷ [], []) }
+    ensures without_the_parameters { ¬ (bodies_at (record (one_of (Func (func I64 I32))) {
+      code = record { locals = I32 ∷ []; instructions = Unreachable } ∷ [];
+    }) (0 ∷ 0 ∷ 0 ∷ []) ≡ (body.Drawn (instr.LocalGet 0 ∷ []) ∷ [], [])) }
+    ensures parameter { bodies_at (one_of (Func (func I32 I32))) (0 ∷ 0 ∷ 0 ∷ [])
+        ≡ (body.Drawn (instr.LocalGet 0 ∷ []) ∷ [], []) }
 {}
 
 fn configurations()
-    ensures no_fuel { bodies_at (record narrow_function { config = record one_unit { max_instructions = 0 } }) (constant_bytes 5) ≡ (body.Drawn (instr.Unreachable ∷ []) ∷ [], constant_bytes 5) }
-    ensures no_instructions { bodies_at (record narrow_function { config = record one_unit { allowed_instructions = no_kind } }) (constant_bytes 5) ≡ (body.Drawn (instr.Unreachable ∷ []) ∷ [], []) }
+    ensures no_fuel { bodies_at
+        (record narrow_function { config = record one_unit { max_instructions = 0 } })
+        (constant_bytes 5)
+        ≡ (body.Drawn (instr.Unreachable ∷ []) ∷ [], constant_bytes 5) }
+    ensures no_instructions { bodies_at
+        (record narrow_function { config = record one_unit { allowed_instructions = no_kind } })
+        (constant_bytes 5)
+        ≡ (body.Drawn (instr.Unreachable ∷ []) ∷ [], []) }
 {}

@@ -1,6 +1,7 @@
 ghost use Rattle.std.specs.Prelude.{◌≡◌, ℕ, List, [], Ok, Err, IfOk, IfErr};
 ghost use Rattle.smith_json.specs.Objects.{ReadsText};
-ghost use Rattle.smith_request.specs.Made.{IsConfigured, IsProgramAnswer, AnswersText, IsBinary, HasProgram};
+ghost use Rattle.smith_request.specs.Made.{IsConfigured, IsProgramAnswer, AnswersText, IsBinary};
+ghost use Rattle.smith_request.specs.Made.{HasProgram};
 ghost use Rattle.smith_request.specs.Refusals.{IsRefusal, IsNotTooLong};
 
 use crate::refusal::Refusal;
@@ -13,7 +14,8 @@ use std::str;
 
 fn parsed(alloc: Global, text: &str) -> Result<Config, Refusal>
     ensures ok { IfOk result (λ config. ReadsText text.now (Ok (config, []))) }
-    ensures refused { IfErr result (λ refusal. (input : List ℕ) → IsRefusal text.now input refusal) }
+    ensures refused { IfErr result (λ refusal.
+        (input : List ℕ) → IsRefusal text.now input refusal) }
     ensures short { IfErr result IsNotTooLong }
 {
     match smith_json::config(alloc, text) {
@@ -25,7 +27,8 @@ fn parsed(alloc: Global, text: &str) -> Result<Config, Refusal>
 /// Reads a configuration from `text`. Returns the default one if `text` is empty.
 fn configured(alloc: Global, text: &[u8]) -> Result<Config, Refusal>
     ensures ok { IfOk result (λ config. IsConfigured text.now config) }
-    ensures refused { IfErr result (λ refusal. (input : List ℕ) → IsRefusal text.now input refusal) }
+    ensures refused { IfErr result (λ refusal.
+        (input : List ℕ) → IsRefusal text.now input refusal) }
     ensures short { IfErr result IsNotTooLong }
 {
     if text.is_empty() {

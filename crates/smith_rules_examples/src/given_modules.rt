@@ -1,7 +1,9 @@
 ghost use Rattle.std.specs.Prelude.{[], codes, true, false, pos};
-ghost use Rattle.smith_types.specs.declared.const_instr.ConstInstr.TheVariants.{I32Const, GlobalGet};
+ghost use Rattle.smith_types.specs.declared.const_instr.ConstInstr.TheVariants.{I32Const};
+ghost use Rattle.smith_types.specs.declared.const_instr.ConstInstr.TheVariants.{GlobalGet};
 ghost use Rattle.smith_rules.specs.Module.{IsValid};
-ghost use Rattle.smith_rules_examples.specs.ExampleModules.{two_exports, named_imports, two_memories};
+ghost use Rattle.smith_rules_examples.specs.ExampleModules.{two_exports, named_imports};
+ghost use Rattle.smith_rules_examples.specs.ExampleModules.{two_memories};
 ghost use Rattle.smith_rules_examples.specs.ExampleShapes.{with_environment, with_ping};
 ghost use Rattle.smith_rules_examples.specs.ExampleGiven.{
   cloned,

@@ -1,4 +1,5 @@
-ghost use Rattle.std.specs.Prelude.{◌≡◌, ◌⊎◌, ◌↔◌, true, false, None, map, string_bytes, IfOk, IfSome, IsErrOf};
+ghost use Rattle.std.specs.Prelude.{◌≡◌, ◌⊎◌, ◌↔◌, true, false, None, map, string_bytes, IfOk};
+ghost use Rattle.std.specs.Prelude.{IfSome, IsErrOf};
 ghost use Rattle.smith_run.specs.Run.{IsAnswered, IsUnread};
 ghost use Rattle.smith_run.specs.Words.{drawn_by};
 ghost use Rattle.smith_run.specs.Program.{exit_status_of};
@@ -36,7 +37,8 @@ pub fn run_words<R: Source, W: Sink>(
 ) -> Result<Outcome, ProgramFault>
     requires source { R.failed r.old ≡ false }
     requires sink { W.failed w.old ≡ false }
-    ensures usage { IsErrOf result ProgramFault.Usage ↔ (drawn_by (map string_bytes asked.now) ≡ None) }
+    ensures usage { IsErrOf result ProgramFault.Usage
+        ↔ (drawn_by (map string_bytes asked.now) ≡ None) }
     ensures untouched { IsErrOf result ProgramFault.Usage → (r.new ≡ r.old) × (w.new ≡ w.old) }
 
     ensures line { IfOk result (λ outcome. IfSome (drawn_by (map string_bytes asked.now)) (λ drawn.

@@ -1,4 +1,5 @@
-ghost use Rattle.std.specs.Prelude.{◌≡◌, ◌⊎◌, ◌↔◌, ◌||◌, true, false, IfOk, IfErr, OnOk, IsErrOf, is_err};
+ghost use Rattle.std.specs.Prelude.{◌≡◌, ◌⊎◌, ◌↔◌, ◌||◌, true, false, IfOk, IfErr, OnOk, IsErrOf};
+ghost use Rattle.std.specs.Prelude.{is_err};
 ghost use Rattle.std.specs.Io.KnownBytes.{Appends};
 ghost use Rattle.smith_run.specs.Line.{line_of};
 ghost use Rattle.smith_run.specs.Run.{MayAnswer, IsAnswered, IsUnread, outcome_of};
@@ -73,7 +74,8 @@ fn generated(alloc: Global, drawn: bool, input: &[u8]) -> Result<Module, Error>
 }
 
 fn tell<W: Sink>(w: &mut W, answer: &Result<Module, Error>) -> Result<Outcome, RunFault>
-    ensures written { OnOk result (Appends (W.written w.old) (W.written w.new) (line_of answer.now)) }
+    ensures written { OnOk result
+        (Appends (W.written w.old) (W.written w.new) (line_of answer.now)) }
     ensures told { IfOk result (λ outcome. outcome ≡ outcome_of answer.now) }
     ensures fault { IfErr result (λ fault. fault ≡ RunFault.Write) }
     ensures failed { W.failed w.new ≡ (W.failed w.old || is_err result) }

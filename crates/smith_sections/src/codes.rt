@@ -2,7 +2,8 @@ ghost use Rattle.std.specs.Prelude.{◌≡◌, ◌∷◌, ℕ, List, OnOk, IfErr
 ghost use Rattle.smith_binary.specs.declared.error.EncodeError.TheVariants.{Memory};
 ghost use Rattle.smith_binary.specs.Faults.{IsFault};
 ghost use Rattle.smith_binary.specs.Pieces.{Is, Writes};
-ghost use Rattle.smith_sections.specs.Codes.{IsRun, IsLocals, IsBody, index_bytes, check_bytes, checks_bytes, body_bytes, body_of};
+ghost use Rattle.smith_sections.specs.Codes.{IsRun, IsLocals, IsBody, index_bytes, check_bytes};
+ghost use Rattle.smith_sections.specs.Codes.{checks_bytes, body_bytes, body_of};
 ghost use Rattle.smith_sections.specs.Long.{IsNeverLong, IsLongBody, IsLongList};
 
 use crate::lists::{Encode, EncodeItem, write_each};
@@ -73,7 +74,8 @@ fn write_instructions(
     instructions: &Instructions,
     sink: &mut Sink,
 ) -> Result<(), EncodeError>
-    ensures writes { OnOk result (Writes (Is (body_bytes counters.now instructions.now)) sink.old sink.new) }
+    ensures writes { OnOk result
+        (Writes (Is (body_bytes counters.now instructions.now)) sink.old sink.new) }
     ensures memory { IfErr result (λ e. e ≡ Memory) }
 {
     match instructions {

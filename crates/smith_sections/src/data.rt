@@ -26,7 +26,9 @@ fn write_active_data(
     bytes: &[u8],
     sink: &mut Sink,
 ) -> Result<(), EncodeError>
-    ensures writes { OnOk result (Writes (IsDataIn (active_data_form memory) (record { bytes = bytes.now; mode = active memory (offset_of offset) })) sink.old sink.new) }
+    ensures writes { OnOk result (Writes (IsDataIn (active_data_form memory)
+        (record { bytes = bytes.now; mode = active memory (offset_of offset) }))
+        sink.old sink.new) }
     ensures fault { IfErr result (IsFault (2 ^ 32 ≤ length bytes.now)) }
 {
     if memory == 0 {

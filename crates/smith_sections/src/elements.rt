@@ -44,7 +44,11 @@ fn write_active_funcs(
     funcs: &[u32],
     sink: &mut Sink,
 ) -> Result<(), EncodeError>
-    ensures writes { OnOk result (Writes (IsElementIn (active_funcs_form table) (record { ty = func_ref false; items = func_items funcs.now; mode = at_table table (offset_of offset) })) sink.old sink.new) }
+    ensures writes { OnOk result (Writes (IsElementIn (active_funcs_form table) (record {
+      ty = func_ref false;
+      items = func_items funcs.now;
+      mode = at_table table (offset_of offset);
+    })) sink.old sink.new) }
     ensures fault { IfErr result (IsFault (IsLongList IsNeverLong funcs.now)) }
 {
     if table == 0 {
@@ -60,7 +64,9 @@ fn write_active_funcs(
 
 // Writes a segment of the functions `funcs`.
 fn write_funcs(kind: ElementKind, funcs: &[u32], sink: &mut Sink) -> Result<(), EncodeError>
-    ensures writes { OnOk result (Writes (IsElementIn (funcs_form kind) (record { ty = func_ref false; items = func_items funcs.now; mode = element_mode kind })) sink.old sink.new) }
+    ensures writes { OnOk result (Writes (IsElementIn (funcs_form kind)
+        (record { ty = func_ref false; items = func_items funcs.now; mode = element_mode kind }))
+        sink.old sink.new) }
     ensures fault { IfErr result (IsFault (IsLongList IsNeverLong funcs.now)) }
 {
     match kind {
@@ -108,7 +114,9 @@ fn write_active_items(
     items: &[Items<ConstInstr>],
     sink: &mut Sink,
 ) -> Result<(), EncodeError>
-    ensures writes { OnOk result (Writes (IsElementIn (active_items_form table ty) (record { ty = ty; items = items.now; mode = at_table table (offset_of offset) })) sink.old sink.new) }
+    ensures writes { OnOk result (Writes (IsElementIn (active_items_form table ty)
+        (record { ty = ty; items = items.now; mode = at_table table (offset_of offset) }))
+        sink.old sink.new) }
     ensures fault { IfErr result (IsFault (IsLongList IsNeverLong items.now)) }
 {
     if is_short(table, ty) {
@@ -130,7 +138,8 @@ fn write_items(
     items: &[Items<ConstInstr>],
     sink: &mut Sink,
 ) -> Result<(), EncodeError>
-    ensures writes { OnOk result (Writes (IsElementIn (items_form ty kind) (record { ty = ty; items = items.now; mode = element_mode kind })) sink.old sink.new) }
+    ensures writes { OnOk result (Writes (IsElementIn (items_form ty kind)
+        (record { ty = ty; items = items.now; mode = element_mode kind })) sink.old sink.new) }
     ensures fault { IfErr result (IsFault (IsLongList IsNeverLong items.now)) }
 {
     match kind {

@@ -2,7 +2,9 @@ ghost use Rattle.std.specs.Prelude.{◌≡◌, Option, None, OnOk, IfErr};
 ghost use Rattle.smith_binary.specs.declared.error.EncodeError.TheVariants.{Memory as OutOfMemory};
 ghost use Rattle.smith_binary.specs.Faults.{IsFault};
 ghost use Rattle.smith_binary.specs.Pieces.{Writes};
-ghost use Rattle.smith_sections.specs.Entities.{flag, global_byte, limits_byte, IsRange, IsPageSize, IsGlobalType, IsMemoryType, IsTableType, IsTagType, IsExternType};
+ghost use Rattle.smith_sections.specs.Entities.{flag, global_byte, limits_byte, IsRange};
+ghost use Rattle.smith_sections.specs.Entities.{IsPageSize, IsGlobalType, IsMemoryType};
+ghost use Rattle.smith_sections.specs.Entities.{IsTableType, IsTagType, IsExternType};
 ghost use Rattle.smith_sections.specs.Long.{IsNeverLong};
 
 use crate::lists::Encode;

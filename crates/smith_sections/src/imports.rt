@@ -2,7 +2,8 @@ ghost use Rattle.std.specs.Prelude.{ℕ, List, OnOk, IfErr};
 ghost use Rattle.smith_binary.specs.Faults.{IsFault};
 ghost use Rattle.smith_binary.specs.Pieces.{IsName, Writes};
 ghost use Rattle.smith_sections.specs.Imports.{IsImport, IsImportItem, IsGroupHead, IsImportGroup};
-ghost use Rattle.smith_sections.specs.Long.{IsLongText, IsLongImport, IsLongImportItem, IsLongImportGroup};
+ghost use Rattle.smith_sections.specs.Long.{IsLongText, IsLongImport, IsLongImportItem};
+ghost use Rattle.smith_sections.specs.Long.{IsLongImportGroup};
 
 use crate::lists::{Encode, write_list};
 use smith_binary::{EncodeError, Sink};

@@ -1,7 +1,8 @@
 ghost use Rattle.std.specs.Prelude.{◌≡◌, OnOk, IfErr};
 ghost use Rattle.smith_binary.specs.Numbers.{IsVector};
 ghost use Rattle.smith_binary.specs.Pieces.{IsByte, Joined, Writes};
-ghost use Rattle.smith_sections.specs.Instructions.{IsPrefixed, IsIndex, IsInstr, IsExpression, offset_of};
+ghost use Rattle.smith_sections.specs.Instructions.{IsPrefixed, IsIndex, IsInstr, IsExpression};
+ghost use Rattle.smith_sections.specs.Instructions.{offset_of};
 ghost use Rattle.smith_binary.specs.declared.error.EncodeError.TheVariants.{Memory};
 ghost use Rattle.smith_binary.specs.Faults.{IsFault};
 ghost use Rattle.smith_sections.specs.Long.{IsNeverLong};
@@ -26,7 +27,8 @@ fn write_prefixed_index(
     index: u32,
     sink: &mut Sink,
 ) -> Result<(), EncodeError>
-    ensures writes { OnOk result (Writes (Joined (IsPrefixed prefix number) (IsIndex index)) sink.old sink.new) }
+    ensures writes { OnOk result
+        (Writes (Joined (IsPrefixed prefix number) (IsIndex index)) sink.old sink.new) }
     ensures memory { IfErr result (λ e. e ≡ Memory) }
 {
     write_prefixed(prefix, number, sink)?;
@@ -35,7 +37,8 @@ fn write_prefixed_index(
 
 // Writes the constant `value`.
 fn write_vector_const(value: i128, sink: &mut Sink) -> Result<(), EncodeError>
-    ensures writes { OnOk result (Writes (Joined (IsPrefixed 0xFD 12) (IsVector value)) sink.old sink.new) }
+    ensures writes { OnOk result
+        (Writes (Joined (IsPrefixed 0xFD 12) (IsVector value)) sink.old sink.new) }
     ensures memory { IfErr result (λ e. e ≡ Memory) }
 {
     write_prefixed(0xFD, 12, sink)?;

@@ -50,7 +50,8 @@ pub trait EncodePair<A, B> {
 
     /// Writes the item of the parts `first` and `second` at the end of `sink`.
     fn encode_pair(&self, first: &A, second: &B, sink: &mut Sink) -> Result<(), EncodeError>
-        ensures writes { OnOk result (Writes (Self.spells self.now (first.now, second.now)) sink.old sink.new) }
+        ensures writes { OnOk result
+            (Writes (Self.spells self.now (first.now, second.now)) sink.old sink.new) }
         ensures memory { IfErr result (λ e. e ≡ Memory) };
 }
 
@@ -131,7 +132,8 @@ fn write_each_pair<A, B, W: EncodePair<A, B>>(
     seconds: &[B],
     sink: &mut Sink,
 ) -> Result<(), EncodeError>
-    ensures writes { OnOk result (Writes (Each (W.spells writer.now) (zip firsts.now seconds.now)) sink.old sink.new) }
+    ensures writes { OnOk result
+        (Writes (Each (W.spells writer.now) (zip firsts.now seconds.now)) sink.old sink.new) }
     ensures memory { IfErr result (λ e. e ≡ Memory) }
 {
     for (first, second) in firsts.iter().zip(seconds) {

@@ -29,8 +29,10 @@ pub fn write_section_if<C: Encode>(
     content: &C,
     sink: &mut Sink,
 ) -> Result<(), EncodeError>
-    ensures writes { OnOk result (Writes (IsSectionIf is_written id (C.spells content.now)) sink.old sink.new) }
-    ensures fault { IfErr result (IsFault ((is_written ≡ true) × (C.is_long content.now ⊎ IsLongContent (C.spells content.now)))) }
+    ensures writes { OnOk result
+        (Writes (IsSectionIf is_written id (C.spells content.now)) sink.old sink.new) }
+    ensures fault { IfErr result (IsFault
+        ((is_written ≡ true) × (C.is_long content.now ⊎ IsLongContent (C.spells content.now)))) }
 {
     if !is_written {
         return Ok(());

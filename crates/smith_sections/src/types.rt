@@ -21,7 +21,8 @@ ghost use Rattle.smith_sections.specs.Types.{
 };
 ghost use Rattle.smith_binary.specs.declared.error.EncodeError.TheVariants.{Memory};
 ghost use Rattle.smith_binary.specs.Faults.{IsFault};
-ghost use Rattle.smith_sections.specs.Long.{IsLongComposite, IsLongFuncType, IsLongGroup, IsLongInner, IsLongList, IsLongSubType, IsNeverLong};
+ghost use Rattle.smith_sections.specs.Long.{IsLongComposite, IsLongFuncType, IsLongGroup};
+ghost use Rattle.smith_sections.specs.Long.{IsLongInner, IsLongList, IsLongSubType, IsNeverLong};
 
 use crate::lists::{Encode, EncodeItem, write_list};
 use smith_binary::{EncodeError, Sink};
@@ -200,7 +201,8 @@ impl Encode for CompositeType {
 
 // Writes the list of the supertypes of a type.
 fn write_supertype(supertype: Option<u32>, sink: &mut Sink) -> Result<(), EncodeError>
-    ensures writes { OnOk result (Writes (IsList (IsUnsigned 32) (option_to_list supertype)) sink.old sink.new) }
+    ensures writes { OnOk result
+        (Writes (IsList (IsUnsigned 32) (option_to_list supertype)) sink.old sink.new) }
     ensures memory { IfErr result (λ e. e ≡ Memory) }
 {
     match supertype {

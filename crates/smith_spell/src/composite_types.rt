@@ -10,7 +10,8 @@ ghost use Rattle.smith_draw.specs.Spelling.{
   SpellsInner,
   SpellsPlainFunction,
 };
-ghost use Rattle.smith_spell.specs.Family.{IsMemberStorage, IsMemberField, IsMemberFunction, IsMemberInner};
+ghost use Rattle.smith_spell.specs.Family.{IsMemberStorage, IsMemberField, IsMemberFunction};
+ghost use Rattle.smith_spell.specs.Family.{IsMemberInner};
 ghost use Rattle.smith_spell.specs.Written.{Writes, OverSome};
 
 use crate::pieces::{write_bool, write_number};
@@ -27,7 +28,8 @@ fn write_storage(
     bytes: &mut Items<u8>,
 ) -> Result<(), Error>
     requires { OverSome limit (λ types. IsMemberStorage config.now types storage) }
-    ensures writes { OnOk result (Writes (SpellsStorage config.now limit storage) bytes.old bytes.new) }
+    ensures writes { OnOk result
+        (Writes (SpellsStorage config.now limit storage) bytes.old bytes.new) }
     ensures memory { IfErr result (λ e. e ≡ Memory) }
 {
     match storage {
@@ -63,7 +65,8 @@ fn write_fields(
     bytes: &mut Items<u8>,
 ) -> Result<(), Error>
     requires { OverSome limit (λ types. All (IsMemberField config.now types) fields.now) }
-    ensures writes { OnOk result (Writes (Each (SpellsField config.now limit) fields.now) bytes.old bytes.new) }
+    ensures writes { OnOk result
+        (Writes (Each (SpellsField config.now limit) fields.now) bytes.old bytes.new) }
     ensures memory { IfErr result (λ e. e ≡ Memory) }
 {
     for field in fields {
@@ -80,8 +83,10 @@ fn write_struct_type(
     bytes: &mut Items<u8>,
 ) -> Result<(), Error>
     requires few { length structure.now.fields ≤ 20 }
-    requires members { OverSome limit (λ types. All (IsMemberField config.now types) structure.now.fields) }
-    ensures writes { OnOk result (Writes (SpellsStructType config.now limit structure.now) bytes.old bytes.new) }
+    requires members { OverSome limit (λ types.
+        All (IsMemberField config.now types) structure.now.fields) }
+    ensures writes { OnOk result
+        (Writes (SpellsStructType config.now limit structure.now) bytes.old bytes.new) }
     ensures memory { IfErr result (λ e. e ≡ Memory) }
 {
     write_number(structure.fields.len(), 20, bytes)?;
@@ -103,7 +108,8 @@ fn write_func_type(
     bytes: &mut Items<u8>,
 ) -> Result<(), Error>
     requires { OverSome limit (λ types. IsMemberFunction config.now types function.now) }
-    ensures writes { OnOk result (Writes (SpellsFuncType config.now limit function.now) bytes.old bytes.new) }
+    ensures writes { OnOk result
+        (Writes (SpellsFuncType config.now limit function.now) bytes.old bytes.new) }
     ensures memory { IfErr result (λ e. e ≡ Memory) }
 {
     write_val_types(config, limit, 20, function.params.as_slice(), bytes)?;
@@ -119,7 +125,8 @@ pub(crate) fn write_inner(
     bytes: &mut Items<u8>,
 ) -> Result<(), Error>
     requires { OverSome limit (λ types. IsMemberInner config.now types inner.now) }
-    ensures writes { OnOk result (Writes (SpellsInner config.now limit inner.now) bytes.old bytes.new) }
+    ensures writes { OnOk result
+        (Writes (SpellsInner config.now limit inner.now) bytes.old bytes.new) }
     ensures memory { IfErr result (λ e. e ≡ Memory) }
 {
     match inner {
@@ -147,7 +154,8 @@ pub(crate) fn write_plain_function(
 ) -> Result<(), Error>
     requires plain { config.now.gc_enabled ≡ false }
     requires member { OverSome limit (λ types. IsMemberInner config.now types inner.now) }
-    ensures writes { OnOk result (Writes (SpellsPlainFunction config.now limit inner.now) bytes.old bytes.new) }
+    ensures writes { OnOk result
+        (Writes (SpellsPlainFunction config.now limit inner.now) bytes.old bytes.new) }
     ensures memory { IfErr result (λ e. e ≡ Memory) }
 {
     match inner {

@@ -1,4 +1,5 @@
-ghost use Rattle.std.specs.Prelude.{◌≡◌, ◌↔◌, ◌+◌, ◌++◌, ◌<◌, ◌^◌, List, [], ◌∷◌, IsTrue, Some, length, slice_get};
+ghost use Rattle.std.specs.Prelude.{◌≡◌, ◌↔◌, ◌+◌, ◌++◌, ◌<◌, ◌^◌, List, [], ◌∷◌, IsTrue, Some};
+ghost use Rattle.std.specs.Prelude.{length, slice_get};
 ghost use Rattle.std.specs.List.{flat_map};
 ghost use Rattle.smith_types.specs.declared.composite_type.SubType.{SubType as Sub};
 ghost use Rattle.smith_types.specs.declared.value_type.AbstractHeapType.TheVariants.{Struct};
@@ -38,7 +39,8 @@ impl Known {
     /// Returns the facts about the types of `self` followed by `t`.
     pub(crate) fn with(self, t: &SubType) -> Known
         requires { self.count + 1 < 2 ^ 64 }
-        ensures { (types : List Sub) → IsKnown types self → IsRoot t.now → IsKnown (types ++ t.now ∷ []) result }
+        ensures { (types : List Sub) → IsKnown types self → IsRoot t.now
+            → IsKnown (types ++ t.now ∷ []) result }
     {
         Known {
             count: self.count + 1,
@@ -65,7 +67,8 @@ impl<'a> Model for Earlier<'a> {
 
     ghost view = { λ a. flat_map (λ (group : List Sub). group) a.groups.now ++ a.group.now };
 
-    ghost invariant = { λ a. IsKnown (flat_map (λ (group : List Sub). group) a.groups.now ++ a.group.now) a.known };
+    ghost invariant = { λ a.
+        IsKnown (flat_map (λ (group : List Sub). group) a.groups.now ++ a.group.now) a.known };
 }
 
 impl<'a> Earlier<'a> {
@@ -97,7 +100,8 @@ impl<'a> Earlier<'a> {
     /// may name.
     pub(crate) fn is_grounded(&self, config: &Config, ty: HeapType) -> bool
         requires { IsMemberHeapType config.now self.now ty }
-        ensures { IsTrue result ↔ IsGroundedByStructs self.now config.now.custom_descriptors_enabled ty }
+        ensures { IsTrue result
+            ↔ IsGroundedByStructs self.now config.now.custom_descriptors_enabled ty }
     {
         match ty {
             HeapType::Abstract { shared: _, ty } => self.known.has_ground && is_above_structs(ty),

@@ -1,4 +1,5 @@
-ghost use Rattle.std.specs.Prelude.{◌≡◌, ◌↔◌, ◌<◌, ◌≤◌, ◌+◌, ◌++◌, ◌^◌, false, List, [], IsTrue, IfOk, IfErr, OnErr, MatchOption, All, length};
+ghost use Rattle.std.specs.Prelude.{◌≡◌, ◌↔◌, ◌<◌, ◌≤◌, ◌+◌, ◌++◌, ◌^◌, false, List, [], IsTrue};
+ghost use Rattle.std.specs.Prelude.{IfOk, IfErr, OnErr, MatchOption, All, length};
 ghost use Rattle.std.specs.List.{flat_map};
 ghost use Rattle.smith_types.specs.Groups.{space_of};
 ghost use Rattle.smith_types.specs.declared.composite_type.SubType.{SubType as Sub};
@@ -21,9 +22,12 @@ pub(crate) fn member_space(
     funcs: &[u32],
 ) -> Result<Option<TypeSpace>, Error>
     requires few { config.now.max_types ≤ 2 ^ 31 }
-    ensures found { IfOk result (λ found. MatchOption found (¬ IsInFamily config.now groups.now funcs.now) (λ space. (space ≡ space_of groups.now) × IsInFamily config.now groups.now funcs.now)) }
+    ensures found { IfOk result (λ found.
+        MatchOption found (¬ IsInFamily config.now groups.now funcs.now) (λ space.
+        (space ≡ space_of groups.now) × IsInFamily config.now groups.now funcs.now)) }
     ensures memory { IfErr result (λ e. e ≡ Error.Memory) }
-    ensures allowed { OnErr result (IsInFamily config.now groups.now [] × (length funcs.now ≤ config.now.max_funcs)) }
+    ensures allowed { OnErr result
+        (IsInFamily config.now groups.now [] × (length funcs.now ≤ config.now.max_funcs)) }
 {
     if !are_groups_in_family(config, groups) {
         return Ok(None);
@@ -58,7 +62,8 @@ fn are_filled(groups: &[Items<SubType>]) -> bool
 
 // Whether each of `groups` has one type, as required without garbage collection.
 fn are_sizes_enabled(config: &Config, groups: &[Items<SubType>]) -> bool
-    ensures { IsTrue result ↔ (config.now.gc_enabled ≡ false → All (λ (group : List Sub). length group ≡ 1) groups.now) }
+    ensures { IsTrue result ↔ (config.now.gc_enabled ≡ false
+        → All (λ (group : List Sub). length group ≡ 1) groups.now) }
 {
     config.gc_enabled || are_single(groups)
 }
@@ -84,7 +89,8 @@ fn are_types_few(most: usize, groups: &[Items<SubType>]) -> bool
 
 fn are_members(config: &Config, groups: &[Items<SubType>]) -> bool
     requires { length (flat_map (λ (group : List Sub). group) groups.now) < 2 ^ 64 }
-    ensures { IsTrue result ↔ AreMembersAfter config.now [] (flat_map (λ (group : List Sub). group) groups.now) }
+    ensures { IsTrue result
+        ↔ AreMembersAfter config.now [] (flat_map (λ (group : List Sub). group) groups.now) }
 {
     let mut known = Known::none();
     for place in 0..groups.len() {
@@ -108,7 +114,8 @@ fn known_after(
     requires known { IsKnown (flat_map (λ (group : List Sub). group) groups.now) known }
     requires room { known.count + length group.now < 2 ^ 64 }
     ensures { let before : List Sub = flat_map (λ (group : List Sub). group) groups.now in
-        MatchOption result (¬ AreMembersAfter config.now before group.now) (λ after. AreMembersAfter config.now before group.now × IsKnown (before ++ group.now) after) }
+        MatchOption result (¬ AreMembersAfter config.now before group.now) (λ after.
+        AreMembersAfter config.now before group.now × IsKnown (before ++ group.now) after) }
 {
     for place in 0..group.len() {
         let earlier = Earlier::new(groups, &group[..place], known);

@@ -50,7 +50,8 @@ pub(crate) fn write_funcs(
     requires few { length funcs.now ≤ config.now.max_funcs }
     requires unshared { All (λ (t : Sub). t.composite_type.shared ≡ false) types.now }
     requires valid { All (IsFuncTypeIndex types.now) funcs.now }
-    ensures writes { OnOk result (Writes (SpellsFuncs config.now types.now funcs.now) bytes.old bytes.new) }
+    ensures writes { OnOk result
+        (Writes (SpellsFuncs config.now types.now funcs.now) bytes.old bytes.new) }
     ensures memory { IfErr result (λ e. e ≡ Memory) }
 {
     let count = count_types(TypeUse::DefinedFunc, types);

@@ -1,4 +1,5 @@
-ghost use Rattle.std.specs.Prelude.{◌≡◌, ◌+◌, ◌++◌, ◌-◌, ◌<◌, ◌≤◌, ◌^◌, false, List, [], OnOk, IfOk, IfErr, length, All};
+ghost use Rattle.std.specs.Prelude.{◌≡◌, ◌+◌, ◌++◌, ◌-◌, ◌<◌, ◌≤◌, ◌^◌, false, List, [], OnOk};
+ghost use Rattle.std.specs.Prelude.{IfOk, IfErr, length, All};
 ghost use Rattle.smith_bytes.specs.declared.error.Error.TheVariants.{Memory};
 ghost use Rattle.smith_types.specs.declared.composite_type.SubType.{SubType as Sub};
 ghost use Rattle.smith_types.specs.Groups.{space_of};
@@ -23,7 +24,8 @@ fn write_size(
 ) -> Result<(), Error>
     requires within { size ≤ room }
     requires single { config.now.gc_enabled ≡ false → size ≡ 1 }
-    ensures writes { OnOk result (Writes (SpellsSize config.now.gc_enabled config.now stands room size) bytes.old bytes.new) }
+    ensures writes { OnOk result (Writes
+        (SpellsSize config.now.gc_enabled config.now stands room size) bytes.old bytes.new) }
     ensures memory { IfErr result (λ e. e ≡ Memory) }
 {
     if !config.gc_enabled {
@@ -43,9 +45,12 @@ fn write_group(
 ) -> Result<Before, Error>
     requires room { before.count + length group.now ≤ config.now.max_types }
     requires single { config.now.gc_enabled ≡ false → length group.now ≡ 1 }
-    requires members { All (λ (t : Sub). OverSome (before.count + length group.now) (λ types. IsMemberType config.now types t)) group.now }
-    ensures writes { OnOk result ((types : List Sub) → IsSummary types before → Writes (SpellsGroup config.now types stands group.now) bytes.old bytes.new) }
-    ensures after { IfOk result (λ after. (types : List Sub) → IsSummary types before → IsSummary (types ++ group.now) after) }
+    requires members { All (λ (t : Sub). OverSome (before.count + length group.now)
+        (λ types. IsMemberType config.now types t)) group.now }
+    ensures writes { OnOk result ((types : List Sub) → IsSummary types before
+        → Writes (SpellsGroup config.now types stands group.now) bytes.old bytes.new) }
+    ensures after { IfOk result (λ after.
+        (types : List Sub) → IsSummary types before → IsSummary (types ++ group.now) after) }
     ensures memory { IfErr result (λ e. e ≡ Memory) }
 {
     let room = config.max_types - before.count;
@@ -59,10 +64,12 @@ pub(crate) fn write_groups(
     groups: &[Items<SubType>],
     bytes: &mut Items<u8>,
 ) -> Result<(), Error>
-    requires single { config.now.gc_enabled ≡ false → All (λ (group : List Sub). length group ≡ 1) groups.now }
+    requires single { config.now.gc_enabled ≡ false
+        → All (λ (group : List Sub). length group ≡ 1) groups.now }
     requires few { length (space_of groups.now).types ≤ config.now.max_types }
     requires members { AreMembers config.now (space_of groups.now).types }
-    ensures writes { OnOk result (Writes (SpellsGroups config.now [] false groups.now) bytes.old bytes.new) }
+    ensures writes { OnOk result
+        (Writes (SpellsGroups config.now [] false groups.now) bytes.old bytes.new) }
     ensures memory { IfErr result (λ e. e ≡ Memory) }
 {
     let mut before = Before {

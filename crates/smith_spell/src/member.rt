@@ -20,7 +20,8 @@ use std::alloc::Global;
 
 /// Writes that there is no import, if one is possible, then the flag of the section of imports.
 fn write_no_imports(config: &Config, bytes: &mut Items<u8>) -> Result<(), Error>
-    ensures writes { OnOk result (Writes (Joined (SpellsNone config.now.max_imports) SpellsAnyByte) bytes.old bytes.new) }
+    ensures writes { OnOk result
+        (Writes (Joined (SpellsNone config.now.max_imports) SpellsAnyByte) bytes.old bytes.new) }
     ensures memory { IfErr result (λ e. e ≡ Memory) }
 {
     write_end(0 < config.max_imports, bytes)?;
@@ -29,7 +30,8 @@ fn write_no_imports(config: &Config, bytes: &mut Items<u8>) -> Result<(), Error>
 
 /// Whether a module with the types `types` may have a tag.
 fn may_have_tags(config: &Config, types: &[SubType]) -> bool
-    ensures { result ≡ (config.now.exceptions_enabled && nat_lt 0 config.now.max_tags && list_any is_tag_type types.now) }
+    ensures { result ≡ (config.now.exceptions_enabled && nat_lt 0 config.now.max_tags
+        && list_any is_tag_type types.now) }
 {
     if !config.exceptions_enabled {
         return false;

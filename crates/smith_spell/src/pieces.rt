@@ -1,6 +1,7 @@
 ghost use Rattle.std.specs.Prelude.{◌≡◌, ◌<◌, ◌≤◌, false, OnOk, IfErr};
 ghost use Rattle.smith_bytes.specs.declared.error.Error.TheVariants.{Memory};
-ghost use Rattle.smith_bytes.specs.Spelling.{SpellsBool, SpellsNumber, SpellsRefusal, SpellsAnyByte, Where};
+ghost use Rattle.smith_bytes.specs.Spelling.{SpellsBool, SpellsNumber, SpellsRefusal};
+ghost use Rattle.smith_bytes.specs.Spelling.{SpellsAnyByte, Where};
 ghost use Rattle.smith_spell.specs.Written.{Writes, SpellsDigits};
 
 use smith_bytes::Error;
@@ -62,7 +63,8 @@ pub(crate) fn write_refusal(
     bytes: &mut Items<u8>,
 ) -> Result<(), Error>
     requires { 1 < chances }
-    ensures writes { OnOk result (Writes (Where is_asked (SpellsRefusal chances)) bytes.old bytes.new) }
+    ensures writes { OnOk result
+        (Writes (Where is_asked (SpellsRefusal chances)) bytes.old bytes.new) }
     ensures memory { IfErr result (λ e. e ≡ Memory) }
 {
     if is_asked {

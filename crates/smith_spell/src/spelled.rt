@@ -1,4 +1,5 @@
-ghost use Rattle.std.specs.Prelude.{◌≡◌, ◌≤◌, ◌^◌, [], length, Option, IsOk, IfOk, IfErr, OnErr, MatchOption};
+ghost use Rattle.std.specs.Prelude.{◌≡◌, ◌≤◌, ◌^◌, [], length, Option, IsOk, IfOk, IfErr, OnErr};
+ghost use Rattle.std.specs.Prelude.{MatchOption};
 ghost use Rattle.smith_bytes.specs.declared.error.Error.TheVariants.{Memory};
 ghost use Rattle.smith_config.specs.Faults.{Passes};
 ghost use Rattle.smith_config.specs.InUse.{HasNoShapes};
@@ -17,7 +18,8 @@ use std::alloc::Global;
 
 /// Returns the sanitised `config` if that passes its check, else none.
 fn passing(alloc: Global, config: &Config) -> Result<Option<Config>, Error>
-    ensures found { IfOk result (λ found. MatchOption found (¬ Passes (sanitized config.now)) (λ own. (own ≡ sanitized config.now) × Passes (sanitized config.now))) }
+    ensures found { IfOk result (λ found. MatchOption found (¬ Passes (sanitized config.now))
+        (λ own. (own ≡ sanitized config.now) × Passes (sanitized config.now))) }
     ensures memory { IfErr result (λ e. e ≡ Memory) }
     ensures shapeless { HasNoShapes config.now → IsOk result }
 {
@@ -37,9 +39,13 @@ fn spell_in_family(
     funcs: &[u32],
 ) -> Result<Option<Items<u8>>, Error>
     requires { config.now.max_types ≤ 2 ^ 31 }
-    ensures found { IfOk result (λ found. MatchOption found (¬ IsInFamily config.now groups.now funcs.now) (λ bytes. IsInFamily config.now groups.now funcs.now × SpellsMember config.now groups.now funcs.now bytes)) }
+    ensures found { IfOk result (λ found.
+        MatchOption found (¬ IsInFamily config.now groups.now funcs.now) (λ bytes.
+        IsInFamily config.now groups.now funcs.now
+        × SpellsMember config.now groups.now funcs.now bytes)) }
     ensures memory { IfErr result (λ e. e ≡ Memory) }
-    ensures allowed { OnErr result (IsInFamily config.now groups.now [] × (length funcs.now ≤ config.now.max_funcs)) }
+    ensures allowed { OnErr result
+        (IsInFamily config.now groups.now [] × (length funcs.now ≤ config.now.max_funcs)) }
 {
     let Some(space) = member_space(alloc, config, groups, funcs)? else {
         return Ok(None);

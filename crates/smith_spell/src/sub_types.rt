@@ -1,4 +1,5 @@
-ghost use Rattle.std.specs.Prelude.{◌≡◌, ◌+◌, ◌++◌, ◌∷◌, [], ◌<◌, ◌≤◌, ◌^◌, List, OnOk, IfOk, IfErr, length, All};
+ghost use Rattle.std.specs.Prelude.{◌≡◌, ◌+◌, ◌++◌, ◌∷◌, [], ◌<◌, ◌≤◌, ◌^◌, List, OnOk, IfOk};
+ghost use Rattle.std.specs.Prelude.{IfErr, length, All};
 ghost use Rattle.smith_bytes.specs.declared.error.Error.TheVariants.{Memory};
 ghost use Rattle.smith_types.specs.declared.composite_type.SubType.{SubType as Sub};
 ghost use Rattle.smith_draw.specs.Spelling.{SpellsSubType, SpellsSubTypes};
@@ -25,7 +26,8 @@ pub(crate) struct Before {
 fn with_type(before: Before, t: &SubType) -> Before
     requires { before.count + 1 < 2 ^ 64 }
     ensures counted { result.count ≡ before.count + 1 }
-    ensures summary { (types : List Sub) → IsSummary types before → IsSummary (types ++ t.now ∷ []) result }
+    ensures summary { (types : List Sub) → IsSummary types before
+        → IsSummary (types ++ t.now ∷ []) result }
 {
     Before {
         count: before.count + 1,
@@ -42,7 +44,8 @@ fn write_sub_type(
     bytes: &mut Items<u8>,
 ) -> Result<(), Error>
     requires { OverSome limit (λ types. IsMemberType config.now types t.now) }
-    ensures writes { OnOk result ((types : List Sub) → IsSummary types before → Writes (SpellsSubType config.now types limit t.now) bytes.old bytes.new) }
+    ensures writes { OnOk result ((types : List Sub) → IsSummary types before
+        → Writes (SpellsSubType config.now types limit t.now) bytes.old bytes.new) }
     ensures memory { IfErr result (λ e. e ≡ Memory) }
 {
     let inner = &t.composite_type.inner;
@@ -64,10 +67,13 @@ pub(crate) fn write_sub_types(
     types: &[SubType],
     bytes: &mut Items<u8>,
 ) -> Result<Before, Error>
-    requires members { All (λ (t : Sub). OverSome limit (λ before. IsMemberType config.now before t)) types.now }
+    requires members { All
+        (λ (t : Sub). OverSome limit (λ before. IsMemberType config.now before t)) types.now }
     requires few { before.count + length types.now < 2 ^ 64 }
-    ensures writes { OnOk result ((others : List Sub) → IsSummary others before → Writes (SpellsSubTypes config.now others limit types.now) bytes.old bytes.new) }
-    ensures after { IfOk result (λ after. (others : List Sub) → IsSummary others before → IsSummary (others ++ types.now) after) }
+    ensures writes { OnOk result ((others : List Sub) → IsSummary others before
+        → Writes (SpellsSubTypes config.now others limit types.now) bytes.old bytes.new) }
+    ensures after { IfOk result (λ after.
+        (others : List Sub) → IsSummary others before → IsSummary (others ++ types.now) after) }
     ensures memory { IfErr result (λ e. e ≡ Memory) }
 {
     for t in types {

@@ -1,4 +1,5 @@
-ghost use Rattle.std.specs.Prelude.{◌≡◌, ◌<◌, ◌≤◌, ◌&&◌, nat_lt, true, false, List, IsTrue, Some, OnOk, IfErr, length, slice_get, All};
+ghost use Rattle.std.specs.Prelude.{◌≡◌, ◌<◌, ◌≤◌, ◌&&◌, nat_lt, true, false, List, IsTrue, Some};
+ghost use Rattle.std.specs.Prelude.{OnOk, IfErr, length, slice_get, All};
 ghost use Rattle.std.specs.List.{Contains};
 ghost use Rattle.smith_bytes.specs.declared.error.Error.TheVariants.{Memory};
 ghost use Rattle.smith_bytes.specs.Spelling.{Where, Listed, SpellsBool};
@@ -34,7 +35,8 @@ fn count_classes(config: &Config) -> usize
 
 /// Returns the place of the class of `value` among those that `config` enables.
 fn class_place(config: &Config, value: ValType) -> usize
-    ensures { (types : List Sub) → IsMemberValType config.now types value → slice_get (enabled (value_classes config.now)) result ≡ Some (class_of value) }
+    ensures { (types : List Sub) → IsMemberValType config.now types value
+        → slice_get (enabled (value_classes config.now)) result ≡ Some (class_of value) }
 {
     match value {
         ValType::I32 => 0,
@@ -56,7 +58,8 @@ fn count_abstract(config: &Config) -> usize
 
 /// Returns the place of `ty` among the abstract heap types that may be drawn for `config`.
 fn abstract_place(config: &Config, ty: AbstractHeapType) -> usize
-    ensures { Contains (enabled (abstract_heap_types config.now)) ty → slice_get (enabled (abstract_heap_types config.now)) result ≡ Some ty }
+    ensures { Contains (enabled (abstract_heap_types config.now)) ty
+        → slice_get (enabled (abstract_heap_types config.now)) result ≡ Some ty }
 {
     let exceptions = usize::from(config.exceptions_enabled);
     match ty {
@@ -91,7 +94,8 @@ fn write_concrete(
     concrete: bool,
     bytes: &mut Items<u8>,
 ) -> Result<(), Error>
-    ensures writes { OnOk result (Writes (SpellsConcrete config.now limit concrete) bytes.old bytes.new) }
+    ensures writes { OnOk result
+        (Writes (SpellsConcrete config.now limit concrete) bytes.old bytes.new) }
     ensures memory { IfErr result (λ e. e ≡ Memory) }
 {
     if config.gc_enabled && 0 < limit {
@@ -103,7 +107,8 @@ fn write_concrete(
 /// Writes the place of the abstract heap type `ty`.
 fn write_abstract(config: &Config, ty: AbstractHeapType, bytes: &mut Items<u8>) -> Result<(), Error>
     requires { Contains (enabled (abstract_heap_types config.now)) ty }
-    ensures writes { OnOk result (Writes (SpellsPlace (enabled (abstract_heap_types config.now)) ty) bytes.old bytes.new) }
+    ensures writes { OnOk result
+        (Writes (SpellsPlace (enabled (abstract_heap_types config.now)) ty) bytes.old bytes.new) }
     ensures memory { IfErr result (λ e. e ≡ Memory) }
 {
     write_number(
@@ -142,7 +147,8 @@ fn write_heap_type(
 /// references.
 fn write_nullable(config: &Config, nullable: bool, bytes: &mut Items<u8>) -> Result<(), Error>
     requires { config.now.non_nullable_enabled ≡ false → IsTrue nullable }
-    ensures writes { OnOk result (Writes (SpellsNullable config.now.non_nullable_enabled nullable) bytes.old bytes.new) }
+    ensures writes { OnOk result
+        (Writes (SpellsNullable config.now.non_nullable_enabled nullable) bytes.old bytes.new) }
     ensures memory { IfErr result (λ e. e ≡ Memory) }
 {
     if config.non_nullable_enabled {
@@ -159,7 +165,8 @@ fn write_ref_type(
     bytes: &mut Items<u8>,
 ) -> Result<(), Error>
     requires { OverSome limit (λ types. IsMemberValType config.now types (Ref reference)) }
-    ensures writes { OnOk result (Writes (SpellsRefType config.now limit reference) bytes.old bytes.new) }
+    ensures writes { OnOk result
+        (Writes (SpellsRefType config.now limit reference) bytes.old bytes.new) }
     ensures memory { IfErr result (λ e. e ≡ Memory) }
 {
     write_heap_type(config, limit, reference.heap_type, bytes)?;
@@ -175,7 +182,8 @@ fn write_class(
     bytes: &mut Items<u8>,
 ) -> Result<(), Error>
     requires { OverSome limit (λ types. IsMemberValType config.now types value) }
-    ensures writes { OnOk result (Writes (SpellsPlace (enabled (value_classes config.now)) (class_of value)) bytes.old bytes.new) }
+    ensures writes { OnOk result (Writes
+        (SpellsPlace (enabled (value_classes config.now)) (class_of value)) bytes.old bytes.new) }
     ensures memory { IfErr result (λ e. e ≡ Memory) }
 {
     write_number(class_place(config, value), count_classes(config) - 1, bytes)
@@ -189,7 +197,8 @@ pub(crate) fn write_val_type(
     bytes: &mut Items<u8>,
 ) -> Result<(), Error>
     requires { OverSome limit (λ types. IsMemberValType config.now types value) }
-    ensures writes { OnOk result (Writes (SpellsValType config.now limit value) bytes.old bytes.new) }
+    ensures writes { OnOk result
+        (Writes (SpellsValType config.now limit value) bytes.old bytes.new) }
     ensures memory { IfErr result (λ e. e ≡ Memory) }
 {
     write_class(config, limit, value, bytes)?;
@@ -209,7 +218,8 @@ pub(crate) fn write_val_types(
 ) -> Result<(), Error>
     requires members { OverSome limit (λ types. All (IsMemberValType config.now types) values.now) }
     requires few { length values.now ≤ most }
-    ensures writes { OnOk result (Writes (Listed (SpellsValType config.now limit) most values.now) bytes.old bytes.new) }
+    ensures writes { OnOk result
+        (Writes (Listed (SpellsValType config.now limit) most values.now) bytes.old bytes.new) }
     ensures memory { IfErr result (λ e. e ≡ Memory) }
 {
     for value in values {

@@ -27,7 +27,8 @@ pub(crate) fn extend_families(
 ) -> Result<(), Error>
     requires { AreFamilies types.now families.old.items }
     ensures families { AreFamilies types.now families.new.items }
-    ensures room { OnOk result ((supertype : ℕ) → added.now.supertype ≡ Some supertype → length types.now < length families.new.items) }
+    ensures room { OnOk result ((supertype : ℕ) → added.now.supertype ≡ Some supertype
+        → length types.now < length families.new.items) }
     ensures memory { IfErr result (λ e. e ≡ Error.Memory) }
 {
     if added.supertype.is_none() {
@@ -49,7 +50,8 @@ pub(crate) fn join_family(types: &[SubType], added: &SubType, families: &mut Vec
     requires orderly { IsOrderly types.now }
     requires follows { MayFollow types.now added.now }
     requires families { AreFamilies types.now families.old.items }
-    requires room { (supertype : ℕ) → added.now.supertype ≡ Some supertype → length types.now < length families.old.items }
+    requires room { (supertype : ℕ) → added.now.supertype ≡ Some supertype
+        → length types.now < length families.old.items }
     ensures { AreFamilies (types.now ++ added.now ∷ []) families.new.items }
 {
     if let Some(supertype) = added.supertype {

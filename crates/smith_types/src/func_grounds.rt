@@ -1,4 +1,5 @@
-ghost use Rattle.std.specs.Prelude.{◌≡◌, ◌<◌, ◌↔◌, [], Some, length, vec_len, IsTrue, ◌||◌, IfOk, IfErr};
+ghost use Rattle.std.specs.Prelude.{◌≡◌, ◌<◌, ◌↔◌, [], Some, length, vec_len, IsTrue, ◌||◌, IfOk};
+ghost use Rattle.std.specs.Prelude.{IfErr};
 ghost use Rattle.smith_types.specs.Types.{IsOrderly};
 ghost use Rattle.smith_types.specs.Subtyping.{IsInRange};
 ghost use Rattle.smith_types.specs.Expressions.{Context};
@@ -30,7 +31,8 @@ pub struct FuncGrounds {
 impl FuncGrounds {
     /// Starts without functions, over `types` types. Allocates a mark for each type from `alloc`.
     pub fn none(alloc: Global, types: usize) -> Result<FuncGrounds, Error>
-        ensures none { (context : Context) → context.funcs ≡ [] → length context.types ≡ types → IfOk result (AreFuncGrounds context) }
+        ensures none { (context : Context) → context.funcs ≡ [] → length context.types ≡ types
+            → IfOk result (AreFuncGrounds context) }
         ensures memory { IfErr result (λ e. e ≡ Error.Memory) }
     {
         let unmarked = Ground {
@@ -49,7 +51,9 @@ impl FuncGrounds {
     /// An index without a type is ignored, since such a function grounds no type that exists. All
     /// calls together take time linear in the number of types and functions.
     pub fn note(&mut self, types: &TypeSpace, index: u32, exact: bool)
-        ensures { (before after : Context) → before.types ≡ types.now.types → IsFunctionAdded before after index exact → AreFuncGrounds before self.old → AreFuncGrounds after self.new }
+        ensures { (before after : Context) → before.types ≡ types.now.types
+            → IsFunctionAdded before after index exact → AreFuncGrounds before self.old
+            → AreFuncGrounds after self.new }
     {
         let types = types.types();
         let Some(ty) = types.get(index as usize) else {
@@ -64,7 +68,8 @@ impl FuncGrounds {
 
     /// Returns whether one of the functions grounds the heap type `ty`.
     pub fn are_grounding(&self, ty: HeapType) -> bool
-        ensures { (context : Context) → AreFuncGrounds context self.now → IsInRange context.types ty → IsTrue result ↔ IsGroundedByFuncs context ty }
+        ensures { (context : Context) → AreFuncGrounds context self.now → IsInRange context.types ty
+            → IsTrue result ↔ IsGroundedByFuncs context ty }
     {
         match ty {
             HeapType::Abstract { shared, ty } => self.kinds.are_below(shared, ty),
@@ -85,7 +90,8 @@ fn note_type(types: &[SubType], index: u32, exact: bool, marks: &mut Vec<Ground>
     requires orderly { IsOrderly types.now }
     requires stands { index < length types.now }
     requires entry { index < vec_len marks.old }
-    ensures { AreClosed types.now marks.old.items → IsTypeNoted types.now index exact marks.old.items marks.new.items }
+    ensures { AreClosed types.now marks.old.items
+        → IsTypeNoted types.now index exact marks.old.items marks.new.items }
 {
     marks[index as usize] = with_exact(marks[index as usize], exact);
     mark_above(types, Some(index), marks);

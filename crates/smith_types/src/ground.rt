@@ -1,9 +1,11 @@
-ghost use Rattle.std.specs.Prelude.{◌≡◌, ◌+◌, ◌++◌, ◌<◌, ℕ, [], ◌∷◌, None, Some, length, false, true, vec_len, vec_capacity, if◌then◌else◌};
+ghost use Rattle.std.specs.Prelude.{◌≡◌, ◌+◌, ◌++◌, ◌<◌, ℕ, [], ◌∷◌, None, Some, length, false};
+ghost use Rattle.std.specs.Prelude.{true, vec_len, vec_capacity, if◌then◌else◌};
 ghost use Rattle.smith_types.specs.Types.{IsOrderly};
 ghost use Rattle.smith_types.specs.Space.{MayFollow};
 ghost use Rattle.smith_types.specs.Expressions.{unpacked};
 ghost use Rattle.smith_types.specs.Grounded.{is_defaultable, are_defaultable};
-ghost use Rattle.smith_types.specs.Grounds.{is_ground, kind_at, kinds_with, AreGrounds, AreGroundKinds, AreClosed, AreMarked};
+ghost use Rattle.smith_types.specs.Grounds.{is_ground, kind_at, kinds_with, AreGrounds};
+ghost use Rattle.smith_types.specs.Grounds.{AreGroundKinds, AreClosed, AreMarked};
 
 use crate::composite_type::{CompositeInnerType, FieldType, StorageType, SubType};
 use crate::value_type::ValType;
@@ -107,7 +109,8 @@ fn supertype_if(wanted: bool, ty: &SubType) -> Option<u32>
 pub(crate) fn mark_above(types: &[SubType], from: Option<u32>, grounds: &mut Vec<Ground>)
     requires orderly { IsOrderly types.now }
     requires stands { (s : ℕ) → from ≡ Some s → (s < length types.now) × (s < vec_len grounds.old) }
-    ensures marked { AreClosed types.now grounds.old.items → AreMarked types.now from grounds.old.items grounds.new.items }
+    ensures marked { AreClosed types.now grounds.old.items
+        → AreMarked types.now from grounds.old.items grounds.new.items }
     ensures len { vec_len grounds.new ≡ vec_len grounds.old }
     ensures capacity { vec_capacity grounds.new ≡ vec_capacity grounds.old }
 {

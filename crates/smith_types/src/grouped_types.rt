@@ -1,4 +1,5 @@
-ghost use Rattle.std.specs.Prelude.{◌≡◌, ◌+◌, ◌++◌, ◌<◌, ◌^◌, ℕ, List, length, IfOk, IfErr, MatchBool, MatchOption};
+ghost use Rattle.std.specs.Prelude.{◌≡◌, ◌+◌, ◌++◌, ◌<◌, ◌^◌, ℕ, List, length, IfOk, IfErr};
+ghost use Rattle.std.specs.Prelude.{MatchBool, MatchOption};
 ghost use Rattle.std.specs.List.{flat_map};
 ghost use Rattle.smith_types.specs.Groups.{space_of, AreFollowing};
 
@@ -17,7 +18,8 @@ use std::alloc::Global;
 /// project.
 pub fn type_space_of(alloc: Global, groups: &[Items<SubType>]) -> Result<Option<TypeSpace>, Error>
     requires few { length (space_of groups.now).types + 1 < 2 ^ 32 }
-    ensures found { IfOk result (λ found. MatchOption found (¬ AreFollowing (space_of groups.now).types) (λ space. space ≡ space_of groups.now)) }
+    ensures found { IfOk result (λ found. MatchOption found
+        (¬ AreFollowing (space_of groups.now).types) (λ space. space ≡ space_of groups.now)) }
     ensures memory { IfErr result (λ e. e ≡ Error.Memory) }
 {
     let mut space = TypeSpace::new(alloc);
@@ -35,7 +37,9 @@ pub fn type_space_of(alloc: Global, groups: &[Items<SubType>]) -> Result<Option<
 // whether all were added.
 fn push_members(alloc: Global, space: &mut TypeSpace, members: &[SubType]) -> Result<bool, Error>
     requires few { length space.old.types + length members.now + 1 < 2 ^ 32 }
-    ensures added { IfOk result (λ all. MatchBool all (space.new ≡ record space.old { types = space.old.types ++ members.now }) (¬ AreFollowing (space.old.types ++ members.now))) }
+    ensures added { IfOk result (λ all.
+        MatchBool all (space.new ≡ record space.old { types = space.old.types ++ members.now })
+        (¬ AreFollowing (space.old.types ++ members.now))) }
     ensures memory { IfErr result (λ e. e ≡ Error.Memory) }
 {
     for ty in members {

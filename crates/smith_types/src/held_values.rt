@@ -29,7 +29,8 @@ pub fn all_named_values_hold<P: Predicate<ValType>>(
     types: &[SubType],
     spaces: &IndexSpaces,
 ) -> bool
-    ensures { IsTrue result ↔ All (P.meaning predicate.now) (values_in types.now (spaces_in spaces.now)) }
+    ensures { IsTrue result
+        ↔ All (P.meaning predicate.now) (values_in types.now (spaces_in spaces.now)) }
 {
     are_named(predicate, types, spaces)
 }
@@ -43,7 +44,8 @@ fn are_named<P: Predicate<ValType>>(predicate: &P, types: &[SubType], spaces: &I
 }
 
 fn are_in_types<P: Predicate<ValType>>(predicate: &P, types: &[SubType]) -> bool
-    ensures { IsTrue result ↔ All (λ (t : Sub). All (P.meaning predicate.now) (values_of t.composite_type.inner)) types.now }
+    ensures { IsTrue result ↔ All (λ (t : Sub).
+        All (P.meaning predicate.now) (values_of t.composite_type.inner)) types.now }
 {
     types
         .iter()
@@ -51,7 +53,8 @@ fn are_in_types<P: Predicate<ValType>>(predicate: &P, types: &[SubType]) -> bool
 }
 
 fn are_in_tables<P: Predicate<ValType>>(predicate: &P, tables: &[TableType]) -> bool
-    ensures { IsTrue result ↔ All (λ (table : Table). P.meaning predicate.now (Ref table.element_type)) tables.now }
+    ensures { IsTrue result
+        ↔ All (λ (table : Table). P.meaning predicate.now (Ref table.element_type)) tables.now }
 {
     tables
         .iter()
@@ -59,7 +62,8 @@ fn are_in_tables<P: Predicate<ValType>>(predicate: &P, tables: &[TableType]) -> 
 }
 
 fn are_in_globals<P: Predicate<ValType>>(predicate: &P, globals: &[GlobalType]) -> bool
-    ensures { IsTrue result ↔ All (λ (global : Global). P.meaning predicate.now global.val_type) globals.now }
+    ensures { IsTrue result
+        ↔ All (λ (global : Global). P.meaning predicate.now global.val_type) globals.now }
 {
     globals
         .iter()
@@ -80,7 +84,8 @@ fn are_held<P: Predicate<ValType>>(predicate: &P, inner: &CompositeInnerType) ->
 }
 
 fn are_stored<P: Predicate<ValType>>(predicate: &P, fields: &[FieldType]) -> bool
-    ensures { IsTrue result ↔ All (λ (field : Field). IsStored (P.meaning predicate.now) field.element_type) fields.now }
+    ensures { IsTrue result ↔ All (λ (field : Field).
+        IsStored (P.meaning predicate.now) field.element_type) fields.now }
 {
     fields
         .iter()

@@ -29,7 +29,8 @@ pub struct IndexSpaces {
 impl IndexSpaces {
     /// Creates empty index spaces. Allocates from `alloc` only once entities are added.
     pub fn new(alloc: Global) -> IndexSpaces
-        ensures { spaces_in result ≡ record { tags = []; funcs = []; tables = []; memories = []; globals = [] } }
+        ensures { spaces_in result
+            ≡ record { tags = []; funcs = []; tables = []; memories = []; globals = [] } }
     {
         IndexSpaces {
             tags: Items::new(alloc),
@@ -57,7 +58,8 @@ impl IndexSpaces {
 
 // Appends the entities of `group`, of which there may be none.
 fn push_group(spaces: &mut IndexSpaces, group: &Imports) -> Result<(), Error>
-    ensures ok { OnOk result (spaces_in spaces.new ≡ with_entities (spaces_in spaces.old) (entities_of group.now)) }
+    ensures ok { OnOk result
+        (spaces_in spaces.new ≡ with_entities (spaces_in spaces.old) (entities_of group.now)) }
     ensures memory { IfErr result (λ e. e ≡ Error.Memory) }
 {
     match group {
@@ -72,7 +74,8 @@ fn push_group(spaces: &mut IndexSpaces, group: &Imports) -> Result<(), Error>
 }
 
 fn push_items(spaces: &mut IndexSpaces, items: &[ImportItem]) -> Result<(), Error>
-    ensures ok { OnOk result (spaces_in spaces.new ≡ with_entities (spaces_in spaces.old) (map (λ (item : Item). item.entity_type) items.now)) }
+    ensures ok { OnOk result (spaces_in spaces.new ≡ with_entities (spaces_in spaces.old)
+        (map (λ (item : Item). item.entity_type) items.now)) }
     ensures memory { IfErr result (λ e. e ≡ Error.Memory) }
 {
     for item in items {
@@ -86,7 +89,8 @@ fn push_names(
     entity_type: EntityType,
     names: &[Name],
 ) -> Result<(), Error>
-    ensures ok { OnOk result (spaces_in spaces.new ≡ with_entities (spaces_in spaces.old) (map (λ name. entity_type) names.now)) }
+    ensures ok { OnOk result (spaces_in spaces.new
+        ≡ with_entities (spaces_in spaces.old) (map (λ name. entity_type) names.now)) }
     ensures memory { IfErr result (λ e. e ≡ Error.Memory) }
 {
     for _name in names {
@@ -99,7 +103,8 @@ fn push_names(
 /// space of its kind (Validation, Modules).
 #[tactic(auto, using(crate::proofs::ImportedSpaceLemmas::imported_is_grown))]
 pub fn imported_spaces_of(alloc: Global, imports: &[Imports]) -> Result<IndexSpaces, Error>
-    ensures ok { IfOk result (λ spaces. spaces_in spaces ≡ imported_spaces (flattened imports.now)) }
+    ensures ok { IfOk result (λ spaces.
+        spaces_in spaces ≡ imported_spaces (flattened imports.now)) }
     ensures memory { IfErr result (λ e. e ≡ Error.Memory) }
 {
     let mut spaces = IndexSpaces::new(alloc);
@@ -108,7 +113,8 @@ pub fn imported_spaces_of(alloc: Global, imports: &[Imports]) -> Result<IndexSpa
 }
 
 fn push_groups(spaces: &mut IndexSpaces, imports: &[Imports]) -> Result<(), Error>
-    ensures ok { OnOk result (spaces_in spaces.new ≡ with_entities (spaces_in spaces.old) (flat_map entities_of imports.now)) }
+    ensures ok { OnOk result (spaces_in spaces.new
+        ≡ with_entities (spaces_in spaces.old) (flat_map entities_of imports.now)) }
     ensures memory { IfErr result (λ e. e ≡ Error.Memory) }
 {
     for group in imports {

@@ -220,7 +220,8 @@ impl InstructionKinds {
 
     /// Returns whether the set has every bit of `kind`.
     pub fn contains(&self, kind: InstructionKind) -> bool
-        ensures { IsTrue result ↔ (bit_and (kinds_bits self.now) (kind_bits kind) ≡ kind_bits kind) }
+        ensures { IsTrue result
+            ↔ (bit_and (kinds_bits self.now) (kind_bits kind) ≡ kind_bits kind) }
     {
         Flags::contains(self, kind.set())
     }

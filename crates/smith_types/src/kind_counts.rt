@@ -18,7 +18,14 @@ pub(crate) struct KindCounts {
 
 // Returns the counts of an empty list.
 pub(crate) fn no_counts() -> KindCounts
-    ensures { result ≡ record { arrays = 0; funcs = 0; structs = 0; shared_arrays = 0; shared_funcs = 0; shared_structs = 0 } }
+    ensures { result ≡ record {
+      arrays = 0;
+      funcs = 0;
+      structs = 0;
+      shared_arrays = 0;
+      shared_funcs = 0;
+      shared_structs = 0;
+    } }
 {
     KindCounts {
         arrays: 0,
@@ -34,7 +41,8 @@ impl KindCounts {
     // Returns the counts with a further composite type `ty`. Requires that no count is at its
     // limit.
     pub(crate) fn with(self, ty: &CompositeType) -> KindCounts
-        requires room { (is_shared : Bool) (kind : AbstractHeapType) → count_at self is_shared kind + 1 < 2 ^ 32 }
+        requires room { (is_shared : Bool) (kind : AbstractHeapType)
+            → count_at self is_shared kind + 1 < 2 ^ 32 }
         ensures { result ≡ counts_with ty.now.shared ty.now.inner self }
     {
         match (&ty.inner, ty.shared) {

@@ -141,7 +141,8 @@ impl<'a, T> IntoIterator for &'a Items<T> {
 
     type IntoIter = Iter<'a, T>;
 
-    ghost into_iter_gives = { λ list r. (iter_rest r ≡ list.now) × (length (iter_rest r) < 2 ^ 64) × EveryRun (iter_steps {A = T}) (λ p. ItemsMapTo p (λ y. y.now) (iter_rest p.from)) };
+    ghost into_iter_gives = { λ list r. (iter_rest r ≡ list.now) × (length (iter_rest r) < 2 ^ 64)
+        × EveryRun (iter_steps {A = T}) (λ p. ItemsMapTo p (λ y. y.now) (iter_rest p.from)) };
 
     fn into_iter(self) -> Iter<'a, T> {
         self.items.as_slice().iter()

@@ -72,7 +72,8 @@ impl Kinds {
 impl NotedKinds {
     // Returns the kinds with that of the type `ty` added.
     pub(crate) fn with(self, ty: &SubType) -> NotedKinds
-        ensures { result ≡ noted_with ty.now.composite_type.shared ty.now.composite_type.inner self }
+        ensures { result
+            ≡ noted_with ty.now.composite_type.shared ty.now.composite_type.inner self }
     {
         let inner = &ty.composite_type.inner;
         if ty.composite_type.shared {

@@ -33,7 +33,8 @@ pub(crate) fn push_row(
     requires orderly { IsOrderly types.now }
     requires places { ArePlaces types.now table.old.items places.now }
     requires follows { MayFollow types.now added.now }
-    ensures ok { IfOk result (λ place. IsPlace (types.now ++ added.now ∷ []) table.new.items (length types.now) place) }
+    ensures ok { IfOk result (λ place.
+        IsPlace (types.now ++ added.now ∷ []) table.new.items (length types.now) place) }
     ensures longer { IsLonger table.old.items table.new.items }
     ensures memory { IfErr result (λ e. e ≡ Error.Memory) }
 {

@@ -23,7 +23,8 @@ struct StandingExport<'a> {
 }
 
 impl<'a> Predicate<(Name, ExportKind, u32)> for StandingExport<'a> {
-    ghost meaning = { λ standing one. (ty : EntityType) × IsEntityAt (spaces_in standing.spaces.now) one.1 one.2 ty };
+    ghost meaning = { λ standing one.
+        (ty : EntityType) × IsEntityAt (spaces_in standing.spaces.now) one.1 one.2 ty };
 
     fn holds(&self, item: &(Name, ExportKind, u32)) -> bool {
         is_entity_at(self.spaces, item.1, item.2)
@@ -31,7 +32,8 @@ impl<'a> Predicate<(Name, ExportKind, u32)> for StandingExport<'a> {
 }
 
 fn is_entity_at(spaces: &IndexSpaces, kind: ExportKind, index: u32) -> bool
-    ensures { IsTrue result ↔ ((ty : EntityType) × IsEntityAt (spaces_in spaces.now) kind index ty) }
+    ensures { IsTrue result
+        ↔ ((ty : EntityType) × IsEntityAt (spaces_in spaces.now) kind index ty) }
 {
     (index as usize) < count_of(spaces, kind)
 }

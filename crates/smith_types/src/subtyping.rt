@@ -76,7 +76,8 @@ pub(crate) fn heap_type_is_below(space: &TypeSpace, a: HeapType, b: HeapType) ->
 // Returns whether the type `ty` is a subtype of the abstract type `upper`, which is shared if
 // `is_shared` is `true`.
 fn is_under(ty: &SubType, is_shared: bool, upper: AbstractHeapType) -> bool
-    ensures { IsTrue result ↔ ((shared ty.now ≡ is_shared) × IsTrue (is_abstract_below (kind ty.now) upper)) }
+    ensures { IsTrue result
+        ↔ ((shared ty.now ≡ is_shared) × IsTrue (is_abstract_below (kind ty.now) upper)) }
 {
     ty.composite_type.shared == is_shared
         && abstract_type_is_below(ty.composite_type.inner.kind(), upper)

@@ -35,7 +35,8 @@ ghost use Rattle.smith_types.specs.KindCounts.{indices_of_kind};
 ghost use Rattle.smith_types.specs.Sizes.{value_count};
 ghost use Rattle.smith_types.specs.Matching.{IsCompositeMatch, IsInnerInRange};
 ghost use Rattle.smith_types.specs.declared.value_type.HeapType.TheVariants.{Concrete};
-ghost use Rattle.smith_types.specs.Subtyping.{IsBelow, IsRefBelow, IsValBelow, IsInRange, IsValInRange};
+ghost use Rattle.smith_types.specs.Subtyping.{IsBelow, IsRefBelow, IsValBelow, IsInRange};
+ghost use Rattle.smith_types.specs.Subtyping.{IsValInRange};
 
 use crate::composite_type::{CompositeInnerType, CompositeType, SubType};
 use crate::entity_type::EntityType;
@@ -362,7 +363,8 @@ impl TypeSpace {
     /// is dropped.
     pub fn push_type(&mut self, added: SubType) -> Result<u32, Error>
         requires { MayFollow self.old.types added }
-        ensures ok { OnOk result (self.new ≡ record self.old { types = self.old.types ++ added ∷ [] }) }
+        ensures ok { OnOk result
+            (self.new ≡ record self.old { types = self.old.types ++ added ∷ [] }) }
         ensures index { IfOk result (λ index. index ≡ length self.old.types) }
         ensures stands { IfOk result (λ index. slice_get self.new.types index ≡ Some added) }
         ensures err { OnErr result (self.new ≡ self.old) }
@@ -516,7 +518,8 @@ fn grow(additional: usize, types: &mut Vec<SubType>, places: &mut Vec<Place>) ->
 // Reserves room for `additional` more entries in `grounds` if `kept` is `true`.
 fn make_ground_room(kept: bool, additional: usize, grounds: &mut Vec<Ground>) -> Result<(), Error>
     ensures grounds { grounds.new.items ≡ grounds.old.items }
-    ensures room { kept ≡ true → OnOk result (vec_len grounds.new + additional ≤ vec_capacity grounds.new) }
+    ensures room { kept ≡ true
+        → OnOk result (vec_len grounds.new + additional ≤ vec_capacity grounds.new) }
     ensures memory { IfErr result (λ e. e ≡ Error.Memory) }
 {
     if kept {
@@ -542,12 +545,16 @@ fn make_place(
     requires orderly { IsOrderly types.now }
     requires follows { MayFollow types.now added.now }
     requires places { ArePlaces types.now rows.old.items places.now }
-    requires extensible { extensible.old.items ≡ extensible_from 0 types.now (depths_in places.now) }
+    requires extensible { extensible.old.items
+        ≡ extensible_from 0 types.now (depths_in places.now) }
     requires families { AreFamilies types.now families.old.items }
-    ensures place { IfOk result (λ place. IsPlace (types.now ++ added.now ∷ []) rows.new.items (length types.now) place) }
-    ensures extensible { IfOk result (λ place. extensible.new.items ≡ extensible_from 0 (types.now ++ added.now ∷ []) (depths_in (places.now ++ place ∷ []))) }
+    ensures place { IfOk result (λ place.
+        IsPlace (types.now ++ added.now ∷ []) rows.new.items (length types.now) place) }
+    ensures extensible { IfOk result (λ place. extensible.new.items
+        ≡ extensible_from 0 (types.now ++ added.now ∷ []) (depths_in (places.now ++ place ∷ []))) }
     ensures families { AreFamilies types.now families.new.items }
-    ensures family_room { OnOk result ((supertype : ℕ) → added.now.supertype ≡ Some supertype → length types.now < length families.new.items) }
+    ensures family_room { OnOk result ((supertype : ℕ) → added.now.supertype ≡ Some supertype
+        → length types.now < length families.new.items) }
     ensures rows { IsLonger rows.old.items rows.new.items }
     ensures err { OnErr result (extensible.new.items ≡ extensible.old.items) }
     ensures memory { IfErr result (λ e. e ≡ Error.Memory) }
@@ -593,7 +600,8 @@ fn may_have_subtypes(ty: &SubType, depth: u32) -> bool
 
 // Appends `index` to `indices` if `wanted` is `true`.
 fn push_where(wanted: bool, indices: &mut Vec<u32>, index: u32) -> Result<(), Error>
-    ensures ok { OnOk result (indices.new.items ≡ indices.old.items ++ (if wanted then index ∷ [] else [])) }
+    ensures ok { OnOk result
+        (indices.new.items ≡ indices.old.items ++ (if wanted then index ∷ [] else [])) }
     ensures err { OnErr result (indices.new.items ≡ indices.old.items) }
     ensures memory { IfErr result (λ e. e ≡ Error.Memory) }
 {

@@ -30,13 +30,15 @@ use crate::value_type::{AbstractHeapType, HeapType, RefType, ValType};
 /// External Types). The conditions on features, sharedness, explicit page sizes and results of tags
 /// are rules of this project.
 pub fn are_entities_valid(features: WasmFeatures, types: &[SubType], spaces: &IndexSpaces) -> bool
-    ensures { IsTrue result ↔ AreEntitiesValid (features_in features) types.now (spaces_in spaces.now) }
+    ensures { IsTrue result
+        ↔ AreEntitiesValid (features_in features) types.now (spaces_in spaces.now) }
 {
     are_lists_valid(features, types, spaces)
 }
 
 fn are_lists_valid(features: WasmFeatures, types: &[SubType], spaces: &IndexSpaces) -> bool
-    ensures { IsTrue result ↔ AreListsValid (features_in features) types.now (spaces_in spaces.now) }
+    ensures { IsTrue result
+        ↔ AreListsValid (features_in features) types.now (spaces_in spaces.now) }
 {
     are_tags_valid(types, spaces.tags.as_slice())
         && are_funcs_valid(types, spaces.funcs.as_slice())
@@ -160,7 +162,8 @@ fn is_global_valid(features: WasmFeatures, types: &[SubType], global: GlobalType
 
 // Returns whether a shared table or global may hold the value type `value`.
 fn may_be_shared(features: WasmFeatures, types: &[SubType], value: ValType) -> bool
-    ensures { IsTrue result ↔ (IsTrue (features_in features).shared_everything_threads × IsShareable types.now value) }
+    ensures { IsTrue result
+        ↔ (IsTrue (features_in features).shared_everything_threads × IsShareable types.now value) }
 {
     features.contains(WasmFeatures::SHARED_EVERYTHING_THREADS)
         && ShareableValue { types }.holds(&value)
@@ -181,7 +184,8 @@ fn is_memory_valid(features: WasmFeatures, memory: MemoryType) -> bool
 }
 
 fn is_page_size_valid(features: WasmFeatures, stated: Option<u32>) -> bool
-    ensures { IsTrue result ↔ IfSome stated (λ log2. ((log2 ≡ 0) ⊎ (log2 ≡ 16)) × IsTrue (features_in features).custom_page_sizes) }
+    ensures { IsTrue result ↔ IfSome stated (λ log2.
+        ((log2 ≡ 0) ⊎ (log2 ≡ 16)) × IsTrue (features_in features).custom_page_sizes) }
 {
     match stated {
         Some(log2) => {

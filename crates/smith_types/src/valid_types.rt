@@ -1,4 +1,5 @@
-ghost use Rattle.std.specs.Prelude.{◌≡◌, ◌↔◌, ◌≤◌, ◌+◌, ℕ, IsTrue, All, false, length, Some, slice_get};
+ghost use Rattle.std.specs.Prelude.{◌≡◌, ◌↔◌, ◌≤◌, ◌+◌, ℕ, IsTrue, All, false, length, Some};
+ghost use Rattle.std.specs.Prelude.{slice_get};
 ghost use Rattle.smith_types.specs.FeatureBits.{features_in};
 ghost use Rattle.smith_types.specs.Flags.{IsInnerEnabled, IsSubTypeEnabled};
 ghost use Rattle.smith_types.specs.Types.{AreConsecutive, next_start};
@@ -41,7 +42,8 @@ pub fn are_types_valid(features: WasmFeatures, space: &TypeSpace) -> bool
 
 // Returns whether `types` refer only to types that exist.
 fn are_in_range(types: &[SubType]) -> bool
-    ensures { IsTrue result ↔ All (λ (t : SubType). All (IsValInRange types.now) (values_of t.composite_type.inner)) types.now }
+    ensures { IsTrue result ↔ All (λ (t : SubType).
+        All (IsValInRange types.now) (values_of t.composite_type.inner)) types.now }
 {
     types.iter().all(|ty| all_values_hold(&StandingValue { types }, &ty.composite_type.inner))
 }
@@ -86,7 +88,8 @@ fn are_members_valid(features: WasmFeatures, space: &TypeSpace, group: &Range<us
 // Returns whether `group` has exactly one type, as required without garbage collection.
 fn is_size_enabled(features: WasmFeatures, group: &Range<usize>) -> bool
     requires ordered { group.now.start ≤ group.now.end }
-    ensures { IsTrue result ↔ ((features_in features).gc ≡ false → group.now.end ≡ group.now.start + 1) }
+    ensures { IsTrue result
+        ↔ ((features_in features).gc ≡ false → group.now.end ≡ group.now.start + 1) }
 {
     features.contains(WasmFeatures::GC) || group.end - group.start == 1
 }
@@ -135,8 +138,8 @@ fn is_inner_enabled(features: WasmFeatures, inner: &CompositeInnerType) -> bool
 fn is_supertype_valid(space: &TypeSpace, ty: &SubType) -> bool
     requires in_range { AreInRange space.now.types }
     requires stands { IsInnerInRange space.now.types ty.now.composite_type.inner }
-    ensures { IsTrue result ↔ ((s : ℕ) → ty.now.supertype ≡ Some s →
-        (u : SubType) × (slice_get space.now.types s ≡ Some u) × IsSupertypeValid space.now.types ty.now u) }
+    ensures { IsTrue result ↔ ((s : ℕ) → ty.now.supertype ≡ Some s → (u : SubType)
+        × (slice_get space.now.types s ≡ Some u) × IsSupertypeValid space.now.types ty.now u) }
 {
     match ty.supertype {
         Some(index) => match space.types().get(index as usize) {

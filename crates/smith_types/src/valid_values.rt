@@ -138,7 +138,8 @@ fn is_heap_type_shared(types: &[SubType], heap_type: HeapType) -> bool
 }
 
 fn is_shared_at(types: &[SubType], index: u32) -> bool
-    ensures { IsTrue result ↔ ((t : SubType) × (slice_get types.now index ≡ Some t) × IsTrue t.composite_type.shared) }
+    ensures { IsTrue result
+        ↔ ((t : SubType) × (slice_get types.now index ≡ Some t) × IsTrue t.composite_type.shared) }
 {
     match types.get(index as usize) {
         Some(ty) => ty.composite_type.shared,

@@ -2,12 +2,18 @@ ghost use Rattle.std.specs.Prelude.{◌≡◌, [], ◌∷◌, true, IsTrue, Some
 ghost use Rattle.std.specs.List.{All};
 ghost use Rattle.smith_types.specs.declared.value_type.AbstractHeapType.{AbstractHeapType};
 ghost use Rattle.smith_types.specs.declared.value_type.AbstractHeapType.TheVariants as heap;
-ghost use Rattle.smith_types.specs.declared.value_type.HeapType.TheVariants.{Abstract, Concrete, Exact};
-ghost use Rattle.smith_types.specs.declared.value_type.ValType.TheVariants.{I32, I64, F32, F64, V128, Ref};
+ghost use Rattle.smith_types.specs.declared.value_type.HeapType.TheVariants.{Abstract, Concrete};
+ghost use Rattle.smith_types.specs.declared.value_type.HeapType.TheVariants.{Exact};
+ghost use Rattle.smith_types.specs.declared.value_type.ValType.TheVariants.{I32, I64, F32, F64};
+ghost use Rattle.smith_types.specs.declared.value_type.ValType.TheVariants.{V128, Ref};
 ghost use Rattle.smith_types.specs.declared.composite_type.StorageType.TheVariants.{I8};
 ghost use Rattle.smith_types.specs.Kinds.{kind, bottom, shared};
-ghost use Rattle.smith_types.specs.Subtyping.{IsBelow, IsRefBelow, IsValBelow, IsInRange, IsValInRange};
-ghost use Rattle.smith_types.specs.ExampleTypes.{open_type, final_type, shared_type, array, empty_struct, plain_func, struct_and_below, plain, nullable, not_null, anyref, eqref, variable, tops, kinds_of_values};
+ghost use Rattle.smith_types.specs.Subtyping.{IsBelow, IsRefBelow, IsValBelow, IsInRange};
+ghost use Rattle.smith_types.specs.Subtyping.{IsValInRange};
+ghost use Rattle.smith_types.specs.ExampleTypes.{open_type, final_type, shared_type, array};
+ghost use Rattle.smith_types.specs.ExampleTypes.{empty_struct, plain_func, struct_and_below, plain};
+ghost use Rattle.smith_types.specs.ExampleTypes.{nullable, not_null, anyref, eqref, variable, tops};
+ghost use Rattle.smith_types.specs.ExampleTypes.{kinds_of_values};
 
 fn kinds()
     ensures of_a_struct { kind (final_type empty_struct) ≡ heap.Struct }
@@ -54,28 +60,39 @@ fn abstract_types()
 {}
 
 fn abstract_types_apart()
-    ensures tops { All (λ (a : AbstractHeapType). All (λ (b : AbstractHeapType). IsBelow [] (plain a) (plain b) → a ≡ b) tops) tops }
-    ensures kinds { All (λ (a : AbstractHeapType). All (λ (b : AbstractHeapType). IsBelow [] (plain a) (plain b) → a ≡ b) kinds_of_values) kinds_of_values }
+    ensures tops { All (λ (a : AbstractHeapType).
+        All (λ (b : AbstractHeapType). IsBelow [] (plain a) (plain b) → a ≡ b) tops) tops }
+    ensures kinds { All (λ (a : AbstractHeapType).
+        All (λ (b : AbstractHeapType). IsBelow [] (plain a) (plain b) → a ≡ b) kinds_of_values)
+        kinds_of_values }
 {}
 
 fn concrete_types()
     ensures declared { IsBelow struct_and_below (Concrete 1) (Concrete 0) }
-    ensures declared_twice { IsBelow (open_type None plain_func ∷ open_type (Some 0) plain_func ∷ open_type (Some 1) plain_func ∷ []) (Concrete 2) (Concrete 0) }
+    ensures declared_twice { IsBelow (open_type None plain_func ∷ open_type (Some 0) plain_func
+        ∷ open_type (Some 1) plain_func ∷ [])
+        (Concrete 2) (Concrete 0) }
     ensures itself { IsBelow struct_and_below (Concrete 1) (Concrete 1) }
     ensures not_upwards { ¬ IsBelow struct_and_below (Concrete 0) (Concrete 1) }
-    ensures equal_types_apart { ¬ IsBelow (final_type plain_func ∷ final_type plain_func ∷ []) (Concrete 1) (Concrete 0) }
+    ensures equal_types_apart { ¬ IsBelow (final_type plain_func ∷ final_type plain_func ∷ [])
+        (Concrete 1) (Concrete 0) }
     ensures no_such_type { ¬ IsBelow [] (Concrete 0) (plain heap.Any) }
     ensures kind_and_above { IsBelow struct_and_below (Concrete 1) (plain heap.Any) }
     ensures not_of_another_kind { ¬ IsBelow struct_and_below (Concrete 1) (plain heap.Array) }
-    ensures function_and_kind { IsBelow (final_type plain_func ∷ []) (Concrete 0) (plain heap.Func) }
-    ensures function_not_of_any { ¬ IsBelow (final_type plain_func ∷ []) (Concrete 0) (plain heap.Any) }
-    ensures array_and_kind { IsBelow (final_type (array (variable I8)) ∷ []) (Concrete 0) (plain heap.Array) }
+    ensures function_and_kind { IsBelow (final_type plain_func ∷ []) (Concrete 0)
+        (plain heap.Func) }
+    ensures function_not_of_any { ¬ IsBelow (final_type plain_func ∷ []) (Concrete 0)
+        (plain heap.Any) }
+    ensures array_and_kind { IsBelow (final_type (array (variable I8)) ∷ []) (Concrete 0)
+        (plain heap.Array) }
     ensures not_shared { ¬ IsBelow struct_and_below (Concrete 1) (Abstract true heap.Struct) }
-    ensures shared_and_kind { IsBelow (shared_type plain_func ∷ []) (Concrete 0) (Abstract true heap.Func) }
+    ensures shared_and_kind { IsBelow (shared_type plain_func ∷ []) (Concrete 0)
+        (Abstract true heap.Func) }
     ensures bottom { IsBelow struct_and_below (plain heap.None) (Concrete 1) }
     ensures not_another_bottom { ¬ IsBelow struct_and_below (plain heap.NoFunc) (Concrete 0) }
     ensures no_kind_below_its_types { ¬ IsBelow struct_and_below (plain heap.Struct) (Concrete 0) }
-    ensures bottom_of_a_shared_one { IsBelow (shared_type plain_func ∷ []) (Abstract true heap.NoFunc) (Concrete 0) }
+    ensures bottom_of_a_shared_one { IsBelow (shared_type plain_func ∷ [])
+        (Abstract true heap.NoFunc) (Concrete 0) }
     ensures shared_bottom { ¬ IsBelow struct_and_below (Abstract true heap.None) (Concrete 0) }
 {}
 
@@ -93,10 +110,14 @@ fn exact_types()
 
 fn references()
     ensures null_added { IsRefBelow [] (not_null (plain heap.Eq)) (nullable (plain heap.Any)) }
-    ensures null_kept { IsRefBelow struct_and_below (nullable (Concrete 1)) (nullable (Concrete 0)) }
-    ensures neither_null { IsRefBelow struct_and_below (not_null (Concrete 1)) (not_null (Concrete 0)) }
-    ensures null_not_lost { ¬ IsRefBelow struct_and_below (nullable (Concrete 1)) (not_null (Concrete 0)) }
-    ensures heap_types_apart { ¬ IsRefBelow [] (not_null (plain heap.Any)) (nullable (plain heap.Eq)) }
+    ensures null_kept { IsRefBelow struct_and_below (nullable (Concrete 1))
+        (nullable (Concrete 0)) }
+    ensures neither_null { IsRefBelow struct_and_below (not_null (Concrete 1))
+        (not_null (Concrete 0)) }
+    ensures null_not_lost { ¬ IsRefBelow struct_and_below (nullable (Concrete 1))
+        (not_null (Concrete 0)) }
+    ensures heap_types_apart { ¬ IsRefBelow [] (not_null (plain heap.Any))
+        (nullable (plain heap.Eq)) }
 {}
 
 fn value_types()

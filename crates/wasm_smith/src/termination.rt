@@ -1,4 +1,5 @@
-ghost use Rattle.std.specs.Prelude.{◌≡◌, ◌<◌, ◌-◌, ◌^◌, ◌++◌, ◌↔◌, [], ◌∷◌, ℕ, List, Any, length, IsTrue, IfOk, OnOk, OnErr, IfErr};
+ghost use Rattle.std.specs.Prelude.{◌≡◌, ◌<◌, ◌-◌, ◌^◌, ◌++◌, ◌↔◌, [], ◌∷◌, ℕ, List, Any, length};
+ghost use Rattle.std.specs.Prelude.{IsTrue, IfOk, OnOk, OnErr, IfErr};
 ghost use Rattle.std.specs.Int.{cast_signed, w32};
 ghost use Rattle.smith_types.specs.declared.const_instr.ConstInstr.TheVariants.{I32Const as NumberConst};
 ghost use Rattle.smith_types.specs.declared.code.Code.{Code as Body};
@@ -38,7 +39,8 @@ fn take_back<T: Drop>(alloc: Global, items: &mut Items<T>)
 
 // Makes the definition of a counter.
 fn initial(alloc: Global, index: u32, fuel: u32) -> Result<(u32, Items<ConstInstr>), Error>
-    ensures ok { IfOk result (λ definition. definition ≡ (index, NumberConst (cast_signed w32 fuel) ∷ [])) }
+    ensures ok { IfOk result (λ definition.
+        definition ≡ (index, NumberConst (cast_signed w32 fuel) ∷ [])) }
     ensures memory { IfErr result (λ e. e ≡ Error.Memory) }
 {
     let mut expression = Items::new(alloc);
@@ -57,7 +59,8 @@ fn push_counter(
     requires room { length globals.old < 2 ^ 32 - 1 }
     ensures index { IfOk result (λ index. index ≡ length globals.old) }
     ensures globals { OnOk result (globals.new ≡ globals.old ++ counter ∷ []) }
-    ensures definitions { IfOk result (λ index. defined_globals.new ≡ defined_globals.old ++ (index, NumberConst (cast_signed w32 fuel) ∷ []) ∷ []) }
+    ensures definitions { IfOk result (λ index. defined_globals.new
+        ≡ defined_globals.old ++ (index, NumberConst (cast_signed w32 fuel) ∷ []) ∷ []) }
     ensures fuel { IfOk result (λ index. fuel_globals.new ≡ fuel_globals.old ++ index ∷ []) }
     ensures globals_kept { OnErr result (globals.new ≡ globals.old) }
     ensures definitions_kept { OnErr result (defined_globals.new ≡ defined_globals.old) }

@@ -34,7 +34,8 @@ pub(crate) fn answer_constant(
 
 // Returns the value type of the first argument, which is valid over the types.
 fn wanted_of(over: &Over<'_>) -> Result<ValType, Fault>
-    ensures { IfOk result (IsValTypeValid (features_of over.now.config.now) (length over.now.types.now.types)) }
+    ensures { IfOk result
+        (IsValTypeValid (features_of over.now.config.now) (length over.now.types.now.types)) }
 {
     let wanted = read(over.case, 0, val_type_of)?;
     if !is_val_type_valid(over.config.features(), over.types.types().len(), wanted) {
@@ -70,7 +71,8 @@ fn drawn_expression(
     u: &mut Unstructured<'_>,
 ) -> Result<Items<ConstInstr>, Error>
     requires types { AreTypesValid (features_of over.now.config.now) over.now.types.now }
-    requires wanted { IsValTypeValid (features_of over.now.config.now) (length over.now.types.now.types) wanted }
+    requires wanted { IsValTypeValid (features_of over.now.config.now)
+        (length over.now.types.now.types) wanted }
 {
     let spaces = spaces_of(over.types);
     arbitrary_const_expr(over.alloc, over.config, &spaces, wanted, allow_defined, u)
@@ -120,7 +122,8 @@ fn readable_globals(
     allow_defined: bool,
 ) -> Result<Items<u32>, Error>
     requires types { AreTypesValid (features_of over.now.config.now) over.now.types.now }
-    requires wanted { IsValTypeValid (features_of over.now.config.now) (length over.now.types.now.types) wanted }
+    requires wanted { IsValTypeValid (features_of over.now.config.now)
+        (length over.now.types.now.types) wanted }
 {
     let globals = [
         number_global(true),
@@ -134,8 +137,10 @@ fn readable_globals(
 // Returns the element type of the argument: valid over the types, and of a kind for which an
 // initialiser may be drawn.
 fn element_of(over: &Over<'_>) -> Result<RefType, Fault>
-    ensures valid { IfOk result (IsRefTypeValid (features_of over.now.config.now) (length over.now.types.now.types)) }
-    ensures created { IfOk result (λ element. element.nullable ≡ false → IsTrue over.now.config.now.gc_enabled) }
+    ensures valid { IfOk result
+        (IsRefTypeValid (features_of over.now.config.now) (length over.now.types.now.types)) }
+    ensures created { IfOk result (λ element.
+        element.nullable ≡ false → IsTrue over.now.config.now.gc_enabled) }
 {
     at_most(over.case, 1)?;
     let element = read(over.case, 0, ref_type_of)?;
@@ -169,9 +174,11 @@ fn drawn_initialiser(
     u: &mut Unstructured<'_>,
 ) -> Result<Option<Items<ConstInstr>>, Error>
     requires types { AreTypesValid (features_of over.now.config.now) over.now.types.now }
-    requires element { IsRefTypeValid (features_of over.now.config.now) (length over.now.types.now.types) element }
+    requires element { IsRefTypeValid (features_of over.now.config.now)
+        (length over.now.types.now.types) element }
     requires created { element.nullable ≡ false → IsTrue over.now.config.now.gc_enabled }
-    requires references { IsTrue over.now.config.now.gc_enabled → IsTrue over.now.config.now.reference_types_enabled }
+    requires references { IsTrue over.now.config.now.gc_enabled
+        → IsTrue over.now.config.now.reference_types_enabled }
 {
     let spaces = spaces_of(over.types);
     arbitrary_table_init(over.alloc, over.config, &spaces, element, u)

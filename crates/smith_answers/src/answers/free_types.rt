@@ -196,7 +196,8 @@ fn answer_part(
     answer: &mut String,
 ) -> Result<(), Fault>
     requires sanitized { IsSanitized over.now.config.now }
-    requires may_share { IsTrue bounds.must_share → IsTrue over.now.config.now.shared_everything_threads_enabled }
+    requires may_share { IsTrue bounds.must_share
+        → IsTrue over.now.config.now.shared_everything_threads_enabled }
 {
     let Over { alloc, config, .. } = *over;
     let spaces = spaces_of(over.types);

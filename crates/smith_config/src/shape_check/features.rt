@@ -18,7 +18,8 @@ pub(crate) fn are_features_enough(
     space: &TypeSpace,
     spaces: &IndexSpaces,
 ) -> bool
-    ensures { IsTrue result ↔ AreFeaturesEnough which (features_in features) space.now (spaces_in spaces.now) }
+    ensures { IsTrue result
+        ↔ AreFeaturesEnough which (features_in features) space.now (spaces_in spaces.now) }
 {
     are_types_valid(features, space)
         && are_tables_valid(features, space.types(), spaces.tables.as_slice())

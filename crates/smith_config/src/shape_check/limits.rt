@@ -25,13 +25,15 @@ pub(crate) fn are_limits_sound(space: &TypeSpace, spaces: &IndexSpaces) -> bool
 }
 
 fn are_tables_limited(tables: &[TableType]) -> bool
-    ensures { IsTrue result ↔ All (λ (table : Table). AreLimitsValid (most_elements table.table64) table.minimum table.maximum) tables.now }
+    ensures { IsTrue result ↔ All (λ (table : Table).
+        AreLimitsValid (most_elements table.table64) table.minimum table.maximum) tables.now }
 {
     tables.iter().all(|table| is_table_limited(*table))
 }
 
 fn is_table_limited(table: TableType) -> bool
-    ensures { IsTrue result ↔ AreLimitsValid (most_elements table.table64) table.minimum table.maximum }
+    ensures { IsTrue result
+        ↔ AreLimitsValid (most_elements table.table64) table.minimum table.maximum }
 {
     are_limits_valid(
         most_elements_of(table.table64),

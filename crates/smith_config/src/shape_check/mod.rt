@@ -45,7 +45,8 @@ impl Shape {
     pub fn check(&self, alloc: Global, which: Which, config: &Config) -> Result<(), Error>
         ensures passes { OnOk result (IsShapeValid which config.now self.now) }
         ensures refused { IfErr result (IsRefused which config.now self.now) }
-        ensures valid { IsShapeValid which config.now self.now → IfErr result (λ e. e ≡ Error.Memory) }
+        ensures valid { IsShapeValid which config.now self.now
+            → IfErr result (λ e. e ≡ Error.Memory) }
     {
         let found = first_fault(alloc, self, which, config)?;
         match found {
@@ -61,7 +62,8 @@ fn first_fault(
     which: Which,
     config: &Config,
 ) -> Result<Option<ShapeFault>, Error>
-    ensures found { IfOk result (λ found. MatchOption found (IsShapeValid which config.now shape.now) (IsFirstShapeFault which config.now shape.now)) }
+    ensures found { IfOk result (λ found. MatchOption found
+        (IsShapeValid which config.now shape.now) (IsFirstShapeFault which config.now shape.now)) }
     ensures memory { IfErr result (λ e. e ≡ Error.Memory) }
     ensures short { IfErr result (λ e. IsShort shape.now) }
 {
@@ -90,7 +92,8 @@ fn later_fault(
 ) -> Result<Option<ShapeFault>, Error>
     requires short { IsShort shape.now }
     requires made { IsMade shape.now space.now (spaces_in spaces.now) }
-    ensures found { IfOk result (λ found. MatchOption found (IsShapeValid which config.now shape.now) (IsFirstShapeFault which config.now shape.now)) }
+    ensures found { IfOk result (λ found. MatchOption found
+        (IsShapeValid which config.now shape.now) (IsFirstShapeFault which config.now shape.now)) }
     ensures memory { IfErr result (λ e. e ≡ Error.Memory) }
 {
     let exports = shape.exports.as_slice();

@@ -12,7 +12,8 @@ pub(crate) fn are_names_distinct(
     alloc: Global,
     exports: &[(Name, ExportKind, u32)],
 ) -> Result<bool, Error>
-    ensures decided { IfOk result (λ yes. IsTrue yes ↔ AreDistinct (map (λ (one : List ℕ × Kind × ℕ). one.0) exports.now)) }
+    ensures decided { IfOk result (λ yes.
+        IsTrue yes ↔ AreDistinct (map (λ (one : List ℕ × Kind × ℕ). one.0) exports.now)) }
     ensures memory { IfErr result (λ e. e ≡ Error.Memory) }
 {
     let mut names: HashSet<&str> = HashSet::new(alloc);

@@ -2,7 +2,8 @@ ghost use Rattle.std.specs.Prelude.{◌≡◌, ◌↔◌, ◌≤◌, List, IsTru
 ghost use Rattle.std.specs.List.{flat_map};
 ghost use Rattle.smith_types.specs.Imports.{imports_of, flattened};
 ghost use Rattle.smith_types.specs.declared.composite_type.SubType.{SubType as Sub};
-ghost use Rattle.smith_config.specs.Shapes.{IsShort, IsInnerShort, most_listed, shape_types, shape_imports};
+ghost use Rattle.smith_config.specs.Shapes.{IsShort, IsInnerShort, most_listed, shape_types};
+ghost use Rattle.smith_config.specs.Shapes.{shape_imports};
 ghost use Rattle.smith_config.specs.Decided.{AreListsShort};
 
 use crate::Shape;
@@ -48,7 +49,8 @@ fn has_few_types(shape: &Shape) -> bool
 }
 
 fn are_types_few(groups: &[Items<SubType>]) -> bool
-    ensures { IsTrue result ↔ (length (flat_map (λ (group : List Sub). group) groups.now) ≤ most_listed) }
+    ensures { IsTrue result
+        ↔ (length (flat_map (λ (group : List Sub). group) groups.now) ≤ most_listed) }
 {
     let mut left = MOST;
     for group in groups {
@@ -95,13 +97,16 @@ fn import_count(group: &Imports) -> usize
 }
 
 fn has_short_types(shape: &Shape) -> bool
-    ensures { IsTrue result ↔ All (λ (group : List Sub). All (λ (t : Sub). IsInnerShort t.composite_type.inner) group) shape.now.groups }
+    ensures { IsTrue result
+        ↔ All (λ (group : List Sub). All (λ (t : Sub). IsInnerShort t.composite_type.inner) group)
+        shape.now.groups }
 {
     are_groups_short(shape.groups.as_slice())
 }
 
 fn are_groups_short(groups: &[Items<SubType>]) -> bool
-    ensures { IsTrue result ↔ All (λ (group : List Sub). All (λ (t : Sub). IsInnerShort t.composite_type.inner) group) groups.now }
+    ensures { IsTrue result ↔ All (λ (group : List Sub).
+        All (λ (t : Sub). IsInnerShort t.composite_type.inner) group) groups.now }
 {
     groups.iter().all(|group| are_types_short(group.as_slice()))
 }

@@ -31,7 +31,9 @@ fn are_types_valid_with_all(space: &TypeSpace) -> bool
 }
 
 fn are_values_valid_with_all(types: &[SubType], spaces: &IndexSpaces) -> bool
-    ensures { IsTrue result ↔ All (IsValTypeValid every_feature (length types.now)) (values_in types.now (spaces_in spaces.now)) }
+    ensures { IsTrue result
+        ↔ All (IsValTypeValid every_feature (length types.now))
+        (values_in types.now (spaces_in spaces.now)) }
 {
     let valid = ValidValue {
         features: WasmFeatures::every(),
@@ -41,13 +43,15 @@ fn are_values_valid_with_all(types: &[SubType], spaces: &IndexSpaces) -> bool
 }
 
 fn may_tables_be_shared(types: &[SubType], tables: &[TableType]) -> bool
-    ensures { IsTrue result ↔ All (λ (table : Table). IsTrue table.shared → IsShareable types.now (Ref table.element_type)) tables.now }
+    ensures { IsTrue result ↔ All (λ (table : Table).
+        IsTrue table.shared → IsShareable types.now (Ref table.element_type)) tables.now }
 {
     tables.iter().all(|table| may_hold(types, table.shared, ValType::Ref(table.element_type)))
 }
 
 fn may_globals_be_shared(types: &[SubType], globals: &[GlobalType]) -> bool
-    ensures { IsTrue result ↔ All (λ (global : Global). IsTrue global.shared → IsShareable types.now global.val_type) globals.now }
+    ensures { IsTrue result ↔ All (λ (global : Global).
+        IsTrue global.shared → IsShareable types.now global.val_type) globals.now }
 {
     globals
         .iter()

@@ -1,4 +1,5 @@
-ghost use Rattle.std.specs.Prelude.{◌≡◌, ◌≤◌, ◌<◌, ◌++◌, ◌+◌, ◌*◌, ◌-◌, Some, None, [], ◌∷◌, reverse, length, IfOk, IfErr, OnOk};
+ghost use Rattle.std.specs.Prelude.{◌≡◌, ◌≤◌, ◌<◌, ◌++◌, ◌+◌, ◌*◌, ◌-◌, Some, None, [], ◌∷◌};
+ghost use Rattle.std.specs.Prelude.{reverse, length, IfOk, IfErr, OnOk};
 ghost use Rattle.smith_bytes.specs.Source.{KeepsPieces};
 ghost use Rattle.smith_types.specs.ValidTypes.{IsValTypeValid};
 ghost use Rattle.smith_types.specs.declared.value_type.ValType.TheVariants.{I32};
@@ -32,14 +33,21 @@ pub(super) fn draw_whole_expression(
     u: &mut Unstructured<'_>,
 ) -> Result<Items<ConstInstr>, Error>
     requires scope { IsScope (context_of scope.now) }
-    requires wanted { IsValTypeValid (context_of scope.now).features (length (context_of scope.now).types) wanted }
+    requires wanted { IsValTypeValid (context_of scope.now).features
+        (length (context_of scope.now).types) wanted }
     requires kept { AreKeptOffers (context_of scope.now) kept.old }
-    ensures exact { IfOk result (λ drawn. expression_alone_at (context_of scope.now) scope.now.config.now scope.now.config.now.const_expr_fuel wanted u.old ≡ Some (drawn, u.new)) }
-    ensures none { IfErr result (λ e. e ≡ Error.EmptyChoose → expression_alone_at (context_of scope.now) scope.now.config.now scope.now.config.now.const_expr_fuel wanted u.old ≡ None) }
+    ensures exact { IfOk result (λ drawn. expression_alone_at (context_of scope.now)
+        scope.now.config.now scope.now.config.now.const_expr_fuel wanted u.old
+        ≡ Some (drawn, u.new)) }
+    ensures none { IfErr result (λ e. e ≡ Error.EmptyChoose
+        → expression_alone_at (context_of scope.now) scope.now.config.now
+        scope.now.config.now.const_expr_fuel wanted u.old ≡ None) }
     ensures typed { IfOk result (IsConstExpr (context_of scope.now) wanted) }
-    ensures short { IfOk result (λ drawn. length drawn ≤ most_instructions scope.now.config.now (context_of scope.now).types) }
+    ensures short { IfOk result (λ drawn.
+        length drawn ≤ most_instructions scope.now.config.now (context_of scope.now).types) }
     ensures kept { OnOk result (AreKeptOffers (context_of scope.now) kept.new) }
-    ensures refusal { IfErr result (MayRefuseConstExpr scope.now.config.now (context_of scope.now) wanted) }
+    ensures refusal { IfErr result
+        (MayRefuseConstExpr scope.now.config.now (context_of scope.now) wanted) }
     ensures left { KeepsPieces u.old u.new }
 {
     let mut drawn = Items::new(alloc);
@@ -60,12 +68,16 @@ fn draw_expression(
     u: &mut Unstructured<'_>,
 ) -> Result<(), Error>
     requires scope { IsScope (context_of scope.now) }
-    requires wanted { IsValTypeValid (context_of scope.now).features (length (context_of scope.now).types) wanted }
+    requires wanted { IsValTypeValid (context_of scope.now).features
+        (length (context_of scope.now).types) wanted }
     requires kept { AreKeptOffers (context_of scope.now) kept.old }
-    ensures exact { ReadsValue (context_of scope.now) scope.now.config.now wanted (state_of out.old fuel.old u.old) (state_of out.new fuel.new u.new) result }
-    ensures drawn { OnOk result (IsDrawn (context_of scope.now) (wanted ∷ []) out.old fuel.old out.new fuel.new) }
+    ensures exact { ReadsValue (context_of scope.now) scope.now.config.now wanted
+        (state_of out.old fuel.old u.old) (state_of out.new fuel.new u.new) result }
+    ensures drawn { OnOk result
+        (IsDrawn (context_of scope.now) (wanted ∷ []) out.old fuel.old out.new fuel.new) }
     ensures kept { OnOk result (AreKeptOffers (context_of scope.now) kept.new) }
-    ensures refusal { IfErr result (MayRefuseConstExpr scope.now.config.now (context_of scope.now) wanted) }
+    ensures refusal { IfErr result
+        (MayRefuseConstExpr scope.now.config.now (context_of scope.now) wanted) }
     ensures left { KeepsPieces u.old u.new }
 {
     let mut tasks = Vec::new(alloc);
@@ -91,10 +103,14 @@ fn carry_out(
     requires scope { IsScope (context_of scope.now) }
     requires valid { IsTaskValid (context_of scope.now) task }
     requires kept { AreKeptOffers (context_of scope.now) kept.old }
-    ensures step { OnOk result (IsStep (context_of scope.now) scope.now.config.now task (reverse tasks.old.items) (state_of out.old fuel.old u.old) (reverse tasks.new.items) (state_of out.new fuel.new u.new)) }
-    ensures growth { OnOk result (IsGrowthPaid (context_of scope.now) tasks.old.items fuel.old tasks.new.items fuel.new) }
+    ensures step { OnOk result (IsStep (context_of scope.now) scope.now.config.now task
+        (reverse tasks.old.items) (state_of out.old fuel.old u.old) (reverse tasks.new.items)
+        (state_of out.new fuel.new u.new)) }
+    ensures growth { OnOk result
+        (IsGrowthPaid (context_of scope.now) tasks.old.items fuel.old tasks.new.items fuel.new) }
     ensures kept { OnOk result (AreKeptOffers (context_of scope.now) kept.new) }
-    ensures refusal { IfErr result (MayRefuseTask (context_of scope.now) scope.now.config.now task (state_of out.old fuel.old u.old)) }
+    ensures refusal { IfErr result (MayRefuseTask (context_of scope.now) scope.now.config.now task
+        (state_of out.old fuel.old u.old)) }
     ensures left { KeepsPieces u.old u.new }
 {
     match task {
@@ -125,11 +141,15 @@ fn draw_choice(
     u: &mut Unstructured<'_>,
 ) -> Result<(), Error>
     requires scope { IsScope (context_of scope.now) }
-    requires wanted { IsValTypeValid (context_of scope.now).features (length (context_of scope.now).types) wanted }
+    requires wanted { IsValTypeValid (context_of scope.now).features
+        (length (context_of scope.now).types) wanted }
     requires kept { AreKeptOffers (context_of scope.now) kept.old }
-    ensures step { OnOk result (IsStep (context_of scope.now) scope.now.config.now (Draw (Value wanted)) (reverse tasks.old.items) (state_of out.old fuel.old u.old) (reverse tasks.new.items) (state_of out.new fuel.new u.new)) }
+    ensures step { OnOk result (IsStep (context_of scope.now) scope.now.config.now
+        (Draw (Value wanted)) (reverse tasks.old.items) (state_of out.old fuel.old u.old)
+        (reverse tasks.new.items) (state_of out.new fuel.new u.new)) }
     ensures kept { OnOk result (AreKeptOffers (context_of scope.now) kept.new) }
-    ensures refusal { IfErr result (MayRefuseTask (context_of scope.now) scope.now.config.now (Draw (Value wanted)) (state_of out.old fuel.old u.old)) }
+    ensures refusal { IfErr result (MayRefuseTask (context_of scope.now) scope.now.config.now
+        (Draw (Value wanted)) (state_of out.old fuel.old u.old)) }
     ensures left { KeepsPieces u.old u.new }
 {
     let choice = choose_offer(alloc, scope, kept, wanted, *fuel, u)?;
@@ -150,8 +170,10 @@ fn draw_length(
     out: &mut Items<ConstInstr>,
     u: &mut Unstructured<'_>,
 ) -> Result<(), Error>
-    ensures exact { OnOk result (state_of out.new fuel.new u.new ≡ length_at (state_of out.old fuel.old u.old)) }
-    ensures drawn { (context : Context) → OnOk result (IsDrawn context (I32 ∷ []) out.old fuel.old out.new fuel.new) }
+    ensures exact { OnOk result
+        (state_of out.new fuel.new u.new ≡ length_at (state_of out.old fuel.old u.old)) }
+    ensures drawn { (context : Context)
+        → OnOk result (IsDrawn context (I32 ∷ []) out.old fuel.old out.new fuel.new) }
     ensures memory { IfErr result (λ e. e ≡ Error.Memory) }
     ensures left { KeepsPieces u.old u.new }
 {

@@ -1,10 +1,12 @@
-ghost use Rattle.std.specs.Prelude.{None, ◌≡◌, ◌≤◌, ◌<◌, ◌⊎◌, ◌++◌, ◌+◌, [], ◌∷◌, IsTrue, IfOk, IfErr, OnOk, length, reverse, List};
+ghost use Rattle.std.specs.Prelude.{None, ◌≡◌, ◌≤◌, ◌<◌, ◌⊎◌, ◌++◌, ◌+◌, [], ◌∷◌, IsTrue, IfOk};
+ghost use Rattle.std.specs.Prelude.{IfErr, OnOk, length, reverse, List};
 ghost use Rattle.smith_types.specs.declared.const_instr.ConstInstr.{ConstInstr};
 ghost use Rattle.smith_bytes.specs.Source.{KeepsPieces};
 ghost use Rattle.smith_types.specs.Expressions.{Context};
 ghost use Rattle.smith_types.specs.declared.value_type.ValType.TheVariants.{I32, I64};
 ghost use Rattle.smith_draw.specs.Drawing.{AlwaysDraws};
-ghost use Rattle.smith_draw.specs.Constants.{is_wide, operation, operator_of, operator_at, extended_at};
+ghost use Rattle.smith_draw.specs.Constants.{is_wide, operation, operator_of, operator_at};
+ghost use Rattle.smith_draw.specs.Constants.{extended_at};
 ghost use Rattle.smith_draw.specs.Putting.{Adds, Puts};
 
 use super::constant::draw_constant;
@@ -67,7 +69,8 @@ fn draw_extended(
     requires { (wanted ≡ I32) ⊎ (wanted ≡ I64) }
     ensures exact { IfOk result (λ drawn. extended_at wanted u.old ≡ (reverse drawn, u.new)) }
     ensures short { IfOk result (λ drawn. length drawn ≤ 23) }
-    ensures adds { (context : Context) → IsTrue context.features.extended_const → IfOk result (λ drawn. Adds context wanted (reverse drawn)) }
+    ensures adds { (context : Context) → IsTrue context.features.extended_const
+        → IfOk result (λ drawn. Adds context wanted (reverse drawn)) }
     ensures memory { IfErr result (λ e. e ≡ Error.Memory) }
     ensures left { KeepsPieces u.old u.new }
 {
@@ -98,9 +101,11 @@ pub(super) fn draw_extended_constant(
     u: &mut Unstructured<'_>,
 ) -> Result<(), Error>
     requires { (wanted ≡ I32) ⊎ (wanted ≡ I64) }
-    ensures exact { OnOk result ((out.new ≡ out.old ++ (extended_at wanted u.old).0) × (u.new ≡ (extended_at wanted u.old).1)) }
+    ensures exact { OnOk result ((out.new ≡ out.old ++ (extended_at wanted u.old).0)
+        × (u.new ≡ (extended_at wanted u.old).1)) }
     ensures short { OnOk result (length out.new ≤ length out.old + 23) }
-    ensures puts { (context : Context) → IsTrue context.features.extended_const → OnOk result (Puts context (wanted ∷ []) out.old out.new) }
+    ensures puts { (context : Context) → IsTrue context.features.extended_const
+        → OnOk result (Puts context (wanted ∷ []) out.old out.new) }
     ensures memory { IfErr result (λ e. e ≡ Error.Memory) }
     ensures left { KeepsPieces u.old u.new }
 {

@@ -41,13 +41,19 @@ pub(super) fn choose_offer(
     u: &mut Unstructured<'_>,
 ) -> Result<Choice, Error>
     requires scope { IsScope (context_of scope.now) }
-    requires wanted { IsValTypeValid (context_of scope.now).features (length (context_of scope.now).types) wanted }
+    requires wanted { IsValTypeValid (context_of scope.now).features
+        (length (context_of scope.now).types) wanted }
     requires kept { AreKeptOffers (context_of scope.now) kept.old }
-    ensures exact { IfOk result (λ choice. choose_at (offers scope.now.config.now (context_of scope.now) wanted fuel) u.old ≡ (Some choice, u.new)) }
-    ensures none { IfErr result (λ e. e ≡ Error.EmptyChoose → (choose_at (offers scope.now.config.now (context_of scope.now) wanted fuel) u.old).0 ≡ None) }
+    ensures exact { IfOk result (λ choice.
+        choose_at (offers scope.now.config.now (context_of scope.now) wanted fuel) u.old
+        ≡ (Some choice, u.new)) }
+    ensures none { IfErr result (λ e. e ≡ Error.EmptyChoose
+        → (choose_at (offers scope.now.config.now (context_of scope.now) wanted fuel) u.old).0
+        ≡ None) }
     ensures fits { IfOk result (IsFit scope.now.config.now (context_of scope.now) wanted fuel) }
     ensures kept { OnOk result (AreKeptOffers (context_of scope.now) kept.new) }
-    ensures refusal { IfErr result (MayRefuseConstExpr scope.now.config.now (context_of scope.now) wanted) }
+    ensures refusal { IfErr result
+        (MayRefuseConstExpr scope.now.config.now (context_of scope.now) wanted) }
     ensures left { KeepsPieces u.old u.new }
 {
     let place = kept.look(alloc, scope, wanted)?;
@@ -64,12 +70,18 @@ fn choose_among(
     u: &mut Unstructured<'_>,
 ) -> Result<Choice, Error>
     requires scope { IsScope (context_of scope.now) }
-    requires wanted { IsValTypeValid (context_of scope.now).features (length (context_of scope.now).types) wanted }
+    requires wanted { IsValTypeValid (context_of scope.now).features
+        (length (context_of scope.now).types) wanted }
     requires kept { IfSome kept (λ offer. IsWhole (context_of scope.now) wanted offer.now) }
-    ensures exact { IfOk result (λ choice. choose_at (offers scope.now.config.now (context_of scope.now) wanted fuel) u.old ≡ (Some choice, u.new)) }
-    ensures none { IfErr result (λ e. (e ≡ Error.EmptyChoose) × ((choose_at (offers scope.now.config.now (context_of scope.now) wanted fuel) u.old).0 ≡ None)) }
+    ensures exact { IfOk result (λ choice.
+        choose_at (offers scope.now.config.now (context_of scope.now) wanted fuel) u.old
+        ≡ (Some choice, u.new)) }
+    ensures none { IfErr result (λ e. (e ≡ Error.EmptyChoose)
+        × ((choose_at (offers scope.now.config.now (context_of scope.now) wanted fuel) u.old).0
+        ≡ None)) }
     ensures fits { IfOk result (IsFit scope.now.config.now (context_of scope.now) wanted fuel) }
-    ensures refusal { IfErr result (MayRefuseConstExpr scope.now.config.now (context_of scope.now) wanted) }
+    ensures refusal { IfErr result
+        (MayRefuseConstExpr scope.now.config.now (context_of scope.now) wanted) }
     ensures left { KeepsPieces u.old u.new }
 {
     let count = count_offers(scope, kept, wanted, fuel);

@@ -1,4 +1,5 @@
-ghost use Rattle.std.specs.Prelude.{◌≡◌, ◌≤◌, ◌<◌, ◌-◌, ◌++◌, ◌↔◌, ℕ, IsTrue, IfSome, OnOk, IfOk, IfErr, length, map};
+ghost use Rattle.std.specs.Prelude.{◌≡◌, ◌≤◌, ◌<◌, ◌-◌, ◌++◌, ◌↔◌, ℕ, IsTrue, IfSome, OnOk, IfOk};
+ghost use Rattle.std.specs.Prelude.{IfErr, length, map};
 ghost use Rattle.std.specs.List.{AllWithin};
 ghost use Rattle.smith_types.specs.Expressions.{Context};
 ghost use Rattle.smith_types.specs.Subtyping.{IsValInRange};
@@ -69,7 +70,8 @@ impl KeptOffers {
         requires upper { IsValInRange (context_of scope.now).types wanted }
         requires kept { AreKeptOffers (context_of scope.now) self.old }
         ensures kept { OnOk result (AreKeptOffers (context_of scope.now) self.new) }
-        ensures place { IfOk result (λ place. IfSome place (λ at. IsKeptAt self.new.kept.items at wanted)) }
+        ensures place { IfOk result (λ place.
+            IfSome place (λ at. IsKeptAt self.new.kept.items at wanted)) }
         ensures memory { IfErr result (λ e. e ≡ Error.Memory) }
     {
         let entities = scope.spaces.entities;
@@ -116,9 +118,11 @@ impl KeptOffers {
     /// Returns the position of the entry for the type `wanted` that has read no global past the
     /// first `visible`, and adds one if there is none.
     fn place_of(&mut self, alloc: Global, wanted: ValType, visible: usize) -> Result<usize, Error>
-        ensures kept { (context : Context) → IsValInRange context.types wanted → AreKeptOffers context self.old → OnOk result (AreKeptOffers context self.new) }
+        ensures kept { (context : Context) → IsValInRange context.types wanted
+            → AreKeptOffers context self.old → OnOk result (AreKeptOffers context self.new) }
         ensures place { IfOk result (λ place. IsKeptAt self.new.kept.items place wanted) }
-        ensures still { (at : ℕ) (other : Wanted) → IsKeptAt self.old.kept.items at other → OnOk result (IsKeptAt self.new.kept.items at other) }
+        ensures still { (at : ℕ) (other : Wanted) → IsKeptAt self.old.kept.items at other
+            → OnOk result (IsKeptAt self.new.kept.items at other) }
         ensures memory { IfErr result (λ e. e ≡ Error.Memory) }
     {
         if let Some(place) = find(self.kept.as_slice(), wanted, visible) {
@@ -132,7 +136,8 @@ impl KeptOffers {
     /// Returns the entry at `place` if it covers the globals and functions of `scope`.
     pub(super) fn covering(&self, scope: &Scope<'_>, place: Option<usize>) -> Option<&KeptOffer>
         requires { AreKeptOffers (context_of scope.now) self.now }
-        ensures { (wanted : Wanted) → IfSome place (λ at. IsKeptAt self.now.kept.items at wanted) → IfSome result (λ offer. IsWhole (context_of scope.now) wanted offer.now) }
+        ensures { (wanted : Wanted) → IfSome place (λ at. IsKeptAt self.now.kept.items at wanted)
+            → IfSome result (λ offer. IsWhole (context_of scope.now) wanted offer.now) }
     {
         let kept = self.kept.as_slice().get(place?)?;
         if kept.is_current(scope) {
@@ -184,7 +189,8 @@ fn push_if(offered: bool, index: u32, indices: &mut Items<u32>) -> Result<(), Er
 impl KeptOffer {
     /// Creates an entry for the type `wanted`, with no global and no function read.
     fn new(alloc: Global, wanted: ValType) -> KeptOffer
-        ensures kept { (context : Context) → IsValInRange context.types wanted → IsKeptOffer context result }
+        ensures kept { (context : Context) → IsValInRange context.types wanted
+            → IsKeptOffer context result }
         ensures wanted { result.wanted ≡ wanted }
     {
         KeptOffer {
@@ -206,7 +212,8 @@ impl KeptOffer {
 
     /// Returns whether this entry covers the globals and functions of `scope`.
     fn is_current(&self, scope: &Scope<'_>) -> bool
-        ensures { IsTrue result ↔ ((self.now.globals_seen ≡ scope.now.visible) × (self.now.funcs_seen ≡ length (context_of scope.now).funcs)) }
+        ensures { IsTrue result ↔ ((self.now.globals_seen ≡ scope.now.visible)
+            × (self.now.funcs_seen ≡ length (context_of scope.now).funcs)) }
     {
         let entities = scope.spaces.entities;
         self.globals_seen == scope.visible && self.funcs_seen == entities.funcs.len()
@@ -267,7 +274,8 @@ impl KeptOffer {
         requires scope { IsScope (context_of scope.now) }
         requires kept { IsKeptOffer (context_of scope.now) self.old }
         requires source { IsKeptOffer (context_of scope.now) source.now }
-        requires wider { IsTrue (is_val_below (context_of scope.now).types self.old.wanted source.now.wanted) }
+        requires wider { IsTrue
+            (is_val_below (context_of scope.now).types self.old.wanted source.now.wanted) }
         ensures kept { OnOk result (IsKeptOffer (context_of scope.now) self.new) }
         ensures wanted { OnOk result (self.new.wanted ≡ self.old.wanted) }
         ensures memory { IfErr result (λ e. e ≡ Error.Memory) }
@@ -286,7 +294,8 @@ impl KeptOffer {
         requires source { IsKeptOffer (context_of scope.now) source.now }
         requires before { self.old.globals_seen ≤ scope.now.visible }
         requires current { source.now.globals_seen ≡ scope.now.visible }
-        requires wider { IsTrue (is_val_below (context_of scope.now).types self.old.wanted source.now.wanted) }
+        requires wider { IsTrue
+            (is_val_below (context_of scope.now).types self.old.wanted source.now.wanted) }
         ensures kept { OnOk result (IsKeptOffer (context_of scope.now) self.new) }
         ensures wanted { OnOk result (self.new.wanted ≡ self.old.wanted) }
         ensures memory { IfErr result (λ e. e ≡ Error.Memory) }

@@ -1,6 +1,7 @@
 //! Drawn constant expressions, by a list of tasks and with fuel.
 
-ghost use Rattle.std.specs.Prelude.{◌≡◌, ◌≤◌, ◌↔◌, ℕ, Some, None, [], length, IsTrue, IfOk, IfErr, IfSome, IsSome, false, All, OnOk};
+ghost use Rattle.std.specs.Prelude.{◌≡◌, ◌≤◌, ◌↔◌, ℕ, Some, None, [], length, IsTrue, IfOk, IfErr};
+ghost use Rattle.std.specs.Prelude.{IfSome, IsSome, false, All, OnOk};
 ghost use Rattle.std.specs.List.{Contains};
 ghost use Rattle.smith_bytes.specs.Source.{KeepsPieces};
 ghost use Rattle.smith_bytes.specs.Takes.{Takes};
@@ -65,14 +66,24 @@ pub fn arbitrary_const_expr(
     u: &mut Unstructured<'_>,
 ) -> Result<Items<ConstInstr>, Error>
     requires standing { AreSpacesValid config.now spaces.now }
-    requires wanted { IsValTypeValid (features_of config.now) (length spaces.now.types.now.types) wanted }
-    ensures exact { IfOk result (λ drawn. const_expr_at config.now (seen_by config.now spaces.now allow_defined) wanted u.old ≡ Some (drawn, u.new)) }
-    ensures none { IfErr result (λ e. e ≡ Error.EmptyChoose → const_expr_at config.now (seen_by config.now spaces.now allow_defined) wanted u.old ≡ None) }
+    requires wanted { IsValTypeValid (features_of config.now)
+        (length spaces.now.types.now.types) wanted }
+    ensures exact { IfOk result (λ drawn.
+        const_expr_at config.now (seen_by config.now spaces.now allow_defined) wanted u.old
+        ≡ Some (drawn, u.new)) }
+    ensures none { IfErr result (λ e. e ≡ Error.EmptyChoose
+        → const_expr_at config.now (seen_by config.now spaces.now allow_defined) wanted u.old
+        ≡ None) }
     ensures typed { IfOk result (IsConstExpr (seen_by config.now spaces.now allow_defined) wanted) }
-    ensures short { IfOk result (λ drawn. length drawn ≤ most_instructions config.now spaces.now.types.now.types) }
-    ensures floats { All HasNoFloat spaces.now.types.now.types → IsNoFloat wanted → IfOk result (All GivesNoFloat) }
-    ensures refusal { IfErr result (MayRefuseConstExpr config.now (standing_in config.now spaces.now) wanted) }
-    ensures reach { wanted ≡ I32 → readable_globals (seen_by config.now spaces.now allow_defined) I32 ≡ [] → IfOk result (λ drawn. Takes (SpellsConstExpr config.now) u.old drawn u.new) }
+    ensures short { IfOk result (λ drawn.
+        length drawn ≤ most_instructions config.now spaces.now.types.now.types) }
+    ensures floats { All HasNoFloat spaces.now.types.now.types → IsNoFloat wanted
+        → IfOk result (All GivesNoFloat) }
+    ensures refusal { IfErr result
+        (MayRefuseConstExpr config.now (standing_in config.now spaces.now) wanted) }
+    ensures reach { wanted ≡ I32
+        → readable_globals (seen_by config.now spaces.now allow_defined) I32 ≡ []
+        → IfOk result (λ drawn. Takes (SpellsConstExpr config.now) u.old drawn u.new) }
     ensures left { KeepsPieces u.old u.new }
 {
     let mut kept = KeptOffers::new(alloc);
@@ -91,16 +102,27 @@ pub fn draw_const_expr(
     u: &mut Unstructured<'_>,
 ) -> Result<Items<ConstInstr>, Error>
     requires standing { AreSpacesValid config.now spaces.now }
-    requires wanted { IsValTypeValid (features_of config.now) (length spaces.now.types.now.types) wanted }
+    requires wanted { IsValTypeValid (features_of config.now)
+        (length spaces.now.types.now.types) wanted }
     requires kept { AreKeptOffers (seen_by config.now spaces.now allow_defined) kept.old }
-    ensures exact { IfOk result (λ drawn. const_expr_at config.now (seen_by config.now spaces.now allow_defined) wanted u.old ≡ Some (drawn, u.new)) }
-    ensures none { IfErr result (λ e. e ≡ Error.EmptyChoose → const_expr_at config.now (seen_by config.now spaces.now allow_defined) wanted u.old ≡ None) }
+    ensures exact { IfOk result (λ drawn.
+        const_expr_at config.now (seen_by config.now spaces.now allow_defined) wanted u.old
+        ≡ Some (drawn, u.new)) }
+    ensures none { IfErr result (λ e. e ≡ Error.EmptyChoose
+        → const_expr_at config.now (seen_by config.now spaces.now allow_defined) wanted u.old
+        ≡ None) }
     ensures typed { IfOk result (IsConstExpr (seen_by config.now spaces.now allow_defined) wanted) }
-    ensures short { IfOk result (λ drawn. length drawn ≤ most_instructions config.now spaces.now.types.now.types) }
-    ensures floats { All HasNoFloat spaces.now.types.now.types → IsNoFloat wanted → IfOk result (All GivesNoFloat) }
-    ensures kept { OnOk result (AreKeptOffers (seen_by config.now spaces.now allow_defined) kept.new) }
-    ensures refusal { IfErr result (MayRefuseConstExpr config.now (standing_in config.now spaces.now) wanted) }
-    ensures reach { wanted ≡ I32 → readable_globals (seen_by config.now spaces.now allow_defined) I32 ≡ [] → IfOk result (λ drawn. Takes (SpellsConstExpr config.now) u.old drawn u.new) }
+    ensures short { IfOk result (λ drawn.
+        length drawn ≤ most_instructions config.now spaces.now.types.now.types) }
+    ensures floats { All HasNoFloat spaces.now.types.now.types → IsNoFloat wanted
+        → IfOk result (All GivesNoFloat) }
+    ensures kept { OnOk result
+        (AreKeptOffers (seen_by config.now spaces.now allow_defined) kept.new) }
+    ensures refusal { IfErr result
+        (MayRefuseConstExpr config.now (standing_in config.now spaces.now) wanted) }
+    ensures reach { wanted ≡ I32
+        → readable_globals (seen_by config.now spaces.now allow_defined) I32 ≡ []
+        → IfOk result (λ drawn. Takes (SpellsConstExpr config.now) u.old drawn u.new) }
     ensures left { KeepsPieces u.old u.new }
 {
     let _types = spaces.types.types();
@@ -135,18 +157,26 @@ pub fn arbitrary_table_init(
     u: &mut Unstructured<'_>,
 ) -> Result<Option<Items<ConstInstr>>, Error>
     requires standing { AreSpacesValid config.now spaces.now }
-    requires element { IsRefTypeValid (features_of config.now) (length spaces.now.types.now.types) element }
+    requires element { IsRefTypeValid (features_of config.now)
+        (length spaces.now.types.now.types) element }
     requires created { element.nullable ≡ false → IsTrue config.now.gc_enabled }
     requires references { IsTrue config.now.gc_enabled → IsTrue config.now.reference_types_enabled }
-    ensures exact { IfOk result (λ initial. table_init_at config.now (seen_by config.now spaces.now false) element u.old ≡ Some (initial, u.new)) }
-    ensures none { IfErr result (λ e. e ≡ Error.EmptyChoose → table_init_at config.now (seen_by config.now spaces.now false) element u.old ≡ None) }
-    ensures typed { IfOk result (λ initial. IfSome initial (IsConstExpr (seen_by config.now spaces.now false) (Ref element))) }
-    ensures short { IfOk result (λ initial. IfSome initial (λ drawn. length drawn ≤ most_instructions config.now spaces.now.types.now.types)) }
-    ensures floats { All HasNoFloat spaces.now.types.now.types → IfOk result (λ initial. IfSome initial (All GivesNoFloat)) }
+    ensures exact { IfOk result (λ initial.
+        table_init_at config.now (seen_by config.now spaces.now false) element u.old
+        ≡ Some (initial, u.new)) }
+    ensures none { IfErr result (λ e. e ≡ Error.EmptyChoose
+        → table_init_at config.now (seen_by config.now spaces.now false) element u.old ≡ None) }
+    ensures typed { IfOk result (λ initial.
+        IfSome initial (IsConstExpr (seen_by config.now spaces.now false) (Ref element))) }
+    ensures short { IfOk result (λ initial. IfSome initial (λ drawn.
+        length drawn ≤ most_instructions config.now spaces.now.types.now.types)) }
+    ensures floats { All HasNoFloat spaces.now.types.now.types
+        → IfOk result (λ initial. IfSome initial (All GivesNoFloat)) }
     ensures gc { IfOk result (λ initial. IsSome initial → IsTrue config.now.gc_enabled) }
     ensures without_gc { config.now.gc_enabled ≡ false → result ≡ Ok None }
     ensures needed { element.nullable ≡ false → IfOk result IsSome }
-    ensures refusal { IfErr result (MayRefuseConstExpr config.now (standing_in config.now spaces.now) (Ref element)) }
+    ensures refusal { IfErr result
+        (MayRefuseConstExpr config.now (standing_in config.now spaces.now) (Ref element)) }
     ensures left { KeepsPieces u.old u.new }
 {
     let mut kept = KeptOffers::new(alloc);
@@ -165,20 +195,28 @@ pub fn draw_table_init(
     u: &mut Unstructured<'_>,
 ) -> Result<Option<Items<ConstInstr>>, Error>
     requires standing { AreSpacesValid config.now spaces.now }
-    requires element { IsRefTypeValid (features_of config.now) (length spaces.now.types.now.types) element }
+    requires element { IsRefTypeValid (features_of config.now)
+        (length spaces.now.types.now.types) element }
     requires created { element.nullable ≡ false → IsTrue config.now.gc_enabled }
     requires references { IsTrue config.now.gc_enabled → IsTrue config.now.reference_types_enabled }
     requires kept { AreKeptOffers (seen_by config.now spaces.now false) kept.old }
-    ensures exact { IfOk result (λ initial. table_init_at config.now (seen_by config.now spaces.now false) element u.old ≡ Some (initial, u.new)) }
-    ensures none { IfErr result (λ e. e ≡ Error.EmptyChoose → table_init_at config.now (seen_by config.now spaces.now false) element u.old ≡ None) }
-    ensures typed { IfOk result (λ initial. IfSome initial (IsConstExpr (seen_by config.now spaces.now false) (Ref element))) }
-    ensures short { IfOk result (λ initial. IfSome initial (λ drawn. length drawn ≤ most_instructions config.now spaces.now.types.now.types)) }
-    ensures floats { All HasNoFloat spaces.now.types.now.types → IfOk result (λ initial. IfSome initial (All GivesNoFloat)) }
+    ensures exact { IfOk result (λ initial.
+        table_init_at config.now (seen_by config.now spaces.now false) element u.old
+        ≡ Some (initial, u.new)) }
+    ensures none { IfErr result (λ e. e ≡ Error.EmptyChoose
+        → table_init_at config.now (seen_by config.now spaces.now false) element u.old ≡ None) }
+    ensures typed { IfOk result (λ initial.
+        IfSome initial (IsConstExpr (seen_by config.now spaces.now false) (Ref element))) }
+    ensures short { IfOk result (λ initial. IfSome initial (λ drawn.
+        length drawn ≤ most_instructions config.now spaces.now.types.now.types)) }
+    ensures floats { All HasNoFloat spaces.now.types.now.types
+        → IfOk result (λ initial. IfSome initial (All GivesNoFloat)) }
     ensures gc { IfOk result (λ initial. IsSome initial → IsTrue config.now.gc_enabled) }
     ensures without_gc { config.now.gc_enabled ≡ false → result ≡ Ok None }
     ensures needed { element.nullable ≡ false → IfOk result IsSome }
     ensures kept { OnOk result (AreKeptOffers (seen_by config.now spaces.now false) kept.new) }
-    ensures refusal { IfErr result (MayRefuseConstExpr config.now (standing_in config.now spaces.now) (Ref element)) }
+    ensures refusal { IfErr result
+        (MayRefuseConstExpr config.now (standing_in config.now spaces.now) (Ref element)) }
     ensures left { KeepsPieces u.old u.new }
 {
     if !config.gc_enabled {
@@ -208,9 +246,12 @@ pub fn globals_for_const_expr(
     allow_defined: bool,
 ) -> Result<Items<u32>, Error>
     requires standing { AreSpacesValid config.now spaces.now }
-    requires wanted { IsValTypeValid (features_of config.now) (length spaces.now.types.now.types) wanted }
-    ensures exact { IfOk result (λ globals. globals ≡ readable_globals (seen_by config.now spaces.now allow_defined) wanted) }
-    ensures readable { IfOk result (λ globals. (index : ℕ) → Contains globals index ↔ IsReadable (seen_by config.now spaces.now allow_defined) wanted index) }
+    requires wanted { IsValTypeValid (features_of config.now)
+        (length spaces.now.types.now.types) wanted }
+    ensures exact { IfOk result (λ globals.
+        globals ≡ readable_globals (seen_by config.now spaces.now allow_defined) wanted) }
+    ensures readable { IfOk result (λ globals. (index : ℕ) → Contains globals index
+        ↔ IsReadable (seen_by config.now spaces.now allow_defined) wanted index) }
     ensures memory { IfErr result (λ e. e ≡ Error.Memory) }
 {
     let _types = spaces.types.types();

@@ -1,6 +1,8 @@
-ghost use Rattle.std.specs.Prelude.{◌≡◌, ◌≤◌, ◌<◌, ◌++◌, [], ◌∷◌, map, length, slice_get, Some, IfOk, IfErr, OnOk};
+ghost use Rattle.std.specs.Prelude.{◌≡◌, ◌≤◌, ◌<◌, ◌++◌, [], ◌∷◌, map, length, slice_get, Some};
+ghost use Rattle.std.specs.Prelude.{IfOk, IfErr, OnOk};
 ghost use Rattle.smith_draw.specs.Drawing.{Draws};
-ghost use Rattle.smith_draw.specs.ConstNodes.{fields_there, field_operands, repeated, is_shared_heap, converted, node_of, node_at};
+ghost use Rattle.smith_draw.specs.ConstNodes.{fields_there, field_operands, repeated};
+ghost use Rattle.smith_draw.specs.ConstNodes.{is_shared_heap, converted, node_of, node_at};
 ghost use Rattle.smith_draw.specs.ConstScopes.{fields_of};
 ghost use Rattle.smith_types.specs.Expressions.{field_values};
 ghost use Rattle.smith_types.specs.declared.value_type.ValType.TheVariants.{I32};
@@ -97,7 +99,9 @@ fn of_value(alloc: Global, value: ValType, instruction: ConstInstr) -> Result<No
 
 /// Returns the node of an array that repeats one element. The length follows the element.
 fn array(alloc: Global, types: &[SubType], index: u32) -> Result<Node, Error>
-    ensures exact { IfOk result (λ node. node ≡ node_of (field_operands types.now index ++ Operand.Length ∷ []) (ConstInstr.ArrayNew index)) }
+    ensures exact { IfOk result (λ node. node
+        ≡ node_of (field_operands types.now index ++ Operand.Length ∷ [])
+        (ConstInstr.ArrayNew index)) }
     ensures memory { IfErr result (λ e. e ≡ Error.Memory) }
 {
     let mut node = of_fields(alloc, types, index, ConstInstr::ArrayNew(index))?;
@@ -113,7 +117,8 @@ fn of_fields(
     index: u32,
     instruction: ConstInstr,
 ) -> Result<Node, Error>
-    ensures exact { IfOk result (λ node. node ≡ node_of (field_operands types.now index) instruction) }
+    ensures exact { IfOk result (λ node.
+        node ≡ node_of (field_operands types.now index) instruction) }
     ensures memory { IfErr result (λ e. e ≡ Error.Memory) }
 {
     let mut operands = Items::new(alloc);
@@ -153,7 +158,8 @@ fn push_repeated(
     index: u32,
     times: u32,
 ) -> Result<(), Error>
-    ensures ok { OnOk result (operands.new ≡ operands.old ++ repeated times (field_operands types.now index)) }
+    ensures ok { OnOk result
+        (operands.new ≡ operands.old ++ repeated times (field_operands types.now index)) }
     ensures memory { IfErr result (λ e. e ≡ Error.Memory) }
 {
     for _ in 0..times {
@@ -175,7 +181,8 @@ fn push_fields(operands: &mut Items<Operand>, types: &[SubType], index: u32) -> 
 }
 
 fn push_fields_of(operands: &mut Items<Operand>, inner: &CompositeInnerType) -> Result<(), Error>
-    ensures ok { OnOk result (operands.new ≡ operands.old ++ map Value (field_values (fields_of inner.now))) }
+    ensures ok { OnOk result
+        (operands.new ≡ operands.old ++ map Value (field_values (fields_of inner.now))) }
     ensures memory { IfErr result (λ e. e ≡ Error.Memory) }
 {
     match inner {

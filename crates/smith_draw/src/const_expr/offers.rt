@@ -1,4 +1,5 @@
-ghost use Rattle.std.specs.Prelude.{◌≡◌, ◌<◌, ◌++◌, [], ◌∷◌, length, take, Some, IfOk, IfErr, IfSome};
+ghost use Rattle.std.specs.Prelude.{◌≡◌, ◌<◌, ◌++◌, [], ◌∷◌, length, take, Some, IfOk, IfErr};
+ghost use Rattle.std.specs.Prelude.{IfSome};
 ghost use Rattle.smith_types.specs.Subtyping.{IsValInRange};
 ghost use Rattle.smith_types.specs.Expressions.{unpacked};
 ghost use Rattle.smith_types.specs.Grounded.{is_defaultable, are_defaultable};
@@ -67,7 +68,8 @@ fn past_globals(
     requires scope { IsScope (context_of scope.now) }
     requires upper { IsValInRange (context_of scope.now).types wanted }
     requires kept { IfSome kept (λ offer. IsWhole (context_of scope.now) wanted offer.now) }
-    ensures { result ≡ past (each_from (global_offers (context_of scope.now) wanted) 0 (take scope.now.visible (context_of scope.now).globals)) place }
+    ensures { result ≡ past (each_from (global_offers (context_of scope.now) wanted) 0
+        (take scope.now.visible (context_of scope.now).globals)) place }
 {
     match kept {
         Some(kept) => kept.past_globals(place),
@@ -79,7 +81,8 @@ fn past_globals(
 fn past_each_global(scope: &Scope<'_>, wanted: ValType, place: usize) -> Result<usize, Choice>
     requires scope { IsScope (context_of scope.now) }
     requires upper { IsValInRange (context_of scope.now).types wanted }
-    ensures { result ≡ past (each_from (global_offers (context_of scope.now) wanted) 0 (take scope.now.visible (context_of scope.now).globals)) place }
+    ensures { result ≡ past (each_from (global_offers (context_of scope.now) wanted) 0
+        (take scope.now.visible (context_of scope.now).globals)) place }
 {
     let entities = scope.spaces.entities;
     let globals = &entities.globals[..scope.visible];
@@ -112,7 +115,8 @@ fn past_references(
     requires scope { IsScope (context_of scope.now) }
     requires upper { IsValInRange (context_of scope.now).types wanted }
     requires kept { IfSome kept (λ offer. IsWhole (context_of scope.now) wanted offer.now) }
-    ensures { result ≡ past (reference_offers scope.now.config.now (context_of scope.now) wanted fuel) place }
+    ensures { result
+        ≡ past (reference_offers scope.now.config.now (context_of scope.now) wanted fuel) place }
 {
     match wanted {
         ValType::Ref(reference) => {
@@ -135,7 +139,8 @@ fn past_functions(
     requires scope { IsScope (context_of scope.now) }
     requires upper { IsValInRange (context_of scope.now).types wanted }
     requires kept { IfSome kept (λ offer. IsWhole (context_of scope.now) wanted offer.now) }
-    ensures { result ≡ past (each_from (function_offers (context_of scope.now) wanted) 0 (context_of scope.now).funcs) place }
+    ensures { result ≡ past (each_from (function_offers (context_of scope.now) wanted) 0
+        (context_of scope.now).funcs) place }
 {
     match kept {
         Some(kept) => kept.past_funcs(place),
@@ -147,7 +152,8 @@ fn past_functions(
 fn past_each_function(scope: &Scope<'_>, wanted: ValType, place: usize) -> Result<usize, Choice>
     requires scope { IsScope (context_of scope.now) }
     requires upper { IsValInRange (context_of scope.now).types wanted }
-    ensures { result ≡ past (each_from (function_offers (context_of scope.now) wanted) 0 (context_of scope.now).funcs) place }
+    ensures { result ≡ past (each_from (function_offers (context_of scope.now) wanted) 0
+        (context_of scope.now).funcs) place }
 {
     let entities = scope.spaces.entities;
     let funcs = entities.funcs;
@@ -169,7 +175,8 @@ fn past_created(
 ) -> Result<usize, Choice>
     requires scope { IsScope (context_of scope.now) }
     requires upper { IsValInRange (context_of scope.now).types (Ref wanted) }
-    ensures { result ≡ past (created_offers scope.now.config.now (context_of scope.now) wanted fuel) place }
+    ensures { result
+        ≡ past (created_offers scope.now.config.now (context_of scope.now) wanted fuel) place }
 {
     let place = past_types(scope, ValType::Ref(wanted), fuel, false, place)?;
     let place = past_types(scope, ValType::Ref(wanted), fuel, true, place)?;
@@ -211,7 +218,8 @@ fn past_type(
 ) -> Result<usize, Choice>
     requires there { index < length (context_of scope.now).types }
     requires upper { IsValInRange (context_of scope.now).types wanted }
-    ensures { result ≡ past (type_offers (context_of scope.now) wanted fuel arrays index inner.now) place }
+    ensures { result
+        ≡ past (type_offers (context_of scope.now) wanted fuel arrays index inner.now) place }
 {
     match inner {
         CompositeInnerType::Struct(structure) => {
@@ -259,7 +267,8 @@ fn past_array_ways(index: u32, element: FieldType, place: usize) -> Result<usize
 #[tactic(auto, using(crate::proofs::ConstFoundLemmas::past_append, crate::proofs::ConstFoundLemmas::past_front), unfolding(crate::specs::ConstOffers::past))]
 fn past_others(scope: &Scope<'_>, wanted: RefType, fuel: u32, place: usize) -> Result<usize, Choice>
     requires upper { IsValInRange (context_of scope.now).types (Ref wanted) }
-    ensures { result ≡ past (other_offers scope.now.config.now (context_of scope.now) wanted fuel) place }
+    ensures { result
+        ≡ past (other_offers scope.now.config.now (context_of scope.now) wanted fuel) place }
 {
     if fuel == 0 {
         return Ok(place);

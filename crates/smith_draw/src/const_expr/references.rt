@@ -74,7 +74,8 @@ pub(super) fn function_reference(scope: &Scope<'_>, function: usize, index: u32)
 pub(super) fn gives(scope: &Scope<'_>, index: u32, wanted: ValType) -> bool
     requires there { index < length (context_of scope.now).types }
     requires upper { IsValInRange (context_of scope.now).types wanted }
-    ensures { result ≡ is_val_below (context_of scope.now).types (created (context_of scope.now) index) wanted }
+    ensures { result
+        ≡ is_val_below (context_of scope.now).types (created (context_of scope.now) index) wanted }
 {
     is_below(scope.spaces.types, created(scope, index), wanted)
 }
@@ -93,7 +94,8 @@ fn nullable(ty: AbstractHeapType) -> ValType
 /// a type of unshared references.
 pub(super) fn widest(types: &TypeSpace, wanted: ValType) -> Option<ValType>
     requires { IsValInRange types.now.types wanted }
-    ensures { IfSome result (λ wider. IsValInRange types.now.types wider × IsTrue (is_val_below types.now.types wanted wider)) }
+    ensures { IfSome result (λ wider.
+        IsValInRange types.now.types wider × IsTrue (is_val_below types.now.types wanted wider)) }
 {
     use AbstractHeapType::{Any, Exn, Extern, Func};
     if !matches!(wanted, ValType::Ref(_)) {

@@ -17,7 +17,8 @@ pub(super) enum Task {
 /// Adds `node` to `tasks`, of which the last is the next. The operands of `node` become the next
 /// tasks, in order, and its instruction follows them.
 pub(super) fn push_node(node: &Node, tasks: &mut Vec<Task>) -> Result<(), Error>
-    ensures ok { OnOk result (reverse tasks.new.items ≡ map Draw node.now.operands ++ (Write node.now.instruction ∷ reverse tasks.old.items)) }
+    ensures ok { OnOk result (reverse tasks.new.items
+        ≡ map Draw node.now.operands ++ (Write node.now.instruction ∷ reverse tasks.old.items)) }
     ensures memory { IfErr result (λ e. e ≡ Error.Memory) }
 {
     tasks.push(Task::Write(node.instruction))?;
@@ -26,7 +27,8 @@ pub(super) fn push_node(node: &Node, tasks: &mut Vec<Task>) -> Result<(), Error>
 
 /// Adds `operands` to `tasks` in reverse order.
 fn push_operands(operands: &[Operand], tasks: &mut Vec<Task>) -> Result<(), Error>
-    ensures ok { OnOk result (reverse tasks.new.items ≡ map Draw operands.now ++ reverse tasks.old.items) }
+    ensures ok { OnOk result
+        (reverse tasks.new.items ≡ map Draw operands.now ++ reverse tasks.old.items) }
     ensures memory { IfErr result (λ e. e ≡ Error.Memory) }
 {
     for index in 0..operands.len() {

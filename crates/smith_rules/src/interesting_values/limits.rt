@@ -4,7 +4,8 @@ ghost use Rattle.std.specs.Prelude.{◌≡◌, ◌+◌, ◌≤◌, Any, All, IfO
 ghost use Rattle.smith_types.specs.Entities.{page_log2};
 ghost use Rattle.smith_types.specs.declared.entity_type.MemoryType.{MemoryType as Memory};
 ghost use Rattle.smith_rules.specs.InterestingValues.{IsNearTable, IsNearMemory, bytes_of};
-ghost use Rattle.smith_rules.specs.CollectedValues.{AreExactly, AddsNumbers, Wide, IsNearElements, IsBeside, IsNearBytes, IsNearLimit, distances};
+ghost use Rattle.smith_rules.specs.CollectedValues.{AreExactly, AddsNumbers, Wide, IsNearElements};
+ghost use Rattle.smith_rules.specs.CollectedValues.{IsBeside, IsNearBytes, IsNearLimit, distances};
 
 use smith_bytes::Error;
 use smith_types::{Items, MemoryType, TableType};
@@ -47,7 +48,8 @@ fn push_near_elements(numbers: &mut Items<u64>, limit: u64) -> Result<(), Error>
 }
 
 fn push_near_table(numbers: &mut Items<u64>, table: &TableType) -> Result<(), Error>
-    ensures adds { OnOk result (AddsNumbers (λ n. IsNearTable n table.now) numbers.old numbers.new) }
+    ensures adds { OnOk result
+        (AddsNumbers (λ n. IsNearTable n table.now) numbers.old numbers.new) }
     ensures memory { IfErr result (λ e. e ≡ Error.Memory) }
 {
     push_near_elements(numbers, table.minimum)?;
@@ -58,7 +60,8 @@ fn push_near_table(numbers: &mut Items<u64>, table: &TableType) -> Result<(), Er
 }
 
 fn push_distances(numbers: &mut Items<u64>, bytes: u64) -> Result<(), Error>
-    ensures adds { OnOk result (AddsNumbers (λ n. Any (λ distance. IsBeside bytes distance n) distances) numbers.old numbers.new) }
+    ensures adds { OnOk result (AddsNumbers
+        (λ n. Any (λ distance. IsBeside bytes distance n) distances) numbers.old numbers.new) }
     ensures memory { IfErr result (λ e. e ≡ Error.Memory) }
 {
     for distance in [1, 2, 4, 8, 16] {
@@ -85,7 +88,8 @@ fn bytes_of(memory: &MemoryType, pages: u64) -> u64
 
 fn push_near_memory(numbers: &mut Items<u64>, memory: &MemoryType) -> Result<(), Error>
     requires { page_log2 memory.now.page_size_log2 ≤ 16 }
-    ensures adds { OnOk result (AddsNumbers (λ n. IsNearMemory n memory.now) numbers.old numbers.new) }
+    ensures adds { OnOk result
+        (AddsNumbers (λ n. IsNearMemory n memory.now) numbers.old numbers.new) }
     ensures memory { IfErr result (λ e. e ≡ Error.Memory) }
 {
     push_near_bytes(numbers, bytes_of(memory, memory.minimum))?;
@@ -96,7 +100,8 @@ fn push_near_memory(numbers: &mut Items<u64>, memory: &MemoryType) -> Result<(),
 }
 
 fn push_near_tables(numbers: &mut Items<u64>, tables: &[TableType]) -> Result<(), Error>
-    ensures adds { OnOk result (AddsNumbers (λ n. Any (IsNearTable n) tables.now) numbers.old numbers.new) }
+    ensures adds { OnOk result
+        (AddsNumbers (λ n. Any (IsNearTable n) tables.now) numbers.old numbers.new) }
     ensures memory { IfErr result (λ e. e ≡ Error.Memory) }
 {
     for table in tables {
@@ -107,7 +112,8 @@ fn push_near_tables(numbers: &mut Items<u64>, tables: &[TableType]) -> Result<()
 
 fn push_near_memories(numbers: &mut Items<u64>, memories: &[MemoryType]) -> Result<(), Error>
     requires { All (λ (memory : Memory). page_log2 memory.page_size_log2 ≤ 16) memories.now }
-    ensures adds { OnOk result (AddsNumbers (λ n. Any (IsNearMemory n) memories.now) numbers.old numbers.new) }
+    ensures adds { OnOk result
+        (AddsNumbers (λ n. Any (IsNearMemory n) memories.now) numbers.old numbers.new) }
     ensures memory { IfErr result (λ e. e ≡ Error.Memory) }
 {
     for memory in memories {

@@ -24,7 +24,8 @@ fn place64(numbers: &[u64], number: u64) -> (usize, usize)
 // above it.
 fn put64<'a>(made: &mut Vec<u64>, rest: &'a [u64], number: u64) -> Result<&'a [u64], Error>
     requires { IsStrictlyIncreasing rest.now }
-    ensures put { IfOk result (λ left. IsInserted made.old.items rest.now number made.new.items left.now) }
+    ensures put { IfOk result (λ left.
+        IsInserted made.old.items rest.now number made.new.items left.now) }
     ensures memory { IfErr result (λ e. e ≡ Error.Memory) }
 {
     let (before, after) = place64(rest, number);
@@ -65,7 +66,8 @@ fn place32(numbers: &[u32], number: u32) -> (usize, usize)
 // above it.
 fn put32<'a>(made: &mut Vec<u32>, rest: &'a [u32], number: u32) -> Result<&'a [u32], Error>
     requires { IsStrictlyIncreasing rest.now }
-    ensures put { IfOk result (λ left. IsInserted made.old.items rest.now number made.new.items left.now) }
+    ensures put { IfOk result (λ left.
+        IsInserted made.old.items rest.now number made.new.items left.now) }
     ensures memory { IfErr result (λ e. e ≡ Error.Memory) }
 {
     let (before, after) = place32(rest, number);

@@ -40,7 +40,8 @@ fn in_order32(mut narrow: Vec<u32>) -> Result<Vec<u32>, Error>
 // Lists the values of 64 bits of a module: those of every module, and `near`, the values near its
 // limits.
 fn wide_values(alloc: Global, near: &[u64]) -> Result<Items<u64>, Error>
-    ensures those { (tables : List Table) (memories : List Memory) → AreExactly (Wide (IsNearLimit tables memories)) near.now
+    ensures those { (tables : List Table) (memories : List Memory)
+        → AreExactly (Wide (IsNearLimit tables memories)) near.now
         → IfOk result (AreAll (IsInteresting64 tables memories)) }
     ensures memory { IfErr result (λ e. e ≡ Error.Memory) }
 {
@@ -51,7 +52,8 @@ fn wide_values(alloc: Global, near: &[u64]) -> Result<Items<u64>, Error>
 // Lists the values of 32 bits of a module: the low halves of its values of 64 bits. `near` holds
 // the values near its limits.
 fn narrow_values(alloc: Global, near: &[u64]) -> Result<Items<u32>, Error>
-    ensures those { (tables : List Table) (memories : List Memory) → AreExactly (Wide (IsNearLimit tables memories)) near.now
+    ensures those { (tables : List Table) (memories : List Memory)
+        → AreExactly (Wide (IsNearLimit tables memories)) near.now
         → IfOk result (AreAll (IsInteresting32 tables memories)) }
     ensures memory { IfErr result (λ e. e ≡ Error.Memory) }
 {
@@ -72,8 +74,10 @@ pub fn collect_interesting_values(
     memories: &[MemoryType],
 ) -> Result<(Items<u32>, Items<u64>), Error>
     requires pages { All (λ (memory : Memory). page_log2 memory.page_size_log2 ≤ 16) memories.now }
-    ensures narrow { IfOk result (λ values. AreAll (IsInteresting32 tables.now memories.now) values.0) }
-    ensures wide { IfOk result (λ values. AreAll (IsInteresting64 tables.now memories.now) values.1) }
+    ensures narrow { IfOk result (λ values.
+        AreAll (IsInteresting32 tables.now memories.now) values.0) }
+    ensures wide { IfOk result (λ values.
+        AreAll (IsInteresting64 tables.now memories.now) values.1) }
     ensures memory { IfErr result (λ e. e ≡ Error.Memory) }
 {
     let near = near_limits(alloc, tables, memories)?;

@@ -5,7 +5,9 @@ ghost use Rattle.smith_bytes.specs.Source.{KeepsPieces};
 ghost use Rattle.smith_bytes.specs.declared.error.Which.TheVariants.{AvailableImports, ModuleShape};
 ghost use Rattle.smith_config.specs.Sanitized.{IsSanitized};
 ghost use Rattle.smith_config.specs.Shapes.{IsShapeValid, shape_imports, shape_types};
-ghost use Rattle.wasm_smith.specs.Begun.{begun_of, HasNothing, begun_by_module_at, begun_by_imports_at, begun_at, IsBegunByModule, IsBegunByImports, IsBegun, MayRefuseBegun};
+ghost use Rattle.wasm_smith.specs.Begun.{begun_of, HasNothing, begun_by_module_at};
+ghost use Rattle.wasm_smith.specs.Begun.{begun_by_imports_at, begun_at, IsBegunByModule};
+ghost use Rattle.wasm_smith.specs.Begun.{IsBegunByImports, IsBegun, MayRefuseBegun};
 ghost use Rattle.smith_types.specs.Imports.{imported_spaces};
 ghost use Rattle.smith_defined.specs.Defined.{drawn_beside, nothing_defined};
 ghost use Rattle.smith_rules.specs.Refusals.{AreShapesValid};
@@ -33,9 +35,12 @@ pub(crate) fn begin_with_module(
     requires sanitized { IsSanitized config.now }
     requires valid { IsShapeValid ModuleShape config.now shape.now }
     requires nothing { HasNothing drawn.old }
-    ensures exact { Returns is_memory (λ _. (begun_of drawn.new, u.new)) result (begun_by_module_at config.now shape.now u.old) }
+    ensures exact { Returns is_memory (λ _. (begun_of drawn.new, u.new)) result
+        (begun_by_module_at config.now shape.now u.old) }
     ensures begun { OnOk result (IsBegunByModule config.now shape.now drawn.new) }
-    ensures refusal { IfErr result (MayRefuseRequired config.now (drawn_beside config.now (shape_types shape.now) (imported_spaces (shape_imports shape.now)) nothing_defined) shape.now) }
+    ensures refusal { IfErr result
+        (MayRefuseRequired config.now (drawn_beside config.now (shape_types shape.now)
+        (imported_spaces (shape_imports shape.now)) nothing_defined) shape.now) }
     ensures left { KeepsPieces u.old u.new }
 {
     drawn.types = types_of_shape(alloc, shape)?;
@@ -65,7 +70,8 @@ pub(crate) fn begin_with_imports(
     requires sanitized { IsSanitized config.now }
     requires valid { IsShapeValid AvailableImports config.now shape.now }
     requires nothing { HasNothing drawn.old }
-    ensures exact { OnOk result (begun_by_imports_at config.now shape.now u.old ≡ (begun_of drawn.new, u.new)) }
+    ensures exact { OnOk result
+        (begun_by_imports_at config.now shape.now u.old ≡ (begun_of drawn.new, u.new)) }
     ensures begun { OnOk result (IsBegunByImports config.now shape.now u.old drawn.new) }
     ensures memory { IfErr result (λ e. e ≡ Error.Memory) }
     ensures left { KeepsPieces u.old u.new }
@@ -88,7 +94,8 @@ pub(crate) fn begin(
     requires sanitized { IsSanitized config.now }
     requires valid { AreShapesValid config.now }
     requires nothing { HasNothing drawn.old }
-    ensures exact { Returns is_memory (λ _. (begun_of drawn.new, u.new)) result (begun_at config.now u.old) }
+    ensures exact { Returns is_memory (λ _. (begun_of drawn.new, u.new)) result
+        (begun_at config.now u.old) }
     ensures begun { OnOk result (IsBegun config.now u.old drawn.new) }
     ensures refusal { IfErr result (MayRefuseBegun config.now) }
     ensures left { KeepsPieces u.old u.new }

@@ -12,7 +12,9 @@ ghost use Rattle.wasm_smith.specs.DrawnSteps.{AreExportsDrawn, drawn_next};
 ghost use Rattle.smith_defined.specs.Defined.{drawn_beside};
 ghost use Rattle.smith_rules.specs.Refusals.{AreShapesValid, MayRefuse};
 ghost use Rattle.wasm_smith.specs.Contents.{MayHoldContents, MayRefuseContents};
-ghost use Rattle.wasm_smith.specs.DrawnContents.{TellsImported, AreExportsMade, AreContents, HasGrantedContents, HasNoFloatContents, imported_in, behind_exports_at};
+ghost use Rattle.wasm_smith.specs.DrawnContents.{TellsImported, AreExportsMade, AreContents};
+ghost use Rattle.wasm_smith.specs.DrawnContents.{HasGrantedContents, HasNoFloatContents};
+ghost use Rattle.wasm_smith.specs.DrawnContents.{imported_in, behind_exports_at};
 ghost use Rattle.smith_imports.specs.Imported.{spaces_of};
 
 use crate::build::drawn::Drawn;
@@ -79,15 +81,25 @@ pub(crate) fn draw_behind_exports(
     made: Exports,
     u: &mut Unstructured<'_>,
 ) -> Result<Contents, Error>
-    requires may { MayHoldContents config.now types.now (spaces_of imported.now) imported.now.type_size }
-    requires told { TellsImported (imported_in imported.now) (spaces_of imported.now) definitions.now }
-    requires made { AreExportsMade config.now types.now.types (spaces_of imported.now) imported.now.type_size made }
-    ensures exact { ReturnsWhy (λ contents. (contents, u.new)) result (behind_exports_at config.now types.now.types (imported_in imported.now) (spaces_of imported.now) made u.old) }
-    ensures kept { IfOk result (AreContents config.now types.now.types (imported_in imported.now) (spaces_of imported.now) imported.now.type_size) }
+    requires may { MayHoldContents config.now types.now
+        (spaces_of imported.now) imported.now.type_size }
+    requires told { TellsImported (imported_in imported.now)
+        (spaces_of imported.now) definitions.now }
+    requires made { AreExportsMade config.now types.now.types
+        (spaces_of imported.now) imported.now.type_size made }
+    ensures exact { ReturnsWhy (λ contents. (contents, u.new)) result (behind_exports_at config.now
+        types.now.types (imported_in imported.now) (spaces_of imported.now) made u.old) }
+    ensures kept { IfOk result (AreContents config.now types.now.types (imported_in imported.now)
+        (spaces_of imported.now) imported.now.type_size) }
     ensures exports { IfOk result (λ contents. contents.exports ≡ made.exports) }
-    ensures floats { config.now.allow_floats ≡ false → All HasNoFloat types.now.types → IfOk result HasNoFloatContents }
-    ensures granted { IfOk result (HasGrantedContents config.now (drawn_beside config.now types.now.types (spaces_of imported.now) definitions.now) (spaces_of imported.now).tables) }
-    ensures refusal { IfErr result (MayRefuseContents config.now (drawn_beside config.now types.now.types (spaces_of imported.now) definitions.now) (spaces_of imported.now).tables) }
+    ensures floats { config.now.allow_floats ≡ false → All HasNoFloat types.now.types
+        → IfOk result HasNoFloatContents }
+    ensures granted { IfOk result (HasGrantedContents config.now
+        (drawn_beside config.now types.now.types (spaces_of imported.now) definitions.now)
+        (spaces_of imported.now).tables) }
+    ensures refusal { IfErr result (MayRefuseContents config.now
+        (drawn_beside config.now types.now.types (spaces_of imported.now) definitions.now)
+        (spaces_of imported.now).tables) }
     ensures left { KeepsPieces u.old u.new }
 {
     let encodes_types = draw_section_flag(types.types().len(), u);
@@ -120,12 +132,19 @@ pub(crate) fn draw_contents(
     requires sanitized { IsSanitized config.now }
     requires valid { AreShapesValid config.now }
     requires drawn { AreExportsDrawn config.now drawn.now }
-    requires made { AreExportsMade config.now drawn.now.types.types (spaces_in drawn.now.imported.spaces) drawn.now.imported.type_size made }
-    ensures exact { Returns is_lack (λ contents. (contents, u.new)) result (in_full (behind_exports_at config.now drawn.now.types.types (imported_in drawn.now.imported) (spaces_in drawn.now.imported.spaces) made u.old)) }
-    ensures kept { IfOk result (AreContents config.now drawn.now.types.types (imported_in drawn.now.imported) (spaces_in drawn.now.imported.spaces) drawn.now.imported.type_size) }
+    requires made { AreExportsMade config.now drawn.now.types.types
+        (spaces_in drawn.now.imported.spaces) drawn.now.imported.type_size made }
+    ensures exact { Returns is_lack (λ contents. (contents, u.new)) result
+        (in_full (behind_exports_at config.now drawn.now.types.types
+        (imported_in drawn.now.imported) (spaces_in drawn.now.imported.spaces) made u.old)) }
+    ensures kept { IfOk result
+        (AreContents config.now drawn.now.types.types (imported_in drawn.now.imported)
+        (spaces_in drawn.now.imported.spaces) drawn.now.imported.type_size) }
     ensures exports { IfOk result (λ contents. contents.exports ≡ made.exports) }
-    ensures floats { config.now.allow_floats ≡ false → All HasNoFloat drawn.now.types.types → IfOk result HasNoFloatContents }
-    ensures granted { IfOk result (HasGrantedContents config.now (drawn_next config.now drawn.now) drawn.now.imported.spaces.tables) }
+    ensures floats { config.now.allow_floats ≡ false → All HasNoFloat drawn.now.types.types
+        → IfOk result HasNoFloatContents }
+    ensures granted { IfOk result (HasGrantedContents config.now
+        (drawn_next config.now drawn.now) drawn.now.imported.spaces.tables) }
     ensures refusal { IfErr result (MayRefuse config.now) }
     ensures left { KeepsPieces u.old u.new }
 {

@@ -77,7 +77,8 @@ fn draw_parts(
     requires sanitized { IsSanitized config.now }
     requires valid { AreShapesValid config.now }
     requires nothing { HasNothing drawn.old }
-    ensures exact { Returns is_lack (λ _. (as_drawn (parts_of config.now drawn.new), u.new)) result (module_at distinct config.now u.old) }
+    ensures exact { Returns is_lack (λ _. (as_drawn (parts_of config.now drawn.new), u.new)) result
+        (module_at distinct config.now u.old) }
     ensures drawn { OnOk result (IsDrawnFor distinct config.now drawn.new) }
     ensures kept { OnOk result (KeepsShapes config.now u.old (parts_of config.now drawn.new)) }
     ensures refusal { IfErr result (MayRefuse config.now) }
@@ -111,13 +112,19 @@ pub(crate) fn draw(
     requires passes { Passes config.now }
     requires sanitized { IsSanitized config.now }
     requires valid { AreShapesValid config.now }
-    ensures exact { Returns is_lack (λ drawn. (as_drawn (parts_of config.now drawn.value), u.new)) result (module_at distinct config.now u.old) }
+    ensures exact { Returns is_lack (λ drawn. (as_drawn (parts_of config.now drawn.value), u.new))
+        result (module_at distinct config.now u.old) }
     ensures valid { IfOk result (λ drawn. IsValid (parts_of config.now drawn.value)) }
-    ensures bounds { IfOk result (λ drawn. KeepsBounds config.now (parts_of config.now drawn.value)) }
-    ensures minimums { IfOk result (λ drawn. MeetsMinimums config.now (parts_of config.now drawn.value)) }
-    ensures shapes { IfOk result (λ drawn. KeepsShapes config.now u.old (parts_of config.now drawn.value)) }
-    ensures promises { IfOk result (λ drawn. KeepsPromises distinct config.now (parts_of config.now drawn.value)) }
-    ensures interesting { IfOk result (λ drawn. HasInterestingValues (parts_of config.now drawn.value)) }
+    ensures bounds { IfOk result (λ drawn.
+        KeepsBounds config.now (parts_of config.now drawn.value)) }
+    ensures minimums { IfOk result (λ drawn.
+        MeetsMinimums config.now (parts_of config.now drawn.value)) }
+    ensures shapes { IfOk result (λ drawn.
+        KeepsShapes config.now u.old (parts_of config.now drawn.value)) }
+    ensures promises { IfOk result (λ drawn.
+        KeepsPromises distinct config.now (parts_of config.now drawn.value)) }
+    ensures interesting { IfOk result (λ drawn.
+        HasInterestingValues (parts_of config.now drawn.value)) }
     ensures refusal { IfErr result (MayRefuse config.now) }
     ensures left { KeepsPieces u.old u.new }
 {

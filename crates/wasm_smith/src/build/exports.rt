@@ -12,7 +12,8 @@ ghost use Rattle.wasm_smith.specs.Begun.{begun_of};
 ghost use Rattle.smith_bytes.specs.Steps.{Returns, is_lack};
 ghost use Rattle.wasm_smith.specs.Build.{exported_at, exports_of};
 ghost use Rattle.wasm_smith.specs.DrawnContents.{AreExportsMade};
-ghost use Rattle.wasm_smith.specs.DrawnSteps.{AreEntitiesDrawn, AreExportsDrawn, HasSameImports, IsBeyond};
+ghost use Rattle.wasm_smith.specs.DrawnSteps.{AreEntitiesDrawn, AreExportsDrawn, HasSameImports};
+ghost use Rattle.wasm_smith.specs.DrawnSteps.{IsBeyond};
 ghost use Rattle.smith_rules.specs.Refusals.{AreShapesValid, MayRefuse};
 ghost use Rattle.smith_rules.specs.ShapesKept.{IsSameExport, IsSameType};
 
@@ -38,14 +39,20 @@ pub(crate) fn make_exports(
     requires sanitized { IsSanitized config.now }
     requires valid { AreShapesValid config.now }
     requires entities { AreEntitiesDrawn config.now drawn.old }
-    ensures exact { Returns is_lack (λ made. (record (begun_of drawn.new) { exports = made.exports }, u.new)) result (exported_at config.now (begun_of drawn.old) u.old) }
-    ensures size { IfOk result (λ made. made ≡ exports_of config.now (record (begun_of drawn.new) { exports = made.exports })) }
+    ensures exact { Returns is_lack
+        (λ made. (record (begun_of drawn.new) { exports = made.exports }, u.new)) result
+        (exported_at config.now (begun_of drawn.old) u.old) }
+    ensures size { IfOk result (λ made.
+        made ≡ exports_of config.now (record (begun_of drawn.new) { exports = made.exports })) }
     ensures drawn { OnOk result (AreExportsDrawn config.now drawn.new) }
-    ensures made { IfOk result (AreExportsMade config.now drawn.new.types.types (spaces_in drawn.new.imported.spaces) drawn.new.imported.type_size) }
+    ensures made { IfOk result (AreExportsMade config.now drawn.new.types.types
+        (spaces_in drawn.new.imported.spaces) drawn.new.imported.type_size) }
     ensures kept { IfOk result (λ made. IfSome (shapes_of config.now).exports (λ shape.
-        AllZip (IsSameExport (IsSameType drawn.new.types.types (shape_types shape)) (spaces_in drawn.new.imported.spaces) (shape_spaces shape)) made.exports shape.exports)) }
+        AllZip (IsSameExport (IsSameType drawn.new.types.types (shape_types shape))
+        (spaces_in drawn.new.imported.spaces) (shape_spaces shape)) made.exports shape.exports)) }
     ensures imports { OnOk result (HasSameImports drawn.old.imported drawn.new.imported) }
-    ensures beyond { IfOk result (λ made. IsBeyond config.now (begun_of drawn.old) (record (begun_of drawn.new) { exports = made.exports })) }
+    ensures beyond { IfOk result (λ made. IsBeyond config.now (begun_of drawn.old)
+        (record (begun_of drawn.new) { exports = made.exports })) }
     ensures refusal { IfErr result (MayRefuse config.now) }
     ensures left { KeepsPieces u.old u.new }
 {

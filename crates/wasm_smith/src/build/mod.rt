@@ -45,7 +45,8 @@ pub(crate) fn build(
     requires passes { Passes config }
     requires sanitized { IsSanitized config }
     requires valid { AreShapesValid config }
-    ensures exact { Returns is_lack (λ m. (as_drawn m, u.new)) result (module_at distinct config u.old) }
+    ensures exact { Returns is_lack (λ m. (as_drawn m, u.new)) result
+        (module_at distinct config u.old) }
     ensures config { IfOk result (λ m. m.config ≡ record config { available_imports = None }) }
     ensures valid { IfOk result IsValid }
     ensures bounds { IfOk result (KeepsBounds config) }

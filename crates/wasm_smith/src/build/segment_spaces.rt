@@ -11,7 +11,8 @@ pub(crate) fn segment_spaces<'a>(
     imported_funcs: usize,
     imported_globals: usize,
 ) -> Spaces<'a>
-    ensures { AreSpacesOver types.now (spaces_in spaces.now) imported_funcs imported_globals result }
+    ensures { AreSpacesOver types.now
+        (spaces_in spaces.now) imported_funcs imported_globals result }
 {
     Spaces {
         types,

@@ -3,7 +3,8 @@ ghost use Rattle.smith_bytes.specs.Source.{KeepsPieces};
 ghost use Rattle.smith_types.specs.Floats.{HasNoFloat};
 ghost use Rattle.smith_defined.specs.Defined.{drawn_beside};
 ghost use Rattle.wasm_smith.specs.Contents.{MayHoldContents, MayRefuseContents};
-ghost use Rattle.wasm_smith.specs.DrawnContents.{TellsImported, AreSegmentsFit, HaveNoFloatItems, imported_in, all_segments_at};
+ghost use Rattle.wasm_smith.specs.DrawnContents.{TellsImported, AreSegmentsFit, HaveNoFloatItems};
+ghost use Rattle.wasm_smith.specs.DrawnContents.{imported_in, all_segments_at};
 ghost use Rattle.smith_config.specs.Granted.{HasGroundedItems, HasGroundedElements};
 ghost use Rattle.smith_imports.specs.Imported.{spaces_of};
 ghost use Rattle.smith_bytes.specs.Steps.{ReturnsWhy};
@@ -48,14 +49,25 @@ pub(crate) fn draw_segments(
     definitions: &Definitions,
     u: &mut Unstructured<'_>,
 ) -> Result<Segments, Error>
-    requires may { MayHoldContents config.now types.now (spaces_of imported.now) imported.now.type_size }
-    requires told { TellsImported (imported_in imported.now) (spaces_of imported.now) definitions.now }
-    ensures exact { ReturnsWhy (λ segments. (segments, u.new)) result (all_segments_at config.now types.now.types (imported_in imported.now) (spaces_of imported.now) u.old) }
-    ensures fit { IfOk result (AreSegmentsFit config.now types.now.types (imported_in imported.now) (spaces_of imported.now)) }
-    ensures floats { All HasNoFloat types.now.types → IfOk result (λ segments. HaveNoFloatItems segments.elements) }
-    ensures grounded { All (HasGroundedElements config.now (drawn_beside config.now types.now.types (spaces_of imported.now) definitions.now)) (spaces_of imported.now).tables
-        → IfOk result (λ segments. All (HasGroundedItems config.now (drawn_beside config.now types.now.types (spaces_of imported.now) definitions.now)) segments.elements) }
-    ensures refusal { IfErr result (MayRefuseContents config.now (drawn_beside config.now types.now.types (spaces_of imported.now) definitions.now) (spaces_of imported.now).tables) }
+    requires may { MayHoldContents config.now types.now
+        (spaces_of imported.now) imported.now.type_size }
+    requires told { TellsImported (imported_in imported.now)
+        (spaces_of imported.now) definitions.now }
+    ensures exact { ReturnsWhy (λ segments. (segments, u.new)) result (all_segments_at config.now
+        types.now.types (imported_in imported.now) (spaces_of imported.now) u.old) }
+    ensures fit { IfOk result (AreSegmentsFit config.now types.now.types (imported_in imported.now)
+        (spaces_of imported.now)) }
+    ensures floats { All HasNoFloat types.now.types
+        → IfOk result (λ segments. HaveNoFloatItems segments.elements) }
+    ensures grounded { All (HasGroundedElements config.now
+        (drawn_beside config.now types.now.types (spaces_of imported.now) definitions.now))
+        (spaces_of imported.now).tables
+        → IfOk result (λ segments. All (HasGroundedItems config.now
+        (drawn_beside config.now types.now.types (spaces_of imported.now) definitions.now))
+        segments.elements) }
+    ensures refusal { IfErr result (MayRefuseContents config.now
+        (drawn_beside config.now types.now.types (spaces_of imported.now) definitions.now)
+        (spaces_of imported.now).tables) }
     ensures left { KeepsPieces u.old u.new }
 {
     let imported_funcs = imported.spaces.funcs.len() - definitions.num_funcs;

@@ -8,7 +8,9 @@ ghost use Rattle.smith_config.specs.Sanitized.{IsSanitized};
 ghost use Rattle.wasm_smith.specs.Begun.{HasNothing, begun_of};
 ghost use Rattle.smith_bytes.specs.Steps.{Returns, is_lack};
 ghost use Rattle.wasm_smith.specs.Build.{begun_typed_at, imported_at, defined_at};
-ghost use Rattle.wasm_smith.specs.DrawnSteps.{AreTypesDrawn, AreImportsDrawn, AreFreeImports, AreEntitiesDrawn, HasSameImports, IsBeyond, KeepsBegun};
+ghost use Rattle.wasm_smith.specs.DrawnSteps.{AreTypesDrawn, AreImportsDrawn, AreFreeImports};
+ghost use Rattle.wasm_smith.specs.DrawnSteps.{AreEntitiesDrawn, HasSameImports, IsBeyond};
+ghost use Rattle.wasm_smith.specs.DrawnSteps.{KeepsBegun};
 ghost use Rattle.smith_rules.specs.Refusals.{AreShapesValid, MayRefuse};
 
 use crate::build::begun::begin;
@@ -33,7 +35,8 @@ pub(crate) fn begin_with_types(
     requires sanitized { IsSanitized config.now }
     requires valid { AreShapesValid config.now }
     requires nothing { HasNothing drawn.old }
-    ensures exact { Returns is_lack (λ _. (begun_of drawn.new, u.new)) result (begun_typed_at config.now u.old) }
+    ensures exact { Returns is_lack (λ _. (begun_of drawn.new, u.new)) result
+        (begun_typed_at config.now u.old) }
     ensures drawn { OnOk result (AreTypesDrawn config.now drawn.new) }
     ensures kept { OnOk result (KeepsBegun config.now u.old (begun_of drawn.new)) }
     ensures refusal { IfErr result (MayRefuse config.now) }
@@ -58,9 +61,11 @@ pub(crate) fn add_imports(
     requires passes { Passes config.now }
     requires sanitized { IsSanitized config.now }
     requires types { AreTypesDrawn config.now drawn.old }
-    ensures exact { Returns is_lack (λ _. (begun_of drawn.new, u.new)) result (imported_at distinct config.now (begun_of drawn.old) u.old) }
+    ensures exact { Returns is_lack (λ _. (begun_of drawn.new, u.new)) result
+        (imported_at distinct config.now (begun_of drawn.old) u.old) }
     ensures drawn { OnOk result (AreImportsDrawn config.now drawn.new) }
-    ensures free { (FixesImports config.now → ⊥) → OnOk result (AreFreeImports distinct config.now drawn.new.imported) }
+    ensures free { (FixesImports config.now → ⊥)
+        → OnOk result (AreFreeImports distinct config.now drawn.new.imported) }
     ensures beyond { OnOk result (IsBeyond config.now (begun_of drawn.old) (begun_of drawn.new)) }
     ensures refusal { IfErr result (MayRefuse config.now) }
     ensures left { KeepsPieces u.old u.new }
@@ -84,7 +89,8 @@ pub(crate) fn add_definitions(
     requires sanitized { IsSanitized config.now }
     requires valid { AreShapesValid config.now }
     requires imports { AreImportsDrawn config.now drawn.old }
-    ensures exact { Returns is_lack (λ _. (begun_of drawn.new, u.new)) result (defined_at config.now (begun_of drawn.old) u.old) }
+    ensures exact { Returns is_lack (λ _. (begun_of drawn.new, u.new)) result
+        (defined_at config.now (begun_of drawn.old) u.old) }
     ensures drawn { OnOk result (AreEntitiesDrawn config.now drawn.new) }
     ensures imports { OnOk result (HasSameImports drawn.old.imported drawn.new.imported) }
     ensures beyond { OnOk result (IsBeyond config.now (begun_of drawn.old) (begun_of drawn.new)) }
