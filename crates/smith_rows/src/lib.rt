@@ -1,6 +1,6 @@
 //! Tests of what the worked cases of `smith_cases` do not cover: the README's examples of the
-//! library, data that outlive a loan, the texts of errors and of plain data, and a writer that
-//! fails.
+//! library, data that outlive a loan, the texts of errors and of plain data, a writer that fails,
+//! and calls that lack memory.
 #![tactic(auto)]
 
 #[cfg(test)]
@@ -11,5 +11,7 @@ mod failing_writer;
 mod library_example;
 #[cfg(test)]
 mod loans;
+#[cfg(test)]
+mod memory;
 #[cfg(test)]
 mod pieces;

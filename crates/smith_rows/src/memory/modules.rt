@@ -1,7 +1,7 @@
-use crate::made_configurations::{
+use crate::memory::made_configurations::{
     config_of_memories, set_available_imports, set_exports, set_minimums, set_module_shape,
 };
-use crate::tries::{is_left, refused};
+use crate::memory::tries::{is_left, refused};
 use smith_bytes::{Error, Unstructured};
 use smith_config::Config;
 use smith_memory::{Ended, Tried, refusals};

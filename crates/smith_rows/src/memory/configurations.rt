@@ -1,6 +1,6 @@
-use crate::made_configurations::{config_of_memories, set_available_imports, set_exports};
-use crate::made_shapes::{one_of_each, ping_and_memory, three_memories};
-use crate::tries::refused;
+use crate::memory::made_configurations::{config_of_memories, set_available_imports, set_exports};
+use crate::memory::made_shapes::{one_of_each, ping_and_memory, three_memories};
+use crate::memory::tries::refused;
 use smith_bytes::{Error, Which};
 use smith_config::{Config, Shape};
 use smith_memory::{Ended, Tried, refusals};

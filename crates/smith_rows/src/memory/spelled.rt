@@ -1,5 +1,5 @@
-use crate::made_types::{function, with_type};
-use crate::tries::refused;
+use crate::memory::made_types::{function, with_type};
+use crate::memory::tries::refused;
 use smith_bytes::Error;
 use smith_config::Config;
 use smith_memory::{Ended, Tried, refusals};

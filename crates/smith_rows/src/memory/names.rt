@@ -1,4 +1,4 @@
-use crate::tries::is_left;
+use crate::memory::tries::is_left;
 use smith_bytes::{Error, Unstructured, unique_kebab_string, unique_string, unique_url};
 use smith_memory::{Ended, Tried, refusals};
 use std::alloc::{AllocError, Global};

@@ -1,4 +1,4 @@
-use crate::tries::refused;
+use crate::memory::tries::refused;
 use smith_bytes::{Error, Unstructured};
 use smith_config::Config;
 use smith_memory::{Ended, Tried, refusals};

@@ -1,4 +1,4 @@
-use crate::made_types::empty_struct;
+use crate::memory::made_types::empty_struct;
 use smith_bytes::Error;
 use smith_memory::{Ended, Tried, refusals};
 use smith_types::TypeSpace;

@@ -1,4 +1,4 @@
-use crate::made_types::{function, with, with_type};
+use crate::memory::made_types::{function, with, with_type};
 use smith_bytes::Error;
 use smith_config::Shape;
 use smith_types::{

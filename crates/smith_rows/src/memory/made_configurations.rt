@@ -1,4 +1,4 @@
-use crate::made_shapes::{one_of_each, ping_and_memory, three_memories};
+use crate::memory::made_shapes::{one_of_each, ping_and_memory, three_memories};
 use smith_bytes::Error;
 use smith_config::{Config, Shape};
 use std::alloc::Global;

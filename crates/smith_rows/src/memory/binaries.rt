@@ -1,4 +1,4 @@
-use crate::made_configurations::set_minimums;
+use crate::memory::made_configurations::set_minimums;
 use smith_bytes::{Error, Unstructured};
 use smith_config::Config;
 use smith_encode::{EncodeError, encode};
