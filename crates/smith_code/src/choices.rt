@@ -11,10 +11,8 @@ ghost use Rattle.smith_code_nodes.specs.Scopes.{AreLabels, IsScope, bare, where_
 
 use crate::families::{StatementFamily, ValueFamily, statement_families, value_families};
 use smith_bytes::{Error, Unstructured};
-use smith_code_aggregates::{
-    choose_cast, choose_cast_branch, choose_creation, choose_field_read, choose_field_write,
-    choose_kept_cast,
-};
+use smith_code_aggregates::{choose_creation, choose_field_read, choose_field_write};
+use smith_code_casts::{choose_cast, choose_cast_branch, choose_kept_cast};
 use smith_code_control::{
     Outcome, choose_any_block, choose_any_by_reference, choose_any_indirect, choose_any_tail_call,
     choose_any_throw, choose_any_try, choose_block, choose_branch, choose_by_reference,

@@ -195,7 +195,7 @@ impl<'a> Offer for StructOffer<'a> {
 }
 
 /// Whether a value may be a reference to a type.
-pub(crate) fn names_types(scope: &Scope<'_>) -> bool
+pub fn names_types(scope: &Scope<'_>) -> bool
     ensures { result ≡ names_types (bare scope.now) }
 {
     scope.features.contains(WasmFeatures::REFERENCE_TYPES)

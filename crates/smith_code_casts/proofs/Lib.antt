@@ -1,0 +1,2 @@
+pub mod CastLemmas
+pub mod CastBranchLemmas

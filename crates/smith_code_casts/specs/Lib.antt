@@ -1,0 +1,2 @@
+pub mod CastChoices
+pub mod CastBranchChoices
