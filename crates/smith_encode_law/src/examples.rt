@@ -1,4 +1,4 @@
-ghost use Rattle.std.specs.Prelude.{ℕ, ℤ, pos, negsuc, [], ◌∷◌, false, true, None};
+ghost use Rattle.std.specs.Prelude.{ℕ, ◌^◌, ◌≤◌, ℤ, pos, negsuc, List, [], ◌∷◌, length, false, true, None};
 ghost use Rattle.smith_binary.specs.Numbers.{IsUnsigned, IsSigned};
 ghost use Rattle.smith_types.specs.ExampleContexts.{context_with};
 ghost use Rattle.smith_types.specs.ExampleEntities.{memory, all_addresses, table};
@@ -13,9 +13,13 @@ ghost use Rattle.smith_types.specs.declared.segments.Elements.TheVariants.{Funct
 ghost use Rattle.smith_types.specs.declared.segments.Offset.TheVariants.{Const32};
 ghost use Rattle.smith_types.specs.declared.value_type.AbstractHeapType.TheVariants as heap;
 ghost use Rattle.smith_types.specs.declared.value_type.HeapType.TheVariants.{Concrete};
+ghost use Rattle.smith_types.specs.declared.value_type.ValType.{ValType};
+ghost use Rattle.smith_types.specs.declared.value_type.ValType.TheVariants.{I32};
+ghost use Rattle.smith_sections.specs.Codes.{IsLocals, IsLocalsWritten};
 ghost use Rattle.smith_sections.specs.Data.DataMode.{passive as kept, active as in_memory};
 ghost use Rattle.smith_sections.specs.Elements.{element_of, func_ref, func_items};
 ghost use Rattle.smith_sections.specs.Elements.Mode.{passive, active};
+ghost use Rattle.smith_sections.specs.Long.{IsLongBody};
 ghost use Rattle.smith_sections.specs.Modules.{IsModule};
 ghost use Rattle.smith_encode_law.specs.Examples.{empty_module};
 ghost use Rattle.smith_encode_law.specs.Segments.{IsElementTyped, IsDataTyped, AreListedAsFuncref};
@@ -99,4 +103,24 @@ fn data_segments()
         (record { bytes = []; mode = in_memory 0 (I32Const (pos 0) ∷ []) }) }
     ensures with_a_narrow_offset { ¬ IsDataTyped (context_with usual_features 3)
         (all_addresses ∷ []) (record { bytes = []; mode = in_memory 0 (I32Const (pos 0) ∷ []) }) }
+{}
+
+// Locals in runs. The grammar allows runs of no locals, of which there may be any number, and each
+// local that is written is a run of its own.
+fn runs_of_locals()
+    ensures of_no_local { IsLocals [] (0x01 ∷ 0x00 ∷ 0x7F ∷ []) }
+    ensures of_no_local_as_written { ¬ IsLocalsWritten [] (0x01 ∷ 0x00 ∷ 0x7F ∷ []) }
+    ensures of_two { IsLocals (I32 ∷ I32 ∷ []) (0x01 ∷ 0x02 ∷ 0x7F ∷ []) }
+    ensures of_two_as_written { ¬ IsLocalsWritten (I32 ∷ I32 ∷ []) (0x01 ∷ 0x02 ∷ 0x7F ∷ []) }
+    ensures one_by_one { IsLocalsWritten (I32 ∷ I32 ∷ [])
+        (0x02 ∷ 0x01 ∷ 0x7F ∷ 0x01 ∷ 0x7F ∷ []) }
+{}
+
+// Bodies that are too long to be written.
+fn lengths_of_bodies()
+    ensures no_local { ¬ IsLongBody ([], 0x00 ∷ 0x0B ∷ []) }
+    ensures one_local { ¬ IsLongBody (I32 ∷ [], 0x00 ∷ 0x0B ∷ []) }
+    ensures many_locals { (locals : List ValType) → 2 ^ 32 ≤ length locals
+        → IsLongBody (locals, 0x00 ∷ 0x0B ∷ []) }
+    ensures many_bytes { (bytes : List ℕ) → 2 ^ 32 ≤ length bytes → IsLongBody ([], bytes) }
 {}

@@ -1,4 +1,4 @@
-use Rattle.std.proofs.Common.{ℕ, false, None, [], ◌∷◌, pos, refl}
+use Rattle.std.proofs.Common.{false, None, [], ◌∷◌, pos, refl}
 use Rattle.std.proofs.lemmas.List.Elements.{All-from_recursion}
 use Rattle.smith_types.specs.declared.const_instr.ConstInstr.TheVariants.{I32Const, RefFunc}
 use Rattle.smith_types.specs.declared.value_type.HeapType.TheVariants.{Concrete}
