@@ -5,9 +5,9 @@ use Rattle.smith_sections.specs.Definitions.{IsInitialisedTable, IsTable}
 use Rattle.smith_sections.specs.Entities.{IsTableType}
 use Rattle.smith_sections.specs.Types.{IsRefType}
 use Rattle.smith_encode_law.proofs.CheckLemmas.{both}
-use Rattle.smith_instr_binary_examples.specs.ExampleSegments.{no_function}
-use Rattle.smith_instr_binary_examples.proofs.SpelledExamples.{small, null_spelled}
-use Rattle.smith_instr_binary_examples.proofs.forms.tables.Goals as goal
+use Rattle.smith_instr_binary_law.specs.ExampleSegments.{no_function}
+use Rattle.smith_instr_binary_law.proofs.SpelledExamples.{small, null_spelled}
+use Rattle.smith_instr_binary_law.proofs.examples.forms.tables.Goals as goal
 
 table_spelled : IsTableType (table funcref 1 None) (0x70 ∷ 0x00 ∷ 0x01 ∷ [])
 table_spelled = both (0x70 ∷ []) (0x00 ∷ 0x01 ∷ []) (IsRefType.short refl refl) (both (0x00 ∷ []) (0x01 ∷ []) refl (both (0x01 ∷ []) [] (small 64 1 (omega arith) (omega arith)) refl))

@@ -10,8 +10,8 @@ ghost use Rattle.smith_types.specs.declared.value_type.AbstractHeapType.TheVaria
 ghost use Rattle.smith_sections.specs.Data.{IsDataWritten, IsData, data_of};
 ghost use Rattle.smith_sections.specs.Definitions.{IsTableWritten, IsTable, initialised_table};
 ghost use Rattle.smith_sections.specs.Elements.{IsElementWritten, IsElement, element_of};
-ghost use Rattle.smith_instr_binary_examples.specs.ExampleSegments.{a_byte, a_function};
-ghost use Rattle.smith_instr_binary_examples.specs.ExampleSegments.{no_function, start};
+ghost use Rattle.smith_instr_binary_law.specs.ExampleSegments.{a_byte, a_function};
+ghost use Rattle.smith_instr_binary_law.specs.ExampleSegments.{no_function, start};
 
 // The forms in which tables and segments are written.
 fn tables()

@@ -4,9 +4,9 @@ use Rattle.smith_types.specs.declared.value_type.AbstractHeapType.TheVariants as
 use Rattle.smith_sections.specs.Instructions.{IsExpression, offset_of}
 use Rattle.smith_sections.specs.Types.{IsRefType}
 use Rattle.smith_encode_law.proofs.CheckLemmas.{both}
-use Rattle.smith_instr_binary_examples.specs.ExampleSegments.{no_function, start}
-use Rattle.smith_instr_binary_examples.proofs.SpelledExamples.{index, more_items, no_item, null_spelled, other_number, start_spelled}
-use Rattle.smith_instr_binary_examples.proofs.forms.lists_of_expressions.Goals as goal
+use Rattle.smith_instr_binary_law.specs.ExampleSegments.{no_function, start}
+use Rattle.smith_instr_binary_law.proofs.SpelledExamples.{index, more_items, no_item, null_spelled, other_number, start_spelled}
+use Rattle.smith_instr_binary_law.proofs.examples.forms.lists_of_expressions.Goals as goal
 
 pub returns-clause-first_table : goal.returns-clause-first_table
 returns-clause-first_table c =

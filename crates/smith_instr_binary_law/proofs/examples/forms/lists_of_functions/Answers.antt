@@ -3,9 +3,9 @@ use Rattle.smith_types.specs.declared.segments.ElementKind.TheVariants.{Active}
 use Rattle.smith_sections.specs.Elements.{IsElementIn, IsKindFuncs, element_of, first_funcs, table_funcs}
 use Rattle.smith_sections.specs.Instructions.{offset_of}
 use Rattle.smith_encode_law.proofs.CheckLemmas.{both}
-use Rattle.smith_instr_binary_examples.specs.ExampleSegments.{a_function, start}
-use Rattle.smith_instr_binary_examples.proofs.SpelledExamples.{index, one_function, other_number, start_spelled}
-use Rattle.smith_instr_binary_examples.proofs.forms.lists_of_functions.Goals as goal
+use Rattle.smith_instr_binary_law.specs.ExampleSegments.{a_function, start}
+use Rattle.smith_instr_binary_law.proofs.SpelledExamples.{index, one_function, other_number, start_spelled}
+use Rattle.smith_instr_binary_law.proofs.examples.forms.lists_of_functions.Goals as goal
 
 first_form : IsElementIn first_funcs (element_of (a_function (Active None start))) (0x00 ∷ 0x41 ∷ 0x00 ∷ 0x0B ∷ 0x01 ∷ 0x00 ∷ [])
 first_form =

@@ -3,8 +3,8 @@ use Rattle.smith_binary.specs.Numbers.{IsUnsigned}
 use Rattle.smith_binary.proofs.UnambiguousLemmas.{same_head}
 use Rattle.smith_encode_law.proofs.CheckLemmas.{both}
 use Rattle.smith_encode_law.proofs.HeadLemmas.{byte_begins, joined_begins}
-use Rattle.smith_instr_binary_examples.proofs.SpelledExamples.{prefixed}
-use Rattle.smith_instr_binary_examples.proofs.instructions.operators.Goals as goal
+use Rattle.smith_instr_binary_law.proofs.SpelledExamples.{prefixed}
+use Rattle.smith_instr_binary_law.proofs.examples.instructions.operators.Goals as goal
 
 two_bytes : IsUnsigned 32 3 (0x83 ∷ 0x00 ∷ [])
 unfolding IsUnsigned

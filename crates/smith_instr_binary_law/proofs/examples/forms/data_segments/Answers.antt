@@ -3,9 +3,9 @@ use Rattle.smith_types.specs.declared.segments.DataSegmentKind.TheVariants as da
 use Rattle.smith_sections.specs.Data.{IsDataIn, data_of, named_memory}
 use Rattle.smith_sections.specs.Instructions.{offset_of}
 use Rattle.smith_encode_law.proofs.CheckLemmas.{both}
-use Rattle.smith_instr_binary_examples.specs.ExampleSegments.{a_byte, start}
-use Rattle.smith_instr_binary_examples.proofs.SpelledExamples.{index, one_byte, other_number, start_spelled}
-use Rattle.smith_instr_binary_examples.proofs.forms.data_segments.Goals as goal
+use Rattle.smith_instr_binary_law.specs.ExampleSegments.{a_byte, start}
+use Rattle.smith_instr_binary_law.proofs.SpelledExamples.{index, one_byte, other_number, start_spelled}
+use Rattle.smith_instr_binary_law.proofs.examples.forms.data_segments.Goals as goal
 
 by_index : (memory : ℕ) → memory < 128 → IsDataIn named_memory (data_of (a_byte (data_kind.Active memory start))) (0x02 ∷ memory ∷ 0x41 ∷ 0x00 ∷ 0x0B ∷ 0x01 ∷ 0x2A ∷ [])
 by_index memory low =

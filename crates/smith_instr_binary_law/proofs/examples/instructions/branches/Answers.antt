@@ -5,8 +5,8 @@ use Rattle.smith_sections.specs.Instructions.{IsIndex}
 use Rattle.smith_instr.specs.declared.instr.Instr.TheVariants as instr
 use Rattle.smith_instr_binary.specs.Instructions.{IsInstr}
 use Rattle.smith_instr_binary_law.proofs.InstructionLemmas.{instr_same}
-use Rattle.smith_instr_binary_examples.proofs.SpelledExamples.{small, index, prefixed, no_item, more_items, table_of}
-use Rattle.smith_instr_binary_examples.proofs.instructions.branches.Goals as goal
+use Rattle.smith_instr_binary_law.proofs.SpelledExamples.{small, index, prefixed, no_item, more_items, table_of}
+use Rattle.smith_instr_binary_law.proofs.examples.instructions.branches.Goals as goal
 
 labels_spelled : IsList IsIndex (1 ∷ 0 ∷ []) (0x02 ∷ 0x01 ∷ 0x00 ∷ [])
 labels_spelled =

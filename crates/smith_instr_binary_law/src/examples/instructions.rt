@@ -1,8 +1,8 @@
 ghost use Rattle.std.specs.Prelude.{ℕ, List, [], ◌∷◌};
 ghost use Rattle.smith_instr.specs.declared.instr.Instr.TheVariants as instr;
 ghost use Rattle.smith_instr_binary.specs.Instructions.{IsInstr};
-ghost use Rattle.smith_instr_binary_examples.specs.ExampleInstructions.{add, all_true, cast};
-ghost use Rattle.smith_instr_binary_examples.specs.ExampleInstructions.{load_word, saturating};
+ghost use Rattle.smith_instr_binary_law.specs.ExampleInstructions.{add, all_true, cast};
+ghost use Rattle.smith_instr_binary_law.specs.ExampleInstructions.{load_word, saturating};
 
 fn operators()
     ensures sum { IsInstr add (0x6A ∷ []) }

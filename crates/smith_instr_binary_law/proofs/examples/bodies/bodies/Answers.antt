@@ -4,8 +4,8 @@ use Rattle.smith_sections.specs.Codes.{IsRun}
 use Rattle.smith_types.specs.declared.value_type.ValType.TheVariants.{I32}
 use Rattle.smith_instr.specs.declared.instr.Instr.TheVariants as instr
 use Rattle.smith_instr_binary.specs.Instructions.{IsInstr, IsExpr}
-use Rattle.smith_instr_binary_examples.proofs.SpelledExamples.{index, no_item, more_items}
-use Rattle.smith_instr_binary_examples.proofs.bodies.bodies.Goals as goal
+use Rattle.smith_instr_binary_law.proofs.SpelledExamples.{index, no_item, more_items}
+use Rattle.smith_instr_binary_law.proofs.examples.bodies.bodies.Goals as goal
 
 -- a run of a number of locals
 run_spelled : (count : ℕ) → count < 128 → IsRun (count, I32) (count ∷ 0x7F ∷ [])

@@ -16,8 +16,8 @@ use Rattle.smith_instr.specs.declared.instr.Instr.TheVariants as instr
 use Rattle.smith_instr_binary.specs.Instructions.{IsInstr}
 use Rattle.smith_instr_binary.specs.Memory.{IsMemArg}
 use Rattle.smith_instr_binary.specs.Nesting.{blocks_after, AreNested}
-use Rattle.smith_instr_binary_examples.specs.ExampleInstructions.{load_word}
-use Rattle.smith_instr_binary_examples.specs.ExampleSegments.{no_function, start}
+use Rattle.smith_instr_binary_law.specs.ExampleInstructions.{load_word}
+use Rattle.smith_instr_binary_law.specs.ExampleSegments.{no_function, start}
 
 -- an integer in one byte
 pub small : (bits n : ℕ) → n < 128 → n < 2 ^ bits → IsUnsigned bits n (n ∷ [])

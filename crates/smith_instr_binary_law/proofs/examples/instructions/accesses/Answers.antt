@@ -3,9 +3,9 @@ use Rattle.smith_encode_law.proofs.CheckLemmas.{both}
 use Rattle.smith_instr.specs.declared.memory.MemArg.{MemArg}
 use Rattle.smith_instr_binary.specs.Memory.{IsMemArg}
 use Rattle.smith_instr_binary_law.proofs.InstructionLemmas.{instr_same}
-use Rattle.smith_instr_binary_examples.specs.ExampleInstructions.{load_word}
-use Rattle.smith_instr_binary_examples.proofs.SpelledExamples.{small, index, loaded, align_of}
-use Rattle.smith_instr_binary_examples.proofs.instructions.accesses.Goals as goal
+use Rattle.smith_instr_binary_law.specs.ExampleInstructions.{load_word}
+use Rattle.smith_instr_binary_law.proofs.SpelledExamples.{small, index, loaded, align_of}
+use Rattle.smith_instr_binary_law.proofs.examples.instructions.accesses.Goals as goal
 
 named : (memory : ℕ) → memory < 128 → IsMemArg (record { align = 2; offset = 5; memory = memory }) (0x42 ∷ memory ∷ 0x05 ∷ [])
 named memory low =

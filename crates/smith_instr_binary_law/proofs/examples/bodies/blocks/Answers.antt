@@ -2,8 +2,8 @@ use Rattle.std.proofs.Common.{true, false, [], ◌∷◌, refl}
 use Rattle.std.proofs.lemmas.Bool.{false≢true}
 use Rattle.smith_instr.specs.declared.control.BlockType.TheVariants.{Empty}
 use Rattle.smith_instr.specs.declared.instr.Instr.TheVariants.{Block, If, Else, End, Nop}
-use Rattle.smith_instr_binary_examples.proofs.SpelledExamples.{nests, nested_nests}
-use Rattle.smith_instr_binary_examples.proofs.bodies.blocks.Goals as goal
+use Rattle.smith_instr_binary_law.proofs.SpelledExamples.{nests, nested_nests}
+use Rattle.smith_instr_binary_law.proofs.examples.bodies.blocks.Goals as goal
 
 pub returns-clause-nested : goal.returns-clause-nested
 returns-clause-nested c = (false ∷ [], refl, (false ∷ [], refl, ([], refl, refl)))

@@ -4,8 +4,8 @@ use Rattle.smith_encode_law.proofs.CheckLemmas.{both}
 use Rattle.smith_instr.specs.declared.control.BlockType.TheVariants as block
 use Rattle.smith_instr.specs.declared.instr.Instr.TheVariants as instr
 use Rattle.smith_instr_binary.specs.Instructions.{IsInstr}
-use Rattle.smith_instr_binary_examples.proofs.SpelledExamples.{no_item, more_items}
-use Rattle.smith_instr_binary_examples.proofs.bodies.expressions.Goals as goal
+use Rattle.smith_instr_binary_law.proofs.SpelledExamples.{no_item, more_items}
+use Rattle.smith_instr_binary_law.proofs.examples.bodies.expressions.Goals as goal
 
 pub returns-clause-empty : goal.returns-clause-empty
 returns-clause-empty c = both [] (0x0B ∷ []) (no_item IsInstr) refl
