@@ -3,7 +3,7 @@
 use Rattle.std.specs.Prelude.{ℕ, List}
 use Rattle.smith_binary.specs.Pieces.{Joined, IsSized}
 use Rattle.smith_types.specs.declared.value_type.ValType.{ValType}
-use Rattle.smith_sections.specs.Codes.{IsLocals}
+use Rattle.smith_sections.specs.Codes.{IsLocals, IsLocalsWritten}
 use Rattle.smith_instr.specs.declared.instr.Instr.{Instr}
 use Rattle.smith_instr_binary.specs.Instructions.{IsExpr}
 
@@ -14,3 +14,11 @@ IsFunc locals instructions = Joined (IsLocals locals) (IsExpr instructions)
 -- a body: the number of bytes of its content, then the content (Code Section)
 abbrev pub IsFuncBody : List ValType → List Instr → List ℕ → Type 0
 IsFuncBody locals instructions = IsSized (IsFunc locals instructions)
+
+-- the content of a body as it is written: each local is a run of its own
+abbrev pub IsFuncWritten : List ValType → List Instr → List ℕ → Type 0
+IsFuncWritten locals instructions = Joined (IsLocalsWritten locals) (IsExpr instructions)
+
+-- a body as it is written
+abbrev pub IsFuncBodyWritten : List ValType → List Instr → List ℕ → Type 0
+IsFuncBodyWritten locals instructions = IsSized (IsFuncWritten locals instructions)

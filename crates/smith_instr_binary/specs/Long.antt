@@ -5,7 +5,7 @@ use Rattle.smith_sections.specs.Long.{IsLongContent, IsLongList, IsNeverLong}
 use Rattle.smith_instr.specs.declared.instr.Instr.{Instr}
 use Rattle.smith_instr.specs.declared.instr.Instr.TheVariants as instr
 use Rattle.smith_instr.specs.declared.memory.MemArg.{MemArg}
-use Rattle.smith_instr_binary.specs.Bodies.{IsFunc}
+use Rattle.smith_instr_binary.specs.Bodies.{IsFuncWritten}
 
 -- an alignment of more than six bits
 abbrev pub IsWide : MemArg → Type 0
@@ -25,8 +25,8 @@ IsLongInstr (instr.VectorStoreLane log2_bytes at lane) = (4 ≤ log2_bytes) ⊎ 
 IsLongInstr (instr.Atomic access at) = IsWide at
 IsLongInstr _ = ⊥
 
--- a body with 2^32 locals or more, with such an instruction, or with a spelling of 2^32 bytes or
--- more
+-- a body with 2^32 locals or more, with such an instruction, or with 2^32 bytes or more where each
+-- local is a run of its own
 abbrev pub IsLongFunc : List ValType → List Instr → Type 0
 IsLongFunc locals instructions =
-    IsLongList IsNeverLong locals ⊎ (Any IsLongInstr instructions ⊎ IsLongContent (IsFunc locals instructions))
+    IsLongList IsNeverLong locals ⊎ (Any IsLongInstr instructions ⊎ IsLongContent (IsFuncWritten locals instructions))

@@ -1,9 +1,9 @@
 ghost use Rattle.std.specs.Prelude.{OnOk, IfErr};
 ghost use Rattle.smith_binary.specs.Faults.{IsFault};
 ghost use Rattle.smith_binary.specs.Pieces.{Writes};
-ghost use Rattle.smith_sections.specs.Codes.{IsLocals, IsRun};
+ghost use Rattle.smith_sections.specs.Codes.{IsLocals, IsLocalsWritten, IsRun};
 ghost use Rattle.smith_sections.specs.Long.{IsLongList, IsNeverLong};
-ghost use Rattle.smith_instr_binary.specs.Bodies.{IsFunc, IsFuncBody};
+ghost use Rattle.smith_instr_binary.specs.Bodies.{IsFuncBody, IsFuncBodyWritten};
 ghost use Rattle.smith_instr_binary.specs.Long.{IsLongFunc};
 
 use crate::instructions::encode_expr;
@@ -34,6 +34,7 @@ impl EncodeItem<ValType> for Runs {
 /// `TooLong` if there are 2^32 locals or more.
 pub fn encode_locals(sink: &mut Sink, locals: &[ValType]) -> Result<(), EncodeError>
     ensures writes { OnOk result (Writes (IsLocals locals.now) sink.old sink.new) }
+    ensures written { OnOk result (Writes (IsLocalsWritten locals.now) sink.old sink.new) }
     ensures fault { IfErr result (IsFault (IsLongList IsNeverLong locals.now)) }
 {
     let list = Listed {
@@ -58,6 +59,8 @@ pub fn encode_body(
 ) -> Result<(), EncodeError>
     ensures writes { OnOk result
         (Writes (IsFuncBody locals.now instructions.now) sink.old sink.new) }
+    ensures written { OnOk result
+        (Writes (IsFuncBodyWritten locals.now instructions.now) sink.old sink.new) }
     ensures fault { IfErr result (IsFault (IsLongFunc locals.now instructions.now)) }
 {
     let mut content = sink.fresh();

@@ -24,9 +24,18 @@ pub record IsLocals (locals : List ValType) (piece : List ℕ) : Type 0 where
   pub cut : locals ≡ locals_of runs
   pub form : IsList IsRun runs piece
 
+-- locals as they are written: each as a run of its own
+abbrev pub IsLocalsWritten : List ValType → List ℕ → Type 0
+IsLocalsWritten locals = IsList (λ (local : ValType). IsRun (1, local)) locals
+
 -- a body after its size: its locals, then the bytes of its expression
 abbrev pub IsBody : List ValType × List ℕ → List ℕ → Type 0
 IsBody body = IsSized (Joined (IsLocals body.0) (Is body.1))
+
+-- a body as it is written, after its size: its locals, each as a run of its own, then the bytes of
+-- its expression
+abbrev pub IsBodyWritten : List ValType × List ℕ → List ℕ → Type 0
+IsBodyWritten body = IsSized (Joined (IsLocalsWritten body.0) (Is body.1))
 
 -- the shortest spelling of an index, of at most five bytes
 abbrev pub index_bytes : ℕ → List ℕ

@@ -14,7 +14,7 @@ use Rattle.smith_types.specs.declared.imports.ImportItem.{ImportItem}
 use Rattle.smith_types.specs.declared.imports.Imports.{Imports}
 use Rattle.smith_types.specs.declared.imports.Imports.TheVariants.{Single, Compact1, Compact2}
 use Rattle.smith_sections.specs.Elements.{Element}
-use Rattle.smith_sections.specs.Codes.{IsLocals}
+use Rattle.smith_sections.specs.Codes.{IsLocalsWritten}
 use Rattle.smith_sections.specs.Data.{Data}
 
 -- a list has too many items, or an item of it is too long
@@ -69,8 +69,10 @@ IsLongExport item = IsLongText item.0
 abbrev pub IsLongElement : Element → Type 0
 IsLongElement e = IsLongList IsNeverLong e.items
 
+-- a body has too many locals, or too many bytes where each local is a run of its own: runs of no
+-- locals would make any body long
 abbrev pub IsLongBody : List ValType × List ℕ → Type 0
-IsLongBody body = IsLongList IsNeverLong body.0 ⊎ IsLongContent (Joined (IsLocals body.0) (Is body.1))
+IsLongBody body = IsLongList IsNeverLong body.0 ⊎ IsLongContent (Joined (IsLocalsWritten body.0) (Is body.1))
 
 abbrev pub IsLongData : Data → Type 0
 IsLongData d = 2 ^ 32 ≤ length d.bytes

@@ -2,8 +2,8 @@ ghost use Rattle.std.specs.Prelude.{◌≡◌, ◌∷◌, ℕ, List, OnOk, IfErr
 ghost use Rattle.smith_binary.specs.declared.error.EncodeError.TheVariants.{Memory};
 ghost use Rattle.smith_binary.specs.Faults.{IsFault};
 ghost use Rattle.smith_binary.specs.Pieces.{Is, Writes};
-ghost use Rattle.smith_sections.specs.Codes.{IsRun, IsLocals, IsBody, index_bytes, check_bytes};
-ghost use Rattle.smith_sections.specs.Codes.{checks_bytes, body_bytes, body_of};
+ghost use Rattle.smith_sections.specs.Codes.{IsRun, IsLocalsWritten, IsBodyWritten, index_bytes};
+ghost use Rattle.smith_sections.specs.Codes.{check_bytes, checks_bytes, body_bytes, body_of};
 ghost use Rattle.smith_sections.specs.Long.{IsNeverLong, IsLongBody, IsLongList};
 
 use crate::lists::{Encode, EncodeItem, write_each};
@@ -25,9 +25,9 @@ impl EncodeItem<ValType> for Runs {
     }
 }
 
-// Writes the list of `locals`.
+// Writes the list of `locals`, each as a run of its own.
 fn write_locals(locals: &[ValType], sink: &mut Sink) -> Result<(), EncodeError>
-    ensures writes { OnOk result (Writes (IsLocals locals.now) sink.old sink.new) }
+    ensures writes { OnOk result (Writes (IsLocalsWritten locals.now) sink.old sink.new) }
     ensures fault { IfErr result (IsFault (IsLongList IsNeverLong locals.now)) }
 {
     sink.write_length(locals.len())?;
@@ -87,7 +87,7 @@ fn write_instructions(
     }
 }
 
-/// Writer of a body, in a module with counters of fuel.
+/// Writer of a body, in a module with counters of fuel. Each local is a run of its own.
 #[derive(Clone, Copy)]
 pub struct Bodies<'a> {
     /// The indices of the globals that count fuel. A body that is not raw begins with a check of
@@ -96,7 +96,7 @@ pub struct Bodies<'a> {
 }
 
 impl<'a> EncodeItem<Code> for Bodies<'a> {
-    ghost spells = { λ bodies code. IsBody (body_of bodies.counters.now code) };
+    ghost spells = { λ bodies code. IsBodyWritten (body_of bodies.counters.now code) };
 
     ghost is_long = { λ bodies code. IsLongBody (body_of bodies.counters.now code) };
 
