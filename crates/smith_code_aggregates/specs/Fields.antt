@@ -20,7 +20,7 @@ use Rattle.smith_instr.specs.declared.aggregate.Extension.TheVariants as extensi
 use Rattle.smith_code_aggregates.specs.declared.fields.FieldUse.{FieldUse}
 use Rattle.smith_code_aggregates.specs.declared.fields.FieldUse.TheVariants as field_use
 
--- the fields of a type, if it is a struct type
+-- the fields of a type, if it is a struct type (Structure, Composite Types)
 abbrev pub struct_of : CompositeInnerType → Option StructType
 struct_of (inner.Struct structure) = Some structure
 struct_of _ = None

@@ -23,21 +23,21 @@ use Rattle.smith_code_nodes.proofs.NodeLemmas.{func_wide, no_valid, one_valid, t
 use Rattle.smith_code_nodes.proofs.OfferLemmas.{both}
 use Rattle.smith_code_nodes.proofs.RepeatLemmas.{AreDrawnSoFar, all_turns, one_turn}
 use Rattle.smith_code_control.specs.ThrowChoices.{exn, refers_to_exceptions, tag_at, tag_type_at}
-use Rattle.smith_code_control.specs.TryChoices.{IsCaught, any_try_at, any_try_node, brought, clause_at, clause_of, clause_to, clauses_at, referenced_at, refers_to_caught, some_clauses_at, tagged_by, tagged_clause_at, tagged_to, try_at}
+use Rattle.smith_code_control.specs.TryChoices.{IsCaught, any_try_at, any_try_node, passed_values, clause_at, clause_of, clause_to, clauses_at, referenced_at, refers_to_caught, some_clauses_at, tagged_by, tagged_clause_at, tagged_to, try_at}
 
 -- the values that a clause passes to its label are valid
-pub brought_valid : (context : BodyContext) (values : List ValType) (referenced : Bool) → AreValid context values → (IsTrue referenced → IsTrue (refers_to_caught context.features)) → AreValid context (brought values referenced)
-brought_valid context values false valid possible = valid
-brought_valid context values true valid possible =
+pub passed_values_valid : (context : BodyContext) (values : List ValType) (referenced : Bool) → AreValid context values → (IsTrue referenced → IsTrue (refers_to_caught context.features)) → AreValid context (passed_values values referenced)
+passed_values_valid context values false valid possible = valid
+passed_values_valid context values true valid possible =
     let (refers, not_null) = both (refers_to_exceptions context.features) context.features.function_references (possible refl) in
     let (on, exceptions) = both context.features.reference_types context.features.exceptions refers in
     All-push (IsValid context) values (reference_to exn) valid (on, record { heap_type = (exceptions, λ h. cc); nullable = λ h. not_null })
 
-pub clause_fits : (context : BodyContext) (tag : Option ℕ) (referenced : Bool) (values : List ValType) (label : ℕ) → IsCaught context tag values → IsTaken context (brought values referenced) label → IsCatch context (clause_of tag referenced label)
+pub clause_fits : (context : BodyContext) (tag : Option ℕ) (referenced : Bool) (values : List ValType) (label : ℕ) → IsCaught context tag values → IsTaken context (passed_values values referenced) label → IsCatch context (clause_of tag referenced label)
 clause_fits context (Some tag) false values label caught taken = (values, caught, taken)
 clause_fits context (Some tag) true values label caught taken = (values, caught, taken)
-clause_fits context None false values label caught taken = subst (λ (values : List ValType). IsTaken context (brought values false) label) caught taken
-clause_fits context None true values label caught taken = subst (λ (values : List ValType). IsTaken context (brought values true) label) caught taken
+clause_fits context None false values label caught taken = subst (λ (values : List ValType). IsTaken context (passed_values values false) label) caught taken
+clause_fits context None true values label caught taken = subst (λ (values : List ValType). IsTaken context (passed_values values true) label) caught taken
 
 pub clause_added : (context : BodyContext) (clauses : List Catch) (clause : Option Catch) → All (IsCatch context) clauses → IfSome clause (IsCatch context) → All (IsCatch context) (clauses ++ option_to_list clause)
 clause_added context clauses (Some clause) all fits = All-push (IsCatch context) clauses clause all fits
@@ -49,7 +49,7 @@ unfolding referenced_at
 referenced_by features bytes left wanted drawn = rw drawn refl
 
 pub clause_to_by : (context : BodyContext) (tag : Option ℕ) (referenced : Bool) (values : List ValType) (bytes left : List ℕ) (label : Option ℕ)
-    → choose_at (offered (is_target context.types context.labels (brought values referenced)) (label_count context)) bytes ≡ (label, left) → clause_to context tag referenced values bytes ≡ (option_map (clause_of tag referenced) label, left)
+    → choose_at (offered (is_target context.types context.labels (passed_values values referenced)) (label_count context)) bytes ≡ (label, left) → clause_to context tag referenced values bytes ≡ (option_map (clause_of tag referenced) label, left)
 clause_to_by context tag referenced values bytes left label drawn = ap (λ (label : Option ℕ × List ℕ). (option_map (clause_of tag referenced) label.0, label.1)) drawn
 
 pub clause_untagged : (context : BodyContext) (bytes middle left : List ℕ) (referenced : Bool) → bool_at bytes ≡ (false, middle) → referenced_at context.features middle ≡ (referenced, left) → clause_at context bytes ≡ clause_to context None referenced [] left

@@ -69,7 +69,7 @@ is_below_func types element shared = is_val_below types (Ref element) (nullable_
 abbrev pub holds_functions : List SubType → RefType → Bool
 holds_functions types element = is_below_func types element false || is_below_func types element true
 
--- a table of functions
+-- a table of functions (Validation, Control Instructions, call_indirect)
 abbrev pub is_function_table_at : List SubType → Option TableType → Bool
 is_function_table_at types (Some table) = holds_functions types table.element_type
 is_function_table_at types None = false

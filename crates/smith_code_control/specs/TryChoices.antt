@@ -29,9 +29,9 @@ clause_of None false label = catch.All label
 clause_of None true label = catch.AllRef label
 
 -- the values that a clause passes to its label: those of the exception, then the reference, if any
-abbrev pub brought : List ValType → Bool → List ValType
-brought values false = values
-brought values true = values ++ reference_to exn ∷ []
+abbrev pub passed_values : List ValType → Bool → List ValType
+passed_values values false = values
+passed_values values true = values ++ reference_to exn ∷ []
 
 -- the values of the exceptions of a tag; none without a tag
 abbrev pub IsCaught : BodyContext → Option ℕ → List ValType → Type 0
@@ -41,7 +41,7 @@ IsCaught context None values = values ≡ []
 -- a clause to a label that takes its values, if there is one
 abbrev pub clause_to : BodyContext → Option ℕ → Bool → List ValType → List ℕ → Option Catch × List ℕ
 clause_to context tag referenced values bytes =
-    let label = choose_at (offered (is_target context.types context.labels (brought values referenced)) (label_count context)) bytes in
+    let label = choose_at (offered (is_target context.types context.labels (passed_values values referenced)) (label_count context)) bytes in
     (option_map (clause_of tag referenced) label.0, label.1)
 
 -- a clause for the exceptions of a tag of this type

@@ -6,7 +6,7 @@ ghost use Rattle.smith_instr.specs.InstrTypes.{IsCatch};
 ghost use Rattle.smith_code_nodes.specs.Chosen.{or_nop};
 ghost use Rattle.smith_code_nodes.specs.Nodes.{IsNode, IsOffer};
 ghost use Rattle.smith_code_nodes.specs.Scopes.{AreLabels, IsScope, bare, context_of, where_stands};
-ghost use Rattle.smith_code_control.specs.TryChoices.{IsCaught, any_try_at, brought, clause_at};
+ghost use Rattle.smith_code_control.specs.TryChoices.{IsCaught, any_try_at, passed_values, clause_at};
 ghost use Rattle.smith_code_control.specs.TryChoices.{clause_of, clause_to, referenced_at};
 ghost use Rattle.smith_code_control.specs.TryChoices.{refers_to_caught, some_clauses_at};
 ghost use Rattle.smith_code_control.specs.TryChoices.{tagged_clause_at, try_at};
@@ -52,8 +52,12 @@ fn clause_of(tag: Option<u32>, referenced: bool, label: u32) -> Catch
 }
 
 /// Returns `values`, and then the type of a reference to an exception if `referenced` is true.
-fn brought(alloc: Global, values: &[ValType], referenced: bool) -> Result<Items<ValType>, Error>
-    ensures exact { IfOk result (λ items. items ≡ brought values.now referenced) }
+fn passed_values(
+    alloc: Global,
+    values: &[ValType],
+    referenced: bool,
+) -> Result<Items<ValType>, Error>
+    ensures exact { IfOk result (λ items. items ≡ passed_values values.now referenced) }
     ensures memory { IfErr result (λ e. e ≡ Error.Memory) }
 {
     let mut taken = Items::from_slice(alloc, values)?;
@@ -91,7 +95,7 @@ fn choose_clause_to(
     ensures memory { IfErr result (λ e. e ≡ Error.Memory) }
     ensures left { KeepsPieces u.old u.new }
 {
-    let taken = brought(alloc, values, referenced)?;
+    let taken = passed_values(alloc, values, referenced)?;
     let Some(label) = choose_target(scope, labels, taken.as_slice(), u) else {
         return Ok(None);
     };

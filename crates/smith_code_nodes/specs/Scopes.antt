@@ -22,7 +22,7 @@ use Rattle.smith_code_nodes.specs.Traps.{may_trap, IsTrapless}
 use Rattle.smith_code_nodes.specs.declared.scope.Scope.{Scope}
 use Rattle.smith_code_nodes.specs.declared.scope.Draft.{Draft}
 
--- the context of a body with these labels
+-- the context of a body with these labels (Validation, Conventions, Contexts)
 abbrev pub context_of : Scope → List (List ValType) → BodyContext
 context_of scope labels = record {
   features = features_in scope.features;
@@ -79,7 +79,7 @@ widest (t ∷ types) = max (func_size t.composite_type.inner) (widest types)
 abbrev pub most : List SubType → ℕ
 most types = 4 * widest types + 4
 
--- the parts of a context are valid
+-- the parts of a context are valid (Validation, Types)
 pub record IsScope (context : BodyContext) : Type 0 where
   pub orderly : IsOrderly context.types
   pub funcs : All (IsFuncTypeIndex context.types) context.funcs

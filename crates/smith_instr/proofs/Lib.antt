@@ -1,2 +1,3 @@
 pub mod SequenceLemmas
 pub mod CompositionLemmas
+mod EnabledLemmas

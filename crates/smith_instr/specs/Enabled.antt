@@ -143,9 +143,12 @@ is_memory_enabled features (memory.Size index) = true
 is_memory_enabled features (memory.Grow index) = true
 is_memory_enabled features _ = features.bulk_memory
 
--- aggregate instructions (own rule)
+-- aggregate instructions (own rule): those that name a data segment need bulk memory too, since a
+-- module that has them needs a data count section
 abbrev pub is_aggregate_enabled : Features → AggregateInstr → Bool
 is_aggregate_enabled features aggregate.RefI31Shared = features.gc && features.shared_everything_threads
+is_aggregate_enabled features (aggregate.ArrayNewData ty segment) = features.gc && features.bulk_memory
+is_aggregate_enabled features (aggregate.ArrayInitData ty segment) = features.gc && features.bulk_memory
 is_aggregate_enabled features _ = features.gc
 
 -- vector instructions (own rule)
@@ -216,3 +219,12 @@ is_enabled features kinds instruction = has_features features instruction && is_
 
 abbrev pub IsEnabled : Features → InstructionKinds → Instr → Type 0
 IsEnabled features kinds instruction = IsTrue (is_enabled features kinds instruction)
+
+-- whether an instruction names a data segment: a module with such an instruction needs a data
+-- count section (Binary Format, Modules)
+abbrev pub names_data : Instr → Bool
+names_data (instr.Memory (memory.Init index segment)) = true
+names_data (instr.Memory (memory.DataDrop segment)) = true
+names_data (instr.Aggregate (aggregate.ArrayNewData ty segment)) = true
+names_data (instr.Aggregate (aggregate.ArrayInitData ty segment)) = true
+names_data _ = false

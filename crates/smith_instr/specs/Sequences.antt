@@ -10,7 +10,8 @@ use Rattle.smith_instr.specs.declared.control.Catch.{Catch}
 use Rattle.smith_instr.specs.declared.instr.Instr.{Instr}
 use Rattle.smith_instr.specs.declared.instr.Instr.TheVariants as instr
 
--- the types of the values on the stack, the last on top, and the locals that were set
+-- the types of the values on the stack, the last on top, and the locals that were set (Validation,
+-- Conventions, Types)
 pub record Stacked : Type 0 where
   pub stack : List ValType
   pub set : List ℕ

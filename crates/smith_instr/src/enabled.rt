@@ -161,6 +161,9 @@ fn is_aggregate_enabled(op: AggregateInstr, features: WasmFeatures) -> bool
             features.contains(WasmFeatures::GC)
                 && features.contains(WasmFeatures::SHARED_EVERYTHING_THREADS)
         }
+        AggregateInstr::ArrayNewData { .. } | AggregateInstr::ArrayInitData { .. } => {
+            features.contains(WasmFeatures::GC) && features.contains(WasmFeatures::BULK_MEMORY)
+        }
         _ => features.contains(WasmFeatures::GC),
     }
 }

@@ -7,6 +7,7 @@ pub mod OpcodeLemmas
 pub mod RowLemmas
 pub mod ShapeLemmas
 pub mod ShortRows
+pub mod SpelledExamples
 pub mod VectorListedLemmas
 pub mod VectorRows
 pub mod ViewLemmas

@@ -10,6 +10,7 @@ ghost use Rattle.smith_types.specs.declared.instruction_kind.InstructionKind.The
 ghost use Rattle.smith_types.specs.declared.value_type.ValType.TheVariants.{I32};
 ghost use Rattle.smith_types.specs.ExampleFeatures.{usual_features};
 ghost use Rattle.smith_instr.specs.Enabled.{IsEnabled, instr_kind};
+ghost use Rattle.smith_instr.specs.declared.aggregate.AggregateInstr.TheVariants as aggregate;
 ghost use Rattle.smith_instr.specs.declared.control.BlockType.TheVariants as block;
 ghost use Rattle.smith_instr.specs.declared.instr.Instr.TheVariants as instr;
 ghost use Rattle.smith_instr.specs.declared.memory.Load.TheVariants as load;
@@ -62,4 +63,12 @@ fn features()
         (instr.V128Const (pos 0)) }
     ensures exception { ¬ IsEnabled (record usual_features { exceptions = false }) every_kind
         (instr.TryTable block.Empty []) }
+    ensures array_of_data { ¬ IsEnabled (record usual_features { bulk_memory = false }) every_kind
+        (instr.Aggregate (aggregate.ArrayNewData 0 0)) }
+    ensures array_filled_from_data { ¬ IsEnabled (record usual_features { bulk_memory = false })
+        every_kind (instr.Aggregate (aggregate.ArrayInitData 0 0)) }
+    ensures array_of_data_with_bulk_memory { IsEnabled usual_features every_kind
+        (instr.Aggregate (aggregate.ArrayNewData 0 0)) }
+    ensures array_of_elements { IsEnabled (record usual_features { bulk_memory = false })
+        every_kind (instr.Aggregate (aggregate.ArrayNewElem 0 0)) }
 {}

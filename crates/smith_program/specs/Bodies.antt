@@ -18,7 +18,8 @@ use Rattle.smith_program.specs.References.{references_of}
 use Rattle.smith_program.specs.declared.program.Body.{Body}
 use Rattle.smith_program.specs.declared.program.Body.TheVariants as body
 
--- the context of a function of this type, with these locals after its parameters
+-- the context of a function of this type, with these locals after its parameters (Validation,
+-- Functions)
 abbrev pub function_context : ModuleParts → FuncType → List ValType → BodyContext
 function_context m function locals = record {
   features = module_features m;
@@ -43,7 +44,8 @@ abbrev pub HasDefinedType : ModuleParts → ℕ → FuncType → Type 0
 HasDefinedType m place function =
     (index : ℕ) × (slice_get m.funcs (length (module_imports m).funcs + place) ≡ Some index) × IsFuncAt m.types index function
 
--- instructions are the body of the defined function at a place, without its last `end`
+-- instructions are the body of the defined function at a place, without its last `end` (Validation,
+-- Functions)
 pub record IsBodyAt (m : ModuleParts) (place : ℕ) (code : Code) (instructions : List Instr) : Type 0 where
   pub function : FuncType
   pub there : HasDefinedType m place function

@@ -12,7 +12,7 @@ use Rattle.smith_types.specs.declared.segments.Elements.TheVariants as elements
 use Rattle.smith_rules.specs.Module.{ModuleParts}
 
 -- the functions that an instruction of a constant expression names, and those that the expression
--- does
+-- does (Validation, Modules, C.refs)
 abbrev pub named_by : ConstInstr → List ℕ
 named_by (constant.RefFunc function) = function ∷ []
 named_by _ = []

@@ -1,7 +1,19 @@
 //! Programs, which are modules with bodies of instructions, in the text format of the WebAssembly
-//! Core Specification 3.0, chapter Text Format.
+//! Core Specification 3.0, chapter Text Format. Instructions are in their plain form, one per line;
+//! additions of proposals are written in the text forms of the proposals.
 #![tactic(auto)]
 
+mod atomic;
+mod control;
+mod instructions;
+mod lines;
+mod memory;
+mod numeric;
 mod program;
+mod references;
+mod vector;
 
+pub use instructions::write_instr;
+pub use lines::{write_counted_instrs, write_instrs};
 pub use program::{text, write_program};
+pub use smith_text::{FromFmt, Sink};

@@ -1,7 +1,7 @@
 ghost use Rattle.std.specs.Prelude.{◌≡◌, false, is_err, IfErr};
 
+use crate::lines::write_counted_instrs;
 use smith_bytes::Error;
-use smith_instr_text::write_counted_instrs;
 use smith_program::{Body, Program};
 use smith_text::{BodyText, FromFmt, OwnBodies, Sink, write_with_bodies};
 use smith_types::Code;

@@ -1,12 +1,15 @@
 //! Tests of what the worked cases of `smith_cases` do not cover: the README's examples of the
 //! library, data that outlive a loan, the texts of errors and of plain data, a writer that fails,
-//! and calls that lack memory.
+//! the bytes of instructions, which are compared with those of another encoder, and calls that lack
+//! memory.
 #![tactic(auto)]
 
 #[cfg(test)]
 mod error_texts;
 #[cfg(test)]
 mod failing_writer;
+#[cfg(test)]
+mod instruction_bytes;
 #[cfg(test)]
 mod library_example;
 #[cfg(test)]

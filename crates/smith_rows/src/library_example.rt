@@ -40,7 +40,8 @@ fn seed(
     corpus: &mut Vec<Items<u8>>,
 ) -> Result<(), Error> {
     if let Some(seed) = spell(alloc, config, groups, &[0])? {
-        corpus.push(seed)?; // `Module::new` on these bytes, whatever a fuzzer puts behind them, has these groups and this function
+        // The module of these bytes, whatever follows them, has these groups and this function.
+        corpus.push(seed)?;
     }
     Ok(())
 }

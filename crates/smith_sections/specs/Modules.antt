@@ -48,7 +48,9 @@ abbrev pub IsStartSection : Option ℕ → List ℕ → Type 0
 IsStartSection (Some index) piece = IsSection 8 (IsIndex index) piece
 IsStartSection None piece = piece ≡ []
 
--- the number of data segments, which may be stated before the bodies (Data Count Section)
+-- the number of data segments, which may be stated before the bodies (Data Count Section); the
+-- standard requires it if a body names a data segment, which this relation, over bytes of bodies,
+-- does not say
 abbrev pub IsDataCount : List Data → List ℕ → Type 0
 IsDataCount segments = IsOptionalSection 12 (Unit {0}) (IsUnsigned 32 (length segments))
 

@@ -1,12 +1,12 @@
 use Rattle.std.proofs.Common.{None, Some}
 use Rattle.smith_code_nodes.specs.Scopes.{bare, context_of}
-use Rattle.smith_code_control.specs.TryChoices.{brought}
+use Rattle.smith_code_control.specs.TryChoices.{passed_values}
 use Rattle.smith_code_nodes.proofs.OfferLemmas.{target_there}
-use Rattle.smith_code_control.proofs.TryLemmas.{brought_valid, clause_fits, clause_to_by}
+use Rattle.smith_code_control.proofs.TryLemmas.{passed_values_valid, clause_fits, clause_to_by}
 use Rattle.smith_code_control.proofs.try_tables.choose_clause_to.Goals as goal
 
 pub choose_target-requires-clause-taken : goal.choose_target-requires-clause-taken
-choose_target-requires-clause-taken c = rw (c.as_slice.ensures, c.in_ok-taken.ensures.exact) (brought_valid (bare c.args.scope.now) c.args.values.now c.args.referenced c.requires.values c.requires.possible)
+choose_target-requires-clause-taken c = rw (c.as_slice.ensures, c.in_ok-taken.ensures.exact) (passed_values_valid (bare c.args.scope.now) c.args.values.now c.args.referenced c.requires.values c.requires.possible)
 
 pub returns-in_default-clause-exact : goal.returns-in_default-clause-exact
 returns-in_default-clause-exact c =
@@ -21,5 +21,5 @@ pub returns-clause-fits : goal.returns-clause-fits
 returns-clause-fits c =
     let context = context_of c.args.scope.now c.args.labels.now in
     let offered = rw (c.as_slice.ensures, c.in_ok-taken.ensures.exact) at c.in-Some.ensures.offered in
-    let taken = target_there c.args.scope.now c.args.labels.now (brought c.args.values.now c.args.referenced) c.in-Some.label c.requires.scope.orderly offered in
+    let taken = target_there c.args.scope.now c.args.labels.now (passed_values c.args.values.now c.args.referenced) c.in-Some.label c.requires.scope.orderly offered in
     rw c.clause_of.ensures (clause_fits context c.args.tag c.args.referenced c.args.values.now c.in-Some.label c.requires.caught taken)

@@ -1,0 +1,36 @@
+use Rattle.std.proofs.Common.{◌≡◌, ℕ, ◌<◌, List, [], ◌∷◌, refl, ap, arith}
+use Rattle.smith_encode_law.proofs.CheckLemmas.{both}
+use Rattle.smith_instr.specs.declared.memory.MemArg.{MemArg}
+use Rattle.smith_instr_binary.specs.Memory.{IsMemArg}
+use Rattle.smith_instr_binary_law.proofs.InstructionLemmas.{instr_same}
+use Rattle.smith_instr_binary_law.specs.ExampleInstructions.{load_word}
+use Rattle.smith_instr_binary_law.proofs.SpelledExamples.{small, index, loaded, align_of}
+use Rattle.smith_instr_binary_law.proofs.examples.instructions.accesses.Goals as goal
+
+named : (memory : ℕ) → memory < 128 → IsMemArg (record { align = 2; offset = 5; memory = memory }) (0x42 ∷ memory ∷ 0x05 ∷ [])
+named memory low =
+    IsMemArg.named_memory (omega arith)
+    (both (0x42 ∷ []) (memory ∷ 0x05 ∷ []) (index 0x42 (omega arith)) (both (memory ∷ []) (0x05 ∷ []) (index memory low) (small 64 5 (omega arith) (omega arith))))
+
+too_wide : (at : MemArg) (piece : List ℕ) → at.align ≡ 64 → IsMemArg at piece → ⊥
+too_wide at piece wide (IsMemArg.first_memory m a h) = omega (arith, a, wide)
+too_wide at piece wide (IsMemArg.named_memory a h) = omega (arith, a, wide)
+
+pub returns-clause-first_memory : goal.returns-clause-first_memory
+returns-clause-first_memory c = loaded 2 5 (omega arith) (omega arith)
+
+pub returns-clause-first_memory_by_its_index : goal.returns-clause-first_memory_by_its_index
+returns-clause-first_memory_by_its_index c = both (0x28 ∷ []) (0x42 ∷ 0x00 ∷ 0x05 ∷ []) refl (named 0 (omega arith))
+
+pub returns-clause-second_memory : goal.returns-clause-second_memory
+returns-clause-second_memory c = both (0x28 ∷ []) (0x42 ∷ 0x01 ∷ 0x05 ∷ []) refl (named 1 (omega arith))
+
+pub returns-clause-offset_first : goal.returns-clause-offset_first
+returns-clause-offset_first c =
+    λ h.
+    let one = instr_same (load_word 2 5 0) (load_word 5 2 0) (0x28 ∷ 0x05 ∷ 0x02 ∷ []) (0x28 ∷ 0x05 ∷ 0x02 ∷ []) [] [] h (loaded 5 2 (omega arith) (omega arith)) refl in
+    let aligned : 2 ≡ 5 = ap align_of one.item in
+    omega (arith, aligned)
+
+pub returns-clause-too_wide : goal.returns-clause-too_wide
+returns-clause-too_wide c = λ piece h. too_wide _ h.second refl h.is_second
