@@ -1,10 +1,13 @@
-ghost use Rattle.std.specs.Prelude.{[], ◌∷◌};
+ghost use Rattle.std.specs.Prelude.{◌^◌, ◌≤◌, List, [], ◌∷◌, length};
+ghost use Rattle.smith_types.specs.declared.value_type.ValType.{ValType};
 ghost use Rattle.smith_types.specs.declared.value_type.ValType.TheVariants.{I32};
 ghost use Rattle.smith_instr.specs.declared.control.BlockType.TheVariants as block;
 ghost use Rattle.smith_instr.specs.declared.instr.Instr.TheVariants as instr;
-ghost use Rattle.smith_instr_binary.specs.Bodies.{IsFuncBody};
+ghost use Rattle.smith_instr_binary.specs.Bodies.{IsFuncBody, IsFuncBodyWritten};
 ghost use Rattle.smith_instr_binary.specs.Instructions.{IsExpr};
+ghost use Rattle.smith_instr_binary.specs.Long.{IsLongFunc};
 ghost use Rattle.smith_instr_binary.specs.Nesting.{AreNested};
+ghost use Rattle.smith_instr_binary_law.specs.ExampleInstructions.{load_word};
 
 fn blocks()
     ensures nested { AreNested [] (instr.Block block.Empty ∷ instr.Nop ∷ instr.End ∷ []) }
@@ -29,4 +32,15 @@ fn bodies()
         (0x05 ∷ 0x01 ∷ 0x01 ∷ 0x7F ∷ 0x01 ∷ 0x0B ∷ []) }
     ensures two_locals_in_a_run { IsFuncBody (I32 ∷ I32 ∷ []) (instr.Nop ∷ [])
         (0x05 ∷ 0x01 ∷ 0x02 ∷ 0x7F ∷ 0x01 ∷ 0x0B ∷ []) }
+    ensures two_locals_as_written { IsFuncBodyWritten (I32 ∷ I32 ∷ []) (instr.Nop ∷ [])
+        (0x07 ∷ 0x02 ∷ 0x01 ∷ 0x7F ∷ 0x01 ∷ 0x7F ∷ 0x01 ∷ 0x0B ∷ []) }
+{}
+
+// Bodies that are too long to be written, or have an instruction that the format lacks.
+fn lengths_of_bodies()
+    ensures no_local { ¬ IsLongFunc [] (instr.Nop ∷ []) }
+    ensures one_local { ¬ IsLongFunc (I32 ∷ []) (instr.Nop ∷ []) }
+    ensures many_locals { (locals : List ValType) → 2 ^ 32 ≤ length locals
+        → IsLongFunc locals (instr.Nop ∷ []) }
+    ensures too_wide { IsLongFunc [] (load_word 64 0 0 ∷ []) }
 {}
