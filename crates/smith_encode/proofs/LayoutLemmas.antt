@@ -25,7 +25,6 @@ use Rattle.smith_encode.specs.Around.{IsModuleAround}
 use Rattle.smith_encode.specs.Contents.{defined, contents_of}
 use Rattle.smith_encode.specs.Layout.{is_filled, id_if, writes_types, writes_imports, writes_data_count, section_ids, IsAnySection, HasSections}
 use Rattle.smith_encode.specs.Written.{IsFront, IsMiddle, IsBack}
-use Rattle.smith_encode.proofs.MappedLemmas.{section_mapped}
 
 -- pieces in order, in another grouping
 regrouped : {A B C : List ℕ → Type 0} {piece : List ℕ} → Joined (Joined A B) C piece → Joined A (Joined B C) piece
@@ -133,9 +132,10 @@ around_as m Code Other weaker piece h =
     let last : (p : List ℕ) → Joined Code (IsListSection 11 IsData m.segments) p → Joined Other (IsListSection 11 IsData m.segments) p = λ p. both_as p weaker (λ q same. same) in
     behind (behind (behind (behind (behind (behind (behind (behind (behind (behind (behind (behind last))))))))))) piece h
 
--- the section of a list of bodies
-pub code_section : {A B : Type 0} (P : B → List ℕ → Type 0) (f : A → B) (xs : List A) (piece : List ℕ) → IsSectionIf (is_filled xs) 10 (IsList (λ (x : A). P (f x)) xs) piece → IsListSection 10 P (map f xs) piece
-code_section P f xs piece h = list_optional (is_filled xs) 10 P (map f xs) (none_mapped f xs) piece (section_mapped (is_filled xs) 10 P f xs piece h)
+-- the section of a list of bodies, by the meaning of the bodies as they are written
+pub code_section : {A B : Type 0} (Written P : B → List ℕ → Type 0) (f : A → B) → ((y : B) (piece : List ℕ) → Written y piece → P y piece) → (xs : List A) (piece : List ℕ) → IsSectionIf (is_filled xs) 10 (IsList (λ (x : A). Written (f x)) xs) piece
+    → IsListSection 10 P (map f xs) piece
+code_section Written P f weaker xs piece h = mapped_optional (is_filled xs) 10 (λ x. Written (f x)) P f (λ x. weaker (f x)) xs (none_mapped f xs) piece h
 
 -- the identifiers of sections in order
 ids_joined : (xs ys : List ℕ) {piece : List ℕ} → Joined (Each IsAnySection xs) (Each IsAnySection ys) piece → Each IsAnySection (xs ++ ys) piece

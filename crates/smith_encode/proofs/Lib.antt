@@ -1,2 +1,3 @@
+pub mod ExampleLemmas
 pub mod LayoutLemmas
 pub mod MappedLemmas

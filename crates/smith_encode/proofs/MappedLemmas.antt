@@ -1,5 +1,5 @@
 -- Sections by the meaning of their items in a module.
-use Rattle.std.proofs.Common.{◌≡◌, ℕ, ◌+◌, ◌-◌, ◌*◌, [], ◌∷◌, ◌<◌, ◌≤◌, ◌^◌, ◌⊎◌, Bool, true, false, List, length, Result, Ok, Err, sym, subst, ap, ◌∙◌, arith, inl, inr}
+use Rattle.std.proofs.Common.{◌≡◌, ℕ, ◌<◌, ◌≤◌, ◌^◌, ◌⊎◌, Bool, true, false, List, length, Result, Ok, Err, sym, subst, ap, ◌∙◌, arith, inl, inr}
 use Rattle.std.specs.Prelude.{map, Any, IfErr, IsErrAnd}
 use Rattle.std.proofs.lemmas.List.{length-map, get_or-map}
 use Rattle.smith_binary.specs.declared.error.EncodeError.{EncodeError}
@@ -10,6 +10,7 @@ use Rattle.smith_binary.specs.Pieces.{IsList}
 use Rattle.smith_sections.specs.Sections.{IsSectionIf}
 use Rattle.smith_sections.specs.Long.{IsLongList, IsLongContent, IsLongSection, IsNeverLong}
 use Rattle.smith_sections.proofs.ListLemmas.{list_as, list_mapped}
+use Rattle.smith_sections.proofs.SizeLemmas.{not_long, number_within}
 
 -- a section of a list, by the meaning of its items
 pub section_mapped : {A B : Type 0} (is_written : Bool) (id : ℕ) (P : B → List ℕ → Type 0) (f : A → B) (xs : List A) (piece : List ℕ) → IsSectionIf is_written id (IsList (λ (x : A). P (f x)) xs) piece → IsSectionIf is_written id (IsList P (map f xs)) piece
@@ -58,14 +59,5 @@ pairs_mapped P f xs (inl many) = inl (inl (subst (λ (n : ℕ). 2 ^ 32 ≤ n) (s
 pairs_mapped P f xs (inr content) = inr (record { piece = content.piece; spelled = list_mapped P f xs content.piece content.spelled; long = content.long })
 
 -- an integer has few bytes
-few_bytes : (bits n : ℕ) (piece : List ℕ) → IsUnsigned bits n piece → 7 * length piece ≤ bits + 7
-unfolding IsUnsigned
-few_bytes bits n [] h = absurd h
-few_bytes bits n (byte ∷ []) h = omega arith
-few_bytes bits n (byte ∷ next ∷ piece) h =
-    let rest : 7 * length (next ∷ piece) ≤ (bits - 7) + 7 = few_bytes (bits - 7) h.0 (next ∷ piece) h.1 in
-    let room : 7 < bits = h.5 in
-    omega arith
-
 pub index_never_long : (n : ℕ) → IsLongContent (IsUnsigned 32 n) → ⊥
-index_never_long n h = let few = few_bytes 32 n h.piece h.spelled in omega (arith, few, h.long)
+index_never_long n h = not_long 5 (omega arith) (number_within n) h

@@ -1,4 +1,5 @@
 pub mod Contents
+pub mod ExampleModules
 pub mod Layout
 pub mod TooLong
 pub mod Written

@@ -7,13 +7,14 @@ use Rattle.smith_sections.specs.Imports.{IsImportGroup}
 use Rattle.smith_sections.specs.Definitions.{IsTable, IsGlobal}
 use Rattle.smith_sections.specs.Exports.{IsExport}
 use Rattle.smith_sections.specs.Elements.{IsElement}
-use Rattle.smith_sections.specs.Codes.{IsBody}
+use Rattle.smith_sections.specs.Codes.{IsBodyWritten}
 use Rattle.smith_sections.specs.Data.{IsData}
 use Rattle.smith_sections.specs.Long.{IsLongSection, IsNeverLong, IsLongGroup, IsLongImportGroup, IsLongExport, IsLongElement, IsLongBody, IsLongData}
 use Rattle.smith_encode.specs.Contents.{contents_of}
 
 -- a section is too long: a list in it has 2^32 items or more, or it or a body of it has a spelling
--- of 2^32 bytes or more
+-- of 2^32 bytes or more. In bodies each local is a run of its own: runs of no locals would make any
+-- body long
 pub data IsTooLong (m : ModuleParts) : Type 0 where
   types : IsLongSection IsRecGroup IsLongGroup (contents_of m).types → IsTooLong m
   imports : IsLongSection IsImportGroup IsLongImportGroup m.imports → IsTooLong m
@@ -24,5 +25,5 @@ pub data IsTooLong (m : ModuleParts) : Type 0 where
   globals : IsLongSection IsGlobal IsNeverLong (contents_of m).globals → IsTooLong m
   exports : IsLongSection IsExport IsLongExport m.exports → IsTooLong m
   elements : IsLongSection IsElement IsLongElement (contents_of m).elements → IsTooLong m
-  bodies : IsLongSection IsBody IsLongBody (contents_of m).bodies → IsTooLong m
+  bodies : IsLongSection IsBodyWritten IsLongBody (contents_of m).bodies → IsTooLong m
   segments : IsLongSection IsData IsLongData (contents_of m).segments → IsTooLong m

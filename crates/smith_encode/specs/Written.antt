@@ -1,5 +1,5 @@
 -- The sections of a module as they are written, in three parts: imports in the groups of the
--- module, tables and segments in one of their forms.
+-- module, tables and segments in one of their forms, and each local as a run of its own.
 use Rattle.std.specs.Prelude.{ℕ, List, length}
 use Rattle.std.specs.List.{zip}
 use Rattle.smith_binary.specs.Numbers.{IsUnsigned}
@@ -13,7 +13,7 @@ use Rattle.smith_sections.specs.Imports.{IsImportGroup}
 use Rattle.smith_sections.specs.Definitions.{IsTableWritten, IsGlobal}
 use Rattle.smith_sections.specs.Exports.{IsExport}
 use Rattle.smith_sections.specs.Elements.{IsElementWritten}
-use Rattle.smith_sections.specs.Codes.{IsBody, body_of}
+use Rattle.smith_sections.specs.Codes.{IsBodyWritten, body_of}
 use Rattle.smith_sections.specs.Data.{IsDataWritten}
 use Rattle.smith_sections.specs.Sections.{IsSectionIf}
 use Rattle.smith_sections.specs.Modules.{IsPreamble, IsStartSection}
@@ -49,4 +49,4 @@ IsWritten m Bodies = Joined IsPreamble (Joined (IsFront m) (Joined (IsMiddle m) 
 
 -- the bodies that a module has
 abbrev pub AreOwnBodies : ModuleParts → List ℕ → Type 0
-AreOwnBodies m = IsList (λ (code : Code). IsBody (body_of m.fuel_globals code)) m.code
+AreOwnBodies m = IsList (λ (code : Code). IsBodyWritten (body_of m.fuel_globals code)) m.code

@@ -6,6 +6,7 @@
 //! references (custom descriptors).
 #![tactic(auto)]
 
+mod examples;
 mod modules;
 mod sections;
 

@@ -1,10 +1,11 @@
 use Rattle.std.proofs.Common.{◌⊎◌, inl, inr}
 use Rattle.std.proofs.lemmas.Result.{IfOk-weaker}
 use Rattle.smith_rules.specs.Module.{ModuleParts}
-use Rattle.smith_sections.specs.Codes.{IsBody, body_of}
+use Rattle.smith_sections.specs.Codes.{IsBody, IsBodyWritten, body_of}
 use Rattle.smith_sections.specs.Long.{IsLongBody, IsLongContent, IsLongList}
 use Rattle.smith_sections.specs.Modules.{IsModule}
 use Rattle.smith_sections.specs.Sections.{IsSectionIf}
+use Rattle.smith_sections.proofs.ListLemmas.{body_spelled}
 use Rattle.smith_types.specs.declared.code.Code.{Code}
 use Rattle.smith_encode.specs.Around.{IsModuleAround}
 use Rattle.smith_encode.specs.Contents.{contents_of}
@@ -18,13 +19,13 @@ use Rattle.smith_encode.proofs.modules.encode.Goals as goal
 -- the bodies of a module are too long, or other parts are
 too_long : (m : ModuleParts) → IsTooLong m ⊎ (IsLongList (λ (code : Code). IsLongBody (body_of m.fuel_globals code)) m.code ⊎ IsLongContent (AreOwnBodies m)) → IsTooLong m
 too_long m (inl other) = other
-too_long m (inr long) = IsTooLong.bodies (long_mapped IsBody IsLongBody (body_of m.fuel_globals) m.code long)
+too_long m (inr long) = IsTooLong.bodies (long_mapped IsBodyWritten IsLongBody (body_of m.fuel_globals) m.code long)
 
 pub returns-clause-spelled : goal.returns-clause-spelled
 returns-clause-spelled c =
     let m = c.args.module.now in
     IfOk-weaker c.encode_with_bodies.result (λ bytes. IsModuleAround (contents_of m) (IsSectionIf (is_filled m.code) 10 (AreOwnBodies m)) bytes.items) (λ bytes. IsModule (contents_of m) bytes.items)
-    (λ bytes. around_as (contents_of m) _ _ (code_section IsBody (body_of m.fuel_globals) m.code) bytes.items) (rw (c.fuel_globals.ensures, c.code.ensures) at c.encode_with_bodies.ensures.spelled)
+    (λ bytes. around_as (contents_of m) _ _ (code_section IsBodyWritten IsBody (body_of m.fuel_globals) body_spelled m.code) bytes.items) (rw (c.fuel_globals.ensures, c.code.ensures) at c.encode_with_bodies.ensures.spelled)
 
 pub returns-clause-written : goal.returns-clause-written
 returns-clause-written c = rw (c.fuel_globals.ensures, c.code.ensures) at c.encode_with_bodies.ensures.written
