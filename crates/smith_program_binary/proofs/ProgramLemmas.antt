@@ -1,22 +1,21 @@
 -- Bodies as they are written are those of a module with bytes of expressions.
-use Rattle.std.proofs.Common.{◌≡◌, ℕ, suc, Bool, true, false, List, [], ◌∷◌, ◌++◌, length, refl, sym, subst, ap, ◌∙◌}
-use Rattle.std.specs.Prelude.{map}
+use Rattle.std.proofs.Common.{◌≡◌, ℕ, suc, Bool, true, false, List, [], ◌∷◌, length, refl, sym, subst, ap}
 use Rattle.std.specs.List.{zip}
 use Rattle.smith_binary.specs.Numbers.{IsUnsigned}
-use Rattle.smith_binary.specs.Pieces.{Is, Joined, Each, IsList, IsSection}
+use Rattle.smith_binary.specs.Pieces.{Joined, Each}
 use Rattle.smith_types.specs.declared.code.Code.{Code}
-use Rattle.smith_types.specs.declared.value_type.ValType.{ValType}
 use Rattle.smith_rules.specs.Module.{ModuleParts}
-use Rattle.smith_sections.specs.Codes.{IsBody, IsLocals}
+use Rattle.smith_sections.specs.Codes.{IsBody}
 use Rattle.smith_sections.specs.Data.{IsData}
 use Rattle.smith_sections.specs.Modules.{Contents}
 use Rattle.smith_sections.specs.Sections.{IsOptionalSection, IsListSection, IsSectionIf}
+use Rattle.smith_sections.proofs.ListLemmas.{locals_spelled}
 use Rattle.smith_encode.specs.Around.{IsModuleAround}
 use Rattle.smith_encode.specs.Contents.{contents_of}
 use Rattle.smith_encode.specs.Layout.{is_filled}
-use Rattle.smith_encode.proofs.LayoutLemmas.{both_as, not_filled}
+use Rattle.smith_encode.proofs.LayoutLemmas.{not_filled}
 use Rattle.smith_program.specs.declared.program.Body.{Body}
-use Rattle.smith_program_binary.specs.Bodies.{AreBodiesOf, IsBodyOf, IsExpressionOf}
+use Rattle.smith_program_binary.specs.Bodies.{AreBodiesOf, IsBodyOf}
 use Rattle.smith_program_binary.specs.Programs.{AreExpressionsOf, IsProgramBinary, with_expressions}
 
 -- expressions of functions with their bodies
@@ -44,7 +43,7 @@ each_read counters (code ∷ codes) (given ∷ bodies) piece h =
         second = h.second;
         is_first = record {
           content = h.is_first.content;
-          is_content = record { first = content.first; second = content.second; is_first = content.is_first; is_second = refl; whole = content.whole };
+          is_content = record { first = content.first; second = content.second; is_first = locals_spelled code.locals content.first content.is_first; is_second = refl; whole = content.whole };
           form = h.is_first.form;
         };
         is_second = rest.spelled;

@@ -4,7 +4,7 @@ use Rattle.std.specs.Prelude.{ℕ, List}
 use Rattle.std.specs.List.{zip}
 use Rattle.smith_binary.specs.Pieces.{Is, Joined, IsList, IsSized}
 use Rattle.smith_types.specs.declared.code.Code.{Code}
-use Rattle.smith_sections.specs.Codes.{IsLocals, body_bytes}
+use Rattle.smith_sections.specs.Codes.{IsLocalsWritten, body_bytes}
 use Rattle.smith_instr_binary.specs.Instructions.{IsExpr}
 use Rattle.smith_program.specs.Counted.{counted}
 use Rattle.smith_program.specs.declared.program.Body.{Body}
@@ -16,10 +16,11 @@ abbrev pub IsExpressionOf : List ℕ → Code → Body → List ℕ → Type 0
 IsExpressionOf counters code (body.Drawn instructions) piece = IsExpr (counted counters instructions) piece
 IsExpressionOf counters code body.Raw piece = Is (body_bytes counters code.instructions) piece
 
--- a body: the number of its bytes, then its locals and its expression
+-- a body as it is written: the number of its bytes, then its locals, each as a run of its own, and
+-- its expression
 abbrev pub IsBodyOf : List ℕ → Code × Body → List ℕ → Type 0
-IsBodyOf counters given = IsSized (Joined (IsLocals given.0.locals) (IsExpressionOf counters given.0 given.1))
+IsBodyOf counters given = IsSized (Joined (IsLocalsWritten given.0.locals) (IsExpressionOf counters given.0 given.1))
 
--- the list of the bodies
+-- the list of the bodies as they are written
 abbrev pub AreBodiesOf : List ℕ → List Code → List Body → List ℕ → Type 0
 AreBodiesOf counters codes bodies = IsList (IsBodyOf counters) (zip codes bodies)

@@ -8,18 +8,18 @@ use Rattle.smith_sections.specs.Codes.{body_of}
 use Rattle.smith_sections.specs.Long.{IsLongBody, IsLongContent, IsLongList, IsNeverLong}
 use Rattle.smith_encode.specs.TooLong.{IsTooLong}
 use Rattle.smith_instr.specs.declared.instr.Instr.{Instr}
-use Rattle.smith_instr_binary.specs.Bodies.{IsFunc}
+use Rattle.smith_instr_binary.specs.Bodies.{IsFuncWritten}
 use Rattle.smith_instr_binary.specs.Long.{IsLongInstr}
 use Rattle.smith_program.specs.Counted.{counted}
 use Rattle.smith_program.specs.declared.program.Body.{Body}
 use Rattle.smith_program.specs.declared.program.Body.TheVariants as body
 use Rattle.smith_program_binary.specs.Bodies.{AreBodiesOf}
 
--- a body has 2^32 locals or more, an instruction that the format cannot express, or a spelling of
--- 2^32 bytes or more
+-- a body has 2^32 locals or more, an instruction that the format cannot express, or 2^32 bytes or
+-- more where each local is a run of its own
 abbrev pub IsLongDrawn : List ℕ → List ValType → List Instr → Type 0
 IsLongDrawn counters locals instructions =
-    IsLongList IsNeverLong locals ⊎ (Any IsLongInstr instructions ⊎ IsLongContent (IsFunc locals (counted counters instructions)))
+    IsLongList IsNeverLong locals ⊎ (Any IsLongInstr instructions ⊎ IsLongContent (IsFuncWritten locals (counted counters instructions)))
 
 -- a body that was drawn is too long, or raw bytes are
 abbrev pub IsLongBodyOf : List ℕ → Code × Body → Type 0

@@ -2,7 +2,7 @@ ghost use Rattle.std.specs.Prelude.{Any, OnOk, IfErr};
 ghost use Rattle.std.specs.List.{zip};
 ghost use Rattle.smith_binary.specs.Faults.{IsFault};
 ghost use Rattle.smith_binary.specs.Pieces.{Each, Writes};
-ghost use Rattle.smith_instr_binary.specs.Bodies.{IsFuncBody};
+ghost use Rattle.smith_instr_binary.specs.Bodies.{IsFuncBodyWritten};
 ghost use Rattle.smith_program.specs.Counted.{counted};
 ghost use Rattle.smith_program_binary.specs.Bodies.{IsBodyOf};
 ghost use Rattle.smith_program_binary.specs.Long.{IsLongBodyOf, IsLongDrawn};
@@ -88,7 +88,8 @@ fn write_drawn(
     sink: &mut Sink,
 ) -> Result<(), EncodeError>
     ensures writes { OnOk result
-        (Writes (IsFuncBody locals.now (counted counters.now instructions.now)) sink.old sink.new) }
+        (Writes (IsFuncBodyWritten locals.now (counted counters.now instructions.now))
+        sink.old sink.new) }
     ensures fault { IfErr result (IsFault (IsLongDrawn counters.now locals.now instructions.now)) }
 {
     let mut content = sink.fresh();

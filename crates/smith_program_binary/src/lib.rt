@@ -4,6 +4,7 @@
 
 mod bodies;
 mod counted;
+mod examples;
 mod programs;
 
 pub use programs::encode;
