@@ -11,7 +11,7 @@ use smith_output::{Form, Manner, output};
 use std::alloc::Global;
 use std::mem;
 
-// The default number of allowed calls.
+// The default number of allowed calls and iterations of loops.
 const DEFAULT_FUEL: u32 = 100;
 
 /// Request of the command line.

@@ -1,12 +1,11 @@
 use crate::asked::{Asked, module_of};
 use crate::failure::Failure;
-use crate::files::write_file;
+use crate::files::{make_folder, write_file};
 use crate::words::{COUNT, SEED, SIZE};
 use rand_core::{Rng, SeedableRng};
 use rand_xoshiro::Xoshiro256PlusPlus;
 use smith_bytes::Error;
 use smith_output::{Form, OutputFault};
-use std::fs;
 use std::io::IsTerminal;
 
 // The default length of an input.
@@ -23,7 +22,7 @@ pub(crate) fn make_corpus(
     asked: &Asked<'_, '_>,
     folder: &str,
 ) -> Result<(), Failure> {
-    fs::create_dir_all(rt, folder)?;
+    make_folder(rt, folder)?;
     let count = asked.matches.get_one::<u32>(COUNT).unwrap_or(0);
     let seed = asked.matches.get_one::<u32>(SEED).unwrap_or(0);
     let mut random = Xoshiro256PlusPlus::seed_from_u64(u64::from(seed));
@@ -36,6 +35,7 @@ pub(crate) fn make_corpus(
         }
         show_progress(rt, number, count)?;
     }
+    end_progress(rt, count)?;
     show_refusals(rt, count, refusals.as_slice())
 }
 
@@ -91,6 +91,14 @@ fn ending_of(form: Form) -> &'static str {
 fn show_progress(rt: &HostRuntime, number: u32, count: u32) -> Result<(), Failure> {
     if number % STRIDE == 0 && rt.stderr().is_terminal() {
         eprint!(rt; "\r{number} of {count}")?;
+    }
+    Ok(())
+}
+
+/// Ends the line that shows on a terminal how many modules there are.
+fn end_progress(rt: &HostRuntime, count: u32) -> Result<(), Failure> {
+    if count > 0 && rt.stderr().is_terminal() {
+        eprintln!(rt)?;
     }
     Ok(())
 }

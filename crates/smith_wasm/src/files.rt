@@ -35,6 +35,14 @@ pub(crate) fn write_file(rt: &HostRuntime, path: &str, bytes: &[u8]) -> Result<(
     }
 }
 
+/// Makes the folder at `path`, and those above it, where there are none.
+pub(crate) fn make_folder(rt: &HostRuntime, path: &str) -> Result<(), Failure> {
+    match fs::create_dir_all(rt, path) {
+        Ok(()) => Ok(()),
+        Err(error) => failed(rt, path, error),
+    }
+}
+
 /// Writes `bytes` to standard output.
 pub(crate) fn write_output(rt: &HostRuntime, bytes: &[u8]) -> Result<(), Failure> {
     match put(rt, bytes) {

@@ -1,8 +1,8 @@
 //! Makes a WebAssembly module from the bytes of a file or of standard input, and writes it in the
 //! binary or the text format.
 //!
-//! `smith_wasm --help` lists the words. Each field of the configuration is a word of its own, named
-//! as in a configuration file.
+//! `smith_wasm --help` lists the words. Each field of the configuration but the three shapes is a
+//! word of its own, named as in a configuration file.
 #![tactic(auto)]
 
 mod asked;

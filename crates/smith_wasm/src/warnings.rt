@@ -1,9 +1,11 @@
 use crate::asked::Asked;
 use crate::failure::Failure;
 
-// The fields of the Rust crate for NaNs in bodies, custom sections and components, none of which
-// exist here.
-const WITHOUT_EFFECT: [&str; 9] = [
+// The fields for two features without instructions here, and the fields of the Rust crate for NaNs
+// in bodies, for custom sections and the encoding, and for components, none of which exist here.
+const WITHOUT_EFFECT: [&str; 11] = [
+    "acquire-release-atomics-enabled",
+    "multibyte-array-access-enabled",
     "canonicalize-nans",
     "generate-custom-sections",
     "min-uleb-size",

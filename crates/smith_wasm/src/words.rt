@@ -14,9 +14,9 @@ pub(crate) const WAT: &str = "wat";
 pub(crate) const CONFIG: &str = "config";
 /// The word of a drawn configuration.
 pub(crate) const ARBITRARY: &str = "arbitrary";
-/// The word of counted calls.
+/// The word of counted calls and loops.
 pub(crate) const ENSURE_TERMINATION: &str = "ensure-termination";
-/// The word of the number of calls.
+/// The word of the number of calls and iterations.
 pub(crate) const FUEL: &str = "fuel";
 /// The word of the number of modules of a corpus.
 pub(crate) const COUNT: &str = "count";
@@ -89,7 +89,7 @@ static WORDS: [Word; 10] = [
         takes: Takes::Nothing,
         needs: None,
         excludes: &[],
-        about: "Adds a global that counts calls, so that each call ends.",
+        about: "Adds a global that counts calls and iterations of loops, so that each call ends.",
     },
     Word {
         name: FUEL,
@@ -97,7 +97,7 @@ static WORDS: [Word; 10] = [
         takes: Takes::Number,
         needs: Some(ENSURE_TERMINATION),
         excludes: &[],
-        about: "The number of calls before the module traps; 100 where it is left out.",
+        about: "The number of calls and iterations before the module traps; 100 where it is left out.",
     },
     Word {
         name: COUNT,
