@@ -24,7 +24,7 @@ const DEPTH: u32 = 40;
 /// references to functions take none. Without fuel the body is `unreachable`.
 ///
 /// With `disallow_traps` of the configuration, only `unreachable` may trap. It is then drawn only
-/// without fuel, or for a value that no permitted local, global, reference to a function, constant or
+/// without fuel, or for a value that no permitted local, global, function reference, constant or
 /// null produces, such as most references that are not nullable.
 ///
 /// # Errors
