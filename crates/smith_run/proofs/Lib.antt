@@ -1,2 +1,3 @@
 pub mod AppendLemmas
 pub mod AnswerLemmas
+pub mod DrawnConfigLemmas

@@ -14,21 +14,17 @@ use Rattle.smith_run.specs.declared.run.RunFault.{RunFault}
 use Rattle.smith_run.specs.Input.{AreKnown}
 use Rattle.smith_run.specs.Line.{line_of}
 
--- a possible result of the generator for a configuration and bytes, of which some are left: it has
--- all properties of the contract
+-- a possible answer for a configuration and bytes, of which some are left: a module or lack of
+-- memory, with all properties of the generator's contract
 pub record IsModuleAnswer (config : Config) (bytes : List ℕ) (answer : Result ModuleParts Error) : Type 0 where
   pub left : List ℕ
   pub generated : IsGenerated false config bytes answer left
-
--- a possible answer for the default configuration: a module, or lack of memory
-pub record AnswersByDefault (bytes : List ℕ) (answer : Result ModuleParts Error) : Type 0 where
-  pub answered : IsModuleAnswer default_config bytes answer
   pub memory_alone : IfErr answer (λ e. e ≡ Memory)
 
 -- a possible answer for the input: for the default configuration, or for the one that is drawn
 -- first from the input, and the bytes left after it
 abbrev pub MayAnswer : Bool → List ℕ → Result ModuleParts Error → Type 0
-MayAnswer false input answer = AnswersByDefault input answer
+MayAnswer false input answer = IsModuleAnswer default_config input answer
 MayAnswer true input answer = let drawn = config_at input in IsModuleAnswer drawn.0 drawn.1 answer
 
 -- the outcome that reports an answer

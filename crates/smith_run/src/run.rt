@@ -32,7 +32,7 @@ pub enum RunFault {
 
 /// Reads `r` to its end, draws a module from the bytes, and writes a line to `w` that reports the
 /// module or the refusal. The line takes no memory. If `drawn` is set, the configuration is drawn
-/// from the bytes first, else it is the default.
+/// from the bytes first, else it is the default. Only lack of memory refuses a module.
 ///
 /// Neither `r` nor `w` has failed before.
 ///
