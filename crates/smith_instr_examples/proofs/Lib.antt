@@ -1,1 +1,2 @@
 pub mod SequenceExamples
+pub mod ManagedExamples
