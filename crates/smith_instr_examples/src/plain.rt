@@ -9,6 +9,7 @@ ghost use Rattle.smith_instr.specs.Contexts.{nullable_to};
 ghost use Rattle.smith_instr.specs.InstrTypes.{HasInstrType};
 ghost use Rattle.smith_instr.specs.declared.atomic.AtomicAccess.TheVariants as atomic;
 ghost use Rattle.smith_instr.specs.declared.instr.Instr.TheVariants as instr;
+ghost use Rattle.smith_instr.specs.declared.memory.Load.TheVariants as number;
 ghost use Rattle.smith_instr.specs.declared.numeric.Conversion.TheVariants as convert;
 ghost use Rattle.smith_instr.specs.declared.numeric.NumericInstr.TheVariants as numeric;
 ghost use Rattle.smith_instr.specs.declared.vector.VectorLoad.TheVariants as load;
@@ -74,6 +75,15 @@ fn locals()
 fn accesses()
     ensures of_a_vector { HasInstrType (managed [] []) [] (instr.VectorLoad load.V128 (aligned 0 4))
         (I32 ∷ []) (V128 ∷ []) }
+    ensures of_the_last_offset { HasInstrType (managed [] []) []
+        (instr.Load number.I32 (record (aligned 0 2) { offset = 4294967295 }))
+        (I32 ∷ []) (I32 ∷ []) }
+    ensures past_the_last_offset { (operands results : List ValType)
+        → ¬ HasInstrType (managed [] []) []
+        (instr.Load number.I32 (record (aligned 0 2) { offset = 4294967296 })) operands results }
+    ensures of_a_wide_offset { HasInstrType (managed [] []) []
+        (instr.Load number.I32 (record (aligned 1 2) { offset = 4294967296 }))
+        (I64 ∷ []) (I32 ∷ []) }
     ensures of_a_vector_above_its_alignment { (operands results : List ValType)
         → ¬ HasInstrType (managed [] []) [] (instr.VectorLoad load.V128 (aligned 0 5))
         operands results }

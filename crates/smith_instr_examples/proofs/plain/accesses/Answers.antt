@@ -19,3 +19,9 @@ returns-clause-waiters_notified c = (false, (record { memory = narrow_memory; th
 
 pub returns-clause-awaited : goal.returns-clause-awaited
 returns-clause-awaited c = (true, (record { memory = wide_memory; there = refl; addressed = refl; offset = omega arith }, refl), (refl, refl))
+
+pub returns-clause-of_the_last_offset : goal.returns-clause-of_the_last_offset
+returns-clause-of_the_last_offset c = (false, (record { memory = narrow_memory; there = refl; addressed = refl; offset = omega arith }, omega arith), (refl, refl))
+
+pub returns-clause-of_a_wide_offset : goal.returns-clause-of_a_wide_offset
+returns-clause-of_a_wide_offset c = (true, (record { memory = wide_memory; there = refl; addressed = refl; offset = omega arith }, omega arith), (refl, refl))
