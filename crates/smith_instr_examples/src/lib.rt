@@ -2,6 +2,7 @@
 //! proved, and nothing calls these functions.
 #![tactic(auto)]
 
+mod arithmetic;
 mod blocks;
 mod bulk;
 mod calls;

@@ -8,6 +8,8 @@ ghost use Rattle.smith_types.specs.declared.value_type.ValType.TheVariants.{Ref,
 ghost use Rattle.smith_instr.specs.Contexts.{nullable_to};
 ghost use Rattle.smith_instr.specs.InstrTypes.{HasInstrType};
 ghost use Rattle.smith_instr.specs.declared.atomic.AtomicAccess.TheVariants as atomic;
+ghost use Rattle.smith_instr.specs.declared.atomic.AtomicUpdate.TheVariants as update;
+ghost use Rattle.smith_instr.specs.declared.atomic.AtomicWidth.TheVariants as width;
 ghost use Rattle.smith_instr.specs.declared.instr.Instr.TheVariants as instr;
 ghost use Rattle.smith_instr.specs.declared.memory.Load.TheVariants as number;
 ghost use Rattle.smith_instr.specs.declared.numeric.Conversion.TheVariants as convert;
@@ -108,4 +110,19 @@ fn accesses()
     ensures awaited_below_its_alignment { (operands results : List ValType)
         → ¬ HasInstrType (managed [] []) [] (instr.Atomic atomic.Wait64 (aligned 1 2))
         operands results }
+    ensures stored { HasInstrType (managed [] []) []
+        (instr.Atomic (atomic.Store width.I64) (aligned 0 3)) (I32 ∷ I64 ∷ []) [] }
+    ensures updated { HasInstrType (managed [] []) []
+        (instr.Atomic (atomic.Update update.Add width.I64Of8) (aligned 0 0))
+        (I32 ∷ I64 ∷ []) (I64 ∷ []) }
+    ensures updated_without_a_result { ¬ HasInstrType (managed [] []) []
+        (instr.Atomic (atomic.Update update.Add width.I64Of8) (aligned 0 0))
+        (I32 ∷ I64 ∷ []) [] }
+    ensures exchanged_if_equal { HasInstrType (managed [] []) []
+        (instr.Atomic (atomic.CompareExchange width.I32) (aligned 1 2))
+        (I64 ∷ I32 ∷ I32 ∷ []) (I32 ∷ []) }
+    ensures exchanged_without_the_old_value { (results : List ValType)
+        → ¬ HasInstrType (managed [] []) []
+        (instr.Atomic (atomic.CompareExchange width.I32) (aligned 1 2))
+        (I64 ∷ I32 ∷ []) results }
 {}

@@ -25,3 +25,12 @@ returns-clause-of_the_last_offset c = (false, (record { memory = narrow_memory; 
 
 pub returns-clause-of_a_wide_offset : goal.returns-clause-of_a_wide_offset
 returns-clause-of_a_wide_offset c = (true, (record { memory = wide_memory; there = refl; addressed = refl; offset = omega arith }, omega arith), (refl, refl))
+
+pub returns-clause-stored : goal.returns-clause-stored
+returns-clause-stored c = (false, (record { memory = narrow_memory; there = refl; addressed = refl; offset = omega arith }, refl), (refl, refl))
+
+pub returns-clause-updated : goal.returns-clause-updated
+returns-clause-updated c = (false, (record { memory = narrow_memory; there = refl; addressed = refl; offset = omega arith }, refl), (refl, refl))
+
+pub returns-clause-exchanged_if_equal : goal.returns-clause-exchanged_if_equal
+returns-clause-exchanged_if_equal c = (true, (record { memory = wide_memory; there = refl; addressed = refl; offset = omega arith }, refl), (refl, refl))
