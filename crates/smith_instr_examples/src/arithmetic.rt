@@ -6,6 +6,9 @@ ghost use Rattle.smith_instr.specs.InstrTypes.{HasInstrType};
 ghost use Rattle.smith_instr.specs.declared.instr.Instr.TheVariants as instr;
 ghost use Rattle.smith_instr.specs.declared.numeric.Conversion.TheVariants as convert;
 ghost use Rattle.smith_instr.specs.declared.numeric.FloatCompare.TheVariants as float;
+ghost use Rattle.smith_instr.specs.declared.numeric.FloatBinary.TheVariants as floats;
+ghost use Rattle.smith_instr.specs.declared.numeric.FloatUnary.TheVariants as roots;
+ghost use Rattle.smith_instr.specs.declared.numeric.IntUnary.TheVariants as unary;
 ghost use Rattle.smith_instr.specs.declared.numeric.IntBinary.TheVariants as binary;
 ghost use Rattle.smith_instr.specs.declared.numeric.IntCompare.TheVariants as int;
 ghost use Rattle.smith_instr.specs.declared.numeric.NumericInstr.TheVariants as numeric;
@@ -13,6 +16,8 @@ ghost use Rattle.smith_instr.specs.declared.numeric.SaturatingConversion.TheVari
 ghost use Rattle.smith_instr.specs.declared.numeric.SignExtension.TheVariants as extend;
 ghost use Rattle.smith_instr.specs.declared.numeric.WideArithmetic.TheVariants as wide;
 ghost use Rattle.smith_instr.specs.declared.vector.IntShape.TheVariants as lanes;
+ghost use Rattle.smith_instr.specs.declared.vector.VectorUnary.TheVariants as inverse;
+ghost use Rattle.smith_instr.specs.declared.vector.VectorBinary.TheVariants as pair;
 ghost use Rattle.smith_instr.specs.declared.vector.VectorShift.TheVariants as shift;
 ghost use Rattle.smith_instr.specs.declared.vector.LaneShape.TheVariants as shape;
 ghost use Rattle.smith_instr.specs.declared.vector.VectorInstr.TheVariants as vector;
@@ -120,6 +125,24 @@ fn numbers()
         (instr.Numeric (numeric.Wide wide.MulWideS)) (I64 ∷ I64 ∷ []) (I64 ∷ I64 ∷ []) }
     ensures product_without_its_upper_half { ¬ HasInstrType (managed [] []) []
         (instr.Numeric (numeric.Wide wide.MulWideS)) (I64 ∷ I64 ∷ []) (I64 ∷ []) }
+    ensures zeros_counted { HasInstrType (managed [] []) []
+        (instr.Numeric (numeric.I64Unary unary.Clz)) (I64 ∷ []) (I64 ∷ []) }
+    ensures zeros_counted_in_a_narrow_result { ¬ HasInstrType (managed [] []) []
+        (instr.Numeric (numeric.I64Unary unary.Clz)) (I64 ∷ []) (I32 ∷ []) }
+    ensures narrow_test { HasInstrType (managed [] []) [] (instr.Numeric numeric.I32Eqz)
+        (I32 ∷ []) (I32 ∷ []) }
+    ensures narrow_comparison { HasInstrType (managed [] []) []
+        (instr.Numeric (numeric.I32Compare int.LtU)) (I32 ∷ I32 ∷ []) (I32 ∷ []) }
+    ensures sum_of_floats { HasInstrType (managed [] []) []
+        (instr.Numeric (numeric.F32Binary floats.Add)) (F32 ∷ F32 ∷ []) (F32 ∷ []) }
+    ensures sum_of_a_float_and_a_double { (results : List ValType)
+        → ¬ HasInstrType (managed [] []) [] (instr.Numeric (numeric.F32Binary floats.Add))
+        (F32 ∷ F64 ∷ []) results }
+    ensures root { HasInstrType (managed [] []) []
+        (instr.Numeric (numeric.F64Unary roots.Sqrt)) (F64 ∷ []) (F64 ∷ []) }
+    ensures root_of_a_float { (results : List ValType)
+        → ¬ HasInstrType (managed [] []) [] (instr.Numeric (numeric.F64Unary roots.Sqrt))
+        (F32 ∷ []) results }
     ensures comparison_of_unlike_floats { (results : List ValType)
         → ¬ HasInstrType (managed [] []) [] (instr.Numeric (numeric.F64Compare float.Eq))
         (F64 ∷ F32 ∷ []) results }
@@ -135,6 +158,18 @@ fn vectors()
         (V128 ∷ []) (I32 ∷ []) }
     ensures any_true_as_a_vector { ¬ HasInstrType (managed [] []) [] (instr.Vector vector.AnyTrue)
         (V128 ∷ []) (V128 ∷ []) }
+    ensures all_true { HasInstrType (managed [] []) []
+        (instr.Vector (vector.AllTrue lanes.I64x2)) (V128 ∷ []) (I32 ∷ []) }
+    ensures bitmask { HasInstrType (managed [] []) []
+        (instr.Vector (vector.Bitmask lanes.I64x2)) (V128 ∷ []) (I32 ∷ []) }
+    ensures bitmask_of_wide_lanes { ¬ HasInstrType (managed [] []) []
+        (instr.Vector (vector.Bitmask lanes.I64x2)) (V128 ∷ []) (I64 ∷ []) }
+    ensures inverted { HasInstrType (managed [] []) []
+        (instr.Vector (vector.Unary inverse.V128Not)) (V128 ∷ []) (V128 ∷ []) }
+    ensures lanes_compared { HasInstrType (managed [] []) []
+        (instr.Vector (vector.Binary pair.I8x16Eq)) (V128 ∷ V128 ∷ []) (V128 ∷ []) }
+    ensures lanes_compared_in_a_number { ¬ HasInstrType (managed [] []) []
+        (instr.Vector (vector.Binary pair.I8x16Eq)) (V128 ∷ V128 ∷ []) (I32 ∷ []) }
     ensures narrow_lanes_filled { HasInstrType (managed [] []) []
         (instr.Vector (vector.Splat shape.I8x16)) (I32 ∷ []) (V128 ∷ []) }
     ensures wide_lanes_filled { HasInstrType (managed [] []) []

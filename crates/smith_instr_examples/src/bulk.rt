@@ -16,6 +16,8 @@ fn tables()
         (I32 ∷ Ref external ∷ []) results }
     ensures read_by_a_narrow_index_of_a_wide_table { (results : List ValType)
         → ¬ HasInstrType (managed [] []) [] (instr.Table (table.Get 2)) (I32 ∷ []) results }
+    ensures wide_size { HasInstrType (managed [] []) [] (instr.Table (table.Size 2))
+        [] (I64 ∷ []) }
     ensures narrow_size_of_a_wide_table { ¬ HasInstrType (managed [] []) []
         (instr.Table (table.Size 2)) [] (I32 ∷ []) }
     ensures grown_by_the_size_first { (results : List ValType)

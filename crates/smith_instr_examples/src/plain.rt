@@ -110,6 +110,12 @@ fn accesses()
     ensures awaited_below_its_alignment { (operands results : List ValType)
         → ¬ HasInstrType (managed [] []) [] (instr.Atomic atomic.Wait64 (aligned 1 2))
         operands results }
+    ensures fence { HasInstrType (managed [] []) [] instr.AtomicFence [] [] }
+    ensures awaited_briefly { HasInstrType (managed [] []) []
+        (instr.Atomic atomic.Wait32 (aligned 0 2)) (I32 ∷ I32 ∷ I64 ∷ []) (I32 ∷ []) }
+    ensures awaited_for_a_narrow_time { (results : List ValType)
+        → ¬ HasInstrType (managed [] []) []
+        (instr.Atomic atomic.Wait32 (aligned 0 2)) (I32 ∷ I32 ∷ I32 ∷ []) results }
     ensures stored { HasInstrType (managed [] []) []
         (instr.Atomic (atomic.Store width.I64) (aligned 0 3)) (I32 ∷ I64 ∷ []) [] }
     ensures updated { HasInstrType (managed [] []) []

@@ -68,6 +68,9 @@ fn nulls()
         operands results }
     ensures null_is_not_null { ¬ HasInstrType (managed [] []) []
         (instr.Reference (reference.Null (Concrete 0))) [] (reference_to (Concrete 0) ∷ []) }
+    ensures null_of_a_number { (results : List ValType)
+        → ¬ HasInstrType (managed [] []) [] (instr.Reference reference.IsNull)
+        (I32 ∷ []) results }
     ensures equality { HasInstrType (managed [] []) [] (instr.Reference reference.Eq)
         (eqref ∷ eqref ∷ []) (I32 ∷ []) }
     ensures equality_of_any { (results : List ValType)

@@ -16,3 +16,6 @@ returns-clause-copied c = (functions, wide_functions, refl, refl, IsRefBelow-ref
 
 pub returns-clause-initialised : goal.returns-clause-initialised
 returns-clause-initialised c = (functions, funcref, refl, refl, IsRefBelow-refl managed_types funcref, (refl, refl))
+
+pub returns-clause-wide_size : goal.returns-clause-wide_size
+returns-clause-wide_size c = (wide_functions, refl, (refl, refl))

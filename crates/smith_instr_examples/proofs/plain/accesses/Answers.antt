@@ -34,3 +34,6 @@ returns-clause-updated c = (false, (record { memory = narrow_memory; there = ref
 
 pub returns-clause-exchanged_if_equal : goal.returns-clause-exchanged_if_equal
 returns-clause-exchanged_if_equal c = (true, (record { memory = wide_memory; there = refl; addressed = refl; offset = omega arith }, refl), (refl, refl))
+
+pub returns-clause-awaited_briefly : goal.returns-clause-awaited_briefly
+returns-clause-awaited_briefly c = (false, (record { memory = narrow_memory; there = refl; addressed = refl; offset = omega arith }, refl), (refl, refl))
