@@ -60,6 +60,9 @@ fn on_null()
 fn on_non_null()
     ensures with_a_value { HasInstrType (managed ((I32 ∷ Ref some_struct ∷ []) ∷ []) []) []
         (instr.BrOnNonNull 0) (I32 ∷ Ref any_struct ∷ []) (I32 ∷ []) }
+    ensures to_a_label_that_may_be_null { HasInstrType
+        (managed ((Ref any_struct ∷ []) ∷ []) []) [] (instr.BrOnNonNull 0)
+        (Ref any_struct ∷ []) [] }
     ensures to_a_label_of_another_type { (results : List ValType)
         → ¬ HasInstrType (managed ((Ref external ∷ []) ∷ []) []) [] (instr.BrOnNonNull 0)
         (Ref any_struct ∷ []) results }
