@@ -1,1 +1,3 @@
 pub mod SequenceExamples
+pub mod ManagedExamples
+pub mod BlockExamples

@@ -22,7 +22,7 @@ use Rattle.smith_instr.proofs.SequenceLemmas.{one, framed, finished, count_as_th
 use Rattle.smith_instr_examples.specs.ExampleBodies.{weakens, function_of, some_func, number, add}
 
 -- whether an instruction opens no block
-pub is_plain : Instr → Bool
+unfoldable pub is_plain : Instr → Bool
 is_plain (instr.Block ty) = false
 is_plain (instr.Loop ty) = false
 is_plain (instr.If ty) = false

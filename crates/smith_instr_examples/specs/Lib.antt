@@ -1,1 +1,2 @@
 pub mod ExampleBodies
+pub mod ExampleManaged

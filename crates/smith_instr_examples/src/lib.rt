@@ -2,6 +2,17 @@
 //! proved, and nothing calls these functions.
 #![tactic(auto)]
 
+mod arithmetic;
+mod blocks;
+mod bulk;
+mod calls;
+mod casts;
+mod creations;
+mod elements;
 mod enabled;
+mod handlers;
 mod instructions;
+mod jumps;
+mod plain;
+mod scalars;
 mod sequences;

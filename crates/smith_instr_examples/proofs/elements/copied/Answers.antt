@@ -1,0 +1,15 @@
+use Rattle.std.proofs.Common.{refl}
+use Rattle.smith_types.specs.ExampleTypes.{constant, variable}
+use Rattle.smith_types.specs.Flags.{funcref}
+use Rattle.smith_types.specs.Subtyping.{itself}
+use Rattle.smith_types.specs.declared.composite_type.StorageType.TheVariants.{Val}
+use Rattle.smith_types.specs.declared.value_type.ValType.TheVariants.{I32, Ref}
+use Rattle.smith_instr_examples.specs.ExampleBodies.{some_func}
+use Rattle.smith_instr_examples.proofs.ManagedExamples.{numbers_there, references_there, functions_there}
+use Rattle.smith_instr_examples.proofs.elements.copied.Goals as goal
+
+pub returns-clause-of_one_type : goal.returns-clause-of_one_type
+returns-clause-of_one_type c = (variable (Val I32), variable (Val I32), numbers_there, numbers_there, refl, tt, (refl, refl))
+
+pub returns-clause-of_a_type_below : goal.returns-clause-of_a_type_below
+returns-clause-of_a_type_below c = (variable (Val (Ref funcref)), constant (Val some_func), references_there, functions_there, refl, record { heap = itself; nullable = λ on. refl }, (refl, refl))

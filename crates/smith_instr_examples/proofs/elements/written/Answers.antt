@@ -1,0 +1,13 @@
+use Rattle.std.proofs.Common.{refl}
+use Rattle.smith_types.specs.ExampleTypes.{variable}
+use Rattle.smith_types.specs.Flags.{funcref}
+use Rattle.smith_types.specs.declared.composite_type.StorageType.TheVariants.{Val}
+use Rattle.smith_types.specs.declared.value_type.ValType.TheVariants.{I32, Ref}
+use Rattle.smith_instr_examples.proofs.ManagedExamples.{numbers_there, references_there}
+use Rattle.smith_instr_examples.proofs.elements.written.Goals as goal
+
+pub returns-clause-variable_one : goal.returns-clause-variable_one
+returns-clause-variable_one c = (variable (Val (Ref funcref)), references_there, refl, (refl, refl))
+
+pub returns-clause-filled : goal.returns-clause-filled
+returns-clause-filled c = (variable (Val I32), numbers_there, refl, (refl, refl))

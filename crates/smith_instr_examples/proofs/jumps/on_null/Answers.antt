@@ -1,0 +1,7 @@
+use Rattle.std.proofs.Common.{[], ◌∷◌, refl, arith}
+use Rattle.smith_types.specs.declared.value_type.HeapType.TheVariants.{Concrete}
+use Rattle.smith_types.specs.declared.value_type.ValType.TheVariants.{I32}
+use Rattle.smith_instr_examples.proofs.jumps.on_null.Goals as goal
+
+pub returns-clause-with_a_value : goal.returns-clause-with_a_value
+returns-clause-with_a_value c = (I32 ∷ [], Concrete 0, refl, (refl, omega arith), (refl, refl))
