@@ -5,7 +5,7 @@ use Rattle.smith_bytes.specs.declared.error.Which.{Which}
 use Rattle.smith_bytes.specs.declared.error.Which.TheVariants.{AvailableImports, Exports, ModuleShape}
 use Rattle.smith_types.specs.Features.{Features}
 use Rattle.smith_types.specs.Kinds.{kind}
-use Rattle.smith_types.specs.Space.{HasDepth}
+use Rattle.smith_types.specs.GroupedTypes.{HasDepth}
 use Rattle.smith_types.specs.ValidTypes.{AreTypesValid}
 use Rattle.smith_types.specs.Imports.{IndexSpaces, flattened, imported_spaces}
 pub use Rattle.smith_types.specs.Groups.{ranges_from, space_of}

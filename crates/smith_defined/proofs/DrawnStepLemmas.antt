@@ -9,7 +9,7 @@ use Rattle.smith_types.specs.Entities.{IsFuncTypeIndex, IsGlobalValid}
 use Rattle.smith_types.specs.Expressions.{Context}
 use Rattle.smith_types.specs.Grown.{Extends, IsContextGrown}
 use Rattle.smith_types.specs.Imports.{IndexSpaces}
-use Rattle.smith_types.specs.Space.{Space}
+use Rattle.smith_types.specs.GroupedTypes.{GroupedTypes}
 use Rattle.smith_types.specs.declared.composite_type.SubType.{SubType}
 use Rattle.smith_types.specs.declared.value_type.ValType.{ValType}
 use Rattle.smith_config.specs.declared.config.Config.{Config}
@@ -23,7 +23,7 @@ use Rattle.smith_defined.specs.declared.definitions.Definitions.{Definitions}
 use Rattle.smith_defined.proofs.ExtensionLemmas.{all_kept}
 
 -- the types, functions and globals that initialisers refer to are valid after functions are defined
-pub may_initialise : (config : Config) (space : Space) (before : IndexSpaces) (so_far : Definitions) (funcs : List ℕ) → MayDefine config space before so_far → All (IsFuncTypeIndex space.types) funcs → length funcs ≤ max config.max_funcs (length before.funcs)
+pub may_initialise : (config : Config) (space : GroupedTypes) (before : IndexSpaces) (so_far : Definitions) (funcs : List ℕ) → MayDefine config space before so_far → All (IsFuncTypeIndex space.types) funcs → length funcs ≤ max config.max_funcs (length before.funcs)
     → MayInitialise config space (scope_among space.types funcs (length before.funcs - so_far.num_funcs) (length before.globals - length so_far.globals) before.globals)
 may_initialise config space before so_far funcs may valid few =
     let imported = length before.globals - length so_far.globals in

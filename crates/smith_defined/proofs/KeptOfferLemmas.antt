@@ -6,7 +6,7 @@ use Rattle.smith_types.specs.Entities.{IsFuncTypeIndex, IsGlobalValid}
 use Rattle.smith_types.specs.Grown.{Extends}
 use Rattle.smith_types.specs.Imports.{IndexSpaces}
 use Rattle.smith_types.specs.IndexSpaces.{with_entity}
-use Rattle.smith_types.specs.Space.{Space}
+use Rattle.smith_types.specs.GroupedTypes.{GroupedTypes}
 use Rattle.smith_types.specs.Types.{IsOrderly}
 use Rattle.smith_types.specs.declared.composite_type.SubType.{SubType}
 use Rattle.smith_types.specs.declared.entity_type.EntityType.{EntityType}
@@ -46,7 +46,7 @@ kept_alike config types spaces defined one other offers all =
     All-weaker (IsKeptOffer (scope_beside config types spaces defined one)) (IsKeptOffer (scope_beside config types spaces defined other))
     (λ offer kept. record { wanted = kept.wanted; globals_seen = kept.globals_seen; globals = kept.globals; funcs_seen = kept.funcs_seen; funcs = kept.funcs }) offers all
 
-module _ (config : Config) (space : Space) (spaces : IndexSpaces) (defined : Definitions) (allow : Bool) (may : MayDefineMore config space spaces defined 1) where
+module _ (config : Config) (space : GroupedTypes) (spaces : IndexSpaces) (defined : Definitions) (allow : Bool) (may : MayDefineMore config space spaces defined 1) where
   sound : AreValidOver (scope_beside config space.types spaces defined allow)
   sound = record { orderly = may.valid.orderly; funcs = may.entities.funcs; globals = may.entities.globals }
 

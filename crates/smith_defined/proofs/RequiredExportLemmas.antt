@@ -17,7 +17,7 @@ use Rattle.smith_types.specs.Grown.{Extends, IsContextGrown}
 use Rattle.smith_types.specs.HeldValues.{values_in}
 use Rattle.smith_types.specs.Imports.{IndexSpaces, tag_of, entity_spaces}
 use Rattle.smith_types.specs.IndexSpaces.{with_entity}
-use Rattle.smith_types.specs.Space.{Space}
+use Rattle.smith_types.specs.GroupedTypes.{GroupedTypes}
 use Rattle.smith_types.specs.Types.{next_group}
 use Rattle.smith_types.specs.ValidTypes.{AreTypesValid, values_of}
 use Rattle.smith_types.specs.declared.value_type.ValType.{ValType}
@@ -179,7 +179,7 @@ lacking_before config types spaces later defined fuller added more =
     fields_before config (drawn_beside config types spaces defined) (drawn_beside config types later fuller) growth refl
 
 -- types and an entity of a shape over the existing ones
-pub record IsOver (own_types : Bool) (config : Config) (shape : Shape) (space types : Space) (of_kind : ExportKind) (theirs added : EntityType) : Type 0 where
+pub record IsOver (own_types : Bool) (config : Config) (shape : Shape) (space types : GroupedTypes) (of_kind : ExportKind) (theirs added : EntityType) : Type 0 where
   pub valid : AreTypesValid (features_of config) types
   pub grown : Extends space.types types.types
   pub groups : Extends space.groups types.groups
@@ -209,7 +209,7 @@ some_tag spaces kind.Global index one (global, at, is) some = absurd (let none :
 some_tag spaces kind.Tag index one (tag, at, is) some = let inside = slice_get_within spaces.tags index tag at in omega (arith, inside)
 
 -- if the shape's types exist already, its entities are unchanged
-standing_over : (config : Config) (shape : Shape) (space : Space) (of_kind : ExportKind) (index : ℕ) (theirs : EntityType) → MayRequire false config shape space → AreTypesValid (features_of config) space
+standing_over : (config : Config) (shape : Shape) (space : GroupedTypes) (of_kind : ExportKind) (index : ℕ) (theirs : EntityType) → MayRequire false config shape space → AreTypesValid (features_of config) space
     → IsEntityAt (shape_spaces shape) of_kind index theirs → IsOver false config shape space space of_kind theirs theirs
 standing_over config shape space of_kind index theirs may valid at = record {
   valid = valid;
@@ -228,7 +228,7 @@ standing_over config shape space of_kind index theirs may valid at = record {
 }
 
 -- if a function or a tag has its own type, that is the one more type, and is the same
-module _ (config : Config) (shape : Shape) (space : Space) (may : MayRequire true config shape space) (valid : AreTypesValid (features_of config) space) where
+module _ (config : Config) (shape : Shape) (space : GroupedTypes) (may : MayRequire true config shape space) (valid : AreTypesValid (features_of config) space) where
   abbrev features : Features
   features = features_of config
 
@@ -327,18 +327,18 @@ module _ (config : Config) (shape : Shape) (space : Space) (may : MayRequire tru
       rw is (as_it_is kind.Global (entity.Global global) (global_alone features space.types global moved) (λ some. omega arith) refl refl)
 
 -- the types and the entity for an entity of a shape are valid, and the same
-over : (own_types : Bool) (config : Config) (shape : Shape) (space : Space) (of_kind : ExportKind) (index : ℕ) (theirs : EntityType) → MayRequire own_types config shape space → AreTypesValid (features_of config) space
+over : (own_types : Bool) (config : Config) (shape : Shape) (space : GroupedTypes) (of_kind : ExportKind) (index : ℕ) (theirs : EntityType) → MayRequire own_types config shape space → AreTypesValid (features_of config) space
     → IsEntityAt (shape_spaces shape) of_kind index theirs → IsOver own_types config shape space (types_over own_types (shape_types shape) space theirs) of_kind theirs (entity_over own_types space theirs)
 over true config shape space of_kind index theirs may valid at = own_over config shape space may valid of_kind index theirs at
 over false config shape space of_kind index theirs may valid at = standing_over config shape space of_kind index theirs may valid at
 
-pub is_over : (own_types : Bool) (config : Config) (shape : Shape) (space types : Space) (of_kind : ExportKind) (index : ℕ) (theirs added : EntityType) → MayRequire own_types config shape space → AreTypesValid (features_of config) space
+pub is_over : (own_types : Bool) (config : Config) (shape : Shape) (space types : GroupedTypes) (of_kind : ExportKind) (index : ℕ) (theirs added : EntityType) → MayRequire own_types config shape space → AreTypesValid (features_of config) space
     → entity_of (shape_spaces shape) of_kind index ≡ Some theirs → types ≡ types_over own_types (shape_types shape) space theirs → added ≡ entity_over own_types space theirs → IsOver own_types config shape space types of_kind theirs added
 is_over own_types config shape space types of_kind index theirs added may valid found types_are added_is =
     rw (types_are, added_is) (over own_types config shape space of_kind index theirs may valid (entity_stands (shape_spaces shape) of_kind index theirs found))
 
 -- no type of a plain shape has a supertype
-pub no_supertypes : (own_types : Bool) (config : Config) (shape : Shape) (space : Space) → MayRequire own_types config shape space → own_types ≡ true → HasNoSupertypes (shape_types shape)
+pub no_supertypes : (own_types : Bool) (config : Config) (shape : Shape) (space : GroupedTypes) → MayRequire own_types config shape space → own_types ≡ true → HasNoSupertypes (shape_types shape)
 no_supertypes true config shape space may own = λ index t at. (all_at IsTypePlain (shape_types shape) index t (may.valid.plain refl).types at).root
 no_supertypes false config shape space may own = absurd cc
 
@@ -352,7 +352,7 @@ stands_last spaces kind.Tag (entity.Tag index) is = (index, slice_get-last space
 stands_last spaces of_kind added is = absurd cc
 
 -- more may be defined after one more entity
-module _ (config : Config) (space types : Space) (spaces : IndexSpaces) (defined : Definitions) (grown : Extends space.types types.types) (valid : AreTypesValid (features_of config) types) where
+module _ (config : Config) (space types : GroupedTypes) (spaces : IndexSpaces) (defined : Definitions) (grown : Extends space.types types.types) (valid : AreTypesValid (features_of config) types) where
   module _ (added : EntityType) (one : AreEntitiesValid (features_of config) types.types (entity_spaces added)) (more : ℕ) (may : MayDefineMore config space spaces defined (more + 1)) where
     may_with : (fuller : Definitions) → AreWithin (with_entity spaces added) fuller → HasRoom (with_entity spaces added) more → MayDefineMore config types (with_entity spaces added) fuller more
     may_with fuller within room = record {
@@ -422,7 +422,7 @@ counted_more spaces (entity.Global global) counts.Globals other = length-append 
 counted_more spaces (entity.Global global) count other = omega arith
 
 -- the properties kept by one more export of a shape
-pub required_more : {own_types : Bool} {config : Config} {shape : Shape} {space types : Space} {spaces later : IndexSpaces} {defined fuller : Definitions} {theirs added : EntityType} (one made : Export)
+pub required_more : {own_types : Bool} {config : Config} {shape : Shape} {space types : GroupedTypes} {spaces later : IndexSpaces} {defined fuller : Definitions} {theirs added : EntityType} (one made : Export)
     → entity_of (shape_spaces shape) one.1 one.2 ≡ Some theirs → IsOver own_types config shape space types one.1 theirs added → IsDefinedMore config types.types spaces defined later fuller added
     → made.0 ≡ one.0 → made.1 ≡ one.1 → made.2 ≡ next_index spaces one.1 → IsRequiredMore own_types config shape space spaces defined types later fuller one made
 required_more {own_types = own_types} {config = config} {shape = shape} {space = space} {types = types} {spaces = spaces} {later = later} {defined = defined} {fuller = fuller} {theirs = theirs} {added = added} one made found over more name of_kind index = record {
@@ -485,7 +485,7 @@ module _ (types : List SubType) (spaces : IndexSpaces) where
       (found_behind of_types (of_tables ++ of_globals) (length of_tables + index) global.val_type
       (found_behind of_tables of_globals index global.val_type (mapped (λ (each : GlobalType). each.val_type) spaces.globals index global at))) (subst IsNeverNull is strict)
 
-never_null : (own_types : Bool) (space : Space) (theirs : EntityType) → IsNeverNull (entity_over own_types space theirs) → IsNeverNull theirs
+never_null : (own_types : Bool) (space : GroupedTypes) (theirs : EntityType) → IsNeverNull (entity_over own_types space theirs) → IsNeverNull theirs
 never_null false space theirs strict = strict
 never_null true space (entity.Table table) strict = strict
 never_null true space (entity.Global global) strict = strict
@@ -494,7 +494,7 @@ never_null true space (entity.Func index) strict = strict
 never_null true space (entity.Tag index) strict = strict
 
 -- the reason why an export is refused if its entity is
-module _ (own_types : Bool) (config : Config) (shape : Shape) (space types : Space) (spaces : IndexSpaces) (defined : Definitions) (one : Export) (theirs added : EntityType) (found : entity_of (shape_spaces shape) one.1 one.2 ≡ Some theirs)
+module _ (own_types : Bool) (config : Config) (shape : Shape) (space types : GroupedTypes) (spaces : IndexSpaces) (defined : Definitions) (one : Export) (theirs added : EntityType) (found : entity_of (shape_spaces shape) one.1 one.2 ≡ Some theirs)
     (is : added ≡ entity_over own_types space theirs) (over : IsOver own_types config shape space types one.1 theirs added) where
   initial_refused : (e : Error) → MayRefuseInitial config (drawn_beside config types.types spaces defined) added e
       → (e ≡ errors.Memory) ⊎ ((e ≡ errors.EmptyChoose) × (Any IsNonNullable (shape_values shape) ⊎ HoldsUngroundedField config (drawn_beside config space.types spaces defined)))

@@ -16,7 +16,7 @@ use Rattle.smith_types.specs.Exports.{AreDistinct, AreExportsStanding, AreExport
 use Rattle.smith_types.specs.Expressions.{Context}
 use Rattle.smith_types.specs.Grown.{Extends, AreSpacesGrown}
 use Rattle.smith_types.specs.Imports.{IndexSpaces}
-use Rattle.smith_types.specs.Space.{Space}
+use Rattle.smith_types.specs.GroupedTypes.{GroupedTypes}
 use Rattle.smith_types.specs.declared.composite_type.SubType.{SubType}
 use Rattle.smith_types.specs.declared.entity_type.EntityType.{EntityType}
 use Rattle.smith_types.specs.declared.entity_type.EntityType.TheVariants as entity
@@ -88,7 +88,7 @@ refused_by of_part of_whole e part whole (Ok y) given passes h = absurd h
 refused_by {X = X} of_part of_whole e part whole (Err own) given passes h = refused_part of_part of_whole own part whole (subst (λ (one : Error). Returns is_memory of_part (Err one) part) (sym h) given) passes
 
 -- the exports before a place are made, and making the others completes the whole
-pub record AreRequiring (own_types : Bool) (config : Config) (shape : Shape) (old_types : Space) (old : IndexSpaces) (old_defined : Definitions) (place : ℕ) (types : Space) (spaces : IndexSpaces) (defined : Definitions) (exports : List Export) (start bytes : List ℕ) : Type 0 where
+pub record AreRequiring (own_types : Bool) (config : Config) (shape : Shape) (old_types : GroupedTypes) (old : IndexSpaces) (old_defined : Definitions) (place : ℕ) (types : GroupedTypes) (spaces : IndexSpaces) (defined : Definitions) (exports : List Export) (start bytes : List ℕ) : Type 0 where
   pub so_far : required_from own_types config shape (drop place shape.exports) (standing_with types spaces defined exports) bytes ≡ required_at own_types config shape old_types old old_defined start
   pub same : AllZip (IsSameExport (IsKeptType own_types types.types (shape_types shape)) spaces (shape_spaces shape)) exports (take place shape.exports)
   pub types_grown : Extends old_types.types types.types
@@ -108,7 +108,7 @@ pub record AreRequiring (own_types : Bool) (config : Config) (shape : Shape) (ol
   pub left : KeepsPieces start bytes
 
 -- none is made yet
-pub none_required : (own_types : Bool) (config : Config) (shape : Shape) (types : Space) (spaces : IndexSpaces) (defined : Definitions) (start : List ℕ) → MayRequire own_types config shape types → MayDefineMore config types spaces defined (length shape.exports)
+pub none_required : (own_types : Bool) (config : Config) (shape : Shape) (types : GroupedTypes) (spaces : IndexSpaces) (defined : Definitions) (start : List ℕ) → MayRequire own_types config shape types → MayDefineMore config types spaces defined (length shape.exports)
     → AreRequiring own_types config shape types spaces defined 0 types spaces defined [] start start
 none_required own_types config shape types spaces defined start shape_may may = record {
   so_far = refl;
@@ -130,7 +130,7 @@ none_required own_types config shape types spaces defined start shape_may may = 
   left = λ whole h. h;
 }
 
-module _ {own_types : Bool} {config : Config} {shape : Shape} {old_types types : Space} {old spaces : IndexSpaces} {old_defined defined : Definitions} {place : ℕ} {exports : List Export} {start bytes : List ℕ}
+module _ {own_types : Bool} {config : Config} {shape : Shape} {old_types types : GroupedTypes} {old spaces : IndexSpaces} {old_defined defined : Definitions} {place : ℕ} {exports : List Export} {start bytes : List ℕ}
     (now : AreRequiring own_types config shape old_types old old_defined place types spaces defined exports start bytes) where
   -- all are made
   pub required_full : length shape.exports ≤ place → required_at own_types config shape old_types old old_defined start ≡ Ok (standing_with types spaces defined exports, bytes)
@@ -182,7 +182,7 @@ module _ {own_types : Bool} {config : Config} {shape : Shape} {old_types types :
           room = record { tags = omega (arith, room.tags); funcs = omega (arith, room.funcs); tables = omega (arith, room.tables); memories = omega (arith, room.memories); globals = omega (arith, room.globals) };
         }
 
-    pub required_more : {more_types : Space} {later : IndexSpaces} {fuller : Definitions} {made : Export} {longer : List Export} {after : List ℕ} → turn ≡ Ok (standing_with more_types later fuller (exports ++ made ∷ []), after)
+    pub required_more : {more_types : GroupedTypes} {later : IndexSpaces} {fuller : Definitions} {made : Export} {longer : List Export} {after : List ℕ} → turn ≡ Ok (standing_with more_types later fuller (exports ++ made ∷ []), after)
         → IsRequiredMore own_types config shape types spaces defined more_types later fuller one made → longer ≡ exports ++ made ∷ [] → KeepsPieces bytes after
         → AreRequiring own_types config shape old_types old old_defined (place + 1) more_types later fuller longer start after
     unfolding required_from

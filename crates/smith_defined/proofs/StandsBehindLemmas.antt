@@ -9,7 +9,7 @@ use Rattle.smith_types.specs.Features.{Features}
 use Rattle.smith_types.specs.Grown.{Extends, IsContextGrown, AreSpacesGrown}
 use Rattle.smith_types.specs.Imports.{IndexSpaces, Defines, tag_of, entity_spaces}
 use Rattle.smith_types.specs.IndexSpaces.{with_entity}
-use Rattle.smith_types.specs.Space.{Space}
+use Rattle.smith_types.specs.GroupedTypes.{GroupedTypes}
 use Rattle.smith_types.specs.ValidTypes.{AreTypesValid}
 use Rattle.smith_bytes.specs.declared.error.Why.TheVariants.{SeveralMemories, SeveralTables}
 use Rattle.smith_types.specs.declared.composite_type.SubType.{SubType}
@@ -206,7 +206,7 @@ module _ (config : Config) (imported : IndexSpaces) where
           initialised = IsConstExpr-grown (context types spaces end) (context more_types more_spaces end) (context_grown types more_types spaces more_spaces end longer grown) h.global.val_type initial h.initialised;
         }
 
-  module _ (space ours : Space) (spaces : IndexSpaces) (defined : Definitions) (now : StandsBehind config imported space spaces defined) (valid : AreTypesValid (features_of config) ours) (longer : Extends space.types ours.types) where
+  module _ (space ours : GroupedTypes) (spaces : IndexSpaces) (defined : Definitions) (now : StandsBehind config imported space spaces defined) (valid : AreTypesValid (features_of config) ours) (longer : Extends space.types ours.types) where
     module _ (added : EntityType) (one : AreEntitiesValid (features_of config) ours.types (entity_spaces added)) where
       abbrev later : IndexSpaces
       later = with_entity spaces added

@@ -7,7 +7,7 @@ use Rattle.smith_types.specs.Entities.{IsFuncTypeIndex, IsGlobalValid, AreEntiti
 use Rattle.smith_types.specs.Expressions.{Context, IsConstExpr}
 use Rattle.smith_types.specs.Grown.{Extends}
 use Rattle.smith_types.specs.Imports.{IndexSpaces, Defines}
-use Rattle.smith_types.specs.Space.{Space}
+use Rattle.smith_types.specs.GroupedTypes.{GroupedTypes}
 use Rattle.smith_types.specs.ValidTypes.{AreTypesValid}
 use Rattle.smith_types.specs.declared.composite_type.SubType.{SubType}
 use Rattle.smith_types.specs.declared.entity_type.GlobalType.{GlobalType}
@@ -51,7 +51,7 @@ pub record HasRoom (spaces : IndexSpaces) (more : ℕ) : Type 0 where
   pub globals : length spaces.globals + more < 2 ^ 32
 
 -- the types, functions and globals that initialisers may refer to are valid
-pub record MayInitialise (config : Config) (space : Space) (standing : InitialiserScope) : Type 0 where
+pub record MayInitialise (config : Config) (space : GroupedTypes) (standing : InitialiserScope) : Type 0 where
   pub passes : Passes config
   pub sanitized : IsSanitized config
   pub valid : AreTypesValid (features_of config) space
@@ -116,7 +116,7 @@ pub record AreWithin (spaces : IndexSpaces) (defined : Definitions) : Type 0 whe
   pub globals : length defined.globals ≤ length spaces.globals
 
 -- items may be defined after these entities, of which some are defined already
-pub record MayDefine (config : Config) (space : Space) (spaces : IndexSpaces) (defined : Definitions) : Type 0 where
+pub record MayDefine (config : Config) (space : GroupedTypes) (spaces : IndexSpaces) (defined : Definitions) : Type 0 where
   pub passes : Passes config
   pub sanitized : IsSanitized config
   pub valid : AreTypesValid (features_of config) space
@@ -136,7 +136,7 @@ abbrev pub scope_in : List SubType → IndexSpaces → IndexSpaces → Initialis
 scope_in types imported spaces = scope_over types spaces.funcs (length imported.funcs) imported.globals
 
 -- the types, the entities that follow these imports, and each initialiser at its place are valid
-pub record StandsBehind (config : Config) (imported : IndexSpaces) (space : Space) (spaces : IndexSpaces) (defined : Definitions) : Type 0 where
+pub record StandsBehind (config : Config) (imported : IndexSpaces) (space : GroupedTypes) (spaces : IndexSpaces) (defined : Definitions) : Type 0 where
   pub types : AreTypesValid (features_of config) space
   pub entities : AreEntitiesValid (features_of config) space.types spaces
   pub counts : AreCountsEnabled (features_of config) spaces
@@ -162,7 +162,7 @@ pub record AreFilled (config : Config) (before spaces : IndexSpaces) : Type 0 wh
   pub each_memory : AreAdded (IsMemoryWithin config) before.memories spaces.memories
 
 -- index spaces have definitions after the items before, valid whatever was imported
-pub record AreDefinedMore (config : Config) (space : Space) (before : IndexSpaces) (so_far : Definitions) (spaces : IndexSpaces) (defined : Definitions) : Type 0 where
+pub record AreDefinedMore (config : Config) (space : GroupedTypes) (before : IndexSpaces) (so_far : Definitions) (spaces : IndexSpaces) (defined : Definitions) : Type 0 where
   pub filled : AreFilled config before spaces
   pub grounded_tables : AreAdded (HasGroundedElements config (drawn_beside config space.types spaces defined)) before.tables spaces.tables
   pub grounded_globals : AreAdded (HasGroundedValue config (drawn_beside config space.types spaces defined)) before.globals spaces.globals

@@ -14,7 +14,7 @@ use Rattle.smith_types.specs.Expressions.{Context, IsConstExpr}
 use Rattle.smith_types.specs.Grown.{Extends, AreSpacesGrown}
 use Rattle.smith_types.specs.Imports.{IndexSpaces}
 use Rattle.smith_types.specs.IndexSpaces.{with_entity}
-use Rattle.smith_types.specs.Space.{Space}
+use Rattle.smith_types.specs.GroupedTypes.{GroupedTypes}
 use Rattle.smith_types.specs.ValidTypes.{AreTypesValid}
 use Rattle.smith_types.specs.declared.value_type.ValType.TheVariants.{Ref}
 use Rattle.smith_types.specs.declared.composite_type.SubType.{SubType}
@@ -40,7 +40,7 @@ use Rattle.smith_rules.specs.ShapesKept.{IsSameExport, IsSameType}
 use Rattle.smith_defined.specs.declared.definitions.Definitions.{Definitions}
 
 -- `more` entities may be defined after the existing ones
-pub record MayDefineMore (config : Config) (space : Space) (spaces : IndexSpaces) (defined : Definitions) (more : ℕ) : Type 0 where
+pub record MayDefineMore (config : Config) (space : GroupedTypes) (spaces : IndexSpaces) (defined : Definitions) (more : ℕ) : Type 0 where
   pub sanitized : IsSanitized config
   pub valid : AreTypesValid (features_of config) space
   pub entities : AreEntitiesValid (features_of config) space.types spaces
@@ -98,7 +98,7 @@ use_of false = which.ModuleShape
 
 -- the exports of a shape may be made: it passes its check, and without own types its types are the
 -- first existing ones
-pub record MayRequire (own_types : Bool) (config : Config) (shape : Shape) (space : Space) : Type 0 where
+pub record MayRequire (own_types : Bool) (config : Config) (shape : Shape) (space : GroupedTypes) : Type 0 where
   pub valid : IsShapeValid (use_of own_types) config shape
   pub present : own_types ≡ false → Extends (shape_types shape) space.types
 
@@ -113,7 +113,7 @@ pub record AddsLimitsOf (shape : Shape) (old new : IndexSpaces) : Type 0 where
   pub globals : All (λ global. Contains old.globals global ⊎ Contains (shape_spaces shape).globals global) new.globals
 
 -- the properties that an export of a shape, and the definition for it, preserve
-pub record IsRequiredMore (own_types : Bool) (config : Config) (shape : Shape) (old_types : Space) (old : IndexSpaces) (old_defined : Definitions) (types : Space) (spaces : IndexSpaces) (defined : Definitions) (one made : Export) : Type 0 where
+pub record IsRequiredMore (own_types : Bool) (config : Config) (shape : Shape) (old_types : GroupedTypes) (old : IndexSpaces) (old_defined : Definitions) (types : GroupedTypes) (spaces : IndexSpaces) (defined : Definitions) (one made : Export) : Type 0 where
   pub same : IsSameExport (IsKeptType own_types types.types (shape_types shape)) spaces (shape_spaces shape) made one
   pub types_grown : Extends old_types.types types.types
   pub groups_grown : Extends old_types.groups types.groups
@@ -130,7 +130,7 @@ pub record IsRequiredMore (own_types : Bool) (config : Config) (shape : Shape) (
   pub stands : (imported : IndexSpaces) → StandsBehind config imported old_types old old_defined → StandsBehind config imported types spaces defined
 
 -- the exports of a shape are made: the same in order, valid, of entities defined after those before
-pub record AreRequired (own_types : Bool) (config : Config) (shape : Shape) (old_types : Space) (old : IndexSpaces) (old_defined : Definitions) (types : Space) (spaces : IndexSpaces) (defined : Definitions) (exports : List Export) : Type 0 where
+pub record AreRequired (own_types : Bool) (config : Config) (shape : Shape) (old_types : GroupedTypes) (old : IndexSpaces) (old_defined : Definitions) (types : GroupedTypes) (spaces : IndexSpaces) (defined : Definitions) (exports : List Export) : Type 0 where
   pub same : AllZip (IsSameExport (IsKeptType own_types types.types (shape_types shape)) spaces (shape_spaces shape)) exports shape.exports
   pub types_grown : Extends old_types.types types.types
   pub groups_grown : Extends old_types.groups types.groups

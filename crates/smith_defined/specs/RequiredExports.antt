@@ -8,7 +8,7 @@ use Rattle.smith_bytes.specs.declared.error.Why.TheVariants.{SeveralMemories, Se
 use Rattle.smith_types.specs.Expressions.{Context}
 use Rattle.smith_types.specs.Imports.{IndexSpaces}
 use Rattle.smith_types.specs.IndexSpaces.{with_entity}
-use Rattle.smith_types.specs.Space.{Space}
+use Rattle.smith_types.specs.GroupedTypes.{GroupedTypes}
 use Rattle.smith_types.specs.Types.{next_group}
 use Rattle.smith_types.specs.declared.composite_type.SubType.{SubType}
 use Rattle.smith_types.specs.declared.const_instr.ConstInstr.{ConstInstr}
@@ -101,41 +101,41 @@ entity_required_at config types spaces defined one bytes =
     unless (several config spaces one) (then_with (λ more. (with_entity spaces one, more)) (defined_with_at config types spaces defined one bytes))
 
 -- types with one more, in a group of its own
-abbrev pub with_own_group : Space → Option SubType → Space
+abbrev pub with_own_group : GroupedTypes → Option SubType → GroupedTypes
 with_own_group space None = space
 with_own_group space (Some t) = let types = space.types ++ t ∷ [] in record { types = types; groups = space.groups ++ next_group types space.groups ∷ [] }
 
 -- the types, with that of an entity over other types added: the type of a function or a tag
-abbrev pub with_type_of : List SubType → Space → EntityType → Space
+abbrev pub with_type_of : List SubType → GroupedTypes → EntityType → GroupedTypes
 with_type_of theirs space (entity.Func index) = with_own_group space (slice_get theirs index)
 with_type_of theirs space (entity.Tag index) = with_own_group space (slice_get theirs index)
 with_type_of theirs space _ = space
 
 -- an entity of a shape, with a type of its own
-abbrev pub of_own_type : Space → EntityType → EntityType
+abbrev pub of_own_type : GroupedTypes → EntityType → EntityType
 of_own_type space (entity.Func index) = entity.Func (length space.types)
 of_own_type space (entity.Tag index) = entity.Tag (length space.types)
 of_own_type space one = one
 
 -- the types and the entity for an entity of a shape: with own types the entity's type is added,
 -- else it exists already
-abbrev pub types_over : Bool → List SubType → Space → EntityType → Space
+abbrev pub types_over : Bool → List SubType → GroupedTypes → EntityType → GroupedTypes
 types_over true theirs space one = with_type_of theirs space one
 types_over false theirs space one = space
 
-abbrev pub entity_over : Bool → Space → EntityType → EntityType
+abbrev pub entity_over : Bool → GroupedTypes → EntityType → EntityType
 entity_over true space one = of_own_type space one
 entity_over false space one = one
 
 -- the state while exports are made: types, index spaces, their definitions, and the exports so far
 pub record Required : Type 0 where
-  pub types : Space
+  pub types : GroupedTypes
   pub spaces : IndexSpaces
   pub defined : Definitions
   pub exports : List Export
 
 -- the state of these parts
-abbrev pub standing_with : Space → IndexSpaces → Definitions → List Export → Required
+abbrev pub standing_with : GroupedTypes → IndexSpaces → Definitions → List Export → Required
 standing_with types spaces defined exports = record { types = types; spaces = spaces; defined = defined; exports = exports }
 
 -- the state with one more export of a shape, of an entity that is defined for it
@@ -158,6 +158,6 @@ required_from own_types config shape (one ∷ more) now bytes =
     and_then (required_from own_types config shape more) (export_required_at own_types config shape one now bytes (entity_of (shape_spaces shape) one.1 one.2))
 
 -- the state with the exports of a shape, after the existing entities
-abbrev pub required_at : Bool → Config → Shape → Space → IndexSpaces → Definitions → List ℕ → Result (Required × List ℕ) Error
+abbrev pub required_at : Bool → Config → Shape → GroupedTypes → IndexSpaces → Definitions → List ℕ → Result (Required × List ℕ) Error
 required_at own_types config shape types spaces defined bytes =
     required_from own_types config shape shape.exports (standing_with types spaces defined []) bytes

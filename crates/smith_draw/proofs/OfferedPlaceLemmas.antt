@@ -12,7 +12,7 @@ use Rattle.smith_types.specs.declared.composite_type.CompositeInnerType.{Composi
 use Rattle.smith_types.specs.declared.composite_type.SubType.{SubType}
 use Rattle.smith_types.specs.Kinds.{shared, bottom}
 use Rattle.smith_types.specs.Types.{IsOrderly}
-use Rattle.smith_types.specs.Space.{HasDepth, root, deeper}
+use Rattle.smith_types.specs.GroupedTypes.{HasDepth, root, deeper}
 use Rattle.smith_types.specs.Subtyping.{IsBelow}
 use Rattle.smith_types.specs.KindCounts.{is_inner_of_kind, indices_from, indices_of_kind}
 use Rattle.smith_types.specs.KindCounts as kinds

@@ -6,7 +6,7 @@ use Rattle.std.specs.List.{AllByRecursion as ByRecursion}
 use Rattle.std.proofs.lemmas.List.Elements.{All-nil, All-cons, All-from_recursion}
 use Rattle.smith_types.specs.Entities.{IsTagValid, IsFuncTypeIndex, IsTableValid, IsMemoryValid, IsGlobalValid}
 use Rattle.smith_types.specs.Imports.{IndexSpaces, table_of, global_of}
-use Rattle.smith_types.specs.Space.{Space}
+use Rattle.smith_types.specs.GroupedTypes.{GroupedTypes}
 use Rattle.smith_types.specs.declared.composite_type.SubType.{SubType}
 use Rattle.smith_types.specs.declared.entity_type.EntityType.{EntityType}
 use Rattle.smith_types.specs.declared.entity_type.EntityType.TheVariants as entity
@@ -65,7 +65,7 @@ fit_without_references config types spaces added fit no_table no_global =
     let Values = HasGroundedValue config (import_scope config types spaces) in
     record { entity = fit; grounded_tables = subst (All Elements) (sym no_table) (All-nil Elements); grounded_globals = subst (All Values) (sym no_global) (All-nil Values) }
 
-module _ (config : Config) (space : Space) (may : MayImport config space) where
+module _ (config : Config) (space : GroupedTypes) (may : MayImport config space) where
   pub tag_fit : (index : ℕ) → IsTrue config.exceptions_enabled → IsTagValid space.types index → IsEntityFit config space.types (entity.Tag index)
   tag_fit index on valid = record {
     valid = record {

@@ -12,7 +12,7 @@ use Rattle.smith_types.specs.Floats.{HasNoFloatValue}
 use Rattle.smith_types.specs.Imports.{IndexSpaces, IsImportsValid, flattened, imported_spaces, tag_of, table_of, memory_of, global_of, entity_spaces}
 use Rattle.smith_types.specs.IndexSpaces.{spaces_in, with_entity}
 use Rattle.smith_types.specs.Sizes.{IsTyped, size_in}
-use Rattle.smith_types.specs.Space.{Space}
+use Rattle.smith_types.specs.GroupedTypes.{GroupedTypes}
 use Rattle.smith_types.specs.ValidTypes.{AreTypesValid}
 use Rattle.smith_types.specs.declared.composite_type.SubType.{SubType}
 use Rattle.smith_types.specs.declared.entity_type.EntityType.{EntityType}
@@ -36,7 +36,7 @@ use Rattle.smith_imports.specs.declared.imported.Imported.{Imported}
 
 -- imports may be drawn over these types: no shape fixes the imports, and the function types are
 -- small
-pub record MayImport (config : Config) (space : Space) : Type 0 where
+pub record MayImport (config : Config) (space : GroupedTypes) : Type 0 where
   pub passes : Passes config
   pub sanitized : IsSanitized config
   pub free : FixesImports config → ⊥

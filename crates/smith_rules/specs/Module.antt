@@ -4,7 +4,7 @@ use Rattle.std.specs.Prelude.{◌≡◌, ℕ, ◌+◌, Bool, IsTrue, Option, Som
 use Rattle.std.specs.List.{All}
 use Rattle.std.specs.declared.ops.Range.{Range}
 use Rattle.smith_types.specs.Features.{Features}
-use Rattle.smith_types.specs.Space.{Space}
+use Rattle.smith_types.specs.GroupedTypes.{GroupedTypes}
 use Rattle.smith_types.specs.ValidTypes.{AreTypesValid}
 use Rattle.smith_types.specs.Imports.{IndexSpaces, Defines, IsImportsValid, flattened, imported_spaces}
 use Rattle.smith_types.specs.Entities.{AreEntitiesValid, AreCountsEnabled}
@@ -67,7 +67,7 @@ abbrev pub module_features : ModuleParts → Features
 module_features m = features_of m.config
 
 -- a module's types in their groups (Structure, Recursive Types)
-abbrev pub module_types : ModuleParts → Space
+abbrev pub module_types : ModuleParts → GroupedTypes
 module_types m = record { types = m.types; groups = m.groups }
 
 -- a module's index spaces (Structure, Indices)

@@ -2,7 +2,7 @@ pub mod Features
 pub mod FeatureBits
 pub mod Kinds
 pub mod Types
-pub mod Space
+pub mod GroupedTypes
 pub mod Subtyping
 pub mod KindCounts
 pub mod Places

@@ -10,7 +10,7 @@ use Rattle.smith_bytes.specs.declared.error.Error.{Error}
 use Rattle.smith_bytes.specs.declared.error.Which.TheVariants.{AvailableImports, ModuleShape}
 use Rattle.smith_types.specs.Entities.{AreEntitiesValid, AreCountsEnabled}
 use Rattle.smith_types.specs.Imports.{IndexSpaces, Defines, imported, imported_spaces, tag_of, func_of, table_of, memory_of, global_of}
-use Rattle.smith_types.specs.Space.{Space}
+use Rattle.smith_types.specs.GroupedTypes.{GroupedTypes}
 use Rattle.smith_types.specs.ValidTypes.{AreTypesValid}
 use Rattle.smith_types.specs.declared.entity_type.EntityType.{EntityType}
 use Rattle.smith_types.specs.declared.entity_type.EntityType.TheVariants as entity
@@ -81,7 +81,7 @@ imported_room imports more few =
 defines_none : {A : Type 0} (xs : List A) → Defines xs 0 xs
 defines_none xs = record { defined = []; count_is = refl; parts = sym (append-nil xs) }
 
-pub stands_alone : (config : Config) (space : Space) (spaces : IndexSpaces) → AreTypesValid (features_of config) space → AreEntitiesValid (features_of config) space.types spaces → AreCountsEnabled (features_of config) spaces
+pub stands_alone : (config : Config) (space : GroupedTypes) (spaces : IndexSpaces) → AreTypesValid (features_of config) space → AreEntitiesValid (features_of config) space.types spaces → AreCountsEnabled (features_of config) spaces
     → StandsBehind config spaces space spaces nothing_defined
 stands_alone config space spaces types entities counts = record {
   types = types;

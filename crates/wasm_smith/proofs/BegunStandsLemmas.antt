@@ -9,7 +9,7 @@ use Rattle.smith_bytes.specs.declared.error.Count.TheVariants as counts
 use Rattle.smith_types.specs.Entities.{AreEntitiesValid, AreCountsEnabled, IsTagValid, IsFuncTypeIndex, IsTableValid, IsMemoryValid, IsGlobalValid}
 use Rattle.smith_types.specs.Imports.{IndexSpaces, IsImportsValid, flattened, imported_spaces}
 use Rattle.smith_types.specs.IndexSpaces.{spaces_in}
-use Rattle.smith_types.specs.Space.{Space}
+use Rattle.smith_types.specs.GroupedTypes.{GroupedTypes}
 use Rattle.smith_types.specs.declared.imports.Import.{Import}
 use Rattle.smith_types.proofs.ValidityLemmas.{no_types}
 use Rattle.smith_config.specs.declared.config.Config.{Config}
@@ -47,7 +47,7 @@ module _ (config : Config) (shape : Shape) (drawn : Drawn) where
     count = begun.count ∙ sym (ap (λ (imports : List Import). length imports) begun.flat);
     stands = rw begun.flat begun.stands;
     most = λ count is. let brings = module_brings config shape count given in let here = module_entities shape (spaces_in drawn.imported.spaces) begun.counted count is in omega (arith, brings, here);
-    most_types = let brings = module_brings config shape counts.Types given in let here = ap (λ (space : Space). length space.types) begun.types in omega (arith, brings, here);
+    most_types = let brings = module_brings config shape counts.Types given in let here = ap (λ (space : GroupedTypes). length space.types) begun.types in omega (arith, brings, here);
     most_imports = let brings = module_brings config shape counts.Imports given in let here = ap (λ (imports : List Import). length imports) begun.flat in omega (arith, brings, here);
     tables = All-weaker (Contains (shape_spaces shape).tables) (IsTableKept config) (λ table h. inl (rw given h)) drawn.imported.spaces.tables begun.tables;
     memories = All-weaker (Contains (shape_spaces shape).memories) (IsMemoryKept config) (λ memory h. inl (rw given h)) drawn.imported.spaces.memories begun.memories;
@@ -71,7 +71,7 @@ module _ (config : Config) (shape : Shape) (bytes : List ℕ) (drawn : Drawn) wh
     count = begun.count;
     stands = begun.stands;
     most = λ count is. let here = taken_most config (flattened drawn.imported.groups) (spaces_in drawn.imported.spaces) begun.within.numbers begun.spaces count is in omega (arith, here);
-    most_types = let brings = imports_bring config shape counts.Types none given in let here = ap (λ (space : Space). length space.types) begun.types in omega (arith, brings, here);
+    most_types = let brings = imports_bring config shape counts.Types none given in let here = ap (λ (space : GroupedTypes). length space.types) begun.types in omega (arith, brings, here);
     most_imports = let here = begun.within.most in omega (arith, here);
     tables = All-weaker (Contains (shape_spaces shape).tables) (IsTableKept config) (λ table h. inl (rw (none, given) (Contains-append_left (shape_spaces shape).tables _ table h))) drawn.imported.spaces.tables begun.tables;
     memories = All-weaker (Contains (shape_spaces shape).memories) (IsMemoryKept config) (λ memory h. inl (rw (none, given) (Contains-append_left (shape_spaces shape).memories _ memory h))) drawn.imported.spaces.memories begun.memories;
@@ -111,7 +111,7 @@ freely config drawn none free begun =
       count = rw groups begun.imports.count;
       stands = rw (groups, spaces, types, defined) (stands_alone config (record { types = []; groups = [] }) (imported_spaces []) (no_types (features_of config)) (no_entities config) (none_counted config));
       most = λ count is. let none_there = nothing_in count is in let here = ap (λ (all : IndexSpaces). count_in all count) spaces in omega (arith, here, none_there);
-      most_types = let here = ap (λ (space : Space). length space.types) types in omega (arith, here);
+      most_types = let here = ap (λ (space : GroupedTypes). length space.types) types in omega (arith, here);
       most_imports = rw groups (omega arith);
       tables = subst (λ (all : IndexSpaces). All (IsTableKept config) all.tables) (sym spaces) (All-nil (IsTableKept config));
       memories = subst (λ (all : IndexSpaces). All (IsMemoryKept config) all.memories) (sym spaces) (All-nil (IsMemoryKept config));

@@ -11,7 +11,7 @@ use Rattle.smith_types.specs.Floats.{HasNoFloat}
 use Rattle.smith_types.specs.Grown.{Extends, IsContextGrown}
 use Rattle.smith_types.specs.Imports.{IndexSpaces}
 use Rattle.smith_types.specs.IndexSpaces.{spaces_in}
-use Rattle.smith_types.specs.Space.{Space}
+use Rattle.smith_types.specs.GroupedTypes.{GroupedTypes}
 use Rattle.smith_types.specs.ValidTypes.{AreTypesValid}
 use Rattle.smith_types.specs.declared.composite_type.SubType.{SubType}
 use Rattle.smith_types.specs.declared.entity_type.EntityType.{EntityType}
@@ -51,7 +51,7 @@ no_exports spaces = record {
 }
 
 -- the references of a shape's types, tables and globals
-of_shape : (config : Config) (functions : Context) (shape : Shape) (types : Space) (spaces : IndexSpaces) → types ≡ space_of shape.groups → All (Contains (shape_spaces shape).tables) spaces.tables → All (Contains (shape_spaces shape).globals) spaces.globals
+of_shape : (config : Config) (functions : Context) (shape : Shape) (types : GroupedTypes) (spaces : IndexSpaces) → types ≡ space_of shape.groups → All (Contains (shape_spaces shape).tables) spaces.tables → All (Contains (shape_spaces shape).globals) spaces.globals
     → HoldsGrounded config (over functions (shape_types shape)) (shape_spaces shape) → HoldsGrounded config (over functions types.types) spaces
 of_shape config functions shape types spaces same tables globals h =
     let Elements = HasGroundedElements config (over functions (shape_types shape)) in
@@ -106,7 +106,7 @@ begun_by config bytes drawn None (Some shape) none given valid begun = by_import
 begun_by config bytes drawn None None none free valid begun = freely config drawn (begun.freely (none_fixes config none free))
 
 -- types after those that a module begins with: the properties that drawing these types preserves
-pub record AreTypesBehind (config : Config) (functions : Context) (old new : Space) : Type 0 where
+pub record AreTypesBehind (config : Config) (functions : Context) (old new : GroupedTypes) : Type 0 where
   valid : AreTypesValid (features_of config) new
   longer : Extends old.types new.types
   most : length new.types ≤ max config.max_types (length old.types)
@@ -118,7 +118,7 @@ pub record AreTypesBehind (config : Config) (functions : Context) (old new : Spa
 
 -- grounded references stay grounded as types are added, and the references of the added types are
 -- grounded
-grounded_later : (config : Config) (functions : Context) (old new : Space) (spaces : IndexSpaces) → AreTypesBehind config functions old new → HoldsGrounded config (over functions old.types) spaces → HoldsGrounded config (over functions new.types) spaces
+grounded_later : (config : Config) (functions : Context) (old new : GroupedTypes) (spaces : IndexSpaces) → AreTypesBehind config functions old new → HoldsGrounded config (over functions old.types) spaces → HoldsGrounded config (over functions new.types) spaces
 grounded_later config functions old new spaces more h =
     let before = over functions old.types in
     let later = over functions new.types in
@@ -139,7 +139,7 @@ grounded_later config functions old new spaces more h =
     }
 
 -- more may be drawn over the first parts of a module after such types are added
-types_drawn : (config : Config) (bytes : List ℕ) (drawn : Drawn) (types : Space) → AreShapesValid config → IsBegun config bytes drawn → AreTypesBehind config (drawn_next config drawn) drawn.types types → AreTypesDrawn config (record drawn { types = types })
+types_drawn : (config : Config) (bytes : List ℕ) (drawn : Drawn) (types : GroupedTypes) → AreShapesValid config → IsBegun config bytes drawn → AreTypesBehind config (drawn_next config drawn) drawn.types types → AreTypesDrawn config (record drawn { types = types })
 types_drawn config bytes drawn types valid begun more =
     let may = begun_by config bytes drawn config.module_shape config.available_imports refl refl valid begun in
     record {
@@ -163,19 +163,19 @@ stays_within : (most old new : ℕ) → (old ≤ most → new ≤ most) → (mos
 stays_within most old new few full = grind arith
 
 -- properties of drawn types, if drawing succeeds
-module _ {X : Type 0} (config : Config) (functions : Context) (old new : Space) where
+module _ {X : Type 0} (config : Config) (functions : Context) (old new : GroupedTypes) where
   pub types_behind : (result : Result X Error) → OnOk result (AreTypesValid (features_of config) new) → OnOk result (Extends old.types new.types)
       → (length old.types ≤ config.max_types → OnOk result (length new.types ≤ config.max_types)) → (config.max_types ≤ length old.types → OnOk result (new ≡ old)) → OnOk result (config.min_types ≤ length new.types)
       → (config.allow_floats ≡ false → All HasNoFloat old.types → OnOk result (All HasNoFloat new.types)) → ((most : ℕ) → 20 ≤ most → All (HasFewValues most) old.types → OnOk result (All (HasFewValues most) new.types))
       → (¬ HoldsUngroundedField config (over functions old.types) → OnOk result (¬ HoldsUngroundedField config (over functions new.types)))
       → (AreTypesGranted config (over functions old.types) → OnOk result (AreTypesGranted config (over functions new.types))) → OnOk result (AreTypesBehind config functions old new)
   types_behind (Ok made) valid longer most full least floats few_values grounded granted =
-      let same : config.max_types ≤ length old.types → length new.types ≡ length old.types = λ filled. ap (λ (space : Space). length space.types) (full filled) in
+      let same : config.max_types ≤ length old.types → length new.types ≡ length old.types = λ filled. ap (λ (space : GroupedTypes). length space.types) (full filled) in
       record { valid = valid; longer = longer; most = stays_within config.max_types (length old.types) (length new.types) most same; least = least; floats = floats; few_values = few_values; grounded = grounded; granted = granted }
   types_behind (Err e) valid longer most full least floats few_values grounded granted = tt
 
 -- after drawn types, more may be drawn over the first parts of a module
-pub drawn_behind : {X : Type 0} (config : Config) (bytes : List ℕ) (drawn : Drawn) (types : Space) (result : Result X Error) → AreShapesValid config → IsBegun config bytes drawn → OnOk result (AreTypesBehind config (drawn_next config drawn) drawn.types types)
+pub drawn_behind : {X : Type 0} (config : Config) (bytes : List ℕ) (drawn : Drawn) (types : GroupedTypes) (result : Result X Error) → AreShapesValid config → IsBegun config bytes drawn → OnOk result (AreTypesBehind config (drawn_next config drawn) drawn.types types)
     → OnOk result (AreTypesDrawn config (record drawn { types = types }))
 drawn_behind config bytes drawn types (Ok made) valid begun more = types_drawn config bytes drawn types valid begun more
 drawn_behind config bytes drawn types (Err e) valid begun more = tt

@@ -12,7 +12,7 @@ use Rattle.smith_bytes.specs.declared.error.Why.TheVariants.{SeveralMemories, Se
 use Rattle.smith_types.specs.Grown.{Extends, IsContextGrown, AreSpacesGrown}
 use Rattle.smith_types.specs.Imports.{flattened, imported_spaces}
 use Rattle.smith_types.specs.IndexSpaces.{spaces_in}
-use Rattle.smith_types.specs.Space.{Space}
+use Rattle.smith_types.specs.GroupedTypes.{GroupedTypes}
 use Rattle.smith_types.specs.declared.composite_type.SubType.{SubType}
 use Rattle.smith_types.specs.declared.index_spaces.IndexSpaces.{IndexSpaces as Held}
 use Rattle.smith_types.proofs.EntityGrowthLemmas.{no_fewer}
@@ -144,7 +144,7 @@ module _ (config : Config) (shape : Shape) (drawn : Drawn) (none : config.module
   required_refuses (errors.IncorrectFormat SeveralTables) (some, off) = (inl (rw (none, given) some), off)
   required_refuses e refused = lacks_so e refused
 
-  required_grounded : (types : Space) (spaces : Held) (defined : Definitions) → Extends drawn.types.types types.types → AreSpacesGrown (spaces_in drawn.imported.spaces) (spaces_in spaces)
+  required_grounded : (types : GroupedTypes) (spaces : Held) (defined : Definitions) → Extends drawn.types.types types.types → AreSpacesGrown (spaces_in drawn.imported.spaces) (spaces_in spaces)
       → (HoldsUngroundedField config (drawn_beside config types.types (spaces_in spaces) defined) → HoldsUngroundedField config (drawn_next config drawn)) → AddsTypesOf shape drawn.types.types types.types → AddsLimitsOf shape (spaces_in drawn.imported.spaces) (spaces_in spaces)
       → StandsBehind config (imported_spaces (flattened drawn.imported.groups)) types (spaces_in spaces) defined → (HoldsNonNullable config → ⊥) → HoldsGrounded config (drawn_beside config types.types (spaces_in spaces) defined) (spaces_in spaces)
   required_grounded types spaces defined longer grown lacking listed limits stands never =
@@ -179,7 +179,7 @@ module _ (config : Config) (shape : Shape) (drawn : Drawn) (none : config.module
       }
 
 -- the exports of a shape are made after the existing entities
-module _ (config : Config) (shape : Shape) (drawn : Drawn) (types : Space) (spaces : Held) (defined : Definitions) (none : config.module_shape ≡ None) (given : config.exports ≡ Some shape) where
+module _ (config : Config) (shape : Shape) (drawn : Drawn) (types : GroupedTypes) (spaces : Held) (defined : Definitions) (none : config.module_shape ≡ None) (given : config.exports ≡ Some shape) where
   pub required_drawn : AreEntitiesDrawn config drawn → Extends drawn.types.types types.types → length types.types ≤ length drawn.types.types + items_of_exports counts.Types shape
       → (HoldsUngroundedField config (drawn_beside config types.types (spaces_in spaces) defined) → HoldsUngroundedField config (drawn_next config drawn)) → (All (HasFewValues most_listed) drawn.types.types → All (HasFewValues most_listed) types.types)
       → ((count : Count) → (count ≡ counts.Types → ⊥) → count_in (spaces_in spaces) count ≡ count_in (spaces_in drawn.imported.spaces) count + items_of_exports count shape)

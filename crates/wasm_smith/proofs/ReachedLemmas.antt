@@ -11,7 +11,7 @@ use Rattle.smith_bytes.specs.declared.error.Error.TheVariants as errors
 use Rattle.smith_bytes.specs.declared.error.Why.{Why}
 use Rattle.smith_bytes.proofs.SpelledLemmas.{joined_parts}
 use Rattle.smith_types.specs.Imports.{IndexSpaces, flattened, imported_spaces}
-use Rattle.smith_types.specs.Space.{Space}
+use Rattle.smith_types.specs.GroupedTypes.{GroupedTypes}
 use Rattle.smith_types.specs.declared.composite_type.SubType.{SubType}
 use Rattle.smith_types.specs.declared.entity_type.GlobalType.{GlobalType}
 use Rattle.smith_types.specs.declared.const_instr.ConstInstr.{ConstInstr}
@@ -151,7 +151,7 @@ member_read distinct config groups funcs piece after sanitized none least member
 -- these are the types and functions of the module, whatever bytes follow
 whole_ended : (config : Config) (groups : List (List SubType)) (begun : ModuleSoFar) (flag : Bool) (contents : Result (Contents × List ℕ) Why) → begun.types ≡ space_of groups
     → IfOk {T = ModuleParts × List ℕ} (in_full contents >>= λ (made : Contents × List ℕ). Ok (module_of config begun made.0 flag, made.1)) (λ drawn. HasMember groups begun.spaces.funcs drawn.0)
-whole_ended config groups begun flag (Ok made) same = record { types = ap (λ (space : Space). space.types) same; groups_are = ap (λ (space : Space). space.groups) same; funcs_are = refl }
+whole_ended config groups begun flag (Ok made) same = record { types = ap (λ (space : GroupedTypes). space.types) same; groups_are = ap (λ (space : GroupedTypes). space.groups) same; funcs_are = refl }
 whole_ended config groups begun flag (Err why) same = tt
 
 member_ended : (config : Config) (groups : List (List SubType)) (made : IndexSpaces × Definitions) (flag : Bool) (exports : Result (List Export × List ℕ) Why)

@@ -10,7 +10,7 @@ use Rattle.smith_types.specs.Entities.{IsFuncTypeIndex}
 use Rattle.smith_types.specs.Grown.{Extends}
 use Rattle.smith_types.specs.Imports.{flattened, imported_spaces}
 use Rattle.smith_types.specs.IndexSpaces.{spaces_in}
-use Rattle.smith_types.specs.Space.{Space}
+use Rattle.smith_types.specs.GroupedTypes.{GroupedTypes}
 use Rattle.smith_types.specs.declared.index_spaces.IndexSpaces.{IndexSpaces as Held}
 use Rattle.smith_types.proofs.HeldValueLemmas.{all_apart}
 use Rattle.smith_config.specs.declared.config.Config.{Config}
@@ -63,7 +63,7 @@ either_kept {A = A} Kept before theirs space stood shape either =
       | inr given ↦ shape x given
     ]) space either
 
-module _ (config : Config) (shape : Shape) (drawn : Drawn) (types : Space) (spaces : Held) (defined : Definitions) where
+module _ (config : Config) (shape : Shape) (drawn : Drawn) (types : GroupedTypes) (spaces : Held) (defined : Definitions) where
   pub stands_required : config.module_shape ≡ None → config.exports ≡ Some shape → StandsSoFar config drawn → Extends drawn.types.types types.types → length types.types ≤ length drawn.types.types + items_of_exports counts.Types shape
       → ((count : Count) → (count ≡ counts.Types → ⊥) → count_in (spaces_in spaces) count ≡ count_in (spaces_in drawn.imported.spaces) count + items_of_exports count shape)
       → AddsLimitsOf shape (spaces_in drawn.imported.spaces) (spaces_in spaces)

@@ -7,7 +7,7 @@ use Rattle.smith_types.specs.Exports.{AreExportsValid}
 use Rattle.smith_types.specs.Imports.{IndexSpaces, IsImportsValid, flattened, imported_spaces}
 use Rattle.smith_types.specs.IndexSpaces.{spaces_in}
 use Rattle.smith_types.specs.Sizes.{size_in}
-use Rattle.smith_types.specs.Space.{Space}
+use Rattle.smith_types.specs.GroupedTypes.{GroupedTypes}
 use Rattle.smith_types.specs.declared.composite_type.SubType.{SubType}
 use Rattle.smith_types.specs.declared.entity_type.MemoryType.{MemoryType}
 use Rattle.smith_types.specs.declared.entity_type.TableType.{TableType}
@@ -36,7 +36,7 @@ use Rattle.wasm_smith.specs.declared.build.drawn.Drawn.{Drawn}
 
 -- the state of a module: types, groups of imports, index spaces, their definitions, and exports
 pub record ModuleSoFar : Type 0 where
-  pub types : Space
+  pub types : GroupedTypes
   pub groups : List Imports
   pub spaces : IndexSpaces
   pub defined : Definitions

@@ -1,7 +1,7 @@
 use Rattle.std.proofs.Common.{◌≡◌, ◌∙◌, ◌+◌, List, ap}
 use Rattle.smith_types.specs.Imports.{IndexSpaces, imported_spaces}
 use Rattle.smith_types.specs.IndexSpaces.{spaces_in}
-use Rattle.smith_types.specs.Space.{Space}
+use Rattle.smith_types.specs.GroupedTypes.{GroupedTypes}
 use Rattle.smith_types.proofs.GroupsAddedLemmas.{valid_following}
 use Rattle.smith_config.specs.Features.{features_of}
 use Rattle.smith_config.specs.Shapes.{shape_imports, space_of}
@@ -40,7 +40,7 @@ pub returns-in_err-drawn-3-clause-refusal : goal.returns-in_err-drawn-3-clause-r
 returns-in_err-drawn-3-clause-refusal c =
     let kept = c.in_ok-drawn-2.ensures.kept in
     let nothing : c.args.drawn.now.definitions ≡ nothing_defined = ap (λ (begun : ModuleSoFar). begun.defined) c.requires.nothing.begun in
-    let types = ap (λ (space : Space). space.types) c.in_ok-drawn.ensures.types in
+    let types = ap (λ (space : GroupedTypes). space.types) c.in_ok-drawn.ensures.types in
     let funcs = ap (λ (spaces : IndexSpaces). spaces.funcs) kept.spaces in
     let defined = ap (λ (made : Definitions). made.num_funcs) nothing in
     passed_on _ c.from_residual-in_err-drawn-3.result c.in_err-drawn-3.field-0.0 c.from_residual-in_err-drawn-3.ensures.1 (rw (types, funcs, defined) at c.in_err-drawn-3.ensures.refusal)
