@@ -13,7 +13,7 @@ use Rattle.smith_types.specs.GroupedTypes.{GroupedTypes}
 use Rattle.smith_types.specs.ValidTypes.{IsHeapTypeValid, IsRefTypeValid, IsValTypeValid, IsTypeValid, IsGroupValid, AreTypesValid, IsShareable, values_of}
 use Rattle.smith_types.specs.Entities.{AreLimitsValid, most_elements, IsTableValid, IsMemoryValid, IsGlobalValid}
 use Rattle.smith_types.specs.Flags.{IsInnerEnabled}
-use Rattle.smith_types.specs.Imports.{IndexSpaces}
+use Rattle.smith_types.specs.Imports.{EntitySpaces}
 use Rattle.smith_types.proofs.GroupGrowthLemmas.{AreTypesOpen-at, AreTypesOpen-start}
 use Rattle.smith_types.specs.declared.value_type.AbstractHeapType.{AbstractHeapType}
 use Rattle.smith_types.specs.declared.value_type.HeapType.{HeapType}
@@ -154,7 +154,7 @@ module _ (which : Which) (config : Config) (shape : Shape) where
   abbrev types : List SubType
   types = shape_types shape
 
-  abbrev spaces : IndexSpaces
+  abbrev spaces : EntitySpaces
   spaces = shape_spaces shape
 
   types_are_right : IsShapeValid which config shape → AreTypesRight shape

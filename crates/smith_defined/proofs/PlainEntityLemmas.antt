@@ -4,7 +4,7 @@ use Rattle.std.specs.Prelude.{Some, slice_get, All}
 use Rattle.std.proofs.lemmas.Option.{slice_get_within, get_or_from_slice_get}
 use Rattle.smith_types.specs.Entities.{IsTableValid, IsGlobalValid}
 use Rattle.smith_types.specs.Features.{Features}
-use Rattle.smith_types.specs.Imports.{IndexSpaces}
+use Rattle.smith_types.specs.Imports.{EntitySpaces}
 use Rattle.smith_types.specs.GroupedTypes.{GroupedTypes}
 use Rattle.smith_types.specs.Types.{next_group}
 use Rattle.smith_types.specs.ValidTypes.{IsHeapTypeValid, IsRefTypeValid, IsValTypeValid, IsTypeValid, AreTypesValid, values_of}
@@ -43,7 +43,7 @@ module _ (features : Features) (end other : ℕ) where
   value_moved (Ref reference) included plain h = (h.0, reference_moved reference included plain h.1)
 
 -- the types and the entities of a plain shape, without the parts that are left out
-module _ (features : Features) (space : GroupedTypes) (spaces : IndexSpaces) (plain : ArePlain space.types spaces) (included : IsNothingLeftOut space.types spaces) where
+module _ (features : Features) (space : GroupedTypes) (spaces : EntitySpaces) (plain : ArePlain space.types spaces) (included : IsNothingLeftOut space.types spaces) where
   pub table_over : (others : List SubType) (index : ℕ) (table : TableType) → slice_get spaces.tables index ≡ Some table → IsTableValid features space.types table → IsTableValid features others table
   table_over others index table at h =
       let value = λ (one : TableType). Ref one.element_type in

@@ -6,7 +6,7 @@ use Rattle.std.specs.declared.ops.Range.{Range}
 use Rattle.smith_types.specs.Features.{Features}
 use Rattle.smith_types.specs.GroupedTypes.{GroupedTypes}
 use Rattle.smith_types.specs.ValidTypes.{AreTypesValid}
-use Rattle.smith_types.specs.Imports.{IndexSpaces, Defines, IsImportsValid, flattened, imported_spaces}
+use Rattle.smith_types.specs.Imports.{EntitySpaces, Defines, IsImportsValid, flattened, imported_spaces}
 use Rattle.smith_types.specs.Entities.{AreEntitiesValid, AreCountsEnabled}
 use Rattle.smith_types.specs.Expressions.{Context, IsConstExpr, seeing, seen_by_tables, seen_by_global, seen_by_segments}
 use Rattle.smith_types.specs.Segments.{IsElementValid, IsDataValid}
@@ -71,11 +71,11 @@ abbrev pub module_types : ModuleParts → GroupedTypes
 module_types m = record { types = m.types; groups = m.groups }
 
 -- a module's index spaces (Structure, Indices)
-abbrev pub module_spaces : ModuleParts → IndexSpaces
+abbrev pub module_spaces : ModuleParts → EntitySpaces
 module_spaces m = record { tags = m.tags; funcs = m.funcs; tables = m.tables; memories = m.memories; globals = m.globals }
 
 -- the index spaces of a module's imports, which come first in its index spaces (Structure, Indices)
-abbrev pub module_imports : ModuleParts → IndexSpaces
+abbrev pub module_imports : ModuleParts → EntitySpaces
 module_imports m = imported_spaces (flattened m.imports)
 
 -- the context of a module's expressions with no global visible (Validation, Modules)

@@ -12,7 +12,7 @@ pub mod Flags
 pub mod ValidTypes
 pub mod Imports
 pub mod Floats
-pub mod IndexSpaces
+pub mod EntitySpaces
 pub mod Groups
 pub mod HeldValues
 pub mod OpenTypes

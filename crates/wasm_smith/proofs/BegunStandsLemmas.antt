@@ -7,8 +7,8 @@ use Rattle.std.proofs.lemmas.List.Elements.{All-nil, All-weaker, Contains-append
 use Rattle.smith_bytes.specs.declared.error.Count.{Count}
 use Rattle.smith_bytes.specs.declared.error.Count.TheVariants as counts
 use Rattle.smith_types.specs.Entities.{AreEntitiesValid, AreCountsEnabled, IsTagValid, IsFuncTypeIndex, IsTableValid, IsMemoryValid, IsGlobalValid}
-use Rattle.smith_types.specs.Imports.{IndexSpaces, IsImportsValid, flattened, imported_spaces}
-use Rattle.smith_types.specs.IndexSpaces.{spaces_in}
+use Rattle.smith_types.specs.Imports.{EntitySpaces, IsImportsValid, flattened, imported_spaces}
+use Rattle.smith_types.specs.EntitySpaces.{spaces_in}
 use Rattle.smith_types.specs.GroupedTypes.{GroupedTypes}
 use Rattle.smith_types.specs.declared.imports.Import.{Import}
 use Rattle.smith_types.proofs.ValidityLemmas.{no_types}
@@ -31,7 +31,7 @@ module_brings config shape count given = rw given (omega arith)
 imports_bring : (config : Config) (shape : Shape) (count : Count) → config.module_shape ≡ None → config.available_imports ≡ Some shape → items_of_shapes config count ≡ items_of_available_imports count shape
 imports_bring config shape count none given = rw (none, given) (omega arith)
 
-module_entities : (shape : Shape) (spaces : IndexSpaces) → ((count : Count) → (count ≡ counts.Types → ⊥) → (count ≡ counts.Imports → ⊥) → count_in spaces count ≡ items_of_module_shape count shape) → (count : Count) → IsOfEntities count
+module_entities : (shape : Shape) (spaces : EntitySpaces) → ((count : Count) → (count ≡ counts.Types → ⊥) → (count ≡ counts.Imports → ⊥) → count_in spaces count ≡ items_of_module_shape count shape) → (count : Count) → IsOfEntities count
     → count_in spaces count ≡ items_of_module_shape count shape
 module_entities shape spaces counted counts.Tags is = counted counts.Tags (λ e. cc) (λ e. cc)
 module_entities shape spaces counted counts.Funcs is = counted counts.Funcs (λ e. cc) (λ e. cc)
@@ -56,7 +56,7 @@ module _ (config : Config) (shape : Shape) (drawn : Drawn) where
   }
 
 -- of each kind there are no more than allowed
-pub taken_most : (config : Config) (imports : List Import) (spaces : IndexSpaces) → AreNumbersWithin config (imported_spaces imports) → spaces ≡ imported_spaces imports → (count : Count) → IsOfEntities count → count_in spaces count ≤ maximum_of config count
+pub taken_most : (config : Config) (imports : List Import) (spaces : EntitySpaces) → AreNumbersWithin config (imported_spaces imports) → spaces ≡ imported_spaces imports → (count : Count) → IsOfEntities count → count_in spaces count ≤ maximum_of config count
 taken_most config imports spaces within are counts.Tags is = rw are within.tags
 taken_most config imports spaces within are counts.Funcs is = rw are within.funcs
 taken_most config imports spaces within are counts.Tables is = rw are within.tables
@@ -110,11 +110,11 @@ freely config drawn none free begun =
       groups = rw groups (All-nil (IsImportsValid (features_of config)));
       count = rw groups begun.imports.count;
       stands = rw (groups, spaces, types, defined) (stands_alone config (record { types = []; groups = [] }) (imported_spaces []) (no_types (features_of config)) (no_entities config) (none_counted config));
-      most = λ count is. let none_there = nothing_in count is in let here = ap (λ (all : IndexSpaces). count_in all count) spaces in omega (arith, here, none_there);
+      most = λ count is. let none_there = nothing_in count is in let here = ap (λ (all : EntitySpaces). count_in all count) spaces in omega (arith, here, none_there);
       most_types = let here = ap (λ (space : GroupedTypes). length space.types) types in omega (arith, here);
       most_imports = rw groups (omega arith);
-      tables = subst (λ (all : IndexSpaces). All (IsTableKept config) all.tables) (sym spaces) (All-nil (IsTableKept config));
-      memories = subst (λ (all : IndexSpaces). All (IsMemoryKept config) all.memories) (sym spaces) (All-nil (IsMemoryKept config));
+      tables = subst (λ (all : EntitySpaces). All (IsTableKept config) all.tables) (sym spaces) (All-nil (IsTableKept config));
+      memories = subst (λ (all : EntitySpaces). All (IsMemoryKept config) all.memories) (sym spaces) (All-nil (IsMemoryKept config));
       type_size = rw (none, free, groups) begun.imports.type_size;
       within = omega (arith, begun.imports.type_size);
     }

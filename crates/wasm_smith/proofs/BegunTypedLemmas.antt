@@ -9,8 +9,8 @@ use Rattle.smith_types.specs.Exports.{AreExportsValid, IsEntityAt}
 use Rattle.smith_types.specs.Expressions.{Context}
 use Rattle.smith_types.specs.Floats.{HasNoFloat}
 use Rattle.smith_types.specs.Grown.{Extends, IsContextGrown}
-use Rattle.smith_types.specs.Imports.{IndexSpaces}
-use Rattle.smith_types.specs.IndexSpaces.{spaces_in}
+use Rattle.smith_types.specs.Imports.{EntitySpaces}
+use Rattle.smith_types.specs.EntitySpaces.{spaces_in}
 use Rattle.smith_types.specs.GroupedTypes.{GroupedTypes}
 use Rattle.smith_types.specs.ValidTypes.{AreTypesValid}
 use Rattle.smith_types.specs.declared.composite_type.SubType.{SubType}
@@ -44,14 +44,14 @@ record MayBegin (config : Config) (drawn : Drawn) : Type 0 where
   grounded : (HoldsNonNullable config → ⊥) → HoldsGrounded config (drawn_next config drawn) (spaces_in drawn.imported.spaces)
   exports : AreExportsValid (spaces_in drawn.imported.spaces) drawn.contents.exports
 
-no_exports : (spaces : IndexSpaces) → AreExportsValid spaces []
+no_exports : (spaces : EntitySpaces) → AreExportsValid spaces []
 no_exports spaces = record {
   stand = All-nil (λ (one : List ℕ × ExportKind × ℕ). (ty : EntityType) × IsEntityAt spaces one.1 one.2 ty);
   distinct = record { once = λ i j item one other. absurd cc };
 }
 
 -- the references of a shape's types, tables and globals
-of_shape : (config : Config) (functions : Context) (shape : Shape) (types : GroupedTypes) (spaces : IndexSpaces) → types ≡ space_of shape.groups → All (Contains (shape_spaces shape).tables) spaces.tables → All (Contains (shape_spaces shape).globals) spaces.globals
+of_shape : (config : Config) (functions : Context) (shape : Shape) (types : GroupedTypes) (spaces : EntitySpaces) → types ≡ space_of shape.groups → All (Contains (shape_spaces shape).tables) spaces.tables → All (Contains (shape_spaces shape).globals) spaces.globals
     → HoldsGrounded config (over functions (shape_types shape)) (shape_spaces shape) → HoldsGrounded config (over functions types.types) spaces
 of_shape config functions shape types spaces same tables globals h =
     let Elements = HasGroundedElements config (over functions (shape_types shape)) in
@@ -118,7 +118,7 @@ pub record AreTypesBehind (config : Config) (functions : Context) (old new : Gro
 
 -- grounded references stay grounded as types are added, and the references of the added types are
 -- grounded
-grounded_later : (config : Config) (functions : Context) (old new : GroupedTypes) (spaces : IndexSpaces) → AreTypesBehind config functions old new → HoldsGrounded config (over functions old.types) spaces → HoldsGrounded config (over functions new.types) spaces
+grounded_later : (config : Config) (functions : Context) (old new : GroupedTypes) (spaces : EntitySpaces) → AreTypesBehind config functions old new → HoldsGrounded config (over functions old.types) spaces → HoldsGrounded config (over functions new.types) spaces
 grounded_later config functions old new spaces more h =
     let before = over functions old.types in
     let later = over functions new.types in

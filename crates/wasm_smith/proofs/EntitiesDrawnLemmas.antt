@@ -8,9 +8,9 @@ use Rattle.smith_bytes.specs.declared.error.Error.{Error}
 use Rattle.smith_types.specs.Expressions.{Context}
 use Rattle.smith_types.specs.Floats.{HasNoFloat}
 use Rattle.smith_types.specs.Grown.{IsContextGrown}
-use Rattle.smith_types.specs.Imports.{IndexSpaces, flattened, imported_spaces}
-use Rattle.smith_types.specs.IndexSpaces.{spaces_in}
-use Rattle.smith_types.specs.declared.index_spaces.IndexSpaces.{IndexSpaces as Held}
+use Rattle.smith_types.specs.Imports.{EntitySpaces, flattened, imported_spaces}
+use Rattle.smith_types.specs.EntitySpaces.{spaces_in}
+use Rattle.smith_types.specs.declared.entity_spaces.EntitySpaces.{EntitySpaces as Held}
 use Rattle.smith_config.specs.declared.config.Config.{Config}
 use Rattle.smith_config.specs.Faults.{Passes, minimum_of}
 use Rattle.smith_config.specs.Sanitized.{IsSanitized}
@@ -50,7 +50,7 @@ may_define_drawn config drawn passes sanitized valid so_far =
     let now : StandsSoFar config drawn = so_far.may.so_far in
     may_define_behind passes sanitized so_far.may.least_types (omega (arith, now.most_types, passes.few counts.Types, few_brought config valid counts.Types)) (room_so_far config drawn 0 passes valid now (omega arith)) now.stands
 
-at_least : (config : Config) (before spaces : IndexSpaces) → AreFilled config before spaces → (count : Count) → IsOfEntities count → minimum_of config count ≤ count_in spaces count
+at_least : (config : Config) (before spaces : EntitySpaces) → AreFilled config before spaces → (count : Count) → IsOfEntities count → minimum_of config count ≤ count_in spaces count
 at_least config before spaces filled counts.Tags is = filled.tags.enough
 at_least config before spaces filled counts.Funcs is = filled.funcs.enough
 at_least config before spaces filled counts.Tables is = filled.tables.enough

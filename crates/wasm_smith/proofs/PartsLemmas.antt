@@ -5,7 +5,7 @@ use Rattle.std.specs.Prelude.{IsTrue, Result, Ok, Err, IsErrAnd}
 use Rattle.smith_bytes.specs.declared.error.Error.{Error}
 use Rattle.smith_bytes.specs.declared.error.Error.TheVariants as errors
 use Rattle.smith_types.specs.Imports.{flattened, imported_spaces}
-use Rattle.smith_types.specs.IndexSpaces.{spaces_in}
+use Rattle.smith_types.specs.EntitySpaces.{spaces_in}
 use Rattle.smith_config.specs.declared.config.Config.{Config}
 use Rattle.smith_config.specs.InUse.{FixesImports, HasNoShapes}
 use Rattle.smith_bytes.specs.Steps.{section_flag_at, Returns, is_lack}

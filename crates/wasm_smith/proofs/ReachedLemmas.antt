@@ -10,7 +10,7 @@ use Rattle.smith_bytes.specs.declared.error.Error.{Error}
 use Rattle.smith_bytes.specs.declared.error.Error.TheVariants as errors
 use Rattle.smith_bytes.specs.declared.error.Why.{Why}
 use Rattle.smith_bytes.proofs.SpelledLemmas.{joined_parts}
-use Rattle.smith_types.specs.Imports.{IndexSpaces, flattened, imported_spaces}
+use Rattle.smith_types.specs.Imports.{EntitySpaces, flattened, imported_spaces}
 use Rattle.smith_types.specs.GroupedTypes.{GroupedTypes}
 use Rattle.smith_types.specs.declared.composite_type.SubType.{SubType}
 use Rattle.smith_types.specs.declared.entity_type.GlobalType.{GlobalType}
@@ -69,17 +69,17 @@ unfolding section_flag_at
 flag_read count piece after h = flag_by (count == 0) piece after h
 
 -- the index spaces without imports
-abbrev nothing : IndexSpaces
+abbrev nothing : EntitySpaces
 nothing = imported_spaces (flattened [])
 
 -- the tables, memories and globals that the bytes after functions produce, without imports
-abbrev behind_funcs_at : Config → List SubType → List ℕ → List ℕ → (IndexSpaces × Definitions) × List ℕ
+abbrev behind_funcs_at : Config → List SubType → List ℕ → List ℕ → (EntitySpaces × Definitions) × List ℕ
 behind_funcs_at config types funcs bytes =
     let standing = scope_over types funcs 0 [] in
     let tables = tables_at config standing [] [] bytes in
     let memories = memories_at config [] tables.1 in
     let globals = globals_at config standing [] [] memories.1 in
-    let spaces : IndexSpaces = record { tags = []; funcs = funcs; tables = tables.0.0; memories = memories.0; globals = globals.0.0 } in
+    let spaces : EntitySpaces = record { tags = []; funcs = funcs; tables = tables.0.0; memories = memories.0; globals = globals.0.0 } in
     ((spaces, defined_in nothing nothing_defined spaces tables.0.1 globals.0.1), globals.1)
 
 definitions_read : (config : Config) (types : List SubType) (funcs piece after : List ℕ) → HasNoMinimums config → Joined (SpellsNoTag config types) (SpellsFuncs config types funcs) piece
@@ -93,7 +93,7 @@ definitions_read config types funcs piece after least h =
     ) refl
 
 -- the state after entities are defined over types, without imports
-abbrev with_entities : List (List SubType) → IndexSpaces × Definitions → ModuleSoFar
+abbrev with_entities : List (List SubType) → EntitySpaces × Definitions → ModuleSoFar
 with_entities groups made = record nothing_begun { types = space_of groups; spaces = made.0; defined = made.1 }
 
 -- the module that the bytes after exports produce, with this flag of imports
@@ -154,7 +154,7 @@ whole_ended : (config : Config) (groups : List (List SubType)) (begun : ModuleSo
 whole_ended config groups begun flag (Ok made) same = record { types = ap (λ (space : GroupedTypes). space.types) same; groups_are = ap (λ (space : GroupedTypes). space.groups) same; funcs_are = refl }
 whole_ended config groups begun flag (Err why) same = tt
 
-member_ended : (config : Config) (groups : List (List SubType)) (made : IndexSpaces × Definitions) (flag : Bool) (exports : Result (List Export × List ℕ) Why)
+member_ended : (config : Config) (groups : List (List SubType)) (made : EntitySpaces × Definitions) (flag : Bool) (exports : Result (List Export × List ℕ) Why)
     → IfOk (then_with (λ exports. record (with_entities groups made) { exports = exports }) (in_full exports) >>= λ (exported : ModuleSoFar × List ℕ). whole_at config flag exported.0 exported.1) (λ drawn. HasMember groups made.0.funcs drawn.0)
 member_ended config groups made flag (Ok drawn) =
     let whole : ModuleSoFar = record (with_entities groups made) { exports = drawn.0 } in
@@ -176,7 +176,7 @@ record IsBare (passive : List (List ℕ)) (contents : Contents) : Type 0 where
   elements : contents.segments.elements ≡ []
   data_segments : contents.segments.data_segments ≡ map (λ bytes. passive_data bytes) passive
 
-segments_read : (config : Config) (types : List SubType) (imported spaces : IndexSpaces) (passive : List (List ℕ)) (piece after : List ℕ) → HasNoMinimums config → spaces.tables ≡ [] → spaces.memories ≡ [] → SpellsSegments config passive piece
+segments_read : (config : Config) (types : List SubType) (imported spaces : EntitySpaces) (passive : List (List ℕ)) (piece after : List ℕ) → HasNoMinimums config → spaces.tables ≡ [] → spaces.memories ≡ [] → SpellsSegments config passive piece
     → all_segments_at config types imported spaces (piece ++ after) ≡ Ok (record { elements = []; data_segments = map (λ bytes. passive_data bytes) passive }, after)
 unfolding all_segments_at
 segments_read config types imported spaces passive piece after least tables memories h =
@@ -191,7 +191,7 @@ segments_read config types imported spaces passive piece after least tables memo
 abbrev SpellsBehindExports : Config → List SubType → List ℕ → List (List ℕ) → List ℕ → Type 0
 SpellsBehindExports config types funcs passive = Joined (Where (length types == 0) SpellsAnyByte) (Joined (SpellsNoStart config types funcs) (SpellsSegments config passive))
 
-contents_read : (config : Config) (types : List SubType) (imported spaces : IndexSpaces) (made : Exports) (passive : List (List ℕ)) (piece after : List ℕ) → HasNoMinimums config → made.exports ≡ []
+contents_read : (config : Config) (types : List SubType) (imported spaces : EntitySpaces) (made : Exports) (passive : List (List ℕ)) (piece after : List ℕ) → HasNoMinimums config → made.exports ≡ []
     → spaces.tables ≡ [] → spaces.memories ≡ [] → SpellsBehindExports config types spaces.funcs passive piece → IfOk (behind_exports_at config types imported spaces made (piece ++ after)) (λ drawn. IsBare passive drawn.0)
 unfolding behind_exports_at
 contents_read config types imported spaces made passive piece after least exports tables memories h =
@@ -210,7 +210,7 @@ abbrev Listing : Type 0
 Listing = List GlobalType × List (List ConstInstr)
 
 -- no table and no memory, globals of these numbers, and these bytes left
-record AreNumbered (numbers : List ℤ) (drawn : (IndexSpaces × Definitions) × List ℕ) (after : List ℕ) : Type 0 where
+record AreNumbered (numbers : List ℤ) (drawn : (EntitySpaces × Definitions) × List ℕ) (after : List ℕ) : Type 0 where
   tables : drawn.0.0.tables ≡ []
   memories : drawn.0.0.memories ≡ []
   globals : drawn.0.0.globals ≡ map (λ number. mutable_i32) numbers
@@ -244,7 +244,7 @@ no_export_made config begun piece after none least some h =
       no_export_read config begun.types.types begun.spaces size [] piece after (least counts.Exports) (record { none = refl; spelled = h }),
     ) refl
 
-rest_ended : (config : Config) (groups : List (List SubType)) (numbers : List ℤ) (passive : List (List ℕ)) (drawn : (IndexSpaces × Definitions) × List ℕ) (after : List ℕ) (flag : Bool) (contents : Result (Contents × List ℕ) Why)
+rest_ended : (config : Config) (groups : List (List SubType)) (numbers : List ℤ) (passive : List (List ℕ)) (drawn : (EntitySpaces × Definitions) × List ℕ) (after : List ℕ) (flag : Bool) (contents : Result (Contents × List ℕ) Why)
     → AreNumbered numbers drawn after → IfOk contents (λ made. IsBare passive made.0)
     → IfOk {T = ModuleParts × List ℕ} (in_full contents >>= λ (made : Contents × List ℕ). Ok (module_of config (with_entities groups drawn.0) made.0 flag, made.1)) (λ made. HasRest numbers passive made.0)
 rest_ended config groups numbers passive drawn after flag (Ok made) numbered bare = record {

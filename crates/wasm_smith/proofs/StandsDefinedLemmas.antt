@@ -3,9 +3,9 @@
 use Rattle.std.proofs.Common.{◌≤◌, max, inr, arith}
 use Rattle.smith_bytes.specs.declared.error.Count.{Count}
 use Rattle.smith_bytes.specs.declared.error.Count.TheVariants as counts
-use Rattle.smith_types.specs.Imports.{IndexSpaces, flattened, imported_spaces}
-use Rattle.smith_types.specs.IndexSpaces.{spaces_in}
-use Rattle.smith_types.specs.declared.index_spaces.IndexSpaces.{IndexSpaces as Held}
+use Rattle.smith_types.specs.Imports.{EntitySpaces, flattened, imported_spaces}
+use Rattle.smith_types.specs.EntitySpaces.{spaces_in}
+use Rattle.smith_types.specs.declared.entity_spaces.EntitySpaces.{EntitySpaces as Held}
 use Rattle.smith_config.specs.declared.config.Config.{Config}
 use Rattle.smith_config.specs.Faults.{maximum_of}
 use Rattle.smith_config.specs.EntityBounds.{IsTableWithin, IsMemoryWithin}
@@ -17,7 +17,7 @@ use Rattle.wasm_smith.specs.declared.build.drawn.Drawn.{Drawn}
 use Rattle.smith_defined.proofs.DefinedLemmas.{added_weaker, all_behind}
 
 -- of each kind there are at most the maximum, or as many as before
-no_more_than : (config : Config) (before spaces : IndexSpaces) → AreFilled config before spaces → (count : Count) → IsOfEntities count → count_in spaces count ≤ max (maximum_of config count) (count_in before count)
+no_more_than : (config : Config) (before spaces : EntitySpaces) → AreFilled config before spaces → (count : Count) → IsOfEntities count → count_in spaces count ≤ max (maximum_of config count) (count_in before count)
 no_more_than config before spaces filled counts.Tags is = filled.tags.within
 no_more_than config before spaces filled counts.Funcs is = filled.funcs.within
 no_more_than config before spaces filled counts.Tables is = filled.tables.within

@@ -9,9 +9,9 @@ use Rattle.smith_bytes.specs.declared.error.Count.TheVariants as counts
 use Rattle.smith_types.specs.Entities.{IsFuncTypeIndex}
 use Rattle.smith_types.specs.Grown.{Extends}
 use Rattle.smith_types.specs.Imports.{flattened, imported_spaces}
-use Rattle.smith_types.specs.IndexSpaces.{spaces_in}
+use Rattle.smith_types.specs.EntitySpaces.{spaces_in}
 use Rattle.smith_types.specs.GroupedTypes.{GroupedTypes}
-use Rattle.smith_types.specs.declared.index_spaces.IndexSpaces.{IndexSpaces as Held}
+use Rattle.smith_types.specs.declared.entity_spaces.EntitySpaces.{EntitySpaces as Held}
 use Rattle.smith_types.proofs.HeldValueLemmas.{all_apart}
 use Rattle.smith_config.specs.declared.config.Config.{Config}
 use Rattle.smith_config.specs.declared.shape.Shape.{Shape}

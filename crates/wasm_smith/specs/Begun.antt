@@ -4,8 +4,8 @@ use Rattle.std.specs.List.{AllZip, Contains}
 use Rattle.smith_bytes.specs.declared.error.Error.{Error}
 use Rattle.smith_bytes.specs.declared.error.Error.TheVariants as errors
 use Rattle.smith_types.specs.Exports.{AreExportsValid}
-use Rattle.smith_types.specs.Imports.{IndexSpaces, IsImportsValid, flattened, imported_spaces}
-use Rattle.smith_types.specs.IndexSpaces.{spaces_in}
+use Rattle.smith_types.specs.Imports.{EntitySpaces, IsImportsValid, flattened, imported_spaces}
+use Rattle.smith_types.specs.EntitySpaces.{spaces_in}
 use Rattle.smith_types.specs.Sizes.{size_in}
 use Rattle.smith_types.specs.GroupedTypes.{GroupedTypes}
 use Rattle.smith_types.specs.declared.composite_type.SubType.{SubType}
@@ -38,7 +38,7 @@ use Rattle.wasm_smith.specs.declared.build.drawn.Drawn.{Drawn}
 pub record ModuleSoFar : Type 0 where
   pub types : GroupedTypes
   pub groups : List Imports
-  pub spaces : IndexSpaces
+  pub spaces : EntitySpaces
   pub defined : Definitions
   pub exports : List Export
 

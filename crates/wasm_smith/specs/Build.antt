@@ -6,7 +6,7 @@ use Rattle.smith_bytes.specs.declared.error.Error.{Error}
 use Rattle.smith_bytes.specs.declared.error.Error.TheVariants as errors
 use Rattle.smith_bytes.specs.declared.error.Why.{Why}
 use Rattle.smith_types.specs.Expressions.{Context}
-use Rattle.smith_types.specs.Imports.{IndexSpaces, flattened, imported_spaces}
+use Rattle.smith_types.specs.Imports.{EntitySpaces, flattened, imported_spaces}
 use Rattle.smith_config.specs.declared.config.Config.{Config}
 use Rattle.smith_config.specs.declared.shape.Shape.{Shape}
 use Rattle.smith_config.specs.Features.{features_of}
@@ -52,7 +52,7 @@ imported_at distinct config begun bytes =
 -- the state with entities defined after those so far
 unfoldable pub defined_at : Config → ModuleSoFar → List ℕ → Result (ModuleSoFar × List ℕ) Error
 defined_at config begun bytes =
-    then_with (λ (made : IndexSpaces × Definitions). record begun { spaces = made.0; defined = made.1 }) (in_full (definitions_at config begun.types.types begun.spaces begun.defined bytes))
+    then_with (λ (made : EntitySpaces × Definitions). record begun { spaces = made.0; defined = made.1 }) (in_full (definitions_at config begun.types.types begun.spaces begun.defined bytes))
 
 -- the amount that the imports of a module add to its type size
 abbrev pub begun_size : Config → ModuleSoFar → ℕ

@@ -6,8 +6,8 @@ use Rattle.smith_types.specs.Exports.{AreDistinct, AreExportsValid}
 use Rattle.smith_types.specs.Expressions.{Context}
 use Rattle.smith_types.specs.Floats.{HasNoFloat}
 use Rattle.smith_types.specs.Grown.{Extends, AreSpacesGrown}
-use Rattle.smith_types.specs.Imports.{IndexSpaces, flattened}
-use Rattle.smith_types.specs.IndexSpaces.{spaces_in}
+use Rattle.smith_types.specs.Imports.{EntitySpaces, flattened}
+use Rattle.smith_types.specs.EntitySpaces.{spaces_in}
 use Rattle.smith_types.specs.declared.imports.Import.{Import}
 use Rattle.smith_config.specs.declared.config.Config.{Config}
 use Rattle.smith_config.specs.declared.shape.Shape.{Shape}
@@ -32,7 +32,7 @@ drawn_next config drawn = drawn_beside config drawn.types.types (spaces_in drawn
 
 -- references are nullable or grounded: those of the fields, parameters and results of types, of the
 -- elements of tables, and of the values of globals
-pub record HoldsGrounded (config : Config) (context : Context) (spaces : IndexSpaces) : Type 0 where
+pub record HoldsGrounded (config : Config) (context : Context) (spaces : EntitySpaces) : Type 0 where
   pub fields : HoldsUngroundedField config context → ⊥
   pub types : AreTypesGranted config context
   pub elements : All (HasGroundedElements config context) spaces.tables

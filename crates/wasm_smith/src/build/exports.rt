@@ -3,7 +3,7 @@
 ghost use Rattle.std.specs.Prelude.{◌≡◌, IfErr, IfOk, IfSome, OnOk};
 ghost use Rattle.std.specs.List.{AllZip};
 ghost use Rattle.smith_bytes.specs.Source.{KeepsPieces};
-ghost use Rattle.smith_types.specs.IndexSpaces.{spaces_in};
+ghost use Rattle.smith_types.specs.EntitySpaces.{spaces_in};
 ghost use Rattle.smith_config.specs.Faults.{Passes};
 ghost use Rattle.smith_config.specs.InUse.{shapes_of};
 ghost use Rattle.smith_config.specs.Sanitized.{IsSanitized};

@@ -1,7 +1,7 @@
 use Rattle.std.proofs.Common.{◌≡◌, ap, subst, sym}
 use Rattle.std.specs.Prelude.{All}
 use Rattle.std.specs.List.{Contains}
-use Rattle.smith_types.specs.Imports.{IndexSpaces, flattened, imported_spaces}
+use Rattle.smith_types.specs.Imports.{EntitySpaces, flattened, imported_spaces}
 use Rattle.smith_config.specs.Shapes.{shape_imports, shape_spaces, space_of}
 use Rattle.wasm_smith.specs.Begun.{ModuleSoFar}
 use Rattle.smith_defined.specs.Defined.{nothing_defined}
@@ -26,9 +26,9 @@ returns-clause-begun c =
       valid = given.taken.groups;
       stands = rw (given.types, spaces, nothing) (stands_alone config (space_of shape.groups) taken c.requires.valid.consistent.types fit.entities (taken_enabled config taken c.requires.sanitized fit.within.numbers fit.within.tags));
       within = fit.within;
-      tables = subst (λ (all : IndexSpaces). All (Contains (shape_spaces shape).tables) all.tables) (sym spaces) (offered_all offered.tables shape.tables taken.tables fit.tables);
-      memories = subst (λ (all : IndexSpaces). All (Contains (shape_spaces shape).memories) all.memories) (sym spaces) (offered_all offered.memories shape.memories taken.memories fit.memories);
-      globals = subst (λ (all : IndexSpaces). All (Contains (shape_spaces shape).globals) all.globals) (sym spaces) (offered_all offered.globals shape.globals taken.globals fit.globals);
+      tables = subst (λ (all : EntitySpaces). All (Contains (shape_spaces shape).tables) all.tables) (sym spaces) (offered_all offered.tables shape.tables taken.tables fit.tables);
+      memories = subst (λ (all : EntitySpaces). All (Contains (shape_spaces shape).memories) all.memories) (sym spaces) (offered_all offered.memories shape.memories taken.memories fit.memories);
+      globals = subst (λ (all : EntitySpaces). All (Contains (shape_spaces shape).globals) all.globals) (sym spaces) (offered_all offered.globals shape.globals taken.globals fit.globals);
       spaces = spaces;
       exports = ap (λ (begun : ModuleSoFar). begun.exports) c.requires.nothing.begun;
     }

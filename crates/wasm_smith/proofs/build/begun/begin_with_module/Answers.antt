@@ -1,6 +1,6 @@
 use Rattle.std.proofs.Common.{◌≡◌, ◌∙◌, ◌+◌, List, ap}
-use Rattle.smith_types.specs.Imports.{IndexSpaces, imported_spaces}
-use Rattle.smith_types.specs.IndexSpaces.{spaces_in}
+use Rattle.smith_types.specs.Imports.{EntitySpaces, imported_spaces}
+use Rattle.smith_types.specs.EntitySpaces.{spaces_in}
 use Rattle.smith_types.specs.GroupedTypes.{GroupedTypes}
 use Rattle.smith_types.proofs.GroupsAddedLemmas.{valid_following}
 use Rattle.smith_config.specs.Features.{features_of}
@@ -41,7 +41,7 @@ returns-in_err-drawn-3-clause-refusal c =
     let kept = c.in_ok-drawn-2.ensures.kept in
     let nothing : c.args.drawn.now.definitions ≡ nothing_defined = ap (λ (begun : ModuleSoFar). begun.defined) c.requires.nothing.begun in
     let types = ap (λ (space : GroupedTypes). space.types) c.in_ok-drawn.ensures.types in
-    let funcs = ap (λ (spaces : IndexSpaces). spaces.funcs) kept.spaces in
+    let funcs = ap (λ (spaces : EntitySpaces). spaces.funcs) kept.spaces in
     let defined = ap (λ (made : Definitions). made.num_funcs) nothing in
     passed_on _ c.from_residual-in_err-drawn-3.result c.in_err-drawn-3.field-0.0 c.from_residual-in_err-drawn-3.ensures.1 (rw (types, funcs, defined) at c.in_err-drawn-3.ensures.refusal)
 
@@ -69,7 +69,7 @@ returns-clause-begun c =
       type_size = kept.type_size;
       valid = kept.valid;
       stands = made.stands imported (rw (c.in_ok-drawn.ensures.types, kept.spaces, nothing) (stands_alone c.args.config.now (space_of shape.groups) imported c.requires.valid.consistent.types kept.entities kept.counts));
-      counted = λ count types imports. made.counted count types ∙ (ap (λ (spaces : IndexSpaces). count_in spaces count + items_of_exports count shape) kept.spaces ∙ brought_so count shape types imports);
+      counted = λ count types imports. made.counted count types ∙ (ap (λ (spaces : EntitySpaces). count_in spaces count + items_of_exports count shape) kept.spaces ∙ brought_so count shape types imports);
       tables = tables_of_shape shape (spaces_in c.make_shape_exports.new.spaces) (rw kept.spaces at made.limits);
       memories = memories_of_shape shape (spaces_in c.make_shape_exports.new.spaces) (rw kept.spaces at made.limits);
       globals = globals_of_shape shape (spaces_in c.make_shape_exports.new.spaces) (rw kept.spaces at made.limits);
