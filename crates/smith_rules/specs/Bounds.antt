@@ -35,7 +35,7 @@ count_of m counts.Globals = length m.globals
 count_of m counts.Exports = length m.exports
 count_of m counts.ElementSegments = length m.elems
 count_of m counts.Elements = sum_by (λ (segment : ElementSegment). item_count segment.items) m.elems
-count_of m counts.DataSegments = length m.segments
+count_of m counts.DataSegments = length m.datas
 
 -- the number that an exported item adds to a count; a function or a tag of a shape for exports adds
 -- a type too

@@ -48,7 +48,7 @@ pub record ModuleParts : Type 0 where
   pub exports : List (List ℕ × ExportKind × ℕ)
   pub start : Option ℕ
   pub elems : List ElementSegment
-  pub segments : List DataSegment
+  pub datas : List DataSegment
   pub code : List Code
   pub fuel_globals : List ℕ
   pub encodes_types : Bool
@@ -153,5 +153,5 @@ pub record IsValid (m : ModuleParts) : Type 0 where
   pub exports : AreExportsValid (module_spaces m) m.exports
   pub start : IsStartValid m.types m.funcs m.start
   pub elements : All (IsElementValid (segment_context m) m.tables) m.elems
-  pub data_segments : All (IsDataValid (segment_context m) m.memories) m.segments
+  pub data_segments : All (IsDataValid (segment_context m) m.memories) m.datas
   pub bodies : AreBodiesValid m

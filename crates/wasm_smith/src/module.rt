@@ -69,7 +69,7 @@ impl Model for Module {
       exports = m.drawn.value.contents.exports;
       start = m.drawn.value.contents.start;
       elems = m.drawn.value.contents.segments.elements;
-      segments = m.drawn.value.contents.segments.data_segments;
+      datas = m.drawn.value.contents.segments.data_segments;
       code = m.drawn.value.contents.code;
       fuel_globals = m.fuel_globals;
       encodes_types = m.drawn.value.contents.encodes_types;
@@ -341,7 +341,7 @@ impl Module {
 
     /// Returns the data segments.
     pub fn data(&self) -> &[DataSegment]
-        ensures { result.now ≡ self.now.segments }
+        ensures { result.now ≡ self.now.datas }
     {
         self.drawn.contents.segments.data_segments.as_slice()
     }
