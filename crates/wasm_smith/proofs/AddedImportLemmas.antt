@@ -20,10 +20,10 @@ use Rattle.smith_draw.specs.ConstBounds.{HoldsUngroundedField}
 use Rattle.smith_draw.proofs.FilledLemmas.{fields_imported}
 use Rattle.smith_imports.proofs.ImportsGrownLemmas.{ungrounded_imported}
 use Rattle.smith_imports.specs.declared.imported.Imported.{Imported}
-use Rattle.wasm_smith.specs.Begun.{begun_of}
+use Rattle.wasm_smith.specs.FirstParts.{module_so_far}
 use Rattle.smith_rules.specs.Bounds.{items_of_shapes}
 use Rattle.wasm_smith.specs.DrawnSteps.{AreImportsDrawn, AreTypesDrawn, HoldsGrounded, IsBeyond, drawn_next}
-use Rattle.wasm_smith.specs.declared.build.drawn.Drawn.{Drawn}
+use Rattle.wasm_smith.specs.declared.build.parts_so_far.PartsSoFar.{PartsSoFar}
 use Rattle.smith_defined.proofs.ExtensionLemmas.{all_kept}
 use Rattle.smith_defined.proofs.DefinedGrowthLemmas.{none_float}
 use Rattle.wasm_smith.proofs.FreelyImportedLemmas.{freely_stands}
@@ -52,7 +52,7 @@ grown_from_none none all empty = record {
   globals = from_none none.globals all.globals (ap (λ (spaces : EntitySpaces). spaces.globals) empty);
 }
 
-module _ (config : Config) (drawn : Drawn) (passes : Passes config) (sanitized : IsSanitized config) (old : AreTypesDrawn config drawn) (free : config.available_imports ≡ None) (none : config.module_shape ≡ None) where
+module _ (config : Config) (drawn : PartsSoFar) (passes : Passes config) (sanitized : IsSanitized config) (old : AreTypesDrawn config drawn) (free : config.available_imports ≡ None) (none : config.module_shape ≡ None) where
   -- imports may be drawn over the existing types
   pub may_import : MayImport config drawn.types
   may_import = record {
@@ -117,7 +117,7 @@ module _ (config : Config) (drawn : Drawn) (passes : Passes config) (sanitized :
         }
 
     -- the imports follow the parts before
-    pub imports_beyond : IsBeyond config (begun_of drawn) (begun_of (record drawn { imported = made }))
+    pub imports_beyond : IsBeyond config (module_so_far drawn) (module_so_far (record drawn { imported = made }))
     imports_beyond = record {
       types = all_kept drawn.types.types;
       groups = all_kept drawn.types.groups;

@@ -14,13 +14,13 @@ use Rattle.smith_types.specs.Imports.{EntitySpaces}
 use Rattle.smith_types.specs.EntitySpaces.{spaces_in}
 use Rattle.smith_types.specs.declared.composite_type.SubType.{SubType}
 use Rattle.smith_contents.specs.declared.exported.Exports.{Exports}
-use Rattle.wasm_smith.specs.Begun.{size_of_imports}
+use Rattle.wasm_smith.specs.FirstParts.{size_of_imports}
 use Rattle.wasm_smith.specs.Build.{parts_of}
 use Rattle.wasm_smith.specs.DrawnContents.{AreExportsMade}
 use Rattle.wasm_smith.specs.DrawnParts.{IsDrawnFor}
 use Rattle.smith_rules.specs.ExportedItems.{Export, item_size, exported_size}
 use Rattle.smith_rules.specs.Module.{ModuleParts, module_spaces}
-use Rattle.wasm_smith.specs.declared.build.drawn.Drawn.{Drawn}
+use Rattle.wasm_smith.specs.declared.build.parts_so_far.PartsSoFar.{PartsSoFar}
 use Rattle.wasm_smith.proofs.MadeExportsLemmas.{exports_free}
 
 -- an export has the size of its item
@@ -50,7 +50,7 @@ pub made_size : (config : Config) (types : List SubType) (spaces : EntitySpaces)
     → made.type_size ≡ size + (if is_some config.module_shape || is_some config.exports then 0 else exported_size types spaces made.exports)
 made_size config types spaces size made h = sized_so config types spaces size made config.module_shape config.exports refl refl h
 
-module _ (distinct : Bool) (config : Config) (drawn : Drawn) (h : IsDrawnFor distinct config drawn) where
+module _ (distinct : Bool) (config : Config) (drawn : PartsSoFar) (h : IsDrawnFor distinct config drawn) where
   abbrev m : ModuleParts
   m = parts_of config drawn
 

@@ -9,17 +9,17 @@ use Rattle.smith_config.specs.Sanitized.{IsSanitized}
 use Rattle.smith_config.specs.EntityBounds.{IsTableWithin, IsMemoryWithin}
 use Rattle.smith_imports.specs.Imported.{AreNumbersWithin, AreSpacesWithin, IsImported, spaces_of}
 use Rattle.smith_imports.specs.declared.imported.Imported.{Imported}
-use Rattle.wasm_smith.specs.Begun.{IsMemoryKept, IsTableKept, StandsSoFar}
+use Rattle.wasm_smith.specs.FirstParts.{IsMemoryKept, IsTableKept, StandsSoFar}
 use Rattle.smith_defined.specs.Defined.{nothing_defined}
-use Rattle.wasm_smith.specs.declared.build.drawn.Drawn.{Drawn}
-use Rattle.wasm_smith.proofs.BegunLemmas.{stands_alone, taken_enabled}
-use Rattle.wasm_smith.proofs.BegunStandsLemmas.{taken_most}
+use Rattle.wasm_smith.specs.declared.build.parts_so_far.PartsSoFar.{PartsSoFar}
+use Rattle.wasm_smith.proofs.FirstPartsLemmas.{stands_alone, taken_enabled}
+use Rattle.wasm_smith.proofs.FirstPartsStandLemmas.{taken_most}
 
 numbers_of : {config : Config} {spaces : EntitySpaces} → AreSpacesWithin config spaces → AreNumbersWithin config spaces
 numbers_of within = record { tags = within.tags; funcs = within.funcs; tables = within.tables; memories = within.memories; globals = within.globals }
 
 -- drawn imports replace none, if nothing is defined yet
-pub freely_stands : (config : Config) (distinct : Bool) (drawn : Drawn) (made : Imported) → config.module_shape ≡ None → config.available_imports ≡ None → IsSanitized config → StandsSoFar config drawn → drawn.definitions ≡ nothing_defined
+pub freely_stands : (config : Config) (distinct : Bool) (drawn : PartsSoFar) (made : Imported) → config.module_shape ≡ None → config.available_imports ≡ None → IsSanitized config → StandsSoFar config drawn → drawn.definitions ≡ nothing_defined
     → IsImported config drawn.types.types distinct made → StandsSoFar config (record drawn { imported = made })
 freely_stands config distinct drawn made none free sanitized now nothing so_far =
     let all = imported_spaces (flattened made.groups) in

@@ -36,7 +36,7 @@ use Rattle.smith_draw.specs.ConstScopes.{fields_of}
 use Rattle.smith_draw.specs.Grounding.{over}
 use Rattle.smith_draw.proofs.FilledLemmas.{any_weaker}
 use Rattle.smith_draw.proofs.NullableLemmas.{ungrounded_not_null}
-use Rattle.wasm_smith.specs.Begun.{MayRefuseBegun}
+use Rattle.wasm_smith.specs.FirstParts.{MayRefuseFirstParts}
 use Rattle.smith_rules.specs.Bounds.{items_of_module_shape}
 use Rattle.wasm_smith.specs.DrawnSteps.{HoldsGrounded}
 use Rattle.smith_defined.specs.Defined.{drawn_beside, nothing_defined}
@@ -150,6 +150,6 @@ refused_by_module config e (Some shape) given h = module_refused config shape e 
 refused_by_module config e None given h = absurd h
 
 -- the first parts of a module are refused only as a module may be
-pub begun_refused : (config : Config) (e : Error) → MayRefuseBegun config e → MayRefuse config e
-begun_refused config e (inl memory) = subst (MayRefuse config) (sym memory) tt
-begun_refused config e (inr by_module) = refused_by_module config e config.module_shape refl by_module
+pub first_parts_refused : (config : Config) (e : Error) → MayRefuseFirstParts config e → MayRefuse config e
+first_parts_refused config e (inl memory) = subst (MayRefuse config) (sym memory) tt
+first_parts_refused config e (inr by_module) = refused_by_module config e config.module_shape refl by_module

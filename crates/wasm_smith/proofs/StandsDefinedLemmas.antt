@@ -10,10 +10,10 @@ use Rattle.smith_config.specs.declared.config.Config.{Config}
 use Rattle.smith_config.specs.Faults.{maximum_of}
 use Rattle.smith_config.specs.EntityBounds.{IsTableWithin, IsMemoryWithin}
 use Rattle.smith_rules.specs.ShapeImports.{count_in}
-use Rattle.wasm_smith.specs.Begun.{IsMemoryKept, IsOfEntities, IsTableKept, StandsSoFar}
+use Rattle.wasm_smith.specs.FirstParts.{IsMemoryKept, IsOfEntities, IsTableKept, StandsSoFar}
 use Rattle.smith_defined.specs.Defined.{AreDefinedMore, AreFilled}
 use Rattle.smith_defined.specs.declared.definitions.Definitions.{Definitions}
-use Rattle.wasm_smith.specs.declared.build.drawn.Drawn.{Drawn}
+use Rattle.wasm_smith.specs.declared.build.parts_so_far.PartsSoFar.{PartsSoFar}
 use Rattle.smith_defined.proofs.DefinedLemmas.{added_weaker, all_behind}
 
 -- of each kind there are at most the maximum, or as many as before
@@ -26,7 +26,7 @@ no_more_than config before spaces filled counts.Globals is = filled.globals.with
 no_more_than config before spaces filled _ is = absurd is
 
 -- with entities defined at the end, the parts stay valid and within the bounds
-pub stands_defined : (config : Config) (drawn : Drawn) (spaces : Held) (defined : Definitions) → StandsSoFar config drawn → AreDefinedMore config drawn.types (spaces_in drawn.imported.spaces) drawn.definitions (spaces_in spaces) defined
+pub stands_defined : (config : Config) (drawn : PartsSoFar) (spaces : Held) (defined : Definitions) → StandsSoFar config drawn → AreDefinedMore config drawn.types (spaces_in drawn.imported.spaces) drawn.definitions (spaces_in spaces) defined
     → StandsSoFar config (record drawn { imported = record drawn.imported { spaces = spaces }; definitions = defined })
 stands_defined config drawn spaces defined now made = record {
   groups = now.groups;

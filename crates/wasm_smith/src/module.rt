@@ -1,7 +1,7 @@
 ghost use Rattle.std.specs.Prelude.{◌≡◌, false, IfErr};
 ghost use Rattle.wasm_smith.specs.Generated.{is_distinct};
 
-use crate::build::{Drawn, build, check_shapes};
+use crate::build::{PartsSoFar, build, check_shapes};
 use smith_bytes::{Error, Unstructured};
 use smith_config::Config;
 use smith_types::{
@@ -40,7 +40,7 @@ pub struct Module {
     /// The configuration, sanitised, without available imports.
     pub(crate) config: Box<Config>,
     /// The parts that were drawn, and the counters of fuel among the globals.
-    pub(crate) drawn: Box<Drawn>,
+    pub(crate) drawn: Box<PartsSoFar>,
     /// The indices of the globals that count fuel.
     pub(crate) fuel_globals: Items<u32>,
 }

@@ -27,19 +27,19 @@ use Rattle.smith_config.specs.Granted.{AreTypesGranted, HasGranted, HasGroundedE
 use Rattle.smith_draw.specs.Grounding.{over}
 use Rattle.smith_draw.proofs.FilledLemmas.{ungrounded_before}
 use Rattle.smith_draw.proofs.FuncSizeLemmas.{shape_few}
-use Rattle.wasm_smith.specs.Begun.{ModuleSoFar, HasNothing, IsBegun, IsBegunByModule, IsBegunByImports}
+use Rattle.wasm_smith.specs.FirstParts.{ModuleSoFar, HasNothing, AreFirstParts, AreFirstPartsByModule, AreFirstPartsByImports}
 use Rattle.wasm_smith.specs.DrawnSteps.{AreTypesDrawn, HoldsGrounded, drawn_next}
 use Rattle.smith_defined.proofs.ExtensionLemmas.{all_kept}
 use Rattle.smith_rules.specs.Refusals.{AreShapesValid, HoldsNonNullable}
-use Rattle.wasm_smith.specs.declared.build.drawn.Drawn.{Drawn}
-use Rattle.wasm_smith.proofs.BegunLemmas.{module_used, imports_used}
-use Rattle.wasm_smith.proofs.BegunStandsLemmas.{begun_stands}
+use Rattle.wasm_smith.specs.declared.build.parts_so_far.PartsSoFar.{PartsSoFar}
+use Rattle.wasm_smith.proofs.FirstPartsLemmas.{module_used, imports_used}
+use Rattle.wasm_smith.proofs.FirstPartsStandLemmas.{first_parts_stand}
 use Rattle.wasm_smith.proofs.GrownSizeLemmas.{stands_typed}
 use Rattle.wasm_smith.proofs.GrantedLaterLemmas.{elements_later, globals_later}
 use Rattle.wasm_smith.proofs.LackingLemmas.{shape_grounded}
 
 -- properties of the types, the tables and the exports that a module begins with
-record MayBegin (config : Config) (drawn : Drawn) : Type 0 where
+record MayBegin (config : Config) (drawn : PartsSoFar) : Type 0 where
   few_values : All (HasFewValues most_listed) drawn.types.types
   grounded : (HoldsNonNullable config → ⊥) → HoldsGrounded config (drawn_next config drawn) (spaces_in drawn.imported.spaces)
   exports : AreExportsValid (spaces_in drawn.imported.spaces) drawn.contents.exports
@@ -63,26 +63,26 @@ of_shape config functions shape types spaces same tables globals h =
       globals = All-weaker (Contains (shape_spaces shape).globals) Values (λ global one. All-contains Values (shape_spaces shape).globals global h.globals one) spaces.globals globals;
     })
 
-by_module : (config : Config) (shape : Shape) (drawn : Drawn) → config.module_shape ≡ Some shape → AreShapesValid config → IsBegunByModule config shape drawn → MayBegin config drawn
-by_module config shape drawn given valid begun = record {
-  few_values = rw begun.types (shape_few shape (module_used config shape given valid).short);
-  grounded = λ none. of_shape config (drawn_next config drawn) shape drawn.types (spaces_in drawn.imported.spaces) begun.types begun.tables begun.globals (shape_grounded config (drawn_next config drawn) which.ModuleShape shape (rw given refl) none);
-  exports = begun.exports_valid;
+by_module : (config : Config) (shape : Shape) (drawn : PartsSoFar) → config.module_shape ≡ Some shape → AreShapesValid config → AreFirstPartsByModule config shape drawn → MayBegin config drawn
+by_module config shape drawn given valid first = record {
+  few_values = rw first.types (shape_few shape (module_used config shape given valid).short);
+  grounded = λ none. of_shape config (drawn_next config drawn) shape drawn.types (spaces_in drawn.imported.spaces) first.types first.tables first.globals (shape_grounded config (drawn_next config drawn) which.ModuleShape shape (rw given refl) none);
+  exports = first.exports_valid;
 }
 
-by_imports : (config : Config) (shape : Shape) (bytes : List ℕ) (drawn : Drawn) → config.module_shape ≡ None → config.available_imports ≡ Some shape → AreShapesValid config → IsBegunByImports config shape bytes drawn → MayBegin config drawn
-by_imports config shape bytes drawn none given valid begun = record {
-  few_values = rw begun.types (shape_few shape (imports_used config shape none given valid).short);
-  grounded = λ never. of_shape config (drawn_next config drawn) shape drawn.types (spaces_in drawn.imported.spaces) begun.types begun.tables begun.globals (shape_grounded config (drawn_next config drawn) which.AvailableImports shape (rw (none, given) refl) never);
-  exports = rw begun.exports (no_exports (spaces_in drawn.imported.spaces));
+by_imports : (config : Config) (shape : Shape) (bytes : List ℕ) (drawn : PartsSoFar) → config.module_shape ≡ None → config.available_imports ≡ Some shape → AreShapesValid config → AreFirstPartsByImports config shape bytes drawn → MayBegin config drawn
+by_imports config shape bytes drawn none given valid first = record {
+  few_values = rw first.types (shape_few shape (imports_used config shape none given valid).short);
+  grounded = λ never. of_shape config (drawn_next config drawn) shape drawn.types (spaces_in drawn.imported.spaces) first.types first.tables first.globals (shape_grounded config (drawn_next config drawn) which.AvailableImports shape (rw (none, given) refl) never);
+  exports = rw first.exports (no_exports (spaces_in drawn.imported.spaces));
 }
 
-freely : (config : Config) (drawn : Drawn) → HasNothing drawn → MayBegin config drawn
+freely : (config : Config) (drawn : PartsSoFar) → HasNothing drawn → MayBegin config drawn
 freely config drawn nothing =
-    let types : drawn.types.types ≡ [] = ap (λ (b : ModuleSoFar). b.types.types) nothing.begun in
-    let tables : drawn.imported.spaces.tables ≡ [] = ap (λ (b : ModuleSoFar). b.spaces.tables) nothing.begun in
-    let globals : drawn.imported.spaces.globals ≡ [] = ap (λ (b : ModuleSoFar). b.spaces.globals) nothing.begun in
-    let exports : drawn.contents.exports ≡ [] = ap (λ (b : ModuleSoFar). b.exports) nothing.begun in
+    let types : drawn.types.types ≡ [] = ap (λ (b : ModuleSoFar). b.types.types) nothing.so_far in
+    let tables : drawn.imported.spaces.tables ≡ [] = ap (λ (b : ModuleSoFar). b.spaces.tables) nothing.so_far in
+    let globals : drawn.imported.spaces.globals ≡ [] = ap (λ (b : ModuleSoFar). b.spaces.globals) nothing.so_far in
+    let exports : drawn.contents.exports ≡ [] = ap (λ (b : ModuleSoFar). b.exports) nothing.so_far in
     let context = drawn_next config drawn in
     record {
       few_values = rw types (All-nil (HasFewValues most_listed));
@@ -100,10 +100,10 @@ none_fixes : (config : Config) → config.module_shape ≡ None → config.avail
 none_fixes config none free (inl fixed) = let given = rw free at fixed in search rules
 none_fixes config none free (inr fixed) = let given = rw none at fixed in search rules
 
-begun_by : (config : Config) (bytes : List ℕ) (drawn : Drawn) (of_module available : Option Shape) → config.module_shape ≡ of_module → config.available_imports ≡ available → AreShapesValid config → IsBegun config bytes drawn → MayBegin config drawn
-begun_by config bytes drawn (Some shape) available given also valid begun = by_module config shape drawn given valid (subst (λ (one : Option Shape). IfSome one (λ each. IsBegunByModule config each drawn)) given begun.by_module)
-begun_by config bytes drawn None (Some shape) none given valid begun = by_imports config shape bytes drawn none given valid (subst (λ (one : Option Shape). IfSome one (λ each. IsBegunByImports config each bytes drawn)) given begun.by_imports)
-begun_by config bytes drawn None None none free valid begun = freely config drawn (begun.freely (none_fixes config none free))
+by_shapes : (config : Config) (bytes : List ℕ) (drawn : PartsSoFar) (of_module available : Option Shape) → config.module_shape ≡ of_module → config.available_imports ≡ available → AreShapesValid config → AreFirstParts config bytes drawn → MayBegin config drawn
+by_shapes config bytes drawn (Some shape) available given also valid first = by_module config shape drawn given valid (subst (λ (one : Option Shape). IfSome one (λ each. AreFirstPartsByModule config each drawn)) given first.by_module)
+by_shapes config bytes drawn None (Some shape) none given valid first = by_imports config shape bytes drawn none given valid (subst (λ (one : Option Shape). IfSome one (λ each. AreFirstPartsByImports config each bytes drawn)) given first.by_imports)
+by_shapes config bytes drawn None None none free valid first = freely config drawn (first.freely (none_fixes config none free))
 
 -- types after those that a module begins with: the properties that drawing these types preserves
 pub record AreTypesBehind (config : Config) (functions : Context) (old new : GroupedTypes) : Type 0 where
@@ -139,24 +139,24 @@ grounded_later config functions old new spaces more h =
     }
 
 -- more may be drawn over the first parts of a module after such types are added
-types_drawn : (config : Config) (bytes : List ℕ) (drawn : Drawn) (types : GroupedTypes) → AreShapesValid config → IsBegun config bytes drawn → AreTypesBehind config (drawn_next config drawn) drawn.types types → AreTypesDrawn config (record drawn { types = types })
-types_drawn config bytes drawn types valid begun more =
-    let may = begun_by config bytes drawn config.module_shape config.available_imports refl refl valid begun in
+types_drawn : (config : Config) (bytes : List ℕ) (drawn : PartsSoFar) (types : GroupedTypes) → AreShapesValid config → AreFirstParts config bytes drawn → AreTypesBehind config (drawn_next config drawn) drawn.types types → AreTypesDrawn config (record drawn { types = types })
+types_drawn config bytes drawn types valid first more =
+    let may = by_shapes config bytes drawn config.module_shape config.available_imports refl refl valid first in
     record {
       may = record {
-        so_far = stands_typed config drawn types (begun_stands config bytes drawn begun) more.valid more.longer more.most;
+        so_far = stands_typed config drawn types (first_parts_stand config bytes drawn first) more.valid more.longer more.most;
         few_values = more.few_values most_listed (omega arith) may.few_values;
         grounded = λ none. grounded_later config (drawn_next config drawn) drawn.types types (spaces_in drawn.imported.spaces) more (may.grounded none);
         exports = may.exports;
         least_types = more.least;
       };
-      free = λ none. let nothing = begun.freely none in record {
+      free = λ none. let nothing = first.freely none in record {
         imports = nothing.imports;
-        nothing = ap (λ (b : ModuleSoFar). b.defined) nothing.begun;
-        small = more.few_values 20 (omega arith) (subst (λ (all : List SubType). All IsSmall all) (sym (ap (λ (b : ModuleSoFar). b.types.types) nothing.begun)) (All-nil IsSmall));
+        nothing = ap (λ (b : ModuleSoFar). b.defined) nothing.so_far;
+        small = more.few_values 20 (omega arith) (subst (λ (all : List SubType). All IsSmall all) (sym (ap (λ (b : ModuleSoFar). b.types.types) nothing.so_far)) (All-nil IsSmall));
       };
-      floats = λ off none. let nothing = begun.freely (none_fixes config none.module_shape none.available_imports) in
-          more.floats off (subst (λ (all : List SubType). All HasNoFloat all) (sym (ap (λ (b : ModuleSoFar). b.types.types) nothing.begun)) (All-nil HasNoFloat));
+      floats = λ off none. let nothing = first.freely (none_fixes config none.module_shape none.available_imports) in
+          more.floats off (subst (λ (all : List SubType). All HasNoFloat all) (sym (ap (λ (b : ModuleSoFar). b.types.types) nothing.so_far)) (All-nil HasNoFloat));
     }
 
 stays_within : (most old new : ℕ) → (old ≤ most → new ≤ most) → (most ≤ old → new ≡ old) → new ≤ max most old
@@ -175,7 +175,7 @@ module _ {X : Type 0} (config : Config) (functions : Context) (old new : Grouped
   types_behind (Err e) valid longer most full least floats few_values grounded granted = tt
 
 -- after drawn types, more may be drawn over the first parts of a module
-pub drawn_behind : {X : Type 0} (config : Config) (bytes : List ℕ) (drawn : Drawn) (types : GroupedTypes) (result : Result X Error) → AreShapesValid config → IsBegun config bytes drawn → OnOk result (AreTypesBehind config (drawn_next config drawn) drawn.types types)
+pub drawn_behind : {X : Type 0} (config : Config) (bytes : List ℕ) (drawn : PartsSoFar) (types : GroupedTypes) (result : Result X Error) → AreShapesValid config → AreFirstParts config bytes drawn → OnOk result (AreTypesBehind config (drawn_next config drawn) drawn.types types)
     → OnOk result (AreTypesDrawn config (record drawn { types = types }))
-drawn_behind config bytes drawn types (Ok made) valid begun more = types_drawn config bytes drawn types valid begun more
-drawn_behind config bytes drawn types (Err e) valid begun more = tt
+drawn_behind config bytes drawn types (Ok made) valid first more = types_drawn config bytes drawn types valid first more
+drawn_behind config bytes drawn types (Err e) valid first more = tt

@@ -19,10 +19,10 @@ use Rattle.smith_config.specs.Features.{features_of}
 use Rattle.smith_config.specs.Shapes.{shape_spaces}
 use Rattle.smith_imports.specs.Imported.{AreNumbersWithin}
 use Rattle.smith_rules.specs.ShapeImports.{count_in}
-use Rattle.wasm_smith.specs.Begun.{ModuleSoFar, HasNothing, IsBegun, IsBegunByModule, IsBegunByImports, IsOfEntities, IsTableKept, IsMemoryKept, StandsSoFar}
+use Rattle.wasm_smith.specs.FirstParts.{ModuleSoFar, HasNothing, AreFirstParts, AreFirstPartsByModule, AreFirstPartsByImports, IsOfEntities, IsTableKept, IsMemoryKept, StandsSoFar}
 use Rattle.smith_rules.specs.Bounds.{items_of_shapes, items_of_module_shape, items_of_available_imports}
-use Rattle.wasm_smith.specs.declared.build.drawn.Drawn.{Drawn}
-use Rattle.wasm_smith.proofs.BegunLemmas.{stands_alone}
+use Rattle.wasm_smith.specs.declared.build.parts_so_far.PartsSoFar.{PartsSoFar}
+use Rattle.wasm_smith.proofs.FirstPartsLemmas.{stands_alone}
 
 -- a module shape is the only shape in use, and adds its items
 module_brings : (config : Config) (shape : Shape) (count : Count) → config.module_shape ≡ Some shape → items_of_shapes config count ≡ items_of_module_shape count shape
@@ -40,19 +40,19 @@ module_entities shape spaces counted counts.Memories is = counted counts.Memorie
 module_entities shape spaces counted counts.Globals is = counted counts.Globals (λ e. cc) (λ e. cc)
 module_entities shape spaces counted _ is = absurd is
 
-module _ (config : Config) (shape : Shape) (drawn : Drawn) where
-  by_module : config.module_shape ≡ Some shape → IsBegunByModule config shape drawn → StandsSoFar config drawn
-  by_module given begun = record {
-    groups = begun.valid;
-    count = begun.count ∙ sym (ap (λ (imports : List Import). length imports) begun.flat);
-    stands = rw begun.flat begun.stands;
-    most = λ count is. let brings = module_brings config shape count given in let here = module_entities shape (spaces_in drawn.imported.spaces) begun.counted count is in omega (arith, brings, here);
-    most_types = let brings = module_brings config shape counts.Types given in let here = ap (λ (space : GroupedTypes). length space.types) begun.types in omega (arith, brings, here);
-    most_imports = let brings = module_brings config shape counts.Imports given in let here = ap (λ (imports : List Import). length imports) begun.flat in omega (arith, brings, here);
-    tables = All-weaker (Contains (shape_spaces shape).tables) (IsTableKept config) (λ table h. inl (rw given h)) drawn.imported.spaces.tables begun.tables;
-    memories = All-weaker (Contains (shape_spaces shape).memories) (IsMemoryKept config) (λ memory h. inl (rw given h)) drawn.imported.spaces.memories begun.memories;
-    type_size = rw given begun.type_size;
-    within = omega (arith, begun.type_size);
+module _ (config : Config) (shape : Shape) (drawn : PartsSoFar) where
+  by_module : config.module_shape ≡ Some shape → AreFirstPartsByModule config shape drawn → StandsSoFar config drawn
+  by_module given first = record {
+    groups = first.valid;
+    count = first.count ∙ sym (ap (λ (imports : List Import). length imports) first.flat);
+    stands = rw first.flat first.stands;
+    most = λ count is. let brings = module_brings config shape count given in let here = module_entities shape (spaces_in drawn.imported.spaces) first.counted count is in omega (arith, brings, here);
+    most_types = let brings = module_brings config shape counts.Types given in let here = ap (λ (space : GroupedTypes). length space.types) first.types in omega (arith, brings, here);
+    most_imports = let brings = module_brings config shape counts.Imports given in let here = ap (λ (imports : List Import). length imports) first.flat in omega (arith, brings, here);
+    tables = All-weaker (Contains (shape_spaces shape).tables) (IsTableKept config) (λ table h. inl (rw given h)) drawn.imported.spaces.tables first.tables;
+    memories = All-weaker (Contains (shape_spaces shape).memories) (IsMemoryKept config) (λ memory h. inl (rw given h)) drawn.imported.spaces.memories first.memories;
+    type_size = rw given first.type_size;
+    within = omega (arith, first.type_size);
   }
 
 -- of each kind there are no more than allowed
@@ -64,19 +64,19 @@ taken_most config imports spaces within are counts.Memories is = rw are within.m
 taken_most config imports spaces within are counts.Globals is = rw are within.globals
 taken_most config imports spaces within are _ is = absurd is
 
-module _ (config : Config) (shape : Shape) (bytes : List ℕ) (drawn : Drawn) where
-  by_imports : config.module_shape ≡ None → config.available_imports ≡ Some shape → IsBegunByImports config shape bytes drawn → StandsSoFar config drawn
-  by_imports none given begun = record {
-    groups = begun.valid;
-    count = begun.count;
-    stands = begun.stands;
-    most = λ count is. let here = taken_most config (flattened drawn.imported.groups) (spaces_in drawn.imported.spaces) begun.within.numbers begun.spaces count is in omega (arith, here);
-    most_types = let brings = imports_bring config shape counts.Types none given in let here = ap (λ (space : GroupedTypes). length space.types) begun.types in omega (arith, brings, here);
-    most_imports = let here = begun.within.most in omega (arith, here);
-    tables = All-weaker (Contains (shape_spaces shape).tables) (IsTableKept config) (λ table h. inl (rw (none, given) (Contains-append_left (shape_spaces shape).tables _ table h))) drawn.imported.spaces.tables begun.tables;
-    memories = All-weaker (Contains (shape_spaces shape).memories) (IsMemoryKept config) (λ memory h. inl (rw (none, given) (Contains-append_left (shape_spaces shape).memories _ memory h))) drawn.imported.spaces.memories begun.memories;
-    type_size = rw (none, given, begun.types) begun.type_size;
-    within = let here = begun.within.type_size in let is = begun.type_size in omega (arith, here, is);
+module _ (config : Config) (shape : Shape) (bytes : List ℕ) (drawn : PartsSoFar) where
+  by_imports : config.module_shape ≡ None → config.available_imports ≡ Some shape → AreFirstPartsByImports config shape bytes drawn → StandsSoFar config drawn
+  by_imports none given first = record {
+    groups = first.valid;
+    count = first.count;
+    stands = first.stands;
+    most = λ count is. let here = taken_most config (flattened drawn.imported.groups) (spaces_in drawn.imported.spaces) first.within.numbers first.spaces count is in omega (arith, here);
+    most_types = let brings = imports_bring config shape counts.Types none given in let here = ap (λ (space : GroupedTypes). length space.types) first.types in omega (arith, brings, here);
+    most_imports = let here = first.within.most in omega (arith, here);
+    tables = All-weaker (Contains (shape_spaces shape).tables) (IsTableKept config) (λ table h. inl (rw (none, given) (Contains-append_left (shape_spaces shape).tables _ table h))) drawn.imported.spaces.tables first.tables;
+    memories = All-weaker (Contains (shape_spaces shape).memories) (IsMemoryKept config) (λ memory h. inl (rw (none, given) (Contains-append_left (shape_spaces shape).memories _ memory h))) drawn.imported.spaces.memories first.memories;
+    type_size = rw (none, given, first.types) first.type_size;
+    within = let here = first.within.type_size in let is = first.type_size in omega (arith, here, is);
   }
 
 no_entities : (config : Config) → AreEntitiesValid (features_of config) [] (imported_spaces [])
@@ -100,33 +100,33 @@ nothing_in counts.Globals is = refl
 nothing_in _ is = absurd is
 
 -- nothing exists yet
-freely : (config : Config) (drawn : Drawn) → config.module_shape ≡ None → config.available_imports ≡ None → HasNothing drawn → StandsSoFar config drawn
-freely config drawn none free begun =
-    let groups : drawn.imported.groups ≡ [] = ap (λ (b : ModuleSoFar). b.groups) begun.begun in
-    let spaces : spaces_in drawn.imported.spaces ≡ imported_spaces [] = ap (λ (b : ModuleSoFar). b.spaces) begun.begun in
-    let types : drawn.types ≡ record { types = []; groups = [] } = ap (λ (b : ModuleSoFar). b.types) begun.begun in
-    let defined = ap (λ (b : ModuleSoFar). b.defined) begun.begun in
+freely : (config : Config) (drawn : PartsSoFar) → config.module_shape ≡ None → config.available_imports ≡ None → HasNothing drawn → StandsSoFar config drawn
+freely config drawn none free first =
+    let groups : drawn.imported.groups ≡ [] = ap (λ (b : ModuleSoFar). b.groups) first.so_far in
+    let spaces : spaces_in drawn.imported.spaces ≡ imported_spaces [] = ap (λ (b : ModuleSoFar). b.spaces) first.so_far in
+    let types : drawn.types ≡ record { types = []; groups = [] } = ap (λ (b : ModuleSoFar). b.types) first.so_far in
+    let defined = ap (λ (b : ModuleSoFar). b.defined) first.so_far in
     record {
       groups = rw groups (All-nil (IsImportsValid (features_of config)));
-      count = rw groups begun.imports.count;
+      count = rw groups first.imports.count;
       stands = rw (groups, spaces, types, defined) (stands_alone config (record { types = []; groups = [] }) (imported_spaces []) (no_types (features_of config)) (no_entities config) (none_counted config));
       most = λ count is. let none_there = nothing_in count is in let here = ap (λ (all : EntitySpaces). count_in all count) spaces in omega (arith, here, none_there);
       most_types = let here = ap (λ (space : GroupedTypes). length space.types) types in omega (arith, here);
       most_imports = rw groups (omega arith);
       tables = subst (λ (all : EntitySpaces). All (IsTableKept config) all.tables) (sym spaces) (All-nil (IsTableKept config));
       memories = subst (λ (all : EntitySpaces). All (IsMemoryKept config) all.memories) (sym spaces) (All-nil (IsMemoryKept config));
-      type_size = rw (none, free, groups) begun.imports.type_size;
-      within = omega (arith, begun.imports.type_size);
+      type_size = rw (none, free, groups) first.imports.type_size;
+      within = omega (arith, first.imports.type_size);
     }
 
-begun_by : (config : Config) (bytes : List ℕ) (drawn : Drawn) (of_module available : Option Shape) → config.module_shape ≡ of_module → config.available_imports ≡ available → IsBegun config bytes drawn → StandsSoFar config drawn
-begun_by config bytes drawn (Some shape) available given also begun = by_module config shape drawn given (subst (λ (one : Option Shape). IfSome one (λ each. IsBegunByModule config each drawn)) given begun.by_module)
-begun_by config bytes drawn None (Some shape) none given begun = by_imports config shape bytes drawn none given (subst (λ (one : Option Shape). IfSome one (λ each. IsBegunByImports config each bytes drawn)) given begun.by_imports)
-begun_by config bytes drawn None None none free begun = freely config drawn none free (begun.freely (λ fixes. elim fixes [
+by_shapes : (config : Config) (bytes : List ℕ) (drawn : PartsSoFar) (of_module available : Option Shape) → config.module_shape ≡ of_module → config.available_imports ≡ available → AreFirstParts config bytes drawn → StandsSoFar config drawn
+by_shapes config bytes drawn (Some shape) available given also first = by_module config shape drawn given (subst (λ (one : Option Shape). IfSome one (λ each. AreFirstPartsByModule config each drawn)) given first.by_module)
+by_shapes config bytes drawn None (Some shape) none given first = by_imports config shape bytes drawn none given (subst (λ (one : Option Shape). IfSome one (λ each. AreFirstPartsByImports config each bytes drawn)) given first.by_imports)
+by_shapes config bytes drawn None None none free first = freely config drawn none free (first.freely (λ fixes. elim fixes [
   | inl available ↦ let none_given = subst (λ (one : Option Shape). IsSome one) free available in absurd cc
   | inr of_module ↦ let none_given = subst (λ (one : Option Shape). IsSome one) none of_module in absurd cc
 ]))
 
 -- whichever shapes a module begins with, its parts are valid and within the bounds
-pub begun_stands : (config : Config) (bytes : List ℕ) (drawn : Drawn) → IsBegun config bytes drawn → StandsSoFar config drawn
-begun_stands config bytes drawn begun = begun_by config bytes drawn config.module_shape config.available_imports refl refl begun
+pub first_parts_stand : (config : Config) (bytes : List ℕ) (drawn : PartsSoFar) → AreFirstParts config bytes drawn → StandsSoFar config drawn
+first_parts_stand config bytes drawn first = by_shapes config bytes drawn config.module_shape config.available_imports refl refl first

@@ -3,13 +3,13 @@ use Rattle.std.specs.Prelude.{All}
 use Rattle.std.specs.List.{Contains}
 use Rattle.smith_types.specs.Imports.{EntitySpaces, flattened, imported_spaces}
 use Rattle.smith_config.specs.Shapes.{shape_imports, shape_spaces, space_of}
-use Rattle.wasm_smith.specs.Begun.{ModuleSoFar}
+use Rattle.wasm_smith.specs.FirstParts.{ModuleSoFar}
 use Rattle.smith_defined.specs.Defined.{nothing_defined}
-use Rattle.wasm_smith.proofs.BegunLemmas.{stands_alone, taken_enabled, offered_all}
-use Rattle.wasm_smith.proofs.build.begun.begin_with_imports.Goals as goal
+use Rattle.wasm_smith.proofs.FirstPartsLemmas.{stands_alone, taken_enabled, offered_all}
+use Rattle.wasm_smith.proofs.build.first_parts.begin_with_imports.Goals as goal
 
-pub returns-clause-begun : goal.returns-clause-begun
-returns-clause-begun c =
+pub returns-clause-parts : goal.returns-clause-parts
+returns-clause-parts c =
     let config = c.args.config.now in
     let shape = c.args.shape.now in
     let given = c.in_ok-types.ensures in
@@ -17,7 +17,7 @@ returns-clause-begun c =
     let offered = imported_spaces (shape_imports shape) in
     let spaces = given.taken.counts.spaces in
     let fit = given.taken.fit in
-    let nothing : c.args.drawn.now.definitions ≡ nothing_defined = ap (λ (begun : ModuleSoFar). begun.defined) c.requires.nothing.begun in
+    let nothing : c.args.drawn.now.definitions ≡ nothing_defined = ap (λ (so_far : ModuleSoFar). so_far.defined) c.requires.nothing.so_far in
     record {
       types = given.types;
       kept = given.kept;
@@ -30,5 +30,5 @@ returns-clause-begun c =
       memories = subst (λ (all : EntitySpaces). All (Contains (shape_spaces shape).memories) all.memories) (sym spaces) (offered_all offered.memories shape.memories taken.memories fit.memories);
       globals = subst (λ (all : EntitySpaces). All (Contains (shape_spaces shape).globals) all.globals) (sym spaces) (offered_all offered.globals shape.globals taken.globals fit.globals);
       spaces = spaces;
-      exports = ap (λ (begun : ModuleSoFar). begun.exports) c.requires.nothing.begun;
+      exports = ap (λ (so_far : ModuleSoFar). so_far.exports) c.requires.nothing.so_far;
     }
