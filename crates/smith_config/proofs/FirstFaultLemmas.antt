@@ -7,8 +7,8 @@ use Rattle.smith_bytes.specs.declared.error.Which.TheVariants.{AvailableImports,
 use Rattle.smith_bytes.specs.declared.error.ShapeFault.{ShapeFault}
 use Rattle.smith_bytes.specs.declared.error.ShapeFault.TheVariants as fault
 use Rattle.smith_types.specs.Features.{every_feature}
-use Rattle.smith_types.specs.Space.{Space}
-use Rattle.smith_types.specs.Imports.{IndexSpaces}
+use Rattle.smith_types.specs.GroupedTypes.{GroupedTypes}
+use Rattle.smith_types.specs.Imports.{EntitySpaces}
 use Rattle.smith_types.specs.Exports.{AreDistinct}
 use Rattle.smith_types.specs.Groups.{AreFollowing}
 use Rattle.smith_types.specs.declared.entity_type.ExportKind.{ExportKind}
@@ -29,10 +29,10 @@ pub failed : {P : Type 0} (r : Bool) → IsTrue r ↔ P → r ≡ false → P �
 failed r decides bad h = let holds : r ≡ true = decides.1 h in cc
 
 -- a property of the constructed types and spaces holds for those of the shape, and conversely
-pub moved : (P : Space → IndexSpaces → Type 0) (shape : Shape) (space : Space) (spaces : IndexSpaces) → IsMade shape space spaces → P space spaces → P (space_of shape.groups) (shape_spaces shape)
-moved P shape space spaces made h = subst (λ (s : Space). P s (shape_spaces shape)) made.types_are (subst (λ (s : IndexSpaces). P space s) made.spaces_are h)
+pub moved : (P : GroupedTypes → EntitySpaces → Type 0) (shape : Shape) (space : GroupedTypes) (spaces : EntitySpaces) → IsMade shape space spaces → P space spaces → P (space_of shape.groups) (shape_spaces shape)
+moved P shape space spaces made h = subst (λ (s : GroupedTypes). P s (shape_spaces shape)) made.types_are (subst (λ (s : EntitySpaces). P space s) made.spaces_are h)
 
-pub test_moved : (P : Space → IndexSpaces → Type 0) (shape : Shape) (space : Space) (spaces : IndexSpaces) (r : Bool) → IsMade shape space spaces → IsTrue r ↔ P space spaces → IsTrue r ↔ P (space_of shape.groups) (shape_spaces shape)
+pub test_moved : (P : GroupedTypes → EntitySpaces → Type 0) (shape : Shape) (space : GroupedTypes) (spaces : EntitySpaces) (r : Bool) → IsMade shape space spaces → IsTrue r ↔ P space spaces → IsTrue r ↔ P (space_of shape.groups) (shape_spaces shape)
 test_moved P shape space spaces r made decides = moved (λ s t. IsTrue r ↔ P s t) shape space spaces made decides
 
 not_plain : {P : Type 0} (which : Which) → ((which ≡ Exports → P) → ⊥) → (which ≡ Exports) × (P → ⊥)

@@ -9,11 +9,11 @@ use Rattle.smith_bytes.specs.declared.error.Which.TheVariants.{AvailableImports,
 use Rattle.smith_bytes.specs.declared.error.ShapeFault.{ShapeFault}
 use Rattle.smith_bytes.specs.declared.error.ShapeFault.TheVariants as fault
 use Rattle.smith_types.specs.Features.{Features, every_feature}
-use Rattle.smith_types.specs.Space.{Space}
+use Rattle.smith_types.specs.GroupedTypes.{GroupedTypes}
 use Rattle.smith_types.specs.ValidTypes.{IsHeapTypeValid, IsRefTypeValid, IsValTypeValid, IsTypeValid, IsGroupValid, AreTypesValid, IsShareable, values_of}
 use Rattle.smith_types.specs.Entities.{AreLimitsValid, most_elements, IsTableValid, IsMemoryValid, IsGlobalValid}
 use Rattle.smith_types.specs.Flags.{IsInnerEnabled}
-use Rattle.smith_types.specs.Imports.{IndexSpaces}
+use Rattle.smith_types.specs.Imports.{EntitySpaces}
 use Rattle.smith_types.proofs.GroupGrowthLemmas.{AreTypesOpen-at, AreTypesOpen-start}
 use Rattle.smith_types.specs.declared.value_type.AbstractHeapType.{AbstractHeapType}
 use Rattle.smith_types.specs.declared.value_type.HeapType.{HeapType}
@@ -74,7 +74,7 @@ module _ (features : Features) where
     single = λ never. cc never;
   }
 
-  types_right : (space : Space) → AreTypesValid features space → AreTypesValid every_feature space
+  types_right : (space : GroupedTypes) → AreTypesValid features space → AreTypesValid every_feature space
   types_right space h = record {
     covered = h.covered;
     orderly = h.orderly;
@@ -99,7 +99,7 @@ before_map P f [] each = tt
 before_map P f (item ∷ items) each = (each.0, before_map P f items each.1)
 
 -- each type is valid for the end of all types
-types_valid : (features : Features) (space : Space) → AreTypesValid features space → All (IsTypeValid features space.types (length space.types)) space.types
+types_valid : (features : Features) (space : GroupedTypes) → AreTypesValid features space → All (IsTypeValid features space.types (length space.types)) space.types
 types_valid features space valid i d inside =
     AreTypesOpen-at features (length space.types) space (AreTypesOpen-start features (length space.types) space (omega arith) valid) i (get_or space.types i d) (slice_get-get_or space.types i d inside)
 
@@ -154,7 +154,7 @@ module _ (which : Which) (config : Config) (shape : Shape) where
   abbrev types : List SubType
   types = shape_types shape
 
-  abbrev spaces : IndexSpaces
+  abbrev spaces : EntitySpaces
   spaces = shape_spaces shape
 
   types_are_right : IsShapeValid which config shape → AreTypesRight shape

@@ -1,8 +1,8 @@
 -- Properties of a whole stated part by part, as the decision procedures establish them. Proofs
 -- derive the definitions from them.
 use Rattle.std.specs.Prelude.{◌≡◌, ℕ, ◌≤◌, List, length}
-use Rattle.smith_types.specs.Space.{Space}
-use Rattle.smith_types.specs.Imports.{IndexSpaces}
+use Rattle.smith_types.specs.GroupedTypes.{GroupedTypes}
+use Rattle.smith_types.specs.Imports.{EntitySpaces}
 use Rattle.smith_types.specs.Decided.{AreFuncsValid, AreTagsValid, AreExportsFound}
 use Rattle.smith_types.specs.declared.entity_type.ExportKind.{ExportKind}
 use Rattle.smith_bytes.specs.declared.error.Count.{Count}
@@ -23,13 +23,13 @@ pub record AreListsShort (shape : Shape) : Type 0 where
   pub exports : length shape.exports ≤ most_listed
 
 -- functions, tags and exports refer to existing items, list by list
-pub record AreIndicesFound (space : Space) (spaces : IndexSpaces) (exported : List (List ℕ × ExportKind × ℕ)) : Type 0 where
+pub record AreIndicesFound (space : GroupedTypes) (spaces : EntitySpaces) (exported : List (List ℕ × ExportKind × ℕ)) : Type 0 where
   pub of_funcs : AreFuncsValid space.types spaces.funcs
   pub of_tags : AreTagsValid space.types spaces.tags
   pub of_exports : AreExportsFound spaces exported
 
 -- the type space and the index spaces are those of the shape
-pub record IsMade (shape : Shape) (space : Space) (spaces : IndexSpaces) : Type 0 where
+pub record IsMade (shape : Shape) (space : GroupedTypes) (spaces : EntitySpaces) : Type 0 where
   pub types_are : space ≡ space_of shape.groups
   pub spaces_are : spaces ≡ shape_spaces shape
 

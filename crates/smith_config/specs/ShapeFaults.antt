@@ -7,8 +7,8 @@ use Rattle.smith_bytes.specs.declared.error.ShapeFault.TheVariants as fault
 use Rattle.smith_bytes.specs.declared.error.Error.{Error}
 use Rattle.smith_bytes.specs.declared.error.Error.TheVariants as error
 use Rattle.smith_types.specs.Features.{Features, every_feature}
-use Rattle.smith_types.specs.Space.{Space}
-use Rattle.smith_types.specs.Imports.{IndexSpaces}
+use Rattle.smith_types.specs.GroupedTypes.{GroupedTypes}
+use Rattle.smith_types.specs.Imports.{EntitySpaces}
 use Rattle.smith_types.specs.HeldValues.{values_in}
 use Rattle.smith_types.specs.ValidTypes.{AreTypesValid, IsValTypeValid, IsShareable}
 use Rattle.smith_types.specs.Entities.{AreLimitsValid, most_elements, IsTagValid, IsFuncTypeIndex, IsTableValid, IsMemoryValid, IsGlobalValid}
@@ -24,27 +24,27 @@ use Rattle.smith_config.specs.Shapes.{IsShort, IsShallow, IsPlain, HasNothingLef
 
 -- types, and the entities that refer to them, are valid with every feature enabled; shared ones
 -- hold only values that may be shared
-pub record AreTypesSound (space : Space) (spaces : IndexSpaces) : Type 0 where
+pub record AreTypesSound (space : GroupedTypes) (spaces : EntitySpaces) : Type 0 where
   pub types : AreTypesValid every_feature space
   pub values : All (IsValTypeValid every_feature (length space.types)) (values_in space.types spaces)
   pub tables : All (λ (table : TableType). IsTrue table.shared → IsShareable space.types (Ref table.element_type)) spaces.tables
   pub globals : All (λ (global : GlobalType). IsTrue global.shared → IsShareable space.types global.val_type) spaces.globals
 
 -- functions, tags and exports refer to existing items of the right kind
-pub record AreIndicesSound (space : Space) (spaces : IndexSpaces) (exported : List (List ℕ × ExportKind × ℕ)) : Type 0 where
+pub record AreIndicesSound (space : GroupedTypes) (spaces : EntitySpaces) (exported : List (List ℕ × ExportKind × ℕ)) : Type 0 where
   pub funcs : All (IsFuncTypeIndex space.types) spaces.funcs
   pub tags : All (IsTagValid space.types) spaces.tags
   pub exports : AreExportsStanding spaces exported
 
 -- the limits of tables fit, memories are valid with every feature enabled, and types are not too
 -- deep
-pub record AreLimitsSound (space : Space) (spaces : IndexSpaces) : Type 0 where
+pub record AreLimitsSound (space : GroupedTypes) (spaces : EntitySpaces) : Type 0 where
   pub tables : All (λ (table : TableType). AreLimitsValid (most_elements table.table64) table.minimum table.maximum) spaces.tables
   pub memories : All (IsMemoryValid every_feature) spaces.memories
   pub shallow : IsShallow space.types
 
 -- the features suffice
-pub record AreFeaturesEnough (which : Which) (features : Features) (space : Space) (spaces : IndexSpaces) : Type 0 where
+pub record AreFeaturesEnough (which : Which) (features : Features) (space : GroupedTypes) (spaces : EntitySpaces) : Type 0 where
   pub types : AreTypesValid features space
   pub tables : All (IsTableValid features space.types) spaces.tables
   pub memories : All (IsMemoryValid features) spaces.memories

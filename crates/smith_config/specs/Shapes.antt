@@ -5,9 +5,9 @@ use Rattle.smith_bytes.specs.declared.error.Which.{Which}
 use Rattle.smith_bytes.specs.declared.error.Which.TheVariants.{AvailableImports, Exports, ModuleShape}
 use Rattle.smith_types.specs.Features.{Features}
 use Rattle.smith_types.specs.Kinds.{kind}
-use Rattle.smith_types.specs.Space.{HasDepth}
+use Rattle.smith_types.specs.GroupedTypes.{HasDepth}
 use Rattle.smith_types.specs.ValidTypes.{AreTypesValid}
-use Rattle.smith_types.specs.Imports.{IndexSpaces, flattened, imported_spaces}
+use Rattle.smith_types.specs.Imports.{EntitySpaces, flattened, imported_spaces}
 pub use Rattle.smith_types.specs.Groups.{ranges_from, space_of}
 use Rattle.smith_types.specs.HeldValues.{values_in}
 use Rattle.smith_types.specs.Entities.{AreEntitiesValid, AreCountsEnabled}
@@ -51,7 +51,7 @@ abbrev pub shape_imports : Shape → List Import
 shape_imports shape = flattened shape.imports
 
 -- the index spaces of a shape
-abbrev pub shape_spaces : Shape → IndexSpaces
+abbrev pub shape_spaces : Shape → EntitySpaces
 shape_spaces shape =
     let before = imported_spaces (shape_imports shape) in
     record {
@@ -106,7 +106,7 @@ IsValTypeIncluded (Ref reference) = IsHeapTypeIncluded reference.heap_type
 IsValTypeIncluded _ = Unit {0}
 
 -- nothing in the types and index spaces is shared except memories, and no reference is exact
-pub record IsNothingLeftOut (listed : List SubType) (spaces : IndexSpaces) : Type 0 where
+pub record IsNothingLeftOut (listed : List SubType) (spaces : EntitySpaces) : Type 0 where
   pub types : All (λ (t : SubType). t.composite_type.shared ≡ false) listed
   pub values : All IsValTypeIncluded (values_in listed spaces)
   pub tables : All (λ (table : TableType). table.shared ≡ false) spaces.tables
@@ -134,7 +134,7 @@ HasNoConcrete (Ref reference) = IsNotConcrete reference.heap_type
 HasNoConcrete _ = Unit {0}
 
 -- only plain types, and no concrete references
-pub record ArePlain (listed : List SubType) (spaces : IndexSpaces) : Type 0 where
+pub record ArePlain (listed : List SubType) (spaces : EntitySpaces) : Type 0 where
   pub types : All IsTypePlain listed
   pub values : All HasNoConcrete (values_in listed spaces)
 
@@ -151,7 +151,7 @@ pub record IsConsistent (features : Features) (shape : Shape) : Type 0 where
 
 -- tags, and several tables or memories, have their features; available imports are exempt, since
 -- some of them may not be imported
-abbrev pub AreCountsFor : Which → Features → IndexSpaces → Type 0
+abbrev pub AreCountsFor : Which → Features → EntitySpaces → Type 0
 AreCountsFor AvailableImports features spaces = Unit {0}
 AreCountsFor Exports features spaces = AreCountsEnabled features spaces
 AreCountsFor ModuleShape features spaces = AreCountsEnabled features spaces

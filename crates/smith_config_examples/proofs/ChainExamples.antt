@@ -8,7 +8,7 @@ use Rattle.smith_types.specs.Features.{Features}
 use Rattle.smith_types.specs.ValidTypes.{IsValTypeValid, IsTypeValid, IsGroupValid, AreTypesValid}
 use Rattle.smith_types.specs.declared.composite_type.SubType.{SubType}
 use Rattle.smith_types.specs.Types.{IsAlike, IsOrderly}
-use Rattle.smith_types.specs.Space.{HasDepth, root, deeper}
+use Rattle.smith_types.specs.GroupedTypes.{HasDepth, root, deeper}
 use Rattle.smith_types.specs.ExampleTypes.{open_type, empty_struct, range}
 use Rattle.smith_types.proofs.ListLemmas.{slice_get-grown, slice_get-last}
 use Rattle.smith_types.proofs.SpaceLemmas.{IsOrderly-push, HasDepth-le}

@@ -5,7 +5,7 @@ use Rattle.std.proofs.lemmas.List.Elements.{All-cons, All-nil}
 use Rattle.smith_types.specs.Features.{Features}
 use Rattle.smith_types.specs.Types.{IsOrderly}
 use Rattle.smith_types.specs.ValidTypes.{IsTypeValid, AreTypesValid}
-use Rattle.smith_types.specs.Imports.{IndexSpaces}
+use Rattle.smith_types.specs.Imports.{EntitySpaces}
 use Rattle.smith_types.specs.Entities.{IsFuncTypeIndex, AreEntitiesValid}
 use Rattle.smith_types.specs.Exports.{IsEntityAt, AreExportsStanding, AreExportsValid}
 use Rattle.smith_types.specs.declared.composite_type.SubType.{SubType}
@@ -23,7 +23,7 @@ abbrev one_type : List SubType
 one_type = final_type plain_func ∷ []
 
 -- index spaces of one function
-abbrev one_func : IndexSpaces
+abbrev one_func : EntitySpaces
 one_func = record { tags = []; funcs = 0 ∷ []; tables = []; memories = []; globals = [] }
 
 orderly : IsOrderly one_type
@@ -49,7 +49,7 @@ module _ (features : Features) where
   }
 
 -- a single export of an existing entity is valid
-pub stand_alone : (spaces : IndexSpaces) (one : List ℕ × ExportKind × ℕ) (ty : EntityType) → IsEntityAt spaces one.1 one.2 ty → AreExportsStanding spaces (one ∷ [])
+pub stand_alone : (spaces : EntitySpaces) (one : List ℕ × ExportKind × ℕ) (ty : EntityType) → IsEntityAt spaces one.1 one.2 ty → AreExportsStanding spaces (one ∷ [])
 stand_alone spaces one ty h =
     let P : List ℕ × ExportKind × ℕ → Type 0 = λ one. (ty : EntityType) × IsEntityAt spaces one.1 one.2 ty in
     All-cons P one [] (ty, h) (All-nil P)

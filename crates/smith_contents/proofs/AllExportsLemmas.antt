@@ -4,7 +4,7 @@ use Rattle.std.specs.Prelude.{All, slice_get, Some}
 use Rattle.std.proofs.lemmas.List.Elements.{All-nil, All-cons, All-append}
 use Rattle.std.proofs.lemmas.Option.{slice_get-get_or}
 use Rattle.smith_types.proofs.ListLemmas.{slice_get-grown, slice_get-behind}
-use Rattle.smith_types.specs.Imports.{IndexSpaces}
+use Rattle.smith_types.specs.Imports.{EntitySpaces}
 use Rattle.smith_types.specs.declared.entity_type.EntityType.TheVariants as entity
 use Rattle.smith_types.specs.declared.entity_type.ExportKind.{ExportKind}
 use Rattle.smith_types.specs.declared.entity_type.ExportKind.TheVariants as kind
@@ -15,7 +15,7 @@ length-numbered of_kind start zero = refl
 length-numbered of_kind start (suc count) = let rest = length-numbered of_kind (suc start) count in omega arith
 
 -- the number of items
-pub length-every_item : (spaces : IndexSpaces) → length (every_item spaces) ≡ length spaces.funcs + length spaces.tables + length spaces.memories + length spaces.globals + length spaces.tags
+pub length-every_item : (spaces : EntitySpaces) → length (every_item spaces) ≡ length spaces.funcs + length spaces.tables + length spaces.memories + length spaces.globals + length spaces.tags
 length-every_item spaces = simp (length-append, length-numbered) (omega arith)
 
 numbered_at : (of_kind : ExportKind) (start count index : ℕ) → index < count → slice_get (numbered_from of_kind start count) index ≡ Some (of_kind, start + index)
@@ -35,7 +35,7 @@ past : (of_kind : ExportKind) (count index : ℕ) (more : List Item) → slice_g
 past of_kind count index more = rw (length-numbered of_kind 0 count) at (slice_get-behind (numbered_from of_kind 0 count) more index)
 
 -- the item at each place: functions come first, then tables, memories, globals and tags
-module _ (spaces : IndexSpaces) where
+module _ (spaces : EntitySpaces) where
   pub func_at : (place : ℕ) → place < length spaces.funcs → slice_get (every_item spaces) place ≡ Some (kind.Func, place)
   func_at place below = first kind.Func (length spaces.funcs) place _ below
 
@@ -69,7 +69,7 @@ there [] index below = absurd (omega arith)
 there (x ∷ xs) index below = (get_or (x ∷ xs) index x, slice_get-get_or (x ∷ xs) index x (omega arith))
 
 -- every item exists
-pub every_item_stands : (spaces : IndexSpaces) → All (λ (item : Item). IsStanding spaces item.0 item.1) (every_item spaces)
+pub every_item_stands : (spaces : EntitySpaces) → All (λ (item : Item). IsStanding spaces item.0 item.1) (every_item spaces)
 every_item_stands spaces =
     let P = λ (item : Item). IsStanding spaces item.0 item.1 in
     let funcs = numbered_all P kind.Func 0 (length spaces.funcs) (λ index below. let (func, at) = there spaces.funcs index below in (entity.Func func, (func, at, refl))) in

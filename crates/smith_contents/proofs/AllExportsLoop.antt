@@ -9,7 +9,7 @@ use Rattle.std.proofs.lemmas.Option.{slice_get_within, get_or_from_slice_get}
 use Rattle.std.proofs.lemmas.List.Sums.{sum_by-append}
 use Rattle.smith_bytes.specs.declared.error.Why.TheVariants.{TypeSize}
 use Rattle.smith_bytes.specs.Source.{KeepsPieces}
-use Rattle.smith_types.specs.Imports.{IndexSpaces}
+use Rattle.smith_types.specs.Imports.{EntitySpaces}
 use Rattle.smith_types.specs.declared.composite_type.SubType.{SubType}
 use Rattle.smith_config.specs.declared.config.Config.{Config}
 use Rattle.smith_rules.specs.ExportedItems.{Item, item_of, Export, item_size, exported_size, IsStanding}
@@ -19,7 +19,7 @@ use Rattle.smith_contents.specs.Exported.{AreExportsFit}
 use Rattle.smith_contents.proofs.ExportsFitLemmas.{none_fit, fit_push}
 
 -- the items before a place are exported, and the draws from here on complete the whole
-pub record AreExporting {S : Type 0} (config : Config) (types : List SubType) (spaces : IndexSpaces) (imports : ℕ) (items : List Item) (place : ℕ) (exports : List Export) (size : ℕ) (names : HashSet (String Global) S) (start bytes : List ℕ) : Type 0 where
+pub record AreExporting {S : Type 0} (config : Config) (types : List SubType) (spaces : EntitySpaces) (imports : ℕ) (items : List Item) (place : ℕ) (exports : List Export) (size : ℕ) (names : HashSet (String Global) S) (start bytes : List ℕ) : Type 0 where
   pub fit : AreExportsFit config types spaces imports exports size
   pub items_are : map item_of exports ++ drop place items ≡ items
   pub count_is : length exports ≡ place
@@ -28,7 +28,7 @@ pub record AreExporting {S : Type 0} (config : Config) (types : List SubType) (s
   pub left : KeepsPieces start bytes
 
 -- no item yet
-pub none_exporting : {S : Type 0} {names : HashSet (String Global) S} (config : Config) (types : List SubType) (spaces : IndexSpaces) (imports : ℕ) (items : List Item) (start : List ℕ) → imports ≤ config.max_type_size → IsEmpty names → AreExporting config types spaces imports items 0 [] imports names start start
+pub none_exporting : {S : Type 0} {names : HashSet (String Global) S} (config : Config) (types : List SubType) (spaces : EntitySpaces) (imports : ℕ) (items : List Item) (start : List ℕ) → imports ≤ config.max_type_size → IsEmpty names → AreExporting config types spaces imports items 0 [] imports names start start
 none_exporting config types spaces imports items start within empty = record {
   fit = none_fit config types spaces imports within;
   items_are = refl;
@@ -38,7 +38,7 @@ none_exporting config types spaces imports items start within empty = record {
   left = λ whole h. h;
 }
 
-module _ {S : Type 0} {config : Config} {types : List SubType} {spaces : IndexSpaces} {imports place : ℕ} {items : List Item} {exports : List Export} {size : ℕ} {names : HashSet (String Global) S} {start bytes : List ℕ} where
+module _ {S : Type 0} {config : Config} {types : List SubType} {spaces : EntitySpaces} {imports place : ℕ} {items : List Item} {exports : List Export} {size : ℕ} {names : HashSet (String Global) S} {start bytes : List ℕ} where
   -- all items are exported
   pub exporting_full : AreExporting config types spaces imports items place exports size names start bytes → length items ≤ place → exports_of_items config types spaces imports items [] start ≡ Ok (exports, bytes)
   unfolding exports_of_items

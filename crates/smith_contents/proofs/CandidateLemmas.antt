@@ -6,7 +6,7 @@ use Rattle.std.proofs.lemmas.Bool.{ltb-true}
 use Rattle.std.proofs.lemmas.Option.{slice_get_within, get_or_from_slice_get, slice_get-get_or}
 use Rattle.std.proofs.lemmas.List.Elements.{All-nil, All-weaker, All-from_recursion}
 use Rattle.smith_types.specs.Entities.{IsFuncTypeIndex}
-use Rattle.smith_types.specs.Imports.{IndexSpaces}
+use Rattle.smith_types.specs.Imports.{EntitySpaces}
 use Rattle.smith_types.specs.Sizes.{size_in}
 use Rattle.smith_types.specs.declared.composite_type.SubType.{SubType}
 use Rattle.smith_types.specs.declared.entity_type.EntityType.TheVariants as entity
@@ -58,7 +58,7 @@ all_below types most left funcs within much =
     (λ func h. lt-ltb (size_in types (entity.Func func) + 1) left (omega (arith, h))) funcs within
 
 -- a kind chosen among those that are offered has a candidate
-pub chosen_offered : (types : List SubType) (spaces : IndexSpaces) (left : ℕ) (bytes : List ℕ) (of_kind : ExportKind) (after : List ℕ) → 0 < length (offered_kinds types spaces left) → chosen_at kind.Memory (offered_kinds types spaces left) bytes ≡ (of_kind, after)
+pub chosen_offered : (types : List SubType) (spaces : EntitySpaces) (left : ℕ) (bytes : List ℕ) (of_kind : ExportKind) (after : List ℕ) → 0 < length (offered_kinds types spaces left) → chosen_at kind.Memory (offered_kinds types spaces left) bytes ≡ (of_kind, after)
     → 0 < length (candidates types spaces left of_kind)
 chosen_offered types spaces left bytes of_kind after some chosen =
     let P = λ (k : ExportKind). 0 < length (candidates types spaces left k) in
@@ -77,7 +77,7 @@ own_place true xs place few below = record { few = omega (arith, length_alike tr
 own_place false xs place few below = absurd (omega (arith, length_alike false 0 xs))
 
 -- each table, memory and global is a candidate if one of its kind is
-pub other_place : (types : List SubType) (spaces : IndexSpaces) (left : ℕ) (of_kind : ExportKind) (place : ℕ) → MayExport types spaces → (of_kind ≡ kind.Func → ⊥) → place < length (candidates types spaces left of_kind) → IsOwnPlace (candidates types spaces left of_kind) place
+pub other_place : (types : List SubType) (spaces : EntitySpaces) (left : ℕ) (of_kind : ExportKind) (place : ℕ) → MayExport types spaces → (of_kind ≡ kind.Func → ⊥) → place < length (candidates types spaces left of_kind) → IsOwnPlace (candidates types spaces left of_kind) place
 other_place types spaces left kind.Func place may other below = absurd (other refl)
 other_place types spaces left kind.Table place may other below = own_place (nat_lt 2 left) spaces.tables place may.few.tables below
 other_place types spaces left kind.Memory place may other below = own_place (nat_lt 2 left) spaces.memories place may.few.memories below
@@ -85,18 +85,18 @@ other_place types spaces left kind.Global place may other below = own_place (nat
 other_place types spaces left kind.Tag place may other below = absurd (omega arith)
 
 -- the type of an existing function is a function type
-func_valid_at : (types : List SubType) (spaces : IndexSpaces) (index func : ℕ) → MayExport types spaces → slice_get spaces.funcs index ≡ Some func → IsFuncTypeIndex types func
+func_valid_at : (types : List SubType) (spaces : EntitySpaces) (index func : ℕ) → MayExport types spaces → slice_get spaces.funcs index ≡ Some func → IsFuncTypeIndex types func
 func_valid_at types spaces index func may at = rw (get_or_from_slice_get spaces.funcs index func func at) at (may.funcs index func (slice_get_within spaces.funcs index func at))
 
 -- the size of an existing function, plus 1, has 32 bits
-pub func_sized_at : (types : List SubType) (spaces : IndexSpaces) (index func : ℕ) → MayExport types spaces → slice_get spaces.funcs index ≡ Some func → size_in types (entity.Func func) + 1 < 2 ^ 32
+pub func_sized_at : (types : List SubType) (spaces : EntitySpaces) (index func : ℕ) → MayExport types spaces → slice_get spaces.funcs index ≡ Some func → size_in types (entity.Func func) + 1 < 2 ^ 32
 func_sized_at types spaces index func may at = func_sized types func may.sized (func_valid_at types spaces index func may at)
 
 each_place : {A : Type 0} (test : A → Bool) (xs : List A) (P : ℕ → Type 0) → ((n : ℕ) → IsPassing test xs n → P n) → All P (places_from test 0 xs)
 each_place test xs P each = All-weaker (IsPassing test xs) P each (places_from test 0 xs) (places_pass test xs)
 
 -- each candidate exists and has a size below the rest
-pub candidates_fit : (types : List SubType) (spaces : IndexSpaces) (left : ℕ) (of_kind : ExportKind) → All (IsCandidate types spaces left of_kind) (candidates types spaces left of_kind)
+pub candidates_fit : (types : List SubType) (spaces : EntitySpaces) (left : ℕ) (of_kind : ExportKind) → All (IsCandidate types spaces left of_kind) (candidates types spaces left of_kind)
 candidates_fit types spaces left kind.Func =
     each_place (is_func_below types left) spaces.funcs (IsCandidate types spaces left kind.Func)
     (λ n h. record { stands = (entity.Func h.item, (h.item, h.stands, refl)); fits = rw h.stands (ltb-true (size_in types (entity.Func h.item) + 1) left h.passes) })
@@ -112,7 +112,7 @@ candidates_fit types spaces left kind.Global =
 candidates_fit types spaces left kind.Tag = All-nil (IsCandidate types spaces left kind.Tag)
 
 -- the type of an existing function exists
-pub func_typed_at : (types : List SubType) (spaces : IndexSpaces) (index func : ℕ) → MayExport types spaces → slice_get spaces.funcs index ≡ Some func → func < length types
+pub func_typed_at : (types : List SubType) (spaces : EntitySpaces) (index func : ℕ) → MayExport types spaces → slice_get spaces.funcs index ≡ Some func → func < length types
 func_typed_at types spaces index func may at = let (function, (t, is_at, is)) = func_valid_at types spaces index func may at in slice_get_within types func t is_at
 
 -- a look-up inside a list finds an item

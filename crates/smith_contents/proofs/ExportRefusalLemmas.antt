@@ -8,7 +8,7 @@ use Rattle.smith_bytes.specs.Spelling.{SpellsBool, SpellsNone}
 use Rattle.smith_bytes.specs.Takes.{Takes}
 use Rattle.smith_bytes.specs.declared.error.Error.{Error}
 use Rattle.smith_bytes.proofs.SpelledLemmas.{bool_read}
-use Rattle.smith_types.specs.Imports.{IndexSpaces}
+use Rattle.smith_types.specs.Imports.{EntitySpaces}
 use Rattle.smith_types.specs.Sizes.{size_in}
 use Rattle.smith_types.specs.declared.composite_type.SubType.{SubType}
 use Rattle.smith_types.specs.declared.entity_type.EntityType.TheVariants as entity
@@ -54,20 +54,20 @@ small_func types small (Some func) = small_size types func (slice_get types func
 small_func types small None = omega arith
 
 -- over small types an export adds at most 42 to the type size
-small_item : (types : List SubType) (spaces : IndexSpaces) (of_kind : ExportKind) (index : ℕ) → All IsSmall types → item_size types spaces of_kind index ≤ 41
+small_item : (types : List SubType) (spaces : EntitySpaces) (of_kind : ExportKind) (index : ℕ) → All IsSmall types → item_size types spaces of_kind index ≤ 41
 small_item types spaces kind.Func index small = small_func types small (slice_get spaces.funcs index)
 small_item types spaces kind.Table index small = omega arith
 small_item types spaces kind.Memory index small = omega arith
 small_item types spaces kind.Global index small = omega arith
 small_item types spaces kind.Tag index small = omega arith
 
-small_exports : (types : List SubType) (spaces : IndexSpaces) (exports : List Export) → All IsSmall types → exported_size types spaces exports ≤ 42 * length exports
+small_exports : (types : List SubType) (spaces : EntitySpaces) (exports : List Export) → All IsSmall types → exported_size types spaces exports ≤ 42 * length exports
 small_exports types spaces [] small = omega arith
 small_exports types spaces (one ∷ exports) small =
     let parts = sum_by-cons (λ (each : Export). item_size types spaces each.1 each.2 + 1) one exports in
     omega (arith, parts, small_item types spaces one.1 one.2 small, small_exports types spaces exports small)
 
-run_out_by : (config : Config) (types : List SubType) (spaces : IndexSpaces) (imports : ℕ) (exports : List Export) (size : ℕ) (much : Bool) → nat_lt 42 (config.max_type_size - size) ≡ much → MayExportFreely config types spaces imports → AreExported config types spaces imports exports size → HasNoShapes config → length exports < config.min_exports
+run_out_by : (config : Config) (types : List SubType) (spaces : EntitySpaces) (imports : ℕ) (exports : List Export) (size : ℕ) (much : Bool) → nat_lt 42 (config.max_type_size - size) ≡ much → MayExportFreely config types spaces imports → AreExported config types spaces imports exports size → HasNoShapes config → length exports < config.min_exports
     → nat_lt 0 (length (offered_kinds types spaces (config.max_type_size - size))) ≡ false → MayRunOut config
 run_out_by config types spaces imports exports size false much may kept no_shapes few none =
     let little = ltb-false 42 (config.max_type_size - size) much in
@@ -94,34 +94,34 @@ run_out_by config types spaces imports exports size true much may kept no_shapes
 
 -- if exports end without a candidate and without shapes, they are too large together, or there may
 -- be no item
-pub run_out : (config : Config) (types : List SubType) (spaces : IndexSpaces) (imports : ℕ) (exports : List Export) (size : ℕ) → MayExportFreely config types spaces imports → AreExported config types spaces imports exports size → HasNoShapes config → length exports < config.min_exports
+pub run_out : (config : Config) (types : List SubType) (spaces : EntitySpaces) (imports : ℕ) (exports : List Export) (size : ℕ) → MayExportFreely config types spaces imports → AreExported config types spaces imports exports size → HasNoShapes config → length exports < config.min_exports
     → nat_lt 0 (length (offered_kinds types spaces (config.max_type_size - size))) ≡ false → MayRunOut config
 run_out config types spaces imports exports size may kept no_shapes few none = run_out_by config types spaces imports exports size (nat_lt 42 (config.max_type_size - size)) refl may kept no_shapes few none
 
-no_exports_by : (config : Config) (types : List SubType) (spaces : IndexSpaces) (imports most : ℕ) (piece after : List ℕ) → config.min_exports ≡ 0 → SpellsNone most piece → exports_from config types spaces imports most [] (piece ++ after) ≡ ([], after)
+no_exports_by : (config : Config) (types : List SubType) (spaces : EntitySpaces) (imports most : ℕ) (piece after : List ℕ) → config.min_exports ≡ 0 → SpellsNone most piece → exports_from config types spaces imports most [] (piece ++ after) ≡ ([], after)
 unfolding exports_from
 no_exports_by config types spaces imports zero piece after none spelled = rw spelled refl
 no_exports_by config types spaces imports (suc most) piece after none spelled =
     let stop : SpellsBool false piece = rw (lt-ltb 0 (suc most) (omega arith)) at spelled in
     rw (none, bool_read false piece after stop) refl
 
-pub no_export_read : (config : Config) (types : List SubType) (spaces : IndexSpaces) (imports : ℕ) (exports : List Export) (piece after : List ℕ) → config.min_exports ≡ 0 → SpellsEmpty (SpellsNone config.max_exports) exports piece → free_exports_at config types spaces imports (piece ++ after) ≡ Ok (exports, after)
+pub no_export_read : (config : Config) (types : List SubType) (spaces : EntitySpaces) (imports : ℕ) (exports : List Export) (piece after : List ℕ) → config.min_exports ≡ 0 → SpellsEmpty (SpellsNone config.max_exports) exports piece → free_exports_at config types spaces imports (piece ++ after) ≡ Ok (exports, after)
 unfolding free_exports_at
 no_export_read config types spaces imports exports piece after none h = rw (no_exports_by config types spaces imports config.max_exports piece after none h.spelled, none, h.none) refl
 
 -- a piece that spells that there is no export is taken
-pub no_export_taken : (config : Config) (types : List SubType) (spaces : IndexSpaces) (imports : ℕ) (old new : List ℕ) (result : Result Exports Error) → config.min_exports ≡ 0 → ReturnsWhy (λ (made : Exports). (made.exports, new)) result (free_exports_at config types spaces imports old)
+pub no_export_taken : (config : Config) (types : List SubType) (spaces : EntitySpaces) (imports : ℕ) (old new : List ℕ) (result : Result Exports Error) → config.min_exports ≡ 0 → ReturnsWhy (λ (made : Exports). (made.exports, new)) result (free_exports_at config types spaces imports old)
     → IfOk result (λ made. Takes (SpellsEmpty (SpellsNone config.max_exports)) old made.exports new)
 no_export_taken config types spaces imports old new result none given =
     given_takes (SpellsEmpty (SpellsNone config.max_exports)) (λ (made : Exports). made.exports) (free_exports_at config types spaces imports) old new result
     (λ exports piece after h. no_export_read config types spaces imports exports piece after none h) given
 
 -- every item is exported if the configuration exports everything
-pub exports_all : (config : Config) (types : List SubType) (spaces : IndexSpaces) (imports : ℕ) (bytes : List ℕ) → config.export_everything ≡ true → exports_at config types spaces imports bytes ≡ everything_at config types spaces imports bytes
+pub exports_all : (config : Config) (types : List SubType) (spaces : EntitySpaces) (imports : ℕ) (bytes : List ℕ) → config.export_everything ≡ true → exports_at config types spaces imports bytes ≡ everything_at config types spaces imports bytes
 unfolding exports_at
 exports_all config types spaces imports bytes on = ap (λ (all : Bool). if all then everything_at config types spaces imports bytes else free_exports_at config types spaces imports bytes) on
 
 -- exports are drawn freely unless the configuration exports everything
-pub exports_free : (config : Config) (types : List SubType) (spaces : IndexSpaces) (imports : ℕ) (bytes : List ℕ) → config.export_everything ≡ false → exports_at config types spaces imports bytes ≡ free_exports_at config types spaces imports bytes
+pub exports_free : (config : Config) (types : List SubType) (spaces : EntitySpaces) (imports : ℕ) (bytes : List ℕ) → config.export_everything ≡ false → exports_at config types spaces imports bytes ≡ free_exports_at config types spaces imports bytes
 unfolding exports_at
 exports_free config types spaces imports bytes off = ap (λ (all : Bool). if all then everything_at config types spaces imports bytes else free_exports_at config types spaces imports bytes) off

@@ -7,7 +7,7 @@ use Rattle.std.proofs.lemmas.List.Elements.{All-nil, All-cons, All-append}
 use Rattle.std.proofs.lemmas.List.Sums.{sum_by-append}
 use Rattle.std.proofs.lemmas.Map.Keys.{any_passes_from_place}
 use Rattle.std.proofs.lemmas.Slice.Eq.{bytes_eq-Decides}
-use Rattle.smith_types.specs.Imports.{IndexSpaces}
+use Rattle.smith_types.specs.Imports.{EntitySpaces}
 use Rattle.smith_types.specs.declared.composite_type.SubType.{SubType}
 use Rattle.smith_config.specs.declared.config.Config.{Config}
 use Rattle.smith_rules.specs.ExportedItems.{Export, item_size, IsStanding}
@@ -17,7 +17,7 @@ use Rattle.smith_types.proofs.ListLemmas.{mapped_at}
 use Rattle.smith_types.proofs.DistinctLemmas.{distinct_push}
 
 -- no export fits after imports that fit
-pub none_fit : (config : Config) (types : List SubType) (spaces : IndexSpaces) (imports : ℕ) → imports ≤ config.max_type_size → AreExportsFit config types spaces imports [] imports
+pub none_fit : (config : Config) (types : List SubType) (spaces : EntitySpaces) (imports : ℕ) → imports ≤ config.max_type_size → AreExportsFit config types spaces imports [] imports
 none_fit config types spaces imports within = record {
   valid = record { stand = All-nil (λ (one : Export). IsStanding spaces one.1 one.2); distinct = record { once = λ i j item at there. absurd cc } };
   type_size = omega arith;
@@ -32,7 +32,7 @@ not_there exports name fresh i there =
     absurd (cc (sym fresh ∙ taken))
 
 -- one more export under a new name fits too, of an existing item for which there is room
-pub fit_push : {config : Config} {types : List SubType} {spaces : IndexSpaces} {imports : ℕ} {exports : List Export} {size : ℕ} (one : Export) → AreExportsFit config types spaces imports exports size → is_exported exports one.0 ≡ false
+pub fit_push : {config : Config} {types : List SubType} {spaces : EntitySpaces} {imports : ℕ} {exports : List Export} {size : ℕ} (one : Export) → AreExportsFit config types spaces imports exports size → is_exported exports one.0 ≡ false
     → IsStanding spaces one.1 one.2 → size + (item_size types spaces one.1 one.2 + 1) ≤ config.max_type_size → AreExportsFit config types spaces imports (exports ++ one ∷ []) (size + (item_size types spaces one.1 one.2 + 1))
 fit_push {types = types} {spaces = spaces} {exports = exports} one fit fresh stands room =
     let P = λ (each : Export). IsStanding spaces each.1 each.2 in

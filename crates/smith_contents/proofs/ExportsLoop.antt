@@ -5,7 +5,7 @@ use Rattle.std.specs.declared.string.String.{String}
 use Rattle.std.specs.declared.alloc.Global.{Global}
 use Rattle.smith_bytes.specs.Growth.{goes_at}
 use Rattle.smith_bytes.specs.Source.{KeepsPieces}
-use Rattle.smith_types.specs.Imports.{IndexSpaces}
+use Rattle.smith_types.specs.Imports.{EntitySpaces}
 use Rattle.smith_types.specs.declared.composite_type.SubType.{SubType}
 use Rattle.smith_config.specs.declared.config.Config.{Config}
 use Rattle.smith_rules.specs.ExportedItems.{Export, item_size, exported_size}
@@ -14,7 +14,7 @@ use Rattle.smith_contents.specs.Exported.{IsCandidate, AreExported}
 use Rattle.smith_contents.proofs.ExportsFitLemmas.{none_fit, fit_push}
 
 -- `count` exports are drawn, and the draws from here on complete the whole
-pub record IsExporting {S : Type 0} (config : Config) (types : List SubType) (spaces : IndexSpaces) (imports count : ℕ) (exports : List Export) (size : ℕ) (names : HashSet (String Global) S) (start bytes : List ℕ) : Type 0 where
+pub record IsExporting {S : Type 0} (config : Config) (types : List SubType) (spaces : EntitySpaces) (imports count : ℕ) (exports : List Export) (size : ℕ) (names : HashSet (String Global) S) (start bytes : List ℕ) : Type 0 where
   pub count_is : length exports ≡ count
   pub kept : AreExported config types spaces imports exports size
   pub names_are : HasNames names exports
@@ -22,7 +22,7 @@ pub record IsExporting {S : Type 0} (config : Config) (types : List SubType) (sp
   pub left : KeepsPieces start bytes
 
 -- no export yet
-pub none_exported : {S : Type 0} {names : HashSet (String Global) S} (config : Config) (types : List SubType) (spaces : IndexSpaces) (imports : ℕ) (start : List ℕ) → imports ≤ config.max_type_size → IsEmpty names → IsExporting config types spaces imports 0 [] imports names start start
+pub none_exported : {S : Type 0} {names : HashSet (String Global) S} (config : Config) (types : List SubType) (spaces : EntitySpaces) (imports : ℕ) (start : List ℕ) → imports ≤ config.max_type_size → IsEmpty names → IsExporting config types spaces imports 0 [] imports names start start
 none_exported {names = names} config types spaces imports start within empty =
     let all : config.max_exports - 0 ≡ config.max_exports = omega arith in
     record {
@@ -34,7 +34,7 @@ none_exported {names = names} config types spaces imports start within empty =
     }
 
 -- exports with one more
-kept_more : {config : Config} {types : List SubType} {spaces : IndexSpaces} {imports : ℕ} {exports : List Export} {size left : ℕ} (one : Export) → AreExported config types spaces imports exports size → length exports < config.max_exports → left ≡ config.max_type_size - size → is_exported exports one.0 ≡ false
+kept_more : {config : Config} {types : List SubType} {spaces : EntitySpaces} {imports : ℕ} {exports : List Export} {size left : ℕ} (one : Export) → AreExported config types spaces imports exports size → length exports < config.max_exports → left ≡ config.max_type_size - size → is_exported exports one.0 ≡ false
     → IsCandidate types spaces left one.1 one.2 → AreExported config types spaces imports (exports ++ one ∷ []) (size + (item_size types spaces one.1 one.2 + 1))
 kept_more {types = types} {spaces = spaces} {exports = exports} one kept room left_is fresh candidate =
     let longer = length-append exports (one ∷ []) in
@@ -43,7 +43,7 @@ kept_more {types = types} {spaces = spaces} {exports = exports} one kept room le
       most = omega (arith, longer);
     }
 
-module _ {S : Type 0} {config : Config} {types : List SubType} {spaces : IndexSpaces} {imports count : ℕ} {exports : List Export} {size : ℕ} {names : HashSet (String Global) S} {start bytes : List ℕ} where
+module _ {S : Type 0} {config : Config} {types : List SubType} {spaces : EntitySpaces} {imports count : ℕ} {exports : List Export} {size : ℕ} {names : HashSet (String Global) S} {start bytes : List ℕ} where
   -- the drawn bool ends the exports
   pub export_stop : {b : Bool} {after : List ℕ} → IsExporting config types spaces imports count exports size names start bytes → count < config.max_exports → goes_at (nat_lt count config.min_exports) bytes ≡ (b, after) → b ≡ false
       → exports_from config types spaces imports config.max_exports [] start ≡ (exports, after)

@@ -2,7 +2,7 @@
 use Rattle.std.specs.Prelude.{ℕ, ◌+◌, nat_lt, List, [], ◌∷◌, ◌++◌, Result, Ok, Err, if◌then◌else◌}
 use Rattle.smith_bytes.specs.declared.error.Why.{Why}
 use Rattle.smith_bytes.specs.declared.error.Why.TheVariants.{TypeSize}
-use Rattle.smith_types.specs.Imports.{IndexSpaces}
+use Rattle.smith_types.specs.Imports.{EntitySpaces}
 use Rattle.smith_types.specs.declared.composite_type.SubType.{SubType}
 use Rattle.smith_config.specs.declared.config.Config.{Config}
 use Rattle.smith_rules.specs.ExportedItems.{Export, exported_size, Item, every_item}
@@ -10,7 +10,7 @@ use Rattle.smith_contents.specs.Exporting.{export_name_at, free_exports_at}
 
 -- exports of these items after others, each with a name; refused if imports and exports together
 -- exceed the type size
-unfoldable pub exports_of_items : Config → List SubType → IndexSpaces → ℕ → List Item → List Export → List ℕ → Result (List Export × List ℕ) Why
+unfoldable pub exports_of_items : Config → List SubType → EntitySpaces → ℕ → List Item → List Export → List ℕ → Result (List Export × List ℕ) Why
 exports_of_items config types spaces imports [] exports bytes = Ok (exports, bytes)
 exports_of_items config types spaces imports (item ∷ items) exports bytes =
     let name = export_name_at exports bytes in
@@ -19,12 +19,12 @@ exports_of_items config types spaces imports (item ∷ items) exports bytes =
     else exports_of_items config types spaces imports items more name.1
 
 -- the exports of every item
-unfoldable pub everything_at : Config → List SubType → IndexSpaces → ℕ → List ℕ → Result (List Export × List ℕ) Why
+unfoldable pub everything_at : Config → List SubType → EntitySpaces → ℕ → List ℕ → Result (List Export × List ℕ) Why
 everything_at config types spaces imports bytes = exports_of_items config types spaces imports (every_item spaces) [] bytes
 
 -- the exports of a module, for the amount that its imports add to the type size: of every item with
 -- `export_everything`, else drawn freely
-unfoldable pub exports_at : Config → List SubType → IndexSpaces → ℕ → List ℕ → Result (List Export × List ℕ) Why
+unfoldable pub exports_at : Config → List SubType → EntitySpaces → ℕ → List ℕ → Result (List Export × List ℕ) Why
 exports_at config types spaces imports bytes =
     if config.export_everything then everything_at config types spaces imports bytes
     else free_exports_at config types spaces imports bytes

@@ -6,7 +6,7 @@ use Rattle.smith_bytes.specs.declared.error.Why.TheVariants.{Unmet, TypeSize}
 use Rattle.smith_bytes.specs.declared.error.Count.TheVariants as counts
 use Rattle.smith_types.specs.Entities.{IsFuncTypeIndex}
 use Rattle.smith_types.specs.Exports.{AreExportsValid}
-use Rattle.smith_types.specs.Imports.{IndexSpaces}
+use Rattle.smith_types.specs.Imports.{EntitySpaces}
 use Rattle.smith_types.specs.Sizes.{size_in, value_count}
 use Rattle.smith_types.specs.declared.composite_type.SubType.{SubType}
 use Rattle.smith_types.specs.declared.entity_type.EntityType.TheVariants as entity
@@ -18,7 +18,7 @@ use Rattle.smith_rules.specs.ExportedItems.{Export, item_size, exported_size, Is
 use Rattle.smith_rules.specs.Refusals.{MayHaveNoExports}
 
 -- the indices of all items of index spaces have 32 bits
-pub record IsIndexed (spaces : IndexSpaces) : Type 0 where
+pub record IsIndexed (spaces : EntitySpaces) : Type 0 where
   pub funcs : length spaces.funcs < 2 ^ 32
   pub tables : length spaces.tables < 2 ^ 32
   pub memories : length spaces.memories < 2 ^ 32
@@ -31,7 +31,7 @@ HasSizeIn32Bits t = value_count t.composite_type.inner + 2 < 2 ^ 32
 
 -- items of index spaces may be exported over these types: sizes of functions, and indices, have 32
 -- bits
-pub record MayExport (types : List SubType) (spaces : IndexSpaces) : Type 0 where
+pub record MayExport (types : List SubType) (spaces : EntitySpaces) : Type 0 where
   pub sized : All HasSizeIn32Bits types
   pub funcs : All (IsFuncTypeIndex types) spaces.funcs
   pub few : IsIndexed spaces
@@ -41,14 +41,14 @@ abbrev pub IsFuncWithin : List SubType → ℕ → ℕ → Type 0
 IsFuncWithin types most func = size_in types (entity.Func func) + 1 ≤ most
 
 -- items may be offered for exports, and the size of each function, plus 1, is at most `most`
-pub record MayOffer (types : List SubType) (spaces : IndexSpaces) (most : ℕ) : Type 0 where
+pub record MayOffer (types : List SubType) (spaces : EntitySpaces) (most : ℕ) : Type 0 where
   pub items : MayExport types spaces
   pub within : All (IsFuncWithin types most) spaces.funcs
 
 -- exports may be drawn, for the amount that the imports add to the type size: the minimums of
 -- tables, memories and globals are met, and without shapes function types are small, and an import
 -- adds at most 42
-pub record MayExportFreely (config : Config) (types : List SubType) (spaces : IndexSpaces) (imports : ℕ) : Type 0 where
+pub record MayExportFreely (config : Config) (types : List SubType) (spaces : EntitySpaces) (imports : ℕ) : Type 0 where
   pub items : MayExport types spaces
   pub ordered : config.min_exports ≤ config.max_exports
   pub within : imports ≤ config.max_type_size
@@ -60,18 +60,18 @@ pub record MayExportFreely (config : Config) (types : List SubType) (spaces : In
 
 -- an item may be exported if `left` of the type size is left: it exists, and its size plus 1 is
 -- below `left`
-pub record IsCandidate (types : List SubType) (spaces : IndexSpaces) (left : ℕ) (of_kind : ExportKind) (index : ℕ) : Type 0 where
+pub record IsCandidate (types : List SubType) (spaces : EntitySpaces) (left : ℕ) (of_kind : ExportKind) (index : ℕ) : Type 0 where
   pub stands : IsStanding spaces of_kind index
   pub fits : item_size types spaces of_kind index + 1 < left
 
 -- exports are valid; the type size is that of imports and exports, and within the bound
-pub record AreExportsFit (config : Config) (types : List SubType) (spaces : IndexSpaces) (imports : ℕ) (exports : List Export) (size : ℕ) : Type 0 where
+pub record AreExportsFit (config : Config) (types : List SubType) (spaces : EntitySpaces) (imports : ℕ) (exports : List Export) (size : ℕ) : Type 0 where
   pub valid : AreExportsValid spaces exports
   pub type_size : size ≡ imports + exported_size types spaces exports
   pub within : size ≤ config.max_type_size
 
 -- exports that are drawn freely: no more than the maximum
-pub record AreExported (config : Config) (types : List SubType) (spaces : IndexSpaces) (imports : ℕ) (exports : List Export) (size : ℕ) : Type 0 where
+pub record AreExported (config : Config) (types : List SubType) (spaces : EntitySpaces) (imports : ℕ) (exports : List Export) (size : ℕ) : Type 0 where
   pub fit : AreExportsFit config types spaces imports exports size
   pub most : length exports ≤ config.max_exports
 
@@ -91,7 +91,7 @@ MayRefuseAll e = (e ≡ errors.Memory) ⊎ (e ≡ errors.IncorrectFormat TypeSiz
 
 -- exports may be drawn, for the amount that the imports add to the type size, and no shape fixes
 -- them
-pub record MayDrawExports (config : Config) (types : List SubType) (spaces : IndexSpaces) (imports : ℕ) : Type 0 where
+pub record MayDrawExports (config : Config) (types : List SubType) (spaces : EntitySpaces) (imports : ℕ) : Type 0 where
   pub not_fixed : FixesExports config → ⊥
   pub items : MayExport types spaces
   pub within : imports ≤ config.max_type_size

@@ -11,7 +11,7 @@ use Rattle.smith_bytes.specs.declared.error.Why.{Why}
 use Rattle.smith_bytes.specs.declared.error.Why.TheVariants.{Unmet}
 use Rattle.smith_bytes.specs.Growth.{goes_at}
 use Rattle.smith_bytes.specs.Names.{text_at, new_name}
-use Rattle.smith_types.specs.Imports.{IndexSpaces}
+use Rattle.smith_types.specs.Imports.{EntitySpaces}
 use Rattle.smith_types.specs.Sizes.{size_in}
 use Rattle.smith_types.specs.declared.composite_type.SubType.{SubType}
 use Rattle.smith_types.specs.declared.entity_type.EntityType.TheVariants as entity
@@ -50,7 +50,7 @@ is_func_below types left func = nat_lt (size_in types (entity.Func func) + 1) le
 
 -- the indices of the items of a kind whose size, plus 1, is below the rest of the type size; tags
 -- are not offered
-abbrev pub candidates : List SubType → IndexSpaces → ℕ → ExportKind → List ℕ
+abbrev pub candidates : List SubType → EntitySpaces → ℕ → ExportKind → List ℕ
 candidates types spaces left kind.Func = places_from (is_func_below types left) 0 spaces.funcs
 candidates types spaces left kind.Table = places_from (λ table. nat_lt 2 left) 0 spaces.tables
 candidates types spaces left kind.Memory = places_from (λ memory. nat_lt 2 left) 0 spaces.memories
@@ -58,21 +58,21 @@ candidates types spaces left kind.Global = places_from (λ global. nat_lt 2 left
 candidates types spaces left kind.Tag = []
 
 -- a kind, and whether it has a candidate
-abbrev pub candidate_row : List SubType → IndexSpaces → ℕ → ExportKind → ExportKind × Bool
+abbrev pub candidate_row : List SubType → EntitySpaces → ℕ → ExportKind → ExportKind × Bool
 candidate_row types spaces left of_kind = (of_kind, nat_lt 0 (length (candidates types spaces left of_kind)))
 
 -- the kinds in the order in which they are counted
-abbrev pub candidate_rows : List SubType → IndexSpaces → ℕ → List (ExportKind × Bool)
+abbrev pub candidate_rows : List SubType → EntitySpaces → ℕ → List (ExportKind × Bool)
 candidate_rows types spaces left =
     candidate_row types spaces left kind.Func
     ∷ (candidate_row types spaces left kind.Table ∷ (candidate_row types spaces left kind.Memory ∷ (candidate_row types spaces left kind.Global ∷ [])))
 
 -- the kinds that have a candidate
-abbrev pub offered_kinds : List SubType → IndexSpaces → ℕ → List ExportKind
+abbrev pub offered_kinds : List SubType → EntitySpaces → ℕ → List ExportKind
 offered_kinds types spaces left = enabled (candidate_rows types spaces left)
 
 -- an export after others: its name, its kind among those that have a candidate, and one of these
-unfoldable pub export_at : List SubType → IndexSpaces → ℕ → List Export → List ℕ → Export × List ℕ
+unfoldable pub export_at : List SubType → EntitySpaces → ℕ → List Export → List ℕ → Export × List ℕ
 export_at types spaces left exports bytes =
     let name = export_name_at exports bytes in
     let of_kind = chosen_at kind.Memory (offered_kinds types spaces left) name.1 in
@@ -81,7 +81,7 @@ export_at types spaces left exports bytes =
 
 -- at most `most` more exports after others, for the amount that the imports add to the type size:
 -- without a drawn bool while there are too few, and only while there is a candidate
-unfoldable pub exports_from : Config → List SubType → IndexSpaces → ℕ → ℕ → List Export → List ℕ → List Export × List ℕ
+unfoldable pub exports_from : Config → List SubType → EntitySpaces → ℕ → ℕ → List Export → List ℕ → List Export × List ℕ
 exports_from config types spaces imports zero exports bytes = (exports, bytes)
 exports_from config types spaces imports (suc most) exports bytes =
     let go = goes_at (nat_lt (length exports) config.min_exports) bytes in
@@ -92,7 +92,7 @@ exports_from config types spaces imports (suc most) exports bytes =
     else (exports, go.1)
 
 -- the exports that are drawn freely; refused if they end below the minimum
-unfoldable pub free_exports_at : Config → List SubType → IndexSpaces → ℕ → List ℕ → Result (List Export × List ℕ) Why
+unfoldable pub free_exports_at : Config → List SubType → EntitySpaces → ℕ → List ℕ → Result (List Export × List ℕ) Why
 free_exports_at config types spaces imports bytes =
     let drawn = exports_from config types spaces imports config.max_exports [] bytes in
     if nat_lt (length drawn.0) config.min_exports then Err (Unmet counts.Exports) else Ok drawn

@@ -1,7 +1,7 @@
 ghost use Rattle.std.specs.Prelude.{◌≡◌, ◌<◌, ◌≤◌, ◌+◌, length, slice_get, IfOk, IfErr};
 ghost use Rattle.smith_bytes.specs.Source.{KeepsPieces};
 ghost use Rattle.smith_types.specs.Exports.{AreExportsValid};
-ghost use Rattle.smith_types.specs.IndexSpaces.{spaces_in};
+ghost use Rattle.smith_types.specs.EntitySpaces.{spaces_in};
 ghost use Rattle.smith_bytes.specs.Steps.{ReturnsWhy};
 ghost use Rattle.smith_rules.specs.ExportedItems.{exported_size, every_item, AreAllExported};
 ghost use Rattle.smith_contents.specs.Exported.{IsIndexed, MayExport, AreExportsFit, MayRefuseAll};
@@ -11,12 +11,12 @@ use crate::export_names::draw_export_name;
 use crate::exported::{Exports, item_size};
 use smith_bytes::{Error, Unstructured, Why};
 use smith_config::Config;
-use smith_types::{ExportKind, IndexSpaces, Items, TypeSpace};
+use smith_types::{EntitySpaces, ExportKind, Items, TypeSpace};
 use std::alloc::Global;
 use std::collections::HashSet;
 
 /// Counts the functions, tables, memories, globals and tags of `spaces` together.
-fn count_items(spaces: &IndexSpaces) -> usize
+fn count_items(spaces: &EntitySpaces) -> usize
     requires { IsIndexed (spaces_in spaces.now) }
     ensures { result ≡ length (every_item (spaces_in spaces.now)) }
 {
@@ -29,7 +29,7 @@ fn count_items(spaces: &IndexSpaces) -> usize
 
 /// Finds the item at `place` among all items of `spaces`: functions first, then tables, memories,
 /// globals and tags, each by index.
-fn item_at(spaces: &IndexSpaces, place: usize) -> (ExportKind, u32)
+fn item_at(spaces: &EntitySpaces, place: usize) -> (ExportKind, u32)
     requires few { IsIndexed (spaces_in spaces.now) }
     requires within { place < length (every_item (spaces_in spaces.now)) }
     ensures { slice_get (every_item (spaces_in spaces.now)) place ≡ Some result }
@@ -60,7 +60,7 @@ fn push_exports(
     alloc: Global,
     config: &Config,
     types: &TypeSpace,
-    spaces: &IndexSpaces,
+    spaces: &EntitySpaces,
     imports_size: u32,
     u: &mut Unstructured<'_>,
 ) -> Result<Exports, Error>
@@ -97,7 +97,7 @@ pub(crate) fn export_everything(
     alloc: Global,
     config: &Config,
     types: &TypeSpace,
-    spaces: &IndexSpaces,
+    spaces: &EntitySpaces,
     imports_size: u32,
     u: &mut Unstructured<'_>,
 ) -> Result<Exports, Error>

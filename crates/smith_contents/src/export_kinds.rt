@@ -1,7 +1,7 @@
 ghost use Rattle.std.specs.Prelude.{◌≡◌, ◌+◌, ◌<◌, ◌^◌, nat_lt, length, slice_index_or, All};
 ghost use Rattle.std.specs.Prelude.{if◌then◌else◌};
 ghost use Rattle.smith_types.specs.Entities.{IsFuncTypeIndex};
-ghost use Rattle.smith_types.specs.IndexSpaces.{spaces_in};
+ghost use Rattle.smith_types.specs.EntitySpaces.{spaces_in};
 ghost use Rattle.smith_types.specs.Sizes.{size_in};
 ghost use Rattle.smith_draw.specs.Choices.{chosen_at};
 ghost use Rattle.smith_draw.specs.Drawing.{AlwaysDraws};
@@ -13,7 +13,7 @@ ghost use Rattle.smith_contents.specs.Exported.{IsCandidate};
 
 use smith_bytes::Unstructured;
 use smith_draw::{choose_enabled, count_enabled};
-use smith_types::{EntityType, ExportKind, IndexSpaces, TypeSpace};
+use smith_types::{EntitySpaces, EntityType, ExportKind, TypeSpace};
 
 /// The size of a table, a memory or a global, plus 1.
 const SIZE_OF_OTHER: u32 = 2;
@@ -129,7 +129,7 @@ fn count_others(count: usize, left: u32) -> usize
 /// Counts the items of the kind `kind` that may be exported if `left` of the type size is left.
 fn count_candidates(
     types: &TypeSpace,
-    spaces: &IndexSpaces,
+    spaces: &EntitySpaces,
     most: u32,
     left: u32,
     kind: ExportKind,
@@ -149,7 +149,7 @@ fn count_candidates(
 /// Finds the index of the item at `place` among those of the kind `kind` that may be exported.
 fn candidate_at(
     types: &TypeSpace,
-    spaces: &IndexSpaces,
+    spaces: &EntitySpaces,
     most: u32,
     left: u32,
     kind: ExportKind,
@@ -170,7 +170,7 @@ fn candidate_at(
 #[tactic(auto, unfolding(smith_draw::specs::Choices::chosen_at))]
 pub(crate) fn choose_candidate(
     types: &TypeSpace,
-    spaces: &IndexSpaces,
+    spaces: &EntitySpaces,
     most: u32,
     left: u32,
     kind: ExportKind,
@@ -191,7 +191,7 @@ pub(crate) fn choose_candidate(
 /// Returns `kind`, and whether an item of that kind may be exported.
 fn candidate_row(
     types: &TypeSpace,
-    spaces: &IndexSpaces,
+    spaces: &EntitySpaces,
     most: u32,
     left: u32,
     kind: ExportKind,
@@ -205,7 +205,7 @@ fn candidate_row(
 /// Lists the kinds in order, each with whether an item of that kind may be exported.
 fn candidate_rows(
     types: &TypeSpace,
-    spaces: &IndexSpaces,
+    spaces: &EntitySpaces,
     most: u32,
     left: u32,
 ) -> [(ExportKind, bool); 4]
@@ -221,7 +221,7 @@ fn candidate_rows(
 }
 
 /// Whether an item may be exported if `left` of the type size is left.
-pub(crate) fn has_candidates(types: &TypeSpace, spaces: &IndexSpaces, most: u32, left: u32) -> bool
+pub(crate) fn has_candidates(types: &TypeSpace, spaces: &EntitySpaces, most: u32, left: u32) -> bool
     requires { MayOffer types.now.types (spaces_in spaces.now) most }
     ensures { result
         ≡ nat_lt 0 (length (offered_kinds types.now.types (spaces_in spaces.now) left)) }
@@ -232,7 +232,7 @@ pub(crate) fn has_candidates(types: &TypeSpace, spaces: &IndexSpaces, most: u32,
 /// Draws a kind of which an item may be exported.
 pub(crate) fn choose_export_kind(
     types: &TypeSpace,
-    spaces: &IndexSpaces,
+    spaces: &EntitySpaces,
     most: u32,
     left: u32,
     u: &mut Unstructured<'_>,

@@ -1,9 +1,9 @@
 ghost use Rattle.std.specs.Prelude.{◌≡◌, ◌+◌, ◌<◌, ◌^◌};
-ghost use Rattle.smith_types.specs.IndexSpaces.{spaces_in};
+ghost use Rattle.smith_types.specs.EntitySpaces.{spaces_in};
 ghost use Rattle.smith_rules.specs.ExportedItems.{item_size};
 ghost use Rattle.smith_contents.specs.Exported.{MayExport};
 
-use smith_types::{EntityType, ExportKind, IndexSpaces, Items, Name, TypeSpace};
+use smith_types::{EntitySpaces, EntityType, ExportKind, Items, Name, TypeSpace};
 
 /// Exports of a module, and its type size with them.
 #[derive(Drop)]
@@ -18,7 +18,7 @@ pub struct Exports {
 /// else 1.
 pub(crate) fn item_size(
     types: &TypeSpace,
-    spaces: &IndexSpaces,
+    spaces: &EntitySpaces,
     kind: ExportKind,
     index: u32,
 ) -> u32

@@ -3,7 +3,7 @@ ghost use Rattle.std.specs.Prelude.{length, List, IsTrue, IfOk, IfErr};
 ghost use Rattle.smith_bytes.specs.Source.{KeepsPieces};
 ghost use Rattle.smith_bytes.specs.Takes.{Takes};
 ghost use Rattle.smith_types.specs.Exports.{AreExportsValid};
-ghost use Rattle.smith_types.specs.IndexSpaces.{spaces_in};
+ghost use Rattle.smith_types.specs.EntitySpaces.{spaces_in};
 ghost use Rattle.smith_bytes.specs.Steps.{ReturnsWhy};
 ghost use Rattle.smith_bytes.specs.Spelling.{SpellsEmpty};
 ghost use Rattle.smith_bytes.specs.Spelling.{SpellsNone};
@@ -21,7 +21,7 @@ use crate::export_names::draw_export_name;
 use crate::exported::{Exports, item_size};
 use smith_bytes::{Count, Error, Unstructured, Why, goes_on};
 use smith_config::Config;
-use smith_types::{ExportKind, IndexSpaces, Items, Name, TypeSpace};
+use smith_types::{EntitySpaces, ExportKind, Items, Name, TypeSpace};
 use std::alloc::Global;
 use std::collections::HashSet;
 
@@ -31,7 +31,7 @@ use std::collections::HashSet;
 fn draw_export(
     alloc: Global,
     types: &TypeSpace,
-    spaces: &IndexSpaces,
+    spaces: &EntitySpaces,
     most: u32,
     left: u32,
     names: &mut HashSet<String>,
@@ -63,7 +63,7 @@ fn push_exports(
     alloc: Global,
     config: &Config,
     types: &TypeSpace,
-    spaces: &IndexSpaces,
+    spaces: &EntitySpaces,
     imports_size: u32,
     u: &mut Unstructured<'_>,
 ) -> Result<Exports, Error>
@@ -104,7 +104,7 @@ fn draw_exports(
     alloc: Global,
     config: &Config,
     types: &TypeSpace,
-    spaces: &IndexSpaces,
+    spaces: &EntitySpaces,
     imports_size: u32,
     u: &mut Unstructured<'_>,
 ) -> Result<Exports, Error>
@@ -130,7 +130,7 @@ fn draw_free_exports(
     alloc: Global,
     config: &Config,
     types: &TypeSpace,
-    spaces: &IndexSpaces,
+    spaces: &EntitySpaces,
     imports_size: u32,
     u: &mut Unstructured<'_>,
 ) -> Result<Exports, Error>
@@ -172,7 +172,7 @@ pub fn arbitrary_exports(
     alloc: Global,
     config: &Config,
     types: &TypeSpace,
-    spaces: &IndexSpaces,
+    spaces: &EntitySpaces,
     imports_size: u32,
     u: &mut Unstructured<'_>,
 ) -> Result<Exports, Error>

@@ -7,8 +7,8 @@ use Rattle.std.proofs.lemmas.List.Elements.{All-nil, All-weaker, recursion_from_
 use Rattle.smith_types.specs.Entities.{AreEntitiesValid, AreCountsEnabled}
 use Rattle.smith_types.specs.Grown.{Extends, IsContextGrown, AreSpacesGrown}
 use Rattle.smith_types.specs.Expressions.{Context}
-use Rattle.smith_types.specs.Imports.{IndexSpaces, Defines}
-use Rattle.smith_types.specs.Space.{Space}
+use Rattle.smith_types.specs.Imports.{EntitySpaces, Defines}
+use Rattle.smith_types.specs.GroupedTypes.{GroupedTypes}
 use Rattle.smith_types.specs.declared.composite_type.SubType.{SubType}
 use Rattle.smith_types.specs.declared.const_instr.ConstInstr.{ConstInstr}
 use Rattle.smith_types.specs.declared.entity_type.GlobalType.{GlobalType}
@@ -31,11 +31,11 @@ use Rattle.smith_rules.proofs.InitialLemmas.{IsTableInitialised-grown}
 use Rattle.smith_defined.proofs.StandsBehindLemmas.{IsTablePlaced, defined_end, left_over, table_kept, global_kept}
 
 -- the types, functions and globals that initialisers refer to after functions are defined
-abbrev pub standing_more : List SubType → IndexSpaces → Definitions → IndexSpaces → InitialiserScope
+abbrev pub standing_more : List SubType → EntitySpaces → Definitions → EntitySpaces → InitialiserScope
 standing_more types before so_far later = scope_among types later.funcs (length before.funcs - so_far.num_funcs) (length before.globals - length so_far.globals) before.globals
 
 -- the additions of the steps of definitions to the existing items
-pub record AddsTo (config : Config) (space : Space) (before : IndexSpaces) (so_far : Definitions) (later : IndexSpaces) (defined : Definitions) : Type 0 where
+pub record AddsTo (config : Config) (space : GroupedTypes) (before : EntitySpaces) (so_far : Definitions) (later : EntitySpaces) (defined : Definitions) : Type 0 where
   pub filled : AreFilled config before later
   pub entities : AreEntitiesValid (features_of config) space.types later
   pub counts : AreCountsEnabled (features_of config) later
@@ -47,11 +47,11 @@ pub record AddsTo (config : Config) (space : Space) (before : IndexSpaces) (so_f
   pub num_memories : defined.num_memories ≡ so_far.num_memories + (length later.memories - length before.memories)
 
 -- index spaces grow as they are filled
-pub filled_grown : {config : Config} {before later : IndexSpaces} → AreFilled config before later → AreSpacesGrown before later
+pub filled_grown : {config : Config} {before later : EntitySpaces} → AreFilled config before later → AreSpacesGrown before later
 filled_grown filled = record { tags = filled.tags.extends; funcs = filled.funcs.extends; tables = filled.tables.extends; memories = filled.memories.extends; globals = filled.globals.extends }
 
 -- there are no more definitions than items
-pub stands_within : {config : Config} {imported : IndexSpaces} {space : Space} {spaces : IndexSpaces} {defined : Definitions} → StandsBehind config imported space spaces defined → AreWithin spaces defined
+pub stands_within : {config : Config} {imported : EntitySpaces} {space : GroupedTypes} {spaces : EntitySpaces} {defined : Definitions} → StandsBehind config imported space spaces defined → AreWithin spaces defined
 stands_within stands = record {
   tags = omega (arith, defined_end stands.tags);
   funcs = omega (arith, defined_end stands.funcs);
@@ -89,7 +89,7 @@ tables_counted {before = before} {old = old} so_far =
       length-map so_far.drawn (λ (one : Table). one.1),
     )
 
-module _ (config : Config) (imported : IndexSpaces) (space : Space) (before later : IndexSpaces) (so_far defined : Definitions) (adds : AddsTo config space before so_far later defined) (now : StandsBehind config imported space before so_far) where
+module _ (config : Config) (imported : EntitySpaces) (space : GroupedTypes) (before later : EntitySpaces) (so_far defined : Definitions) (adds : AddsTo config space before so_far later defined) (now : StandsBehind config imported space before so_far) where
   abbrev standing : InitialiserScope
   standing = scope_in space.types imported later
 
@@ -110,7 +110,7 @@ module _ (config : Config) (imported : IndexSpaces) (space : Space) (before late
   -- the globals so far are valid with the functions that were added
   globals_stood : AreGlobalsDefined config standing before.globals so_far.globals
   globals_stood =
-      let mid : IndexSpaces = record before { funcs = later.funcs } in
+      let mid : EntitySpaces = record before { funcs = later.funcs } in
       let beside : AreSpacesGrown before mid = record {
         tags = all_kept before.tags;
         funcs = adds.filled.funcs.extends;
@@ -174,7 +174,7 @@ module _ (config : Config) (imported : IndexSpaces) (space : Space) (before late
     each_global = globals_stand.each;
   }
 
-pub defined_more : (config : Config) (space : Space) (before later : IndexSpaces) (so_far defined : Definitions) → AddsTo config space before so_far later defined → AreDefinedMore config space before so_far later defined
+pub defined_more : (config : Config) (space : GroupedTypes) (before later : EntitySpaces) (so_far defined : Definitions) → AddsTo config space before so_far later defined → AreDefinedMore config space before so_far later defined
 defined_more config space before later so_far defined adds =
     let drawn : ℕ → Context = λ imported. record { features = features_of config; types = space.types; funcs = later.funcs; globals = []; imported_funcs = imported; imported_globals = 0; visible = 0 } in
     let whole = ap length adds.filled.funcs.extends.parts ∙ length-append before.funcs adds.filled.funcs.extends.more in
@@ -187,7 +187,7 @@ defined_more config space before later so_far defined adds =
     }
 
 -- items may be defined after the entities that follow imports
-pub may_define_behind : {config : Config} {imported : IndexSpaces} {space : Space} {spaces : IndexSpaces} {defined : Definitions} → Passes config → IsSanitized config → config.min_types ≤ length space.types → length space.types < 2 ^ 32 → HasRoom spaces 0
+pub may_define_behind : {config : Config} {imported : EntitySpaces} {space : GroupedTypes} {spaces : EntitySpaces} {defined : Definitions} → Passes config → IsSanitized config → config.min_types ≤ length space.types → length space.types < 2 ^ 32 → HasRoom spaces 0
     → StandsBehind config imported space spaces defined → MayDefine config space spaces defined
 may_define_behind passes sanitized least few room stands = record {
   passes = passes;
@@ -202,5 +202,5 @@ may_define_behind passes sanitized least few room stands = record {
 }
 
 -- no constant is a float if nothing is defined
-pub none_float : (spaces : IndexSpaces) → All HasNoFloatValue spaces.globals → HaveNoFloats spaces nothing_defined
+pub none_float : (spaces : EntitySpaces) → All HasNoFloatValue spaces.globals → HaveNoFloats spaces nothing_defined
 none_float spaces calm = record { globals = calm; tables = All-nil _; initials = All-nil _ }

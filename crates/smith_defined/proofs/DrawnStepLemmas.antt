@@ -8,8 +8,8 @@ use Rattle.std.proofs.lemmas.List.Elements.{All-take}
 use Rattle.smith_types.specs.Entities.{IsFuncTypeIndex, IsGlobalValid}
 use Rattle.smith_types.specs.Expressions.{Context}
 use Rattle.smith_types.specs.Grown.{Extends, IsContextGrown}
-use Rattle.smith_types.specs.Imports.{IndexSpaces}
-use Rattle.smith_types.specs.Space.{Space}
+use Rattle.smith_types.specs.Imports.{EntitySpaces}
+use Rattle.smith_types.specs.GroupedTypes.{GroupedTypes}
 use Rattle.smith_types.specs.declared.composite_type.SubType.{SubType}
 use Rattle.smith_types.specs.declared.value_type.ValType.{ValType}
 use Rattle.smith_config.specs.declared.config.Config.{Config}
@@ -23,7 +23,7 @@ use Rattle.smith_defined.specs.declared.definitions.Definitions.{Definitions}
 use Rattle.smith_defined.proofs.ExtensionLemmas.{all_kept}
 
 -- the types, functions and globals that initialisers refer to are valid after functions are defined
-pub may_initialise : (config : Config) (space : Space) (before : IndexSpaces) (so_far : Definitions) (funcs : List ℕ) → MayDefine config space before so_far → All (IsFuncTypeIndex space.types) funcs → length funcs ≤ max config.max_funcs (length before.funcs)
+pub may_initialise : (config : Config) (space : GroupedTypes) (before : EntitySpaces) (so_far : Definitions) (funcs : List ℕ) → MayDefine config space before so_far → All (IsFuncTypeIndex space.types) funcs → length funcs ≤ max config.max_funcs (length before.funcs)
     → MayInitialise config space (scope_among space.types funcs (length before.funcs - so_far.num_funcs) (length before.globals - length so_far.globals) before.globals)
 may_initialise config space before so_far funcs may valid few =
     let imported = length before.globals - length so_far.globals in
@@ -45,7 +45,7 @@ drawn_refused config context value e grounded (inr (empty, inl lacks)) = absurd 
 drawn_refused config context value e grounded (inr (empty, inr holds)) = inr (empty, holds)
 
 -- a refusal after functions are defined is one over the entities before
-pub refused_before : (config : Config) (types : List SubType) (before : IndexSpaces) (so_far : Definitions) (funcs : List ℕ) (e : Error) → Extends before.funcs funcs
+pub refused_before : (config : Config) (types : List SubType) (before : EntitySpaces) (so_far : Definitions) (funcs : List ℕ) (e : Error) → Extends before.funcs funcs
     → MayRefuseDrawn config (drawn_over config (scope_over types funcs (length before.funcs - so_far.num_funcs) [])) e → MayRefuseDefined config (drawn_beside config types before so_far) e
 refused_before config types before so_far funcs e extends (inl memory) = inr (inl memory)
 refused_before config types before so_far funcs e extends (inr (empty, holds)) =

@@ -4,9 +4,9 @@ use Rattle.std.specs.Prelude.{All}
 use Rattle.std.proofs.lemmas.List.Elements.{All-weaker}
 use Rattle.smith_types.specs.Entities.{IsFuncTypeIndex, IsGlobalValid}
 use Rattle.smith_types.specs.Grown.{Extends}
-use Rattle.smith_types.specs.Imports.{IndexSpaces}
-use Rattle.smith_types.specs.IndexSpaces.{with_entity}
-use Rattle.smith_types.specs.Space.{Space}
+use Rattle.smith_types.specs.Imports.{EntitySpaces}
+use Rattle.smith_types.specs.EntitySpaces.{with_entity}
+use Rattle.smith_types.specs.GroupedTypes.{GroupedTypes}
 use Rattle.smith_types.specs.Types.{IsOrderly}
 use Rattle.smith_types.specs.declared.composite_type.SubType.{SubType}
 use Rattle.smith_types.specs.declared.entity_type.EntityType.{EntityType}
@@ -40,18 +40,18 @@ kept_pushed config standing globals more one offers orderly funcs valid longer =
 
 -- they are right for the initialisers of tables and of globals alike, since they do not depend on
 -- the globals that an initialiser may read
-pub kept_alike : (config : Config) (types : List SubType) (spaces : IndexSpaces) (defined : Definitions) (one other : Bool) (offers : List KeptOffer) → All (IsKeptOffer (scope_beside config types spaces defined one)) offers
+pub kept_alike : (config : Config) (types : List SubType) (spaces : EntitySpaces) (defined : Definitions) (one other : Bool) (offers : List KeptOffer) → All (IsKeptOffer (scope_beside config types spaces defined one)) offers
     → All (IsKeptOffer (scope_beside config types spaces defined other)) offers
 kept_alike config types spaces defined one other offers all =
     All-weaker (IsKeptOffer (scope_beside config types spaces defined one)) (IsKeptOffer (scope_beside config types spaces defined other))
     (λ offer kept. record { wanted = kept.wanted; globals_seen = kept.globals_seen; globals = kept.globals; funcs_seen = kept.funcs_seen; funcs = kept.funcs }) offers all
 
-module _ (config : Config) (space : Space) (spaces : IndexSpaces) (defined : Definitions) (allow : Bool) (may : MayDefineMore config space spaces defined 1) where
+module _ (config : Config) (space : GroupedTypes) (spaces : EntitySpaces) (defined : Definitions) (allow : Bool) (may : MayDefineMore config space spaces defined 1) where
   sound : AreValidOver (scope_beside config space.types spaces defined allow)
   sound = record { orderly = may.valid.orderly; funcs = may.entities.funcs; globals = may.entities.globals }
 
   -- they stay right with one more entity, which an export of a shape adds
-  pub kept_beside : (later : IndexSpaces) (fuller : Definitions) (added : EntityType) (offers : List KeptOffer) → IsInitialised config space.types spaces defined fuller added → later ≡ with_entity spaces added
+  pub kept_beside : (later : EntitySpaces) (fuller : Definitions) (added : EntityType) (offers : List KeptOffer) → IsInitialised config space.types spaces defined fuller added → later ≡ with_entity spaces added
       → All (IsKeptOffer (scope_beside config space.types spaces defined allow)) offers → All (IsKeptOffer (scope_beside config space.types later fuller allow)) offers
   kept_beside later fuller added offers initialised longer =
       let grown : HasMore (scope_beside config space.types spaces defined allow) (scope_beside config space.types later fuller allow) = record {

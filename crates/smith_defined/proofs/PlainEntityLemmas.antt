@@ -4,8 +4,8 @@ use Rattle.std.specs.Prelude.{Some, slice_get, All}
 use Rattle.std.proofs.lemmas.Option.{slice_get_within, get_or_from_slice_get}
 use Rattle.smith_types.specs.Entities.{IsTableValid, IsGlobalValid}
 use Rattle.smith_types.specs.Features.{Features}
-use Rattle.smith_types.specs.Imports.{IndexSpaces}
-use Rattle.smith_types.specs.Space.{Space}
+use Rattle.smith_types.specs.Imports.{EntitySpaces}
+use Rattle.smith_types.specs.GroupedTypes.{GroupedTypes}
 use Rattle.smith_types.specs.Types.{next_group}
 use Rattle.smith_types.specs.ValidTypes.{IsHeapTypeValid, IsRefTypeValid, IsValTypeValid, IsTypeValid, AreTypesValid, values_of}
 use Rattle.smith_types.specs.declared.composite_type.SubType.{SubType}
@@ -43,7 +43,7 @@ module _ (features : Features) (end other : ℕ) where
   value_moved (Ref reference) included plain h = (h.0, reference_moved reference included plain h.1)
 
 -- the types and the entities of a plain shape, without the parts that are left out
-module _ (features : Features) (space : Space) (spaces : IndexSpaces) (plain : ArePlain space.types spaces) (included : IsNothingLeftOut space.types spaces) where
+module _ (features : Features) (space : GroupedTypes) (spaces : EntitySpaces) (plain : ArePlain space.types spaces) (included : IsNothingLeftOut space.types spaces) where
   pub table_over : (others : List SubType) (index : ℕ) (table : TableType) → slice_get spaces.tables index ≡ Some table → IsTableValid features space.types table → IsTableValid features others table
   table_over others index table at h =
       let value = λ (one : TableType). Ref one.element_type in
@@ -84,7 +84,7 @@ module _ (features : Features) (space : Space) (spaces : IndexSpaces) (plain : A
       }
 
   -- types stay valid with such a type after them, in a group of its own
-  pub types_over_valid : (ours : Space) (index : ℕ) (t : SubType) → slice_get space.types index ≡ Some t → AreTypesValid features space → AreTypesValid features ours
+  pub types_over_valid : (ours : GroupedTypes) (index : ℕ) (t : SubType) → slice_get space.types index ≡ Some t → AreTypesValid features space → AreTypesValid features ours
       → AreTypesValid features (record { types = ours.types ++ t ∷ []; groups = ours.groups ++ next_group (ours.types ++ t ∷ []) ours.groups ∷ [] })
   types_over_valid ours index t at valid now =
       let one = all_at IsTypePlain space.types index t plain.types at in

@@ -4,7 +4,7 @@ use Rattle.std.specs.Prelude.{Option, Some, None, Result, Ok, Err, IsErrAnd, IfO
 use Rattle.smith_bytes.specs.declared.error.Error.{Error}
 use Rattle.smith_bytes.specs.declared.error.Error.TheVariants.{Memory, EmptyChoose}
 use Rattle.smith_types.specs.Expressions.{Context}
-use Rattle.smith_types.specs.Imports.{IndexSpaces}
+use Rattle.smith_types.specs.Imports.{EntitySpaces}
 use Rattle.smith_types.specs.declared.composite_type.SubType.{SubType}
 use Rattle.smith_types.specs.declared.const_instr.ConstInstr.{ConstInstr}
 use Rattle.smith_types.specs.declared.entity_type.EntityType.{EntityType}
@@ -41,7 +41,7 @@ pub refused_initial : {X Y : Type 0} (view : X → Y) (result : Result X Error) 
 refused_initial view (Ok x) config context wanted e read passed refusal none = absurd passed
 refused_initial view (Err y) config context wanted e read passed refusal none = subst (λ (one : Error). Returns is_memory view (Err one) read) (sym passed) (refused_so view config context wanted e read refusal none)
 
-module _ (config : Config) (types : List SubType) (spaces : IndexSpaces) (defined : Definitions) (context : Context) (bytes : List ℕ) where
+module _ (config : Config) (types : List SubType) (spaces : EntitySpaces) (defined : Definitions) (context : Context) (bytes : List ℕ) where
   -- a table is defined with the drawn initialiser, unless there is nothing to choose from
   module _ (table : TableType) (same : context ≡ scope_beside config types spaces defined false) where
     pub table_lacking : table_init_at config context table.element_type bytes ≡ None → defined_with_at config types spaces defined (entity.Table table) bytes ≡ Err EmptyChoose
@@ -70,7 +70,7 @@ module _ (config : Config) (types : List SubType) (spaces : IndexSpaces) (define
         ∙ ap (λ (l : List (ℕ × List ConstInstr)). Ok (record defined { globals = l }, after)) (sym longer))
 
 -- other entities are counted
-module _ (config : Config) (types : List SubType) (spaces : IndexSpaces) (defined : Definitions) (added : EntityType) (index : ℕ) (bytes : List ℕ) where
+module _ (config : Config) (types : List SubType) (spaces : EntitySpaces) (defined : Definitions) (added : EntityType) (index : ℕ) (bytes : List ℕ) where
   pub tag_counted : added ≡ entity.Tag index → defined_with_at config types spaces defined added bytes ≡ Ok (record defined { num_tags = defined.num_tags + 1 }, bytes)
   unfolding defined_with_at
   tag_counted is = rw is refl
@@ -91,6 +91,6 @@ global_refused config context global added e is (inr (empty, inl lacks)) = inr (
 global_refused config context global added e is (inr (empty, inr holds)) = inr (empty, inr holds)
 
 -- the scope of an initialiser determines the context in which it is drawn
-pub refused_beside : (config : Config) (types : List SubType) (spaces : IndexSpaces) (defined : Definitions) (within : Spaces) (allow_defined : Bool) (wanted : ValType) (e : Error) → seen_by config within allow_defined ≡ scope_beside config types spaces defined allow_defined
+pub refused_beside : (config : Config) (types : List SubType) (spaces : EntitySpaces) (defined : Definitions) (within : Spaces) (allow_defined : Bool) (wanted : ValType) (e : Error) → seen_by config within allow_defined ≡ scope_beside config types spaces defined allow_defined
     → MayRefuseConstExpr config (standing_in config within) wanted e → MayRefuseConstExpr config (drawn_beside config types spaces defined) wanted e
 refused_beside config types spaces defined within allow_defined wanted e same h = subst (λ (context : Context). MayRefuseConstExpr config (without_globals context) wanted e) same h

@@ -15,9 +15,9 @@ use Rattle.smith_types.specs.Expressions.{field_values}
 use Rattle.smith_types.specs.Features.{Features}
 use Rattle.smith_types.specs.Grown.{Extends, IsContextGrown}
 use Rattle.smith_types.specs.HeldValues.{values_in}
-use Rattle.smith_types.specs.Imports.{IndexSpaces, tag_of, entity_spaces}
-use Rattle.smith_types.specs.IndexSpaces.{with_entity}
-use Rattle.smith_types.specs.Space.{Space}
+use Rattle.smith_types.specs.Imports.{EntitySpaces, tag_of, entity_spaces}
+use Rattle.smith_types.specs.EntitySpaces.{with_entity}
+use Rattle.smith_types.specs.GroupedTypes.{GroupedTypes}
 use Rattle.smith_types.specs.Types.{next_group}
 use Rattle.smith_types.specs.ValidTypes.{AreTypesValid, values_of}
 use Rattle.smith_types.specs.declared.value_type.ValType.{ValType}
@@ -75,7 +75,7 @@ made_some f (Some x) y is = (x, refl, cc)
 made_some f None y is = absurd cc
 
 -- the entity that is found exists
-pub entity_stands : (spaces : IndexSpaces) (of_kind : ExportKind) (index : ℕ) (one : EntityType) → entity_of spaces of_kind index ≡ Some one → IsEntityAt spaces of_kind index one
+pub entity_stands : (spaces : EntitySpaces) (of_kind : ExportKind) (index : ℕ) (one : EntityType) → entity_of spaces of_kind index ≡ Some one → IsEntityAt spaces of_kind index one
 entity_stands spaces kind.Func index one is = made_some entity.Func (slice_get spaces.funcs index) one is
 entity_stands spaces kind.Table index one is = made_some entity.Table (slice_get spaces.tables index) one is
 entity_stands spaces kind.Memory index one is = made_some entity.Memory (slice_get spaces.memories index) one is
@@ -129,7 +129,7 @@ module _ (features : Features) (types : List SubType) where
     globals = All-cons (IsGlobalValid features types) global [] h (All-nil (IsGlobalValid features types));
   }
 
-  one_alone : (spaces : IndexSpaces) (of_kind : ExportKind) (index : ℕ) (one : EntityType) → AreEntitiesValid features types spaces → IsEntityAt spaces of_kind index one → AreEntitiesValid features types (entity_spaces one)
+  one_alone : (spaces : EntitySpaces) (of_kind : ExportKind) (index : ℕ) (one : EntityType) → AreEntitiesValid features types spaces → IsEntityAt spaces of_kind index one → AreEntitiesValid features types (entity_spaces one)
   one_alone spaces kind.Func index one h (func, at, is) = rw is (func_alone func (all_at (IsFuncTypeIndex types) spaces.funcs index func h.funcs at))
   one_alone spaces kind.Table index one h (table, at, is) = rw is (table_alone table (all_at (IsTableValid features types) spaces.tables index table h.tables at))
   one_alone spaces kind.Memory index one h (memory, at, is) = rw is (memory_alone memory (all_at (IsMemoryValid features) spaces.memories index memory h.memories at))
@@ -137,7 +137,7 @@ module _ (features : Features) (types : List SubType) where
   one_alone spaces kind.Tag index one h (tag, at, is) = rw is (tag_alone tag (all_at (IsTagValid types) spaces.tags index tag h.tags at))
 
 -- a function type has no field that holds a reference
-no_field : (config : Config) (types : List SubType) (t : SubType) (function : FuncType) → t.composite_type.inner ≡ Func function → (spaces : IndexSpaces) (defined : Definitions)
+no_field : (config : Config) (types : List SubType) (t : SubType) (function : FuncType) → t.composite_type.inner ≡ Func function → (spaces : EntitySpaces) (defined : Definitions)
     → HoldsUngroundedField config (drawn_beside config (types ++ t ∷ []) spaces defined) → HoldsUngroundedField config (drawn_beside config types spaces defined)
 no_field config types t function is spaces defined (k, one, below, at, holds) =
     let before = drawn_beside config types spaces defined in
@@ -152,7 +152,7 @@ no_field config types t function is spaces defined (k, one, below, at, holds) =
     ]
 
 -- the number of imported functions stays the same with one more defined entity
-pub still_imported : (config : Config) (types : List SubType) (spaces later : IndexSpaces) (defined fuller : Definitions) (added : EntityType) → later ≡ with_entity spaces added → IsInitialised config types spaces defined fuller added
+pub still_imported : (config : Config) (types : List SubType) (spaces later : EntitySpaces) (defined fuller : Definitions) (added : EntityType) → later ≡ with_entity spaces added → IsInitialised config types spaces defined fuller added
     → length later.funcs - fuller.num_funcs ≡ length spaces.funcs - defined.num_funcs
 still_imported config types spaces later defined fuller (entity.Func index) more is =
     let longer = length-append spaces.funcs (index ∷ []) in
@@ -163,7 +163,7 @@ still_imported config types spaces later defined fuller (entity.Table table) mor
 still_imported config types spaces later defined fuller (entity.Global global) more (given, is, initialised) = rw (more, is) refl
 
 -- if all references are grounded, so are those with one more entity
-lacking_before : (config : Config) (types : List SubType) (spaces later : IndexSpaces) (defined fuller : Definitions) (added : EntityType) → IsDefinedMore config types spaces defined later fuller added
+lacking_before : (config : Config) (types : List SubType) (spaces later : EntitySpaces) (defined fuller : Definitions) (added : EntityType) → IsDefinedMore config types spaces defined later fuller added
     → HoldsUngroundedField config (drawn_beside config types later fuller) → HoldsUngroundedField config (drawn_beside config types spaces defined)
 lacking_before config types spaces later defined fuller added more =
     let funcs : Extends spaces.funcs later.funcs = rw more.spaces_are (spaces_grown spaces added).funcs in
@@ -179,7 +179,7 @@ lacking_before config types spaces later defined fuller added more =
     fields_before config (drawn_beside config types spaces defined) (drawn_beside config types later fuller) growth refl
 
 -- types and an entity of a shape over the existing ones
-pub record IsOver (own_types : Bool) (config : Config) (shape : Shape) (space types : Space) (of_kind : ExportKind) (theirs added : EntityType) : Type 0 where
+pub record IsOver (own_types : Bool) (config : Config) (shape : Shape) (space types : GroupedTypes) (of_kind : ExportKind) (theirs added : EntityType) : Type 0 where
   pub valid : AreTypesValid (features_of config) types
   pub grown : Extends space.types types.types
   pub groups : Extends space.groups types.groups
@@ -188,20 +188,20 @@ pub record IsOver (own_types : Bool) (config : Config) (shape : Shape) (space ty
   pub entity : AreEntitiesValid (features_of config) types.types (entity_spaces added)
   pub enabled : 0 < length (tag_of added) → IsTrue config.exceptions_enabled
   pub unchanged : own_types ≡ false → types ≡ space
-  pub lacking : (spaces : IndexSpaces) (defined : Definitions) → HoldsUngroundedField config (drawn_beside config types.types spaces defined) → HoldsUngroundedField config (drawn_beside config space.types spaces defined)
+  pub lacking : (spaces : EntitySpaces) (defined : Definitions) → HoldsUngroundedField config (drawn_beside config types.types spaces defined) → HoldsUngroundedField config (drawn_beside config space.types spaces defined)
   pub types_of : AddsTypesOf shape space.types types.types
   pub few_values : All (HasFewValues most_listed) space.types → All (HasFewValues most_listed) types.types
   pub same : IsKeptType own_types types.types (shape_types shape) added theirs
   pub kind : entity_kind added ≡ of_kind
 
-kind_is : (spaces : IndexSpaces) (of_kind : ExportKind) (index : ℕ) (one : EntityType) → IsEntityAt spaces of_kind index one → entity_kind one ≡ of_kind
+kind_is : (spaces : EntitySpaces) (of_kind : ExportKind) (index : ℕ) (one : EntityType) → IsEntityAt spaces of_kind index one → entity_kind one ≡ of_kind
 kind_is spaces kind.Func index one (func, at, is) = rw is refl
 kind_is spaces kind.Table index one (table, at, is) = rw is refl
 kind_is spaces kind.Memory index one (memory, at, is) = rw is refl
 kind_is spaces kind.Global index one (global, at, is) = rw is refl
 kind_is spaces kind.Tag index one (tag, at, is) = rw is refl
 
-some_tag : (spaces : IndexSpaces) (of_kind : ExportKind) (index : ℕ) (one : EntityType) → IsEntityAt spaces of_kind index one → 0 < length (tag_of one) → 0 < length spaces.tags
+some_tag : (spaces : EntitySpaces) (of_kind : ExportKind) (index : ℕ) (one : EntityType) → IsEntityAt spaces of_kind index one → 0 < length (tag_of one) → 0 < length spaces.tags
 some_tag spaces kind.Func index one (func, at, is) some = absurd (let none : 0 < 0 = rw is at some in omega arith)
 some_tag spaces kind.Table index one (table, at, is) some = absurd (let none : 0 < 0 = rw is at some in omega arith)
 some_tag spaces kind.Memory index one (memory, at, is) some = absurd (let none : 0 < 0 = rw is at some in omega arith)
@@ -209,7 +209,7 @@ some_tag spaces kind.Global index one (global, at, is) some = absurd (let none :
 some_tag spaces kind.Tag index one (tag, at, is) some = let inside = slice_get_within spaces.tags index tag at in omega (arith, inside)
 
 -- if the shape's types exist already, its entities are unchanged
-standing_over : (config : Config) (shape : Shape) (space : Space) (of_kind : ExportKind) (index : ℕ) (theirs : EntityType) → MayRequire false config shape space → AreTypesValid (features_of config) space
+standing_over : (config : Config) (shape : Shape) (space : GroupedTypes) (of_kind : ExportKind) (index : ℕ) (theirs : EntityType) → MayRequire false config shape space → AreTypesValid (features_of config) space
     → IsEntityAt (shape_spaces shape) of_kind index theirs → IsOver false config shape space space of_kind theirs theirs
 standing_over config shape space of_kind index theirs may valid at = record {
   valid = valid;
@@ -228,7 +228,7 @@ standing_over config shape space of_kind index theirs may valid at = record {
 }
 
 -- if a function or a tag has its own type, that is the one more type, and is the same
-module _ (config : Config) (shape : Shape) (space : Space) (may : MayRequire true config shape space) (valid : AreTypesValid (features_of config) space) where
+module _ (config : Config) (shape : Shape) (space : GroupedTypes) (may : MayRequire true config shape space) (valid : AreTypesValid (features_of config) space) where
   abbrev features : Features
   features = features_of config
 
@@ -327,23 +327,23 @@ module _ (config : Config) (shape : Shape) (space : Space) (may : MayRequire tru
       rw is (as_it_is kind.Global (entity.Global global) (global_alone features space.types global moved) (λ some. omega arith) refl refl)
 
 -- the types and the entity for an entity of a shape are valid, and the same
-over : (own_types : Bool) (config : Config) (shape : Shape) (space : Space) (of_kind : ExportKind) (index : ℕ) (theirs : EntityType) → MayRequire own_types config shape space → AreTypesValid (features_of config) space
+over : (own_types : Bool) (config : Config) (shape : Shape) (space : GroupedTypes) (of_kind : ExportKind) (index : ℕ) (theirs : EntityType) → MayRequire own_types config shape space → AreTypesValid (features_of config) space
     → IsEntityAt (shape_spaces shape) of_kind index theirs → IsOver own_types config shape space (types_over own_types (shape_types shape) space theirs) of_kind theirs (entity_over own_types space theirs)
 over true config shape space of_kind index theirs may valid at = own_over config shape space may valid of_kind index theirs at
 over false config shape space of_kind index theirs may valid at = standing_over config shape space of_kind index theirs may valid at
 
-pub is_over : (own_types : Bool) (config : Config) (shape : Shape) (space types : Space) (of_kind : ExportKind) (index : ℕ) (theirs added : EntityType) → MayRequire own_types config shape space → AreTypesValid (features_of config) space
+pub is_over : (own_types : Bool) (config : Config) (shape : Shape) (space types : GroupedTypes) (of_kind : ExportKind) (index : ℕ) (theirs added : EntityType) → MayRequire own_types config shape space → AreTypesValid (features_of config) space
     → entity_of (shape_spaces shape) of_kind index ≡ Some theirs → types ≡ types_over own_types (shape_types shape) space theirs → added ≡ entity_over own_types space theirs → IsOver own_types config shape space types of_kind theirs added
 is_over own_types config shape space types of_kind index theirs added may valid found types_are added_is =
     rw (types_are, added_is) (over own_types config shape space of_kind index theirs may valid (entity_stands (shape_spaces shape) of_kind index theirs found))
 
 -- no type of a plain shape has a supertype
-pub no_supertypes : (own_types : Bool) (config : Config) (shape : Shape) (space : Space) → MayRequire own_types config shape space → own_types ≡ true → HasNoSupertypes (shape_types shape)
+pub no_supertypes : (own_types : Bool) (config : Config) (shape : Shape) (space : GroupedTypes) → MayRequire own_types config shape space → own_types ≡ true → HasNoSupertypes (shape_types shape)
 no_supertypes true config shape space may own = λ index t at. (all_at IsTypePlain (shape_types shape) index t (may.valid.plain refl).types at).root
 no_supertypes false config shape space may own = absurd cc
 
 -- a defined entity has the next index of its kind
-pub stands_last : (spaces : IndexSpaces) (of_kind : ExportKind) (added : EntityType) → entity_kind added ≡ of_kind → IsEntityAt (with_entity spaces added) of_kind (next_index spaces of_kind) added
+pub stands_last : (spaces : EntitySpaces) (of_kind : ExportKind) (added : EntityType) → entity_kind added ≡ of_kind → IsEntityAt (with_entity spaces added) of_kind (next_index spaces of_kind) added
 stands_last spaces kind.Func (entity.Func index) is = (index, slice_get-last spaces.funcs index, refl)
 stands_last spaces kind.Table (entity.Table table) is = (table, slice_get-last spaces.tables table, refl)
 stands_last spaces kind.Memory (entity.Memory memory) is = (memory, slice_get-last spaces.memories memory, refl)
@@ -352,7 +352,7 @@ stands_last spaces kind.Tag (entity.Tag index) is = (index, slice_get-last space
 stands_last spaces of_kind added is = absurd cc
 
 -- more may be defined after one more entity
-module _ (config : Config) (space types : Space) (spaces : IndexSpaces) (defined : Definitions) (grown : Extends space.types types.types) (valid : AreTypesValid (features_of config) types) where
+module _ (config : Config) (space types : GroupedTypes) (spaces : EntitySpaces) (defined : Definitions) (grown : Extends space.types types.types) (valid : AreTypesValid (features_of config) types) where
   module _ (added : EntityType) (one : AreEntitiesValid (features_of config) types.types (entity_spaces added)) (more : ℕ) (may : MayDefineMore config space spaces defined (more + 1)) where
     may_with : (fuller : Definitions) → AreWithin (with_entity spaces added) fuller → HasRoom (with_entity spaces added) more → MayDefineMore config types (with_entity spaces added) fuller more
     may_with fuller within room = record {
@@ -363,7 +363,7 @@ module _ (config : Config) (space types : Space) (spaces : IndexSpaces) (defined
       room = room;
     }
 
-  pub may_more : (added : EntityType) (later : IndexSpaces) (fuller : Definitions) → AreEntitiesValid (features_of config) types.types (entity_spaces added) → IsDefinedMore config types.types spaces defined later fuller added
+  pub may_more : (added : EntityType) (later : EntitySpaces) (fuller : Definitions) → AreEntitiesValid (features_of config) types.types (entity_spaces added) → IsDefinedMore config types.types spaces defined later fuller added
       → (more : ℕ) → MayDefineMore config space spaces defined (more + 1) → MayDefineMore config types later fuller more
   may_more (entity.Tag index) later fuller one made more may =
       let longer = length-append spaces.tags (index ∷ []) in
@@ -404,7 +404,7 @@ module _ (config : Config) (space types : Space) (spaces : IndexSpaces) (defined
       (record { tags = omega (arith, room.tags); funcs = omega (arith, room.funcs); tables = omega (arith, room.tables); memories = omega (arith, room.memories); globals = omega (arith, longer, room.globals) }))
 
 -- an entity counts as one of its kind
-counted_more : (spaces : IndexSpaces) (added : EntityType) (count : Count) → (count ≡ counts.Types → ⊥) → count_in (with_entity spaces added) count ≡ count_in spaces count + counts_as count (entity_kind added)
+counted_more : (spaces : EntitySpaces) (added : EntityType) (count : Count) → (count ≡ counts.Types → ⊥) → count_in (with_entity spaces added) count ≡ count_in spaces count + counts_as count (entity_kind added)
 counted_more spaces (entity.Tag index) counts.Types other = absurd (other refl)
 counted_more spaces (entity.Tag index) counts.Tags other = length-append spaces.tags (index ∷ [])
 counted_more spaces (entity.Tag index) count other = omega arith
@@ -422,7 +422,7 @@ counted_more spaces (entity.Global global) counts.Globals other = length-append 
 counted_more spaces (entity.Global global) count other = omega arith
 
 -- the properties kept by one more export of a shape
-pub required_more : {own_types : Bool} {config : Config} {shape : Shape} {space types : Space} {spaces later : IndexSpaces} {defined fuller : Definitions} {theirs added : EntityType} (one made : Export)
+pub required_more : {own_types : Bool} {config : Config} {shape : Shape} {space types : GroupedTypes} {spaces later : EntitySpaces} {defined fuller : Definitions} {theirs added : EntityType} (one made : Export)
     → entity_of (shape_spaces shape) one.1 one.2 ≡ Some theirs → IsOver own_types config shape space types one.1 theirs added → IsDefinedMore config types.types spaces defined later fuller added
     → made.0 ≡ one.0 → made.1 ≡ one.1 → made.2 ≡ next_index spaces one.1 → IsRequiredMore own_types config shape space spaces defined types later fuller one made
 required_more {own_types = own_types} {config = config} {shape = shape} {space = space} {types = types} {spaces = spaces} {later = later} {defined = defined} {fuller = fuller} {theirs = theirs} {added = added} one made found over more name of_kind index = record {
@@ -439,7 +439,7 @@ required_more {own_types = own_types} {config = config} {shape = shape} {space =
   groups_grown = over.groups;
   types_most = over.most;
   spaces_grown = rw more.spaces_are (spaces_grown spaces added);
-  counted = λ count other. ap (λ (all : IndexSpaces). count_in all count) more.spaces_are ∙ (counted_more spaces added count other ∙ ap (λ (of_one : ExportKind). count_in spaces count + counts_as count of_one) over.kind);
+  counted = λ count other. ap (λ (all : EntitySpaces). count_in all count) more.spaces_are ∙ (counted_more spaces added count other ∙ ap (λ (of_one : ExportKind). count_in spaces count + counts_as count of_one) over.kind);
   types_counted = over.counted;
   limits = rw more.spaces_are (limits_more own_types types.types shape spaces one.2 theirs added over.same (rw over.kind (entity_stands (shape_spaces shape) one.1 one.2 theirs found)));
   unchanged = over.unchanged;
@@ -459,7 +459,7 @@ mapped f (y ∷ xs) (suc i) x at = mapped f xs i x at
 found_behind : {A : Type 0} (xs ys : List A) (i : ℕ) (x : A) → slice_get ys i ≡ Some x → slice_get (xs ++ ys) (length xs + i) ≡ Some x
 found_behind xs ys i x at = let same : length xs + i - length xs ≡ i = omega arith in behind xs ys (length xs + i) (omega arith) ∙ (ap (λ (n : ℕ). slice_get ys n) same ∙ at)
 
-module _ (types : List SubType) (spaces : IndexSpaces) where
+module _ (types : List SubType) (spaces : EntitySpaces) where
   abbrev of_types : List ValType
   of_types = flat_map (λ (t : SubType). values_of t.composite_type.inner) types
 
@@ -485,7 +485,7 @@ module _ (types : List SubType) (spaces : IndexSpaces) where
       (found_behind of_types (of_tables ++ of_globals) (length of_tables + index) global.val_type
       (found_behind of_tables of_globals index global.val_type (mapped (λ (each : GlobalType). each.val_type) spaces.globals index global at))) (subst IsNeverNull is strict)
 
-never_null : (own_types : Bool) (space : Space) (theirs : EntityType) → IsNeverNull (entity_over own_types space theirs) → IsNeverNull theirs
+never_null : (own_types : Bool) (space : GroupedTypes) (theirs : EntityType) → IsNeverNull (entity_over own_types space theirs) → IsNeverNull theirs
 never_null false space theirs strict = strict
 never_null true space (entity.Table table) strict = strict
 never_null true space (entity.Global global) strict = strict
@@ -494,7 +494,7 @@ never_null true space (entity.Func index) strict = strict
 never_null true space (entity.Tag index) strict = strict
 
 -- the reason why an export is refused if its entity is
-module _ (own_types : Bool) (config : Config) (shape : Shape) (space types : Space) (spaces : IndexSpaces) (defined : Definitions) (one : Export) (theirs added : EntityType) (found : entity_of (shape_spaces shape) one.1 one.2 ≡ Some theirs)
+module _ (own_types : Bool) (config : Config) (shape : Shape) (space types : GroupedTypes) (spaces : EntitySpaces) (defined : Definitions) (one : Export) (theirs added : EntityType) (found : entity_of (shape_spaces shape) one.1 one.2 ≡ Some theirs)
     (is : added ≡ entity_over own_types space theirs) (over : IsOver own_types config shape space types one.1 theirs added) where
   initial_refused : (e : Error) → MayRefuseInitial config (drawn_beside config types.types spaces defined) added e
       → (e ≡ errors.Memory) ⊎ ((e ≡ errors.EmptyChoose) × (Any IsNonNullable (shape_values shape) ⊎ HoldsUngroundedField config (drawn_beside config space.types spaces defined)))

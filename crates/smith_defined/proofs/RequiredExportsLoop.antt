@@ -15,8 +15,8 @@ use Rattle.smith_bytes.specs.declared.error.Why.TheVariants.{SeveralMemories, Se
 use Rattle.smith_types.specs.Exports.{AreDistinct, AreExportsStanding, AreExportsValid}
 use Rattle.smith_types.specs.Expressions.{Context}
 use Rattle.smith_types.specs.Grown.{Extends, AreSpacesGrown}
-use Rattle.smith_types.specs.Imports.{IndexSpaces}
-use Rattle.smith_types.specs.Space.{Space}
+use Rattle.smith_types.specs.Imports.{EntitySpaces}
+use Rattle.smith_types.specs.GroupedTypes.{GroupedTypes}
 use Rattle.smith_types.specs.declared.composite_type.SubType.{SubType}
 use Rattle.smith_types.specs.declared.entity_type.EntityType.{EntityType}
 use Rattle.smith_types.specs.declared.entity_type.EntityType.TheVariants as entity
@@ -43,7 +43,7 @@ use Rattle.smith_defined.proofs.ExtensionLemmas.{all_kept}
 pub extends_both : {A : Type 0} {first second third : List A} → Extends first second → Extends second third → Extends first third
 extends_both {first = first} one two = record { more = one.more ++ two.more; parts = two.parts ∙ (ap (λ xs. xs ++ two.more) one.parts ∙ append_assoc first one.more two.more) }
 
-grown_both : {first second third : IndexSpaces} → AreSpacesGrown first second → AreSpacesGrown second third → AreSpacesGrown first third
+grown_both : {first second third : EntitySpaces} → AreSpacesGrown first second → AreSpacesGrown second third → AreSpacesGrown first third
 grown_both one two = record {
   tags = extends_both one.tags two.tags;
   funcs = extends_both one.funcs two.funcs;
@@ -88,7 +88,7 @@ refused_by of_part of_whole e part whole (Ok y) given passes h = absurd h
 refused_by {X = X} of_part of_whole e part whole (Err own) given passes h = refused_part of_part of_whole own part whole (subst (λ (one : Error). Returns is_memory of_part (Err one) part) (sym h) given) passes
 
 -- the exports before a place are made, and making the others completes the whole
-pub record AreRequiring (own_types : Bool) (config : Config) (shape : Shape) (old_types : Space) (old : IndexSpaces) (old_defined : Definitions) (place : ℕ) (types : Space) (spaces : IndexSpaces) (defined : Definitions) (exports : List Export) (start bytes : List ℕ) : Type 0 where
+pub record AreRequiring (own_types : Bool) (config : Config) (shape : Shape) (old_types : GroupedTypes) (old : EntitySpaces) (old_defined : Definitions) (place : ℕ) (types : GroupedTypes) (spaces : EntitySpaces) (defined : Definitions) (exports : List Export) (start bytes : List ℕ) : Type 0 where
   pub so_far : required_from own_types config shape (drop place shape.exports) (standing_with types spaces defined exports) bytes ≡ required_at own_types config shape old_types old old_defined start
   pub same : AllZip (IsSameExport (IsKeptType own_types types.types (shape_types shape)) spaces (shape_spaces shape)) exports (take place shape.exports)
   pub types_grown : Extends old_types.types types.types
@@ -104,11 +104,11 @@ pub record AreRequiring (own_types : Bool) (config : Config) (shape : Shape) (ol
   pub few_values : All (HasFewValues most_listed) old_types.types → All (HasFewValues most_listed) types.types
   pub may : MayDefineMore config types spaces defined (length shape.exports - place)
   pub shape_may : MayRequire own_types config shape types
-  pub stands : (imported : IndexSpaces) → StandsBehind config imported old_types old old_defined → StandsBehind config imported types spaces defined
+  pub stands : (imported : EntitySpaces) → StandsBehind config imported old_types old old_defined → StandsBehind config imported types spaces defined
   pub left : KeepsPieces start bytes
 
 -- none is made yet
-pub none_required : (own_types : Bool) (config : Config) (shape : Shape) (types : Space) (spaces : IndexSpaces) (defined : Definitions) (start : List ℕ) → MayRequire own_types config shape types → MayDefineMore config types spaces defined (length shape.exports)
+pub none_required : (own_types : Bool) (config : Config) (shape : Shape) (types : GroupedTypes) (spaces : EntitySpaces) (defined : Definitions) (start : List ℕ) → MayRequire own_types config shape types → MayDefineMore config types spaces defined (length shape.exports)
     → AreRequiring own_types config shape types spaces defined 0 types spaces defined [] start start
 none_required own_types config shape types spaces defined start shape_may may = record {
   so_far = refl;
@@ -130,7 +130,7 @@ none_required own_types config shape types spaces defined start shape_may may = 
   left = λ whole h. h;
 }
 
-module _ {own_types : Bool} {config : Config} {shape : Shape} {old_types types : Space} {old spaces : IndexSpaces} {old_defined defined : Definitions} {place : ℕ} {exports : List Export} {start bytes : List ℕ}
+module _ {own_types : Bool} {config : Config} {shape : Shape} {old_types types : GroupedTypes} {old spaces : EntitySpaces} {old_defined defined : Definitions} {place : ℕ} {exports : List Export} {start bytes : List ℕ}
     (now : AreRequiring own_types config shape old_types old old_defined place types spaces defined exports start bytes) where
   -- all are made
   pub required_full : length shape.exports ≤ place → required_at own_types config shape old_types old old_defined start ≡ Ok (standing_with types spaces defined exports, bytes)
@@ -182,7 +182,7 @@ module _ {own_types : Bool} {config : Config} {shape : Shape} {old_types types :
           room = record { tags = omega (arith, room.tags); funcs = omega (arith, room.funcs); tables = omega (arith, room.tables); memories = omega (arith, room.memories); globals = omega (arith, room.globals) };
         }
 
-    pub required_more : {more_types : Space} {later : IndexSpaces} {fuller : Definitions} {made : Export} {longer : List Export} {after : List ℕ} → turn ≡ Ok (standing_with more_types later fuller (exports ++ made ∷ []), after)
+    pub required_more : {more_types : GroupedTypes} {later : EntitySpaces} {fuller : Definitions} {made : Export} {longer : List Export} {after : List ℕ} → turn ≡ Ok (standing_with more_types later fuller (exports ++ made ∷ []), after)
         → IsRequiredMore own_types config shape types spaces defined more_types later fuller one made → longer ≡ exports ++ made ∷ [] → KeepsPieces bytes after
         → AreRequiring own_types config shape old_types old old_defined (place + 1) more_types later fuller longer start after
     unfolding required_from
@@ -238,20 +238,20 @@ module _ {own_types : Bool} {config : Config} {shape : Shape} {old_types types :
     refused_for e refused = lacking_for e refused
 
 -- exports that are the same as valid ones, of existing entities, are valid
-stand_so : (IsSame : EntityType → EntityType → Type 0) (ours theirs : IndexSpaces) (exports others : List Export) → AllZip (IsSameExport IsSame ours theirs) exports others → AreExportsStanding ours exports
+stand_so : (IsSame : EntityType → EntityType → Type 0) (ours theirs : EntitySpaces) (exports others : List Export) → AllZip (IsSameExport IsSame ours theirs) exports others → AreExportsStanding ours exports
 stand_so IsSame ours theirs [] others same = All-nil (λ (one : Export). IsStanding ours one.1 one.2)
 stand_so IsSame ours theirs (one ∷ exports) [] same = absurd same
 stand_so IsSame ours theirs (one ∷ exports) (other ∷ others) same =
     All-cons (λ (each : Export). IsStanding ours each.1 each.2) one exports (same.0.mine, same.0.mine_is) (stand_so IsSame ours theirs exports others same.1)
 
-named_so : (IsSame : EntityType → EntityType → Type 0) (ours theirs : IndexSpaces) (exports others : List Export) → AllZip (IsSameExport IsSame ours theirs) exports others
+named_so : (IsSame : EntityType → EntityType → Type 0) (ours theirs : EntitySpaces) (exports others : List Export) → AllZip (IsSameExport IsSame ours theirs) exports others
     → map (λ (one : Export). one.0) others ≡ map (λ (one : Export). one.0) exports
 named_so IsSame ours theirs [] [] same = refl
 named_so IsSame ours theirs [] (other ∷ others) same = absurd same
 named_so IsSame ours theirs (one ∷ exports) [] same = absurd same
 named_so IsSame ours theirs (one ∷ exports) (other ∷ others) same = λ i. sym same.0.name i ∷ named_so IsSame ours theirs exports others same.1 i
 
-pub valid_so : (IsSame : EntityType → EntityType → Type 0) (ours theirs : IndexSpaces) (exports others : List Export) → AllZip (IsSameExport IsSame ours theirs) exports others → AreExportsValid theirs others → AreExportsValid ours exports
+pub valid_so : (IsSame : EntityType → EntityType → Type 0) (ours theirs : EntitySpaces) (exports others : List Export) → AllZip (IsSameExport IsSame ours theirs) exports others → AreExportsValid theirs others → AreExportsValid ours exports
 valid_so IsSame ours theirs exports others same valid = record {
   stand = stand_so IsSame ours theirs exports others same;
   distinct = subst AreDistinct (named_so IsSame ours theirs exports others same) valid.distinct;

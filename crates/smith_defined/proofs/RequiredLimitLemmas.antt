@@ -5,8 +5,8 @@ use Rattle.std.specs.Prelude.{All, Some, slice_get}
 use Rattle.std.specs.List.{Contains}
 use Rattle.std.proofs.lemmas.List.Elements.{All-nil, All-cons, All-append, All-contains, All-contains_itself, All-weaker}
 use Rattle.smith_types.specs.Exports.{IsEntityAt, entity_kind}
-use Rattle.smith_types.specs.Imports.{IndexSpaces}
-use Rattle.smith_types.specs.IndexSpaces.{with_entity}
+use Rattle.smith_types.specs.Imports.{EntitySpaces}
+use Rattle.smith_types.specs.EntitySpaces.{with_entity}
 use Rattle.smith_types.specs.declared.composite_type.SubType.{SubType}
 use Rattle.smith_types.specs.declared.entity_type.EntityType.{EntityType}
 use Rattle.smith_types.specs.declared.entity_type.EntityType.TheVariants as entity
@@ -39,7 +39,7 @@ both {A = A} xs ys zs theirs first second =
     ]) zs second
 
 -- nothing is added
-pub no_limits : (shape : Shape) (spaces : IndexSpaces) → AddsLimitsOf shape spaces spaces
+pub no_limits : (shape : Shape) (spaces : EntitySpaces) → AddsLimitsOf shape spaces spaces
 no_limits shape spaces = record {
   tables = old_ones spaces.tables (shape_spaces shape).tables;
   memories = old_ones spaces.memories (shape_spaces shape).memories;
@@ -54,7 +54,7 @@ pub type_more : (shape : Shape) (types : List SubType) (index : ℕ) (t : SubTyp
 type_more shape types index t at = one_more types (shape_types shape) t (standing (shape_types shape) index t at)
 
 -- additions of two steps
-pub limits_both : {shape : Shape} {old spaces later : IndexSpaces} → AddsLimitsOf shape old spaces → AddsLimitsOf shape spaces later → AddsLimitsOf shape old later
+pub limits_both : {shape : Shape} {old spaces later : EntitySpaces} → AddsLimitsOf shape old spaces → AddsLimitsOf shape spaces later → AddsLimitsOf shape old later
 limits_both {shape = shape} {old = old} {spaces = spaces} {later = later} first second = record {
   tables = both old.tables spaces.tables later.tables (shape_spaces shape).tables first.tables second.tables;
   memories = both old.memories spaces.memories later.memories (shape_spaces shape).memories first.memories second.memories;
@@ -77,7 +77,7 @@ same_global true ours theirs global other same = same
 same_global false ours theirs global other same = same
 
 -- an entity of a shape is added
-pub limits_more : (own_types : Bool) (ours : List SubType) (shape : Shape) (spaces : IndexSpaces) (index : ℕ) (theirs added : EntityType) → IsKeptType own_types ours (shape_types shape) added theirs
+pub limits_more : (own_types : Bool) (ours : List SubType) (shape : Shape) (spaces : EntitySpaces) (index : ℕ) (theirs added : EntityType) → IsKeptType own_types ours (shape_types shape) added theirs
     → IsEntityAt (shape_spaces shape) (entity_kind added) index theirs → AddsLimitsOf shape spaces (with_entity spaces added)
 limits_more own_types ours shape spaces index theirs (entity.Table table) same (other, at, is) =
     let one : table ≡ other = let whole = same_table own_types ours (shape_types shape) table theirs same in cc in

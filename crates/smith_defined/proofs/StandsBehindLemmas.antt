@@ -7,9 +7,9 @@ use Rattle.smith_types.specs.Entities.{IsTagValid, IsFuncTypeIndex, IsTableValid
 use Rattle.smith_types.specs.Expressions.{Context, IsConstExpr}
 use Rattle.smith_types.specs.Features.{Features}
 use Rattle.smith_types.specs.Grown.{Extends, IsContextGrown, AreSpacesGrown}
-use Rattle.smith_types.specs.Imports.{IndexSpaces, Defines, tag_of, entity_spaces}
-use Rattle.smith_types.specs.IndexSpaces.{with_entity}
-use Rattle.smith_types.specs.Space.{Space}
+use Rattle.smith_types.specs.Imports.{EntitySpaces, Defines, tag_of, entity_spaces}
+use Rattle.smith_types.specs.EntitySpaces.{with_entity}
+use Rattle.smith_types.specs.GroupedTypes.{GroupedTypes}
 use Rattle.smith_types.specs.ValidTypes.{AreTypesValid}
 use Rattle.smith_bytes.specs.declared.error.Why.TheVariants.{SeveralMemories, SeveralTables}
 use Rattle.smith_types.specs.declared.composite_type.SubType.{SubType}
@@ -37,7 +37,7 @@ pub one_more : {A : Type 0} (xs : List A) (x : A) → Extends xs (xs ++ x ∷ []
 one_more xs x = record { more = x ∷ []; parts = refl }
 
 -- index spaces grow by an entity
-pub spaces_grown : (spaces : IndexSpaces) (added : EntityType) → AreSpacesGrown spaces (with_entity spaces added)
+pub spaces_grown : (spaces : EntitySpaces) (added : EntityType) → AreSpacesGrown spaces (with_entity spaces added)
 spaces_grown spaces (entity.Tag index) = record { tags = one_more spaces.tags index; funcs = all_kept spaces.funcs; tables = all_kept spaces.tables; memories = all_kept spaces.memories; globals = all_kept spaces.globals }
 spaces_grown spaces (entity.Func index) = record { tags = all_kept spaces.tags; funcs = one_more spaces.funcs index; tables = all_kept spaces.tables; memories = all_kept spaces.memories; globals = all_kept spaces.globals }
 spaces_grown spaces (entity.Table table) = record { tags = all_kept spaces.tags; funcs = all_kept spaces.funcs; tables = one_more spaces.tables table; memories = all_kept spaces.memories; globals = all_kept spaces.globals }
@@ -45,7 +45,7 @@ spaces_grown spaces (entity.Memory memory) = record { tags = all_kept spaces.tag
 spaces_grown spaces (entity.Global global) = record { tags = all_kept spaces.tags; funcs = all_kept spaces.funcs; tables = all_kept spaces.tables; memories = all_kept spaces.memories; globals = one_more spaces.globals global }
 
 -- entities stay valid with one more that is
-pub entities_more : (features : Features) (types : List SubType) (spaces : IndexSpaces) (added : EntityType) → AreEntitiesValid features types spaces → AreEntitiesValid features types (entity_spaces added)
+pub entities_more : (features : Features) (types : List SubType) (spaces : EntitySpaces) (added : EntityType) → AreEntitiesValid features types spaces → AreEntitiesValid features types (entity_spaces added)
     → AreEntitiesValid features types (with_entity spaces added)
 entities_more features types spaces (entity.Tag index) h one = record {
   tags = All-push (IsTagValid types) spaces.tags index h.tags (All-head (IsTagValid types) index [] one.tags);
@@ -83,7 +83,7 @@ entities_more features types spaces (entity.Global global) h one = record {
   globals = All-push (IsGlobalValid features types) spaces.globals global h.globals (All-head (IsGlobalValid features types) global [] one.globals);
 }
 
-pub entities_longer : {features : Features} (types ours : List SubType) (spaces : IndexSpaces) → Extends types ours → AreEntitiesValid features types spaces → AreEntitiesValid features ours spaces
+pub entities_longer : {features : Features} (types ours : List SubType) (spaces : EntitySpaces) → Extends types ours → AreEntitiesValid features types spaces → AreEntitiesValid features ours spaces
 entities_longer {features = features} types ours spaces longer h =
     subst (λ (all : List SubType). AreEntitiesValid features all spaces) (sym longer.parts) (AreEntitiesValid-grown features types longer.more spaces h)
 
@@ -117,12 +117,12 @@ not_false : (b : Bool) → not b ≡ false → b ≡ true
 not_false true h = refl
 not_false false h = absurd cc
 
-pub tables_enabled : (config : Config) (spaces : IndexSpaces) (table : TableType) → several config spaces (entity.Table table) ≡ None → 1 < length (spaces.tables ++ table ∷ []) → config.reference_types_enabled ≡ true
+pub tables_enabled : (config : Config) (spaces : EntitySpaces) (table : TableType) → several config spaces (entity.Table table) ≡ None → 1 < length (spaces.tables ++ table ∷ []) → config.reference_types_enabled ≡ true
 tables_enabled config spaces table alone some =
     let longer = length-append spaces.tables (table ∷ []) in
     not_false config.reference_types_enabled (not_both (nat_lt 0 (length spaces.tables)) (not config.reference_types_enabled) SeveralTables alone (lt-ltb 0 (length spaces.tables) (omega (arith, longer, some))))
 
-pub memories_enabled : (config : Config) (spaces : IndexSpaces) (memory : MemoryType) → several config spaces (entity.Memory memory) ≡ None → 1 < length (spaces.memories ++ memory ∷ []) → nat_lt 1 config.max_memories ≡ true
+pub memories_enabled : (config : Config) (spaces : EntitySpaces) (memory : MemoryType) → several config spaces (entity.Memory memory) ≡ None → 1 < length (spaces.memories ++ memory ∷ []) → nat_lt 1 config.max_memories ≡ true
 memories_enabled config spaces memory alone some =
     let longer = length-append spaces.memories (memory ∷ []) in
     lt-ltb 1 config.max_memories (leb-false config.max_memories 1 (not_both (nat_lt 0 (length spaces.memories)) (nat_le config.max_memories 1) SeveralMemories alone (lt-ltb 0 (length spaces.memories) (omega (arith, longer, some)))))
@@ -135,13 +135,13 @@ all_seen : (gc : Bool) (all imported : ℕ) → cond (gc && true) all imported �
 all_seen true all imported = refl
 all_seen false all imported = refl
 
-module _ (config : Config) (imported : IndexSpaces) where
+module _ (config : Config) (imported : EntitySpaces) where
   -- the context of an initialiser after these imports
-  abbrev context : List SubType → IndexSpaces → ℕ → Context
+  abbrev context : List SubType → EntitySpaces → ℕ → Context
   context types spaces visible = context_at config (scope_in types imported spaces) spaces.globals visible
 
   -- the same over types and entities, by the numbers of imported functions and globals
-  abbrev around : List SubType → IndexSpaces → ℕ → ℕ → ℕ → Context
+  abbrev around : List SubType → EntitySpaces → ℕ → ℕ → ℕ → Context
   around types spaces funcs globals visible = record {
     features = features_of config;
     types = types;
@@ -152,7 +152,7 @@ module _ (config : Config) (imported : IndexSpaces) where
     visible = visible;
   }
 
-  module _ (types : List SubType) (spaces : IndexSpaces) (defined : Definitions) (funcs : Defines imported.funcs defined.num_funcs spaces.funcs) (globals : Defines imported.globals (length defined.globals) spaces.globals) where
+  module _ (types : List SubType) (spaces : EntitySpaces) (defined : Definitions) (funcs : Defines imported.funcs defined.num_funcs spaces.funcs) (globals : Defines imported.globals (length defined.globals) spaces.globals) where
     scope_is : (allow : Bool)
         → scope_beside config types spaces defined allow ≡ around types spaces (length imported.funcs) (length imported.globals) (cond (config.gc_enabled && allow) (length spaces.globals) (length imported.globals))
     scope_is allow =
@@ -166,7 +166,7 @@ module _ (config : Config) (imported : IndexSpaces) where
     global_scope_is = scope_is true ∙ ap (around types spaces (length imported.funcs) (length imported.globals)) (all_seen config.gc_enabled (length spaces.globals) (length imported.globals))
 
   -- contexts grow with types and index spaces
-  context_grown : (types more_types : List SubType) (spaces more_spaces : IndexSpaces) (visible : ℕ) → Extends types more_types → AreSpacesGrown spaces more_spaces → IsContextGrown (context types spaces visible) (context more_types more_spaces visible)
+  context_grown : (types more_types : List SubType) (spaces more_spaces : EntitySpaces) (visible : ℕ) → Extends types more_types → AreSpacesGrown spaces more_spaces → IsContextGrown (context types spaces visible) (context more_types more_spaces visible)
   context_grown types more_types spaces more_spaces visible longer grown = record {
     features = refl;
     types = longer;
@@ -178,14 +178,14 @@ module _ (config : Config) (imported : IndexSpaces) where
   }
 
   -- the initialiser of a table, or of a global, at its place
-  abbrev pub IsTablePlaced : List SubType → IndexSpaces → ℕ → Option (List ConstInstr) → Type 0
+  abbrev pub IsTablePlaced : List SubType → EntitySpaces → ℕ → Option (List ConstInstr) → Type 0
   IsTablePlaced types spaces place initial =
       (table : TableType) × (slice_get spaces.tables (length imported.tables + place) ≡ Some table) × IsTableInitialised (context types spaces (length imported.globals)) table initial
 
-  abbrev IsGlobalPlaced : List SubType → IndexSpaces → ℕ → ℕ → List ConstInstr → Type 0
+  abbrev IsGlobalPlaced : List SubType → EntitySpaces → ℕ → ℕ → List ConstInstr → Type 0
   IsGlobalPlaced types spaces place index initial = IsGlobalInitialised config (scope_in types imported spaces) spaces.globals place index initial
 
-  module _ (types more_types : List SubType) (spaces more_spaces : IndexSpaces) (longer : Extends types more_types) (grown : AreSpacesGrown spaces more_spaces) where
+  module _ (types more_types : List SubType) (spaces more_spaces : EntitySpaces) (longer : Extends types more_types) (grown : AreSpacesGrown spaces more_spaces) where
     -- it stays there
     pub table_kept : (place : ℕ) (initial : Option (List ConstInstr)) → IsTablePlaced types spaces place initial → IsTablePlaced more_types more_spaces place initial
     table_kept place initial (table, at, initialised) =
@@ -206,9 +206,9 @@ module _ (config : Config) (imported : IndexSpaces) where
           initialised = IsConstExpr-grown (context types spaces end) (context more_types more_spaces end) (context_grown types more_types spaces more_spaces end longer grown) h.global.val_type initial h.initialised;
         }
 
-  module _ (space ours : Space) (spaces : IndexSpaces) (defined : Definitions) (now : StandsBehind config imported space spaces defined) (valid : AreTypesValid (features_of config) ours) (longer : Extends space.types ours.types) where
+  module _ (space ours : GroupedTypes) (spaces : EntitySpaces) (defined : Definitions) (now : StandsBehind config imported space spaces defined) (valid : AreTypesValid (features_of config) ours) (longer : Extends space.types ours.types) where
     module _ (added : EntityType) (one : AreEntitiesValid (features_of config) ours.types (entity_spaces added)) where
-      abbrev later : IndexSpaces
+      abbrev later : EntitySpaces
       later = with_entity spaces added
 
       ours_valid : AreEntitiesValid (features_of config) ours.types later
@@ -272,7 +272,7 @@ module _ (config : Config) (imported : IndexSpaces) where
           each_global = λ place index initial at. global_kept space.types ours.types spaces spaces longer same place index initial (now.each_global place index initial at);
         }
 
-    pub stands_more : (added : EntityType) (later : IndexSpaces) (more : Definitions) → AreEntitiesValid (features_of config) ours.types (entity_spaces added) → (0 < length (tag_of added) → IsTrue config.exceptions_enabled)
+    pub stands_more : (added : EntityType) (later : EntitySpaces) (more : Definitions) → AreEntitiesValid (features_of config) ours.types (entity_spaces added) → (0 < length (tag_of added) → IsTrue config.exceptions_enabled)
         → IsDefinedMore config ours.types spaces defined later more added → StandsBehind config imported ours later more
     stands_more (entity.Tag index) later more one enabled made = rw (made.spaces_are, made.initialised) (record {
       types = valid;

@@ -6,8 +6,8 @@ use Rattle.smith_bytes.specs.declared.error.Error.TheVariants as errors
 use Rattle.smith_types.specs.Entities.{IsFuncTypeIndex, IsGlobalValid, AreEntitiesValid, AreCountsEnabled}
 use Rattle.smith_types.specs.Expressions.{Context, IsConstExpr}
 use Rattle.smith_types.specs.Grown.{Extends}
-use Rattle.smith_types.specs.Imports.{IndexSpaces, Defines}
-use Rattle.smith_types.specs.Space.{Space}
+use Rattle.smith_types.specs.Imports.{EntitySpaces, Defines}
+use Rattle.smith_types.specs.GroupedTypes.{GroupedTypes}
 use Rattle.smith_types.specs.ValidTypes.{AreTypesValid}
 use Rattle.smith_types.specs.declared.composite_type.SubType.{SubType}
 use Rattle.smith_types.specs.declared.entity_type.GlobalType.{GlobalType}
@@ -43,7 +43,7 @@ pub record AreAdded {A : Type 0} (Holds : A → Type 0) (before space : List A) 
   pub each : All Holds more
 
 -- the indices of all entities have 32 bits, with `more` additional entities of each kind
-pub record HasRoom (spaces : IndexSpaces) (more : ℕ) : Type 0 where
+pub record HasRoom (spaces : EntitySpaces) (more : ℕ) : Type 0 where
   pub tags : length spaces.tags + more < 2 ^ 32
   pub funcs : length spaces.funcs + more < 2 ^ 32
   pub tables : length spaces.tables + more < 2 ^ 32
@@ -51,7 +51,7 @@ pub record HasRoom (spaces : IndexSpaces) (more : ℕ) : Type 0 where
   pub globals : length spaces.globals + more < 2 ^ 32
 
 -- the types, functions and globals that initialisers may refer to are valid
-pub record MayInitialise (config : Config) (space : Space) (standing : InitialiserScope) : Type 0 where
+pub record MayInitialise (config : Config) (space : GroupedTypes) (standing : InitialiserScope) : Type 0 where
   pub passes : Passes config
   pub sanitized : IsSanitized config
   pub valid : AreTypesValid (features_of config) space
@@ -67,7 +67,7 @@ drawn_over config standing = without_globals (table_scope config standing)
 
 -- the context of drawn entities over these types and index spaces; the functions that are not
 -- defined are imported
-abbrev pub drawn_beside : Config → List SubType → IndexSpaces → Definitions → Context
+abbrev pub drawn_beside : Config → List SubType → EntitySpaces → Definitions → Context
 drawn_beside config types spaces defined = record {
   features = features_of config;
   types = types;
@@ -109,14 +109,14 @@ abbrev pub nothing_defined : Definitions
 nothing_defined = record { num_tags = 0; num_funcs = 0; tables = []; num_memories = 0; globals = [] }
 
 -- no more is defined than exists
-pub record AreWithin (spaces : IndexSpaces) (defined : Definitions) : Type 0 where
+pub record AreWithin (spaces : EntitySpaces) (defined : Definitions) : Type 0 where
   pub tags : defined.num_tags ≤ length spaces.tags
   pub funcs : defined.num_funcs ≤ length spaces.funcs
   pub memories : defined.num_memories ≤ length spaces.memories
   pub globals : length defined.globals ≤ length spaces.globals
 
 -- items may be defined after these entities, of which some are defined already
-pub record MayDefine (config : Config) (space : Space) (spaces : IndexSpaces) (defined : Definitions) : Type 0 where
+pub record MayDefine (config : Config) (space : GroupedTypes) (spaces : EntitySpaces) (defined : Definitions) : Type 0 where
   pub passes : Passes config
   pub sanitized : IsSanitized config
   pub valid : AreTypesValid (features_of config) space
@@ -132,11 +132,11 @@ abbrev pub MayRefuseDefined : Config → Context → Error → Type 0
 MayRefuseDefined config context e = MayRefuse config e ⊎ MayRefuseDrawn config context e
 
 -- the types, functions and globals that initialisers refer to, after functions are defined
-abbrev pub scope_in : List SubType → IndexSpaces → IndexSpaces → InitialiserScope
+abbrev pub scope_in : List SubType → EntitySpaces → EntitySpaces → InitialiserScope
 scope_in types imported spaces = scope_over types spaces.funcs (length imported.funcs) imported.globals
 
 -- the types, the entities that follow these imports, and each initialiser at its place are valid
-pub record StandsBehind (config : Config) (imported : IndexSpaces) (space : Space) (spaces : IndexSpaces) (defined : Definitions) : Type 0 where
+pub record StandsBehind (config : Config) (imported : EntitySpaces) (space : GroupedTypes) (spaces : EntitySpaces) (defined : Definitions) : Type 0 where
   pub types : AreTypesValid (features_of config) space
   pub entities : AreEntitiesValid (features_of config) space.types spaces
   pub counts : AreCountsEnabled (features_of config) spaces
@@ -152,7 +152,7 @@ pub record StandsBehind (config : Config) (imported : IndexSpaces) (space : Spac
       → IsGlobalInitialised config (scope_in space.types imported spaces) spaces.globals place index initial
 
 -- index spaces have, after the items before, as many as the configuration requires and allows
-pub record AreFilled (config : Config) (before spaces : IndexSpaces) : Type 0 where
+pub record AreFilled (config : Config) (before spaces : EntitySpaces) : Type 0 where
   pub tags : IsFilled config.min_tags config.max_tags before.tags spaces.tags
   pub funcs : IsFilled config.min_funcs config.max_funcs before.funcs spaces.funcs
   pub tables : IsFilled config.min_tables config.max_tables before.tables spaces.tables
@@ -162,14 +162,14 @@ pub record AreFilled (config : Config) (before spaces : IndexSpaces) : Type 0 wh
   pub each_memory : AreAdded (IsMemoryWithin config) before.memories spaces.memories
 
 -- index spaces have definitions after the items before, valid whatever was imported
-pub record AreDefinedMore (config : Config) (space : Space) (before : IndexSpaces) (so_far : Definitions) (spaces : IndexSpaces) (defined : Definitions) : Type 0 where
+pub record AreDefinedMore (config : Config) (space : GroupedTypes) (before : EntitySpaces) (so_far : Definitions) (spaces : EntitySpaces) (defined : Definitions) : Type 0 where
   pub filled : AreFilled config before spaces
   pub grounded_tables : AreAdded (HasGroundedElements config (drawn_beside config space.types spaces defined)) before.tables spaces.tables
   pub grounded_globals : AreAdded (HasGroundedValue config (drawn_beside config space.types spaces defined)) before.globals spaces.globals
-  pub stands : (imported : IndexSpaces) → StandsBehind config imported space before so_far → StandsBehind config imported space spaces defined
+  pub stands : (imported : EntitySpaces) → StandsBehind config imported space before so_far → StandsBehind config imported space spaces defined
 
 -- no global and no constant of the definitions is a float
-pub record HaveNoFloats (spaces : IndexSpaces) (defined : Definitions) : Type 0 where
+pub record HaveNoFloats (spaces : EntitySpaces) (defined : Definitions) : Type 0 where
   pub globals : All HasNoFloatValue spaces.globals
   pub tables : All (All GivesNoFloat) (flat_map initial_of defined.tables)
   pub initials : All (All GivesNoFloat) (map (λ (one : ℕ × List ConstInstr). one.1) defined.globals)

@@ -8,7 +8,7 @@ use Rattle.smith_bytes.specs.declared.error.Why.TheVariants.{Unmet}
 use Rattle.smith_bytes.specs.Draws.{bool_at}
 use Rattle.smith_bytes.specs.Growth.{grow_at}
 use Rattle.smith_types.specs.Expressions.{Context}
-use Rattle.smith_types.specs.Imports.{IndexSpaces}
+use Rattle.smith_types.specs.Imports.{EntitySpaces}
 use Rattle.smith_types.specs.declared.composite_type.SubType.{SubType}
 use Rattle.smith_types.specs.declared.entity_type.GlobalType.{GlobalType}
 use Rattle.smith_types.specs.declared.entity_type.MemoryType.{MemoryType}
@@ -141,7 +141,7 @@ globals_at config standing before initials bytes =
 
 -- the definitions in index spaces after the items before, with these initialisers of tables and
 -- globals
-abbrev pub defined_in : IndexSpaces → Definitions → IndexSpaces → List (Option (List ConstInstr)) → List (ℕ × List ConstInstr) → Definitions
+abbrev pub defined_in : EntitySpaces → Definitions → EntitySpaces → List (Option (List ConstInstr)) → List (ℕ × List ConstInstr) → Definitions
 defined_in before defined spaces tables globals = record {
   num_tags = defined.num_tags + (length spaces.tags - length before.tags);
   num_funcs = defined.num_funcs + (length spaces.funcs - length before.funcs);
@@ -152,7 +152,7 @@ defined_in before defined spaces tables globals = record {
 
 -- the index spaces that the bytes produce after the items before, and their definitions; entities
 -- that are not defined are imported
-unfoldable pub definitions_at : Config → List SubType → IndexSpaces → Definitions → List ℕ → Result ((IndexSpaces × Definitions) × List ℕ) Why
+unfoldable pub definitions_at : Config → List SubType → EntitySpaces → Definitions → List ℕ → Result ((EntitySpaces × Definitions) × List ℕ) Why
 definitions_at config types before defined bytes = do
   tags ← tags_at config types before.tags bytes
   funcs ← funcs_at config types before.funcs tags.1
@@ -160,5 +160,5 @@ definitions_at config types before defined bytes = do
   let tables = tables_at config standing before.tables defined.tables funcs.1
   let memories = memories_at config before.memories tables.1
   let globals = globals_at config standing before.globals defined.globals memories.1
-  let spaces : IndexSpaces = record { tags = tags.0; funcs = funcs.0; tables = tables.0.0; memories = memories.0; globals = globals.0.0 }
+  let spaces : EntitySpaces = record { tags = tags.0; funcs = funcs.0; tables = tables.0.0; memories = memories.0; globals = globals.0.0 }
   Ok ((spaces, defined_in before defined spaces tables.0.1 globals.0.1), globals.1)

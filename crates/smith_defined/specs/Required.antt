@@ -12,9 +12,9 @@ use Rattle.smith_bytes.specs.declared.error.Why.TheVariants.{SeveralMemories, Se
 use Rattle.smith_types.specs.Entities.{AreEntitiesValid}
 use Rattle.smith_types.specs.Expressions.{Context, IsConstExpr}
 use Rattle.smith_types.specs.Grown.{Extends, AreSpacesGrown}
-use Rattle.smith_types.specs.Imports.{IndexSpaces}
-use Rattle.smith_types.specs.IndexSpaces.{with_entity}
-use Rattle.smith_types.specs.Space.{Space}
+use Rattle.smith_types.specs.Imports.{EntitySpaces}
+use Rattle.smith_types.specs.EntitySpaces.{with_entity}
+use Rattle.smith_types.specs.GroupedTypes.{GroupedTypes}
 use Rattle.smith_types.specs.ValidTypes.{AreTypesValid}
 use Rattle.smith_types.specs.declared.value_type.ValType.TheVariants.{Ref}
 use Rattle.smith_types.specs.declared.composite_type.SubType.{SubType}
@@ -40,7 +40,7 @@ use Rattle.smith_rules.specs.ShapesKept.{IsSameExport, IsSameType}
 use Rattle.smith_defined.specs.declared.definitions.Definitions.{Definitions}
 
 -- `more` entities may be defined after the existing ones
-pub record MayDefineMore (config : Config) (space : Space) (spaces : IndexSpaces) (defined : Definitions) (more : ℕ) : Type 0 where
+pub record MayDefineMore (config : Config) (space : GroupedTypes) (spaces : EntitySpaces) (defined : Definitions) (more : ℕ) : Type 0 where
   pub sanitized : IsSanitized config
   pub valid : AreTypesValid (features_of config) space
   pub entities : AreEntitiesValid (features_of config) space.types spaces
@@ -59,7 +59,7 @@ IsKeptType false ours theirs mine yours = mine ≡ yours
 
 -- the definitions with one more entity, which follows these: a table and a global have an
 -- initialiser
-abbrev pub IsInitialised : Config → List SubType → IndexSpaces → (old new : Definitions) → EntityType → Type 0
+abbrev pub IsInitialised : Config → List SubType → EntitySpaces → (old new : Definitions) → EntityType → Type 0
 IsInitialised config types spaces old new (entity.Tag index) = new ≡ record old { num_tags = old.num_tags + 1 }
 IsInitialised config types spaces old new (entity.Func index) = new ≡ record old { num_funcs = old.num_funcs + 1 }
 IsInitialised config types spaces old new (entity.Memory memory) = new ≡ record old { num_memories = old.num_memories + 1 }
@@ -69,7 +69,7 @@ IsInitialised config types spaces old new (entity.Global global) =
     (initial : List ConstInstr) × (new ≡ with_global old (length spaces.globals) initial) × IsConstExpr (scope_beside config types spaces old true) global.val_type initial
 
 -- an entity is defined after the existing ones
-pub record IsDefinedMore (config : Config) (types : List SubType) (spaces : IndexSpaces) (defined : Definitions) (more_spaces : IndexSpaces) (more : Definitions) (added : EntityType) : Type 0 where
+pub record IsDefinedMore (config : Config) (types : List SubType) (spaces : EntitySpaces) (defined : Definitions) (more_spaces : EntitySpaces) (more : Definitions) (added : EntityType) : Type 0 where
   pub spaces_are : more_spaces ≡ with_entity spaces added
   pub initialised : IsInitialised config types spaces defined more added
   pub alone : several config spaces added ≡ None
@@ -98,7 +98,7 @@ use_of false = which.ModuleShape
 
 -- the exports of a shape may be made: it passes its check, and without own types its types are the
 -- first existing ones
-pub record MayRequire (own_types : Bool) (config : Config) (shape : Shape) (space : Space) : Type 0 where
+pub record MayRequire (own_types : Bool) (config : Config) (shape : Shape) (space : GroupedTypes) : Type 0 where
   pub valid : IsShapeValid (use_of own_types) config shape
   pub present : own_types ≡ false → Extends (shape_types shape) space.types
 
@@ -107,13 +107,13 @@ abbrev pub AddsTypesOf : Shape → List SubType → List SubType → Type 0
 AddsTypesOf shape old new = All (λ t. Contains old t ⊎ Contains (shape_types shape) t) new
 
 -- tables, memories and globals that are added have types of the shape's
-pub record AddsLimitsOf (shape : Shape) (old new : IndexSpaces) : Type 0 where
+pub record AddsLimitsOf (shape : Shape) (old new : EntitySpaces) : Type 0 where
   pub tables : All (λ table. Contains old.tables table ⊎ Contains (shape_spaces shape).tables table) new.tables
   pub memories : All (λ memory. Contains old.memories memory ⊎ Contains (shape_spaces shape).memories memory) new.memories
   pub globals : All (λ global. Contains old.globals global ⊎ Contains (shape_spaces shape).globals global) new.globals
 
 -- the properties that an export of a shape, and the definition for it, preserve
-pub record IsRequiredMore (own_types : Bool) (config : Config) (shape : Shape) (old_types : Space) (old : IndexSpaces) (old_defined : Definitions) (types : Space) (spaces : IndexSpaces) (defined : Definitions) (one made : Export) : Type 0 where
+pub record IsRequiredMore (own_types : Bool) (config : Config) (shape : Shape) (old_types : GroupedTypes) (old : EntitySpaces) (old_defined : Definitions) (types : GroupedTypes) (spaces : EntitySpaces) (defined : Definitions) (one made : Export) : Type 0 where
   pub same : IsSameExport (IsKeptType own_types types.types (shape_types shape)) spaces (shape_spaces shape) made one
   pub types_grown : Extends old_types.types types.types
   pub groups_grown : Extends old_types.groups types.groups
@@ -127,10 +127,10 @@ pub record IsRequiredMore (own_types : Bool) (config : Config) (shape : Shape) (
   pub types_of : AddsTypesOf shape old_types.types types.types
   pub few_values : All (HasFewValues most_listed) old_types.types → All (HasFewValues most_listed) types.types
   pub may : (more : ℕ) → MayDefineMore config old_types old old_defined (more + 1) → MayDefineMore config types spaces defined more
-  pub stands : (imported : IndexSpaces) → StandsBehind config imported old_types old old_defined → StandsBehind config imported types spaces defined
+  pub stands : (imported : EntitySpaces) → StandsBehind config imported old_types old old_defined → StandsBehind config imported types spaces defined
 
 -- the exports of a shape are made: the same in order, valid, of entities defined after those before
-pub record AreRequired (own_types : Bool) (config : Config) (shape : Shape) (old_types : Space) (old : IndexSpaces) (old_defined : Definitions) (types : Space) (spaces : IndexSpaces) (defined : Definitions) (exports : List Export) : Type 0 where
+pub record AreRequired (own_types : Bool) (config : Config) (shape : Shape) (old_types : GroupedTypes) (old : EntitySpaces) (old_defined : Definitions) (types : GroupedTypes) (spaces : EntitySpaces) (defined : Definitions) (exports : List Export) : Type 0 where
   pub same : AllZip (IsSameExport (IsKeptType own_types types.types (shape_types shape)) spaces (shape_spaces shape)) exports shape.exports
   pub types_grown : Extends old_types.types types.types
   pub groups_grown : Extends old_types.groups types.groups
@@ -142,7 +142,7 @@ pub record AreRequired (own_types : Bool) (config : Config) (shape : Shape) (old
   pub lacking : HoldsUngroundedField config (drawn_beside config types.types spaces defined) → HoldsUngroundedField config (drawn_beside config old_types.types old old_defined)
   pub types_of : AddsTypesOf shape old_types.types types.types
   pub few_values : All (HasFewValues most_listed) old_types.types → All (HasFewValues most_listed) types.types
-  pub stands : (imported : IndexSpaces) → StandsBehind config imported old_types old old_defined → StandsBehind config imported types spaces defined
+  pub stands : (imported : EntitySpaces) → StandsBehind config imported old_types old old_defined → StandsBehind config imported types spaces defined
 
 -- a shape holds a reference that is not nullable, or a type holds one that is neither nullable nor,
 -- with `non_nullable_enabled`, grounded

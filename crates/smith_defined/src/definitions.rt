@@ -1,7 +1,7 @@
 ghost use Rattle.std.specs.Prelude.{◌≡◌, false, IfErr, OnOk, All};
 ghost use Rattle.smith_bytes.specs.Source.{KeepsPieces};
 ghost use Rattle.smith_types.specs.Floats.{HasNoFloat};
-ghost use Rattle.smith_types.specs.IndexSpaces.{spaces_in};
+ghost use Rattle.smith_types.specs.EntitySpaces.{spaces_in};
 ghost use Rattle.smith_defined.specs.Definitions.{definitions_at};
 ghost use Rattle.smith_bytes.specs.Steps.{ReturnsWhy};
 ghost use Rattle.smith_defined.specs.Defined.{nothing_defined, drawn_beside, MayDefine};
@@ -16,7 +16,7 @@ use crate::tags::define_tags;
 use smith_bytes::{Error, Unstructured};
 use smith_config::Config;
 use smith_draw::KeptGrounds;
-use smith_types::{ConstInstr, IndexSpaces, Items, TypeSpace};
+use smith_types::{ConstInstr, EntitySpaces, Items, TypeSpace};
 use std::alloc::Global;
 
 /// Definitions of a module: the numbers of tags, functions and memories, and the initialisers of
@@ -71,7 +71,7 @@ pub fn define(
     alloc: Global,
     config: &Config,
     types: &TypeSpace,
-    spaces: &mut IndexSpaces,
+    spaces: &mut EntitySpaces,
     definitions: &mut Definitions,
     u: &mut Unstructured<'_>,
 ) -> Result<(), Error>

@@ -1,7 +1,7 @@
 ghost use Rattle.std.specs.Prelude.{◌≡◌, Bool, true, false, IfErr, OnOk};
 ghost use Rattle.smith_bytes.specs.Source.{KeepsPieces};
 ghost use Rattle.smith_types.specs.Entities.{AreEntitiesValid, IsTableValid, IsGlobalValid};
-ghost use Rattle.smith_types.specs.IndexSpaces.{spaces_in};
+ghost use Rattle.smith_types.specs.EntitySpaces.{spaces_in};
 ghost use Rattle.smith_types.specs.declared.value_type.ValType.TheVariants.{Ref};
 ghost use Rattle.smith_config.specs.declared.config.Config.{Config as Configuration};
 ghost use Rattle.smith_config.specs.Features.{features_of};
@@ -21,11 +21,11 @@ use crate::standing::standing;
 use smith_bytes::{Error, Unstructured, Why};
 use smith_config::Config;
 use smith_draw::{KeptOffers, Spaces, draw_const_expr, draw_table_init};
-use smith_types::{EntityType, ExportKind, GlobalType, IndexSpaces, TableType, TypeSpace};
+use smith_types::{EntitySpaces, EntityType, ExportKind, GlobalType, TableType, TypeSpace};
 use std::alloc::Global;
 
 /// Returns the index of the next item of the kind `kind` in `spaces`.
-pub(crate) fn next_index(spaces: &IndexSpaces, kind: ExportKind) -> usize
+pub(crate) fn next_index(spaces: &EntitySpaces, kind: ExportKind) -> usize
     ensures { result ≡ next_index (spaces_in spaces.now) kind }
 {
     match kind {
@@ -39,7 +39,7 @@ pub(crate) fn next_index(spaces: &IndexSpaces, kind: ExportKind) -> usize
 
 /// Returns the reason why the entity `added` may not follow those of `spaces`, if any: a second
 /// memory, or a second table, without its feature.
-fn several(config: &Config, spaces: &IndexSpaces, added: &EntityType) -> Option<Why>
+fn several(config: &Config, spaces: &EntitySpaces, added: &EntityType) -> Option<Why>
     ensures { result ≡ several config.now (spaces_in spaces.now) added.now }
 {
     match added {
@@ -54,7 +54,11 @@ fn several(config: &Config, spaces: &IndexSpaces, added: &EntityType) -> Option<
 }
 
 /// Returns the types, functions and globals that an initialiser may refer to.
-fn scope<'a>(types: &'a TypeSpace, spaces: &'a IndexSpaces, definitions: &Definitions) -> Spaces<'a>
+fn scope<'a>(
+    types: &'a TypeSpace,
+    spaces: &'a EntitySpaces,
+    definitions: &Definitions,
+) -> Spaces<'a>
     requires within { AreWithin (spaces_in spaces.now) definitions.now }
     ensures types { result.types.now ≡ types.now }
     ensures seen { (config : Configuration) (allow_defined : Bool)
@@ -78,7 +82,7 @@ fn define_table(
     alloc: Global,
     config: &Config,
     types: &TypeSpace,
-    spaces: &IndexSpaces,
+    spaces: &EntitySpaces,
     table: TableType,
     kept: &mut KeptOffers,
     definitions: &mut Definitions,
@@ -111,7 +115,7 @@ fn define_global(
     alloc: Global,
     config: &Config,
     types: &TypeSpace,
-    spaces: &IndexSpaces,
+    spaces: &EntitySpaces,
     global: GlobalType,
     kept: &mut KeptOffers,
     definitions: &mut Definitions,
@@ -145,7 +149,7 @@ fn define_initial(
     alloc: Global,
     config: &Config,
     types: &TypeSpace,
-    spaces: &IndexSpaces,
+    spaces: &EntitySpaces,
     added: EntityType,
     kept: &mut KeptOffers,
     definitions: &mut Definitions,
@@ -188,7 +192,7 @@ pub(crate) fn define_entity(
     config: &Config,
     types: &TypeSpace,
     added: EntityType,
-    spaces: &mut IndexSpaces,
+    spaces: &mut EntitySpaces,
     kept: &mut KeptOffers,
     definitions: &mut Definitions,
     u: &mut Unstructured<'_>,

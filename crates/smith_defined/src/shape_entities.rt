@@ -1,13 +1,13 @@
 ghost use Rattle.std.specs.Prelude.{◌≡◌, ◌++◌, ◌<◌, length, Some, slice_get};
 ghost use Rattle.smith_types.specs.Exports.{IsEntityAt};
 ghost use Rattle.smith_types.specs.Imports.{imported_spaces};
-ghost use Rattle.smith_types.specs.IndexSpaces.{spaces_in};
+ghost use Rattle.smith_types.specs.EntitySpaces.{spaces_in};
 ghost use Rattle.smith_config.specs.Shapes.{shape_imports, shape_spaces};
 ghost use Rattle.smith_rules.specs.ExportedItems.{IsStanding};
 ghost use Rattle.smith_defined.specs.RequiredExports.{entity_of};
 
 use smith_config::Shape;
-use smith_types::{EntityType, ExportKind, IndexSpaces};
+use smith_types::{EntitySpaces, EntityType, ExportKind};
 
 /// Finds the item at `index` of an index space that has the items `imported`, then the items
 /// `defined`.
@@ -25,7 +25,7 @@ fn item_behind<T: Copy>(imported: &[T], defined: &[T], index: usize) -> T
 /// `imported`.
 pub(crate) fn entity_of_shape(
     shape: &Shape,
-    imported: &IndexSpaces,
+    imported: &EntitySpaces,
     kind: ExportKind,
     index: u32,
 ) -> EntityType

@@ -7,8 +7,8 @@ ghost use Rattle.smith_bytes.specs.declared.error.Count.TheVariants.{Types};
 ghost use Rattle.smith_bytes.specs.declared.error.Which.TheVariants.{Exports, ModuleShape};
 ghost use Rattle.smith_types.specs.Exports.{AreExportsValid};
 ghost use Rattle.smith_types.specs.Grown.{Extends, AreSpacesGrown};
-ghost use Rattle.smith_types.specs.Imports.{IndexSpaces as Spaces, imported_spaces};
-ghost use Rattle.smith_types.specs.IndexSpaces.{spaces_in};
+ghost use Rattle.smith_types.specs.Imports.{EntitySpaces as EntityLists, imported_spaces};
+ghost use Rattle.smith_types.specs.EntitySpaces.{spaces_in};
 ghost use Rattle.smith_config.specs.Shapes.{most_listed, shape_imports, shape_spaces, shape_types};
 ghost use Rattle.smith_config.specs.Shapes.{IsShapeValid};
 ghost use Rattle.smith_draw.specs.ConstBounds.{HoldsUngroundedField};
@@ -33,7 +33,7 @@ use crate::shape_entities::entity_of_shape;
 use smith_bytes::{Error, Unstructured};
 use smith_config::{Config, Shape};
 use smith_draw::KeptOffers;
-use smith_types::{ExportKind, IndexSpaces, Items, Name, TypeSpace, imported_spaces_of};
+use smith_types::{EntitySpaces, ExportKind, Items, Name, TypeSpace, imported_spaces_of};
 use std::alloc::Global;
 
 /// Makes the export `one` of `shape`, whose index spaces begin with `imported`. Defines an entity
@@ -43,10 +43,10 @@ fn make_export(
     config: &Config,
     own_types: bool,
     shape: &Shape,
-    imported: &IndexSpaces,
+    imported: &EntitySpaces,
     one: &(Name, ExportKind, u32),
     types: &mut TypeSpace,
-    spaces: &mut IndexSpaces,
+    spaces: &mut EntitySpaces,
     kept: &mut KeptOffers,
     definitions: &mut Definitions,
     u: &mut Unstructured<'_>,
@@ -89,7 +89,7 @@ fn push_exports(
     own_types: bool,
     shape: &Shape,
     types: &mut TypeSpace,
-    spaces: &mut IndexSpaces,
+    spaces: &mut EntitySpaces,
     definitions: &mut Definitions,
     u: &mut Unstructured<'_>,
 ) -> Result<Items<(Name, ExportKind, u32)>, Error>
@@ -148,7 +148,7 @@ pub fn make_required_exports(
     config: &Config,
     shape: &Shape,
     types: &mut TypeSpace,
-    spaces: &mut IndexSpaces,
+    spaces: &mut EntitySpaces,
     definitions: &mut Definitions,
     u: &mut Unstructured<'_>,
 ) -> Result<Items<(Name, ExportKind, u32)>, Error>
@@ -164,7 +164,7 @@ pub fn make_required_exports(
         AllZip (IsSameExport (IsSameType types.new.types (shape_types shape.now))
         (spaces_in spaces.new) (shape_spaces shape.now)) exports shape.now.exports) }
     ensures valid { IfOk result (AreExportsValid (spaces_in spaces.new)) }
-    ensures stands { (imported : Spaces)
+    ensures stands { (imported : EntityLists)
         → StandsBehind config.now imported types.old (spaces_in spaces.old) definitions.old
         → OnOk result
         (StandsBehind config.now imported types.new (spaces_in spaces.new) definitions.new) }
@@ -206,7 +206,7 @@ pub fn make_shape_exports(
     config: &Config,
     shape: &Shape,
     types: &mut TypeSpace,
-    spaces: &mut IndexSpaces,
+    spaces: &mut EntitySpaces,
     definitions: &mut Definitions,
     u: &mut Unstructured<'_>,
 ) -> Result<Items<(Name, ExportKind, u32)>, Error>
@@ -223,7 +223,7 @@ pub fn make_shape_exports(
         (IsSameExport (λ mine yours. mine ≡ yours) (spaces_in spaces.new) (shape_spaces shape.now))
         exports shape.now.exports) }
     ensures valid { IfOk result (AreExportsValid (spaces_in spaces.new)) }
-    ensures stands { (imported : Spaces)
+    ensures stands { (imported : EntityLists)
         → StandsBehind config.now imported types.old (spaces_in spaces.old) definitions.old
         → OnOk result
         (StandsBehind config.now imported types.new (spaces_in spaces.new) definitions.new) }

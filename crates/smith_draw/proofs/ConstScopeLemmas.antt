@@ -8,7 +8,7 @@ use Rattle.std.proofs.lemmas.Option.{slice_get_within}
 use Rattle.smith_types.specs.Expressions.{Context, IsConstExpr, IsStructAt, unpacked, field_values}
 use Rattle.smith_types.specs.Features.{Features}
 use Rattle.smith_types.specs.Flags.{IsInnerEnabled}
-use Rattle.smith_types.specs.Space.{Space}
+use Rattle.smith_types.specs.GroupedTypes.{GroupedTypes}
 use Rattle.smith_types.specs.Types.{IsOrderly}
 use Rattle.smith_types.specs.ValidTypes.{IsValTypeValid, IsTypeValid, IsGroupValid, AreTypesValid, values_of, values_of_storage}
 use Rattle.smith_types.specs.Entities.{IsFuncTypeIndex, IsGlobalValid}
@@ -40,12 +40,12 @@ each_front P [] ys h = (tt, h)
 each_front P (x ∷ xs) ys (p, h) = let (front, back) = each_front P xs ys h in ((p, front), back)
 
 -- an existing type is valid in its group, which ends within the types
-record IsMember (features : Features) (space : Space) (t : SubType) : Type 0 where
+record IsMember (features : Features) (space : GroupedTypes) (t : SubType) : Type 0 where
   end : ℕ
   within : end ≤ length space.types
   valid : IsTypeValid features space.types end t
 
-module _ (features : Features) (space : Space) (valid : AreTypesValid features space) where
+module _ (features : Features) (space : GroupedTypes) (valid : AreTypesValid features space) where
   -- the value type to which a stored type unpacks
   stored : (end : ℕ) → end ≤ length space.types → (ty : StorageType) → Each (IsValTypeValid features end) (values_of_storage ty) → IsValTypeValid features (length space.types) (unpacked ty)
   stored end within I8 h = tt

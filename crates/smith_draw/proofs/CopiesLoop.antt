@@ -7,7 +7,7 @@ use Rattle.std.proofs.lemmas.List.{take_more, get_or-drop, get_or_append_left}
 use Rattle.std.proofs.lemmas.List.Elements.{All-from_recursion}
 use Rattle.std.proofs.lemmas.Option.{slice_get-get_or}
 use Rattle.smith_types.specs.declared.composite_type.SubType.{SubType}
-use Rattle.smith_types.specs.Space.{Space, IsSound, MayFollow}
+use Rattle.smith_types.specs.GroupedTypes.{GroupedTypes, IsSound, MayFollow}
 use Rattle.smith_types.specs.Types.{AreConsecutive, next_start}
 use Rattle.smith_types.proofs.ValidityLemmas.{ends_within}
 
@@ -26,7 +26,7 @@ copied old now more start end n t low high inside so_far at longer =
     longer ∙ ap (λ (ts : List SubType). ts ++ t ∷ []) so_far ∙ append_assoc old front (t ∷ []) ∙ ap (λ (ts : List SubType). old ++ ts) (sym next)
 
 -- an existing type may be appended again
-pub copy_follows : (space : Space) (n : ℕ) (t : SubType) → IsSound space → n < length space.types → t ≡ get_or space.types n t → length space.types + 1 < 2 ^ 32 → MayFollow space.types t
+pub copy_follows : (space : GroupedTypes) (n : ℕ) (t : SubType) → IsSound space → n < length space.types → t ≡ get_or space.types n t → length space.types + 1 < 2 ^ 32 → MayFollow space.types t
 copy_follows space n t sound inside at room = record {
   below = λ s up.
       let here : slice_get space.types n ≡ Some t = slice_get-get_or space.types n t inside ∙ ap Some (sym at) in
@@ -41,12 +41,12 @@ ordered start [] c = tt
 ordered start (g ∷ groups) (begins, ends, rest) = (omega arith, ordered g.end groups rest)
 
 -- the position of a group among the types
-pub record IsWithin (space : Space) (g : Range ℕ) : Type 0 where
+pub record IsWithin (space : GroupedTypes) (g : Range ℕ) : Type 0 where
   pub ordered : g.start ≤ g.end
   pub inside : g.end ≤ length space.types
 
 -- each group lies within the types
-pub group_within : (space : Space) (k : ℕ) (d : Range ℕ) → AreConsecutive 0 space.groups → next_start space.groups ≤ length space.types → k < length space.groups → IsWithin space (get_or space.groups k d)
+pub group_within : (space : GroupedTypes) (k : ℕ) (d : Range ℕ) → AreConsecutive 0 space.groups → next_start space.groups ≤ length space.types → k < length space.groups → IsWithin space (get_or space.groups k d)
 group_within space k d consecutive within lt =
     let ends = All-from_recursion (λ (g : Range ℕ). g.end ≤ next_start space.groups) space.groups (ends_within 0 space.groups consecutive).1 k d lt in
     record {

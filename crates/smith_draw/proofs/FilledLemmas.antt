@@ -10,7 +10,7 @@ use Rattle.smith_bytes.proofs.GrownLemmas.{grow_all, cond_both}
 use Rattle.smith_types.specs.Expressions.{Context, unpacked, field_values}
 use Rattle.smith_types.specs.Grounded.{IsGrounded}
 use Rattle.smith_types.specs.Grown.{IsContextGrown, AreImportsGrown}
-use Rattle.smith_types.specs.Space.{Space}
+use Rattle.smith_types.specs.GroupedTypes.{GroupedTypes}
 use Rattle.smith_types.specs.Types.{IsOrderly}
 use Rattle.smith_types.specs.declared.value_type.HeapType.{HeapType}
 use Rattle.smith_types.specs.declared.value_type.RefType.{RefType}
@@ -220,7 +220,7 @@ later_filled config context types more t h =
     (λ field filled never. filled (later_ungrounded config context types more (unpacked field.element_type) never)) (fields_of t.composite_type.inner) h
 
 -- groups drawn after filled types are filled
-types_filled : (config : Config) (context : Context) (space : Space) (bytes : List ℕ) → IsOrderly space.types → All (HasFilledFields config (over context space.types)) space.types → let drawn = (types_at config context space bytes).0.types in All (HasFilledFields config (over context drawn)) drawn
+types_filled : (config : Config) (context : Context) (space : GroupedTypes) (bytes : List ℕ) → IsOrderly space.types → All (HasFilledFields config (over context space.types)) space.types → let drawn = (types_at config context space bytes).0.types in All (HasFilledFields config (over context drawn)) drawn
 types_filled config context space bytes orderly all =
     (types_have (λ types. HasFilledFields config (over context types)) (later_filled config context) config context (λ types limit after still. sub_type_filled config (over context types) still limit after) space bytes (record { orderly = orderly; each = all })).each
 
@@ -269,7 +269,7 @@ module _ (P : ValType → Type 0) where
   held_none types all = each_none Held types (of_each types (recursion_from_All Lacked types all))
 
 -- if no existing field is ungrounded, no drawn field is
-pub types_grounded : (config : Config) (context : Context) (space : Space) (bytes : List ℕ) → IsOrderly space.types → ¬ HoldsUngroundedField config (over context space.types) → ¬ HoldsUngroundedField config (over context (types_at config context space bytes).0.types)
+pub types_grounded : (config : Config) (context : Context) (space : GroupedTypes) (bytes : List ℕ) → IsOrderly space.types → ¬ HoldsUngroundedField config (over context space.types) → ¬ HoldsUngroundedField config (over context (types_at config context space bytes).0.types)
 types_grounded config context space bytes orderly none =
     let drawn = (types_at config context space bytes).0.types in
     held_none (IsUngrounded config (over context drawn)) drawn (types_filled config context space bytes orderly (none_held (IsUngrounded config (over context space.types)) space.types none))

@@ -8,7 +8,7 @@ use Rattle.smith_bytes.specs.Draws.{range_at}
 use Rattle.smith_bytes.proofs.GrownLemmas.{grow_all, cond_both}
 use Rattle.smith_types.specs.Expressions.{Context}
 use Rattle.smith_types.specs.Floats.{IsNoFloat, HasNoFloat}
-use Rattle.smith_types.specs.Space.{Space}
+use Rattle.smith_types.specs.GroupedTypes.{GroupedTypes}
 use Rattle.smith_types.specs.ValidTypes.{values_of, values_of_storage}
 use Rattle.smith_types.specs.declared.value_type.ValType.{ValType}
 use Rattle.smith_types.specs.declared.value_type.ValType.TheVariants as vals
@@ -196,5 +196,5 @@ module _ (config : Config) (off : config.allow_floats ≡ false) where
       cond_both (λ (r : SubType × List ℕ). HasNoFloat r.0) wanted.0 (sub_type_of_at config context limit (supertypes context.types) wanted.1) (root_type_at config context limit wanted.1)
       (below_drawn context limit index.0 (slice_get context.types index.0) index.1 (λ t at. stands_in HasNoFloat context.types index.0 t at all)) (root_drawn context limit wanted.1)
 
-  pub types_no_float : (context : Context) (space : Space) (bytes : List ℕ) → All HasNoFloat space.types → All HasNoFloat (types_at config context space bytes).0.types
+  pub types_no_float : (context : Context) (space : GroupedTypes) (bytes : List ℕ) → All HasNoFloat space.types → All HasNoFloat (types_at config context space bytes).0.types
   types_no_float context space bytes all = types_keep config context HasNoFloat (λ types. sub_type_no_float (over context types)) space bytes all

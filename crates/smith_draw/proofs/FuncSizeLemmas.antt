@@ -6,7 +6,7 @@ use Rattle.std.proofs.lemmas.List.Elements.{All-weaker}
 use Rattle.std.proofs.lemmas.Option.{slice_get_within, get_or_from_slice_get}
 use Rattle.smith_bytes.proofs.GrownLemmas.{grow_most}
 use Rattle.smith_types.specs.Expressions.{Context}
-use Rattle.smith_types.specs.Space.{Space}
+use Rattle.smith_types.specs.GroupedTypes.{GroupedTypes}
 use Rattle.smith_types.specs.declared.composite_type.CompositeInnerType.{CompositeInnerType}
 use Rattle.smith_types.specs.declared.composite_type.CompositeInnerType.TheVariants.{Array, Func, Struct}
 use Rattle.smith_types.specs.declared.composite_type.FuncType.{FuncType}
@@ -89,7 +89,7 @@ module _ (most : ℕ) (enough : 20 ≤ most) where
   sub_type_within config context limit bytes all = sub_type_has config context limit (HasFewValues most) (root_within config context limit) (below_within config context limit) all bytes
 
   -- the same for a type space to which drawn groups are added
-  pub types_within : (config : Config) (context : Context) (space : Space) (bytes : List ℕ) → All (HasFewValues most) space.types → All (HasFewValues most) (types_at config context space bytes).0.types
+  pub types_within : (config : Config) (context : Context) (space : GroupedTypes) (bytes : List ℕ) → All (HasFewValues most) space.types → All (HasFewValues most) (types_at config context space bytes).0.types
   types_within config context space bytes all = types_keep config context (HasFewValues most) (λ types. sub_type_within config (over context types)) space bytes all
 
 short_inner : (inner : CompositeInnerType) → IsInnerShort inner → IsInnerWithin most_listed inner

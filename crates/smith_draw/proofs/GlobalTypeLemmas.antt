@@ -7,7 +7,7 @@ use Rattle.smith_bytes.proofs.SpelledLemmas.{joined_parts, bool_read, takes_by}
 use Rattle.smith_types.specs.Expressions.{Context}
 use Rattle.smith_types.specs.Entities.{IsGlobalValid}
 use Rattle.smith_types.specs.Floats.{IsNoFloat}
-use Rattle.smith_types.specs.Space.{Space}
+use Rattle.smith_types.specs.GroupedTypes.{GroupedTypes}
 use Rattle.smith_types.specs.ValidTypes.{AreTypesValid, IsValTypeValid, IsShareable}
 use Rattle.smith_types.specs.declared.value_type.ValType.{ValType}
 use Rattle.smith_types.specs.declared.value_type.ValType.TheVariants.{I32, I64, F32, F64, V128, Ref}
@@ -25,7 +25,7 @@ use Rattle.smith_draw.proofs.SharedHeapTypeLemmas.{sharing}
 use Rattle.smith_draw.proofs.SpelledValueLemmas.{unshared_read, val_type_read}
 use Rattle.smith_draw.proofs.ValueTypeLemmas.{sharedness_may, val_type_drawn}
 
-global_sharing : (config : Config) (space : Space) (value : ValType) (bytes : List ℕ) → AreTypesValid (features_of config) space → IsValTypeValid (features_of config) (length space.types) value → IsTrue (global_sharedness_at config space.types value bytes).0
+global_sharing : (config : Config) (space : GroupedTypes) (value : ValType) (bytes : List ℕ) → AreTypesValid (features_of config) space → IsValTypeValid (features_of config) (length space.types) value → IsTrue (global_sharedness_at config space.types value bytes).0
     → IsTrue config.shared_everything_threads_enabled × IsShareable space.types value
 global_sharing config space (Ref reference) bytes valid h on = sharing config space (length space.types) reference.heap_type valid h.1.heap_type on
 global_sharing config space I32 bytes valid h on = (sharedness_may config false bytes (λ no. cc) on, tt)
@@ -35,7 +35,7 @@ global_sharing config space F64 bytes valid h on = (sharedness_may config false 
 global_sharing config space V128 bytes valid h on = (sharedness_may config false bytes (λ no. cc) on, tt)
 
 -- over valid types
-pub global_type_valid : (config : Config) (context : Context) (space : Space) (bytes : List ℕ) → IsSanitized config → AreTypesValid (features_of config) space → IsGlobalValid (features_of config) space.types (global_type_at config (over context space.types) bytes).0
+pub global_type_valid : (config : Config) (context : Context) (space : GroupedTypes) (bytes : List ℕ) → IsSanitized config → AreTypesValid (features_of config) space → IsGlobalValid (features_of config) space.types (global_type_at config (over context space.types) bytes).0
 unfolding global_type_at
 global_type_valid config context space bytes sanitized valid =
     let value = val_type_at config (over context space.types) false (length space.types) bytes in

@@ -8,7 +8,7 @@ use Rattle.std.proofs.lemmas.List.Elements.{All-nil, All-append, All-weaker, All
 use Rattle.smith_bytes.specs.Draws.{range_at}
 use Rattle.smith_bytes.proofs.GrownLemmas.{grow_all}
 use Rattle.smith_types.specs.Expressions.{Context, unpacked}
-use Rattle.smith_types.specs.Space.{Space}
+use Rattle.smith_types.specs.GroupedTypes.{GroupedTypes}
 use Rattle.smith_types.specs.Types.{IsOrderly}
 use Rattle.smith_types.specs.ValidTypes.{values_of, values_of_storage}
 use Rattle.smith_types.specs.declared.value_type.ValType.{ValType}
@@ -178,11 +178,11 @@ module _ (config : Config) (context : Context) where
   one_more : (types : List SubType) (limit : ℕ) (bytes : List ℕ) → IsOrderly types → All (IsGrantedAmong types) types → IsGrantedAmong types (sub_type_at config (over context types) limit bytes).0
   one_more types limit bytes orderly all = sub_type_granted config (over context types) orderly limit bytes all
 
-  pub clone_granted : (allow_empty : Bool) (space : Space) (bytes : List ℕ) → IsOrderly space.types → AreTypesGranted config (over context space.types) → AreTypesGranted config (over context (clone_rec_group_at config allow_empty space bytes).1.0.types)
+  pub clone_granted : (allow_empty : Bool) (space : GroupedTypes) (bytes : List ℕ) → IsOrderly space.types → AreTypesGranted config (over context space.types) → AreTypesGranted config (over context (clone_rec_group_at config allow_empty space bytes).1.0.types)
   clone_granted allow_empty space bytes orderly all = (cloned IsGrantedAmong later_granted config context one_more allow_empty space bytes (record { orderly = orderly; each = all })).each
 
-  pub rec_group_granted : (allow_empty : Bool) (space : Space) (bytes : List ℕ) → IsOrderly space.types → AreTypesGranted config (over context space.types) → AreTypesGranted config (over context (rec_group_at config context allow_empty space bytes).0.types)
+  pub rec_group_granted : (allow_empty : Bool) (space : GroupedTypes) (bytes : List ℕ) → IsOrderly space.types → AreTypesGranted config (over context space.types) → AreTypesGranted config (over context (rec_group_at config context allow_empty space bytes).0.types)
   rec_group_granted allow_empty space bytes orderly all = (rec_group_has IsGrantedAmong later_granted config context one_more allow_empty space bytes (record { orderly = orderly; each = all })).each
 
-  pub types_granted : (space : Space) (bytes : List ℕ) → IsOrderly space.types → AreTypesGranted config (over context space.types) → AreTypesGranted config (over context (types_at config context space bytes).0.types)
+  pub types_granted : (space : GroupedTypes) (bytes : List ℕ) → IsOrderly space.types → AreTypesGranted config (over context space.types) → AreTypesGranted config (over context (types_at config context space bytes).0.types)
   types_granted space bytes orderly all = (types_have IsGrantedAmong later_granted config context one_more space bytes (record { orderly = orderly; each = all })).each

@@ -8,7 +8,7 @@ use Rattle.smith_bytes.specs.Draws.{range_at, ratio_at}
 use Rattle.smith_bytes.proofs.DrawnLemmas.{range_within}
 use Rattle.smith_bytes.proofs.GrownLemmas.{grow_most, grow_least}
 use Rattle.smith_types.specs.Expressions.{Context}
-use Rattle.smith_types.specs.Space.{Space}
+use Rattle.smith_types.specs.GroupedTypes.{GroupedTypes}
 use Rattle.smith_types.specs.Types.{AreConsecutive, next_start}
 use Rattle.smith_types.specs.declared.composite_type.SubType.{SubType}
 use Rattle.smith_config.specs.declared.config.Config.{Config}
@@ -26,7 +26,7 @@ unfolding range_at
 range_above lo hi bytes = omega arith
 
 -- a group adds at most as many types as fit, and at least one if it must not be empty
-pub record HasMore (config : Config) (allow_empty : Bool) (space more : Space) : Type 0 where
+pub record HasMore (config : Config) (allow_empty : Bool) (space more : GroupedTypes) : Type 0 where
   pub most : length more.types ≤ config.max_types
   pub kept : length space.types ≤ length more.types
   pub some : allow_empty ≡ false → length space.types < length more.types
@@ -45,7 +45,7 @@ types_until_length config context limit types bytes le =
     let least = grow_least draw limit (limit - length types) types bytes (omega arith) in
     omega (arith, most, least)
 
-pub new_group_more : (config : Config) (context : Context) (allow_empty : Bool) (space : Space) (bytes : List ℕ) → length space.types < config.max_types → HasMore config allow_empty space (new_group_at config context allow_empty space bytes).0
+pub new_group_more : (config : Config) (context : Context) (allow_empty : Bool) (space : GroupedTypes) (bytes : List ℕ) → length space.types < config.max_types → HasMore config allow_empty space (new_group_at config context allow_empty space bytes).0
 unfolding new_group_at
 new_group_more config context allow_empty space bytes room =
     let size = group_size_at config allow_empty (types_left config space) bytes in
@@ -63,11 +63,11 @@ either_false true b h e = cc
 either_false false b h e = h
 
 -- the properties of a group that may be cloned
-pub record IsClonable (config : Config) (allow_empty : Bool) (space : Space) (group : Range ℕ) : Type 0 where
+pub record IsClonable (config : Config) (allow_empty : Bool) (space : GroupedTypes) (group : Range ℕ) : Type 0 where
   pub room : group.end - group.start ≤ types_left config space
   pub some : allow_empty ≡ false → group.start < group.end
 
-pub clonable : (config : Config) (allow_empty : Bool) (space : Space) (group : Range ℕ) → may_be_cloned config allow_empty space group ≡ true → IsClonable config allow_empty space group
+pub clonable : (config : Config) (allow_empty : Bool) (space : GroupedTypes) (group : Range ℕ) → may_be_cloned config allow_empty space group ≡ true → IsClonable config allow_empty space group
 clonable config allow_empty space group may =
     let (kind, room) = both_true (allow_empty || nat_lt group.start group.end) (nat_le (group.end - group.start) (types_left config space)) may in
     record {
@@ -82,7 +82,7 @@ members_length types group ordered inside =
     let rest = length-drop group.start types in
     omega (arith, few, rest)
 
-with_clone_more : (config : Config) (allow_empty : Bool) (space : Space) (group : Range ℕ) → IsWithin space group → length space.types < config.max_types → IsClonable config allow_empty space group → HasMore config allow_empty space (with_clone space group)
+with_clone_more : (config : Config) (allow_empty : Bool) (space : GroupedTypes) (group : Range ℕ) → IsWithin space group → length space.types < config.max_types → IsClonable config allow_empty space group → HasMore config allow_empty space (with_clone space group)
 with_clone_more config allow_empty space group within room may =
     let len = members_length space.types group within.ordered within.inside in
     let longer = length-append space.types (members space.types group) in
@@ -90,41 +90,41 @@ with_clone_more config allow_empty space group within room may =
     record { most = omega (arith, len, longer, fits); kept = omega (arith, longer); some = λ e. let one = may.some e in omega (arith, len, longer, one) }
 
 -- a clone is drawn only if there is a group
-pub clone_wanted : (config : Config) (space : Space) (bytes : List ℕ) → IsTrue (clone_wanted_at config space bytes).0 → IsTrue config.gc_enabled × (0 < length space.groups)
+pub clone_wanted : (config : Config) (space : GroupedTypes) (bytes : List ℕ) → IsTrue (clone_wanted_at config space bytes).0 → IsTrue config.gc_enabled × (0 < length space.groups)
 clone_wanted config space bytes h =
     let (gc, some) = wanted_by config.gc_enabled (nat_lt 0 (length space.groups)) (ratio_at 1 255 bytes) bytes h in
     (gc, ltb-true 0 (length space.groups) some)
 
 -- the groups of a space follow one another, within its types
-pub record AreWithin (space : Space) : Type 0 where
+pub record AreWithin (space : GroupedTypes) : Type 0 where
   pub consecutive : AreConsecutive 0 space.groups
   pub within : next_start space.groups ≤ length space.types
 
-pub chosen_within : (space : Space) (bytes : List ℕ) → AreWithin space → 0 < length space.groups → IsWithin space (chosen_at (record { start = 0; end = 0 }) space.groups bytes).0
+pub chosen_within : (space : GroupedTypes) (bytes : List ℕ) → AreWithin space → 0 < length space.groups → IsWithin space (chosen_at (record { start = 0; end = 0 }) space.groups bytes).0
 chosen_within space bytes within some = chosen_of (IsWithin space) (record { start = 0; end = 0 }) space.groups bytes some (λ k d inside. group_within space k d within.consecutive within.within inside)
 
-clone_most : (config : Config) (allow_empty : Bool) (space : Space) (group : Range ℕ) (cloned : Bool) → may_be_cloned config allow_empty space group ≡ cloned → IsWithin space group → length space.types < config.max_types
+clone_most : (config : Config) (allow_empty : Bool) (space : GroupedTypes) (group : Range ℕ) (cloned : Bool) → may_be_cloned config allow_empty space group ≡ cloned → IsWithin space group → length space.types < config.max_types
     → length (cond cloned (with_clone space group) space).types ≤ config.max_types
 clone_most config allow_empty space group true may within room = (with_clone_more config allow_empty space group within room (clonable config allow_empty space group may)).most
 clone_most config allow_empty space group false may within room = omega arith
 
-pub clone_rec_group_most : (config : Config) (allow_empty : Bool) (space : Space) (bytes : List ℕ) → AreWithin space → 0 < length space.groups → length space.types < config.max_types → length (clone_rec_group_at config allow_empty space bytes).1.0.types ≤ config.max_types
+pub clone_rec_group_most : (config : Config) (allow_empty : Bool) (space : GroupedTypes) (bytes : List ℕ) → AreWithin space → 0 < length space.groups → length space.types < config.max_types → length (clone_rec_group_at config allow_empty space bytes).1.0.types ≤ config.max_types
 unfolding clone_rec_group_at
 clone_rec_group_most config allow_empty space bytes within some room =
     let group = chosen_at (record { start = 0; end = 0 }) space.groups bytes in
     clone_most config allow_empty space group.0 (may_be_cloned config allow_empty space group.0) refl (chosen_within space bytes within some) room
 
-clone_or : (config : Config) (context : Context) (space : Space) (group : Range ℕ) (left : List ℕ) (cloned : Bool) → may_be_cloned config false space group ≡ cloned → IsWithin space group → length space.types < config.max_types
-    → HasMore config false space (cond {A = Space × List ℕ} (cloned || false) ((cond cloned (with_clone space group) space), left) (new_group_at config context false (cond cloned (with_clone space group) space) left)).0
+clone_or : (config : Config) (context : Context) (space : GroupedTypes) (group : Range ℕ) (left : List ℕ) (cloned : Bool) → may_be_cloned config false space group ≡ cloned → IsWithin space group → length space.types < config.max_types
+    → HasMore config false space (cond {A = GroupedTypes × List ℕ} (cloned || false) ((cond cloned (with_clone space group) space), left) (new_group_at config context false (cond cloned (with_clone space group) space) left)).0
 clone_or config context space group left true may within room = with_clone_more config false space group within room (clonable config false space group may)
 clone_or config context space group left false may within room = new_group_more config context false space left room
 
-clone_if : (config : Config) (context : Context) (space : Space) (group : Range ℕ) (left : List ℕ) (cloned : Bool) → may_be_cloned config true space group ≡ cloned → IsWithin space group → length space.types < config.max_types
-    → HasMore config true space (cond {A = Space × List ℕ} (cloned || true) ((cond cloned (with_clone space group) space), left) (new_group_at config context true (cond cloned (with_clone space group) space) left)).0
+clone_if : (config : Config) (context : Context) (space : GroupedTypes) (group : Range ℕ) (left : List ℕ) (cloned : Bool) → may_be_cloned config true space group ≡ cloned → IsWithin space group → length space.types < config.max_types
+    → HasMore config true space (cond {A = GroupedTypes × List ℕ} (cloned || true) ((cond cloned (with_clone space group) space), left) (new_group_at config context true (cond cloned (with_clone space group) space) left)).0
 clone_if config context space group left true may within room = with_clone_more config true space group within room (clonable config true space group may)
 clone_if config context space group left false may within room = record { most = omega arith; kept = omega arith; some = λ e. cc }
 
-cloned_or_new_more : (config : Config) (context : Context) (allow_empty : Bool) (space : Space) (bytes : List ℕ) → AreWithin space → 0 < length space.groups → length space.types < config.max_types → HasMore config allow_empty space (cloned_or_new_at config context allow_empty space bytes).0
+cloned_or_new_more : (config : Config) (context : Context) (allow_empty : Bool) (space : GroupedTypes) (bytes : List ℕ) → AreWithin space → 0 < length space.groups → length space.types < config.max_types → HasMore config allow_empty space (cloned_or_new_at config context allow_empty space bytes).0
 unfolding clone_rec_group_at
 cloned_or_new_more config context true space bytes within some room =
     let group = chosen_at (record { start = 0; end = 0 }) space.groups bytes in
@@ -133,9 +133,9 @@ cloned_or_new_more config context false space bytes within some room =
     let group = chosen_at (record { start = 0; end = 0 }) space.groups bytes in
     clone_or config context space group.0 group.1 (may_be_cloned config false space group.0) refl (chosen_within space bytes within some) room
 
-pub rec_group_more : (config : Config) (context : Context) (allow_empty : Bool) (space : Space) (bytes : List ℕ) → AreWithin space → length space.types < config.max_types → HasMore config allow_empty space (rec_group_at config context allow_empty space bytes).0
+pub rec_group_more : (config : Config) (context : Context) (allow_empty : Bool) (space : GroupedTypes) (bytes : List ℕ) → AreWithin space → length space.types < config.max_types → HasMore config allow_empty space (rec_group_at config context allow_empty space bytes).0
 unfolding rec_group_at
 rec_group_more config context allow_empty space bytes within room =
     let wanted = clone_wanted_at config space bytes in
-    cond_where (λ (r : Space × List ℕ). HasMore config allow_empty space r.0) wanted.0 (cloned_or_new_at config context allow_empty space wanted.1) (new_group_at config context allow_empty space wanted.1)
+    cond_where (λ (r : GroupedTypes × List ℕ). HasMore config allow_empty space r.0) wanted.0 (cloned_or_new_at config context allow_empty space wanted.1) (new_group_at config context allow_empty space wanted.1)
     (λ on. cloned_or_new_more config context allow_empty space wanted.1 within (clone_wanted config space bytes on).1 room) (new_group_more config context allow_empty space wanted.1 room)

@@ -9,7 +9,7 @@ use Rattle.std.proofs.lemmas.List.Elements.{All-append, All-weaker, All-from_rec
 use Rattle.std.proofs.lemmas.Option.{slice_get-get_or, slice_get_within}
 use Rattle.smith_bytes.proofs.GrownLemmas.{cond_both}
 use Rattle.smith_types.specs.Expressions.{Context}
-use Rattle.smith_types.specs.Space.{Space}
+use Rattle.smith_types.specs.GroupedTypes.{GroupedTypes}
 use Rattle.smith_types.specs.Types.{IsAlike, IsOrderly}
 use Rattle.smith_types.specs.declared.composite_type.SubType.{SubType}
 use Rattle.smith_types.proofs.SpaceLemmas.{IsOrderly-push}
@@ -82,34 +82,34 @@ module _ (P : List SubType → SubType → Type 0) (stays : (types more : List S
         (λ made after h. pushed made (sub_type_at config (over context made) limit after).0 h (sub_type_follows config (over context made) limit after).below (drawn made limit after h.orderly h.each))
         limit (limit - length types) types bytes now
 
-    new_group : (allow_empty : Bool) (space : Space) (bytes : List ℕ) → AllHave P space.types → AllHave P (new_group_at config context allow_empty space bytes).0.types
+    new_group : (allow_empty : Bool) (space : GroupedTypes) (bytes : List ℕ) → AllHave P space.types → AllHave P (new_group_at config context allow_empty space bytes).0.types
     unfolding new_group_at
     new_group allow_empty space bytes now =
         let size = group_size_at config allow_empty (types_left config space) bytes in
         types_until space.types (length space.types + size.0) size.1 now
 
-    pub cloned : (allow_empty : Bool) (space : Space) (bytes : List ℕ) → AllHave P space.types → AllHave P (clone_rec_group_at config allow_empty space bytes).1.0.types
+    pub cloned : (allow_empty : Bool) (space : GroupedTypes) (bytes : List ℕ) → AllHave P space.types → AllHave P (clone_rec_group_at config allow_empty space bytes).1.0.types
     unfolding clone_rec_group_at
     cloned allow_empty space bytes now =
         let group = chosen_at (record { start = 0; end = 0 }) space.groups bytes in
-        cond_both (λ (s : Space). AllHave P s.types) (may_be_cloned config allow_empty space group.0) (with_clone space group.0) space
+        cond_both (λ (s : GroupedTypes). AllHave P s.types) (may_be_cloned config allow_empty space group.0) (with_clone space group.0) space
         (copied space.types (members space.types group.0) now (members_stand space.types group.0)) now
 
-    pub rec_group_has : (allow_empty : Bool) (space : Space) (bytes : List ℕ) → AllHave P space.types → AllHave P (rec_group_at config context allow_empty space bytes).0.types
+    pub rec_group_has : (allow_empty : Bool) (space : GroupedTypes) (bytes : List ℕ) → AllHave P space.types → AllHave P (rec_group_at config context allow_empty space bytes).0.types
     unfolding rec_group_at
     rec_group_has allow_empty space bytes now =
         let wanted = clone_wanted_at config space bytes in
         let clone = clone_rec_group_at config allow_empty space wanted.1 in
         let copies = cloned allow_empty space wanted.1 now in
-        let Keeps = λ (r : Space × List ℕ). AllHave P r.0.types in
+        let Keeps = λ (r : GroupedTypes × List ℕ). AllHave P r.0.types in
         cond_both Keeps wanted.0 (cloned_or_new_at config context allow_empty space wanted.1) (new_group_at config context allow_empty space wanted.1)
         (cond_both Keeps (clone.0 || allow_empty) clone.1 (new_group_at config context allow_empty clone.1.0 clone.1.1) copies (new_group allow_empty clone.1.0 clone.1.1 copies))
         (new_group allow_empty space wanted.1 now)
 
-    pub types_have : (space : Space) (bytes : List ℕ) → AllHave P space.types → AllHave P (types_at config context space bytes).0.types
+    pub types_have : (space : GroupedTypes) (bytes : List ℕ) → AllHave P space.types → AllHave P (types_at config context space bytes).0.types
     unfolding types_at
     types_have space bytes now =
-        let Keeps = λ (s : Space). AllHave P s.types in
+        let Keeps = λ (s : GroupedTypes). AllHave P s.types in
         let least = least_types_at config context config.min_types space bytes in
         more_keeps config context Keeps (λ s after room h. rec_group_has true s after h) (length least.1 + 1) least.0 least.1
         (least_keeps config context Keeps (λ s after few h. rec_group_has false s after h) config.min_types space bytes now)

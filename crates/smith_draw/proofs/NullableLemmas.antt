@@ -6,7 +6,7 @@ use Rattle.std.specs.List.{Any}
 use Rattle.std.proofs.lemmas.Bool.{true≢false}
 use Rattle.smith_types.specs.Expressions.{Context}
 use Rattle.smith_types.specs.Expressions.{field_values}
-use Rattle.smith_types.specs.Space.{Space}
+use Rattle.smith_types.specs.GroupedTypes.{GroupedTypes}
 use Rattle.smith_types.specs.Types.{IsOrderly}
 use Rattle.smith_types.specs.declared.value_type.ValType.{ValType}
 use Rattle.smith_types.specs.declared.value_type.ValType.TheVariants as vals
@@ -77,7 +77,7 @@ held_weaker : (P Q : ValType → Type 0) → ((v : ValType) → P v → Q v) →
 held_weaker P Q f types any =
     any_weaker (λ (t : SubType). Any P (field_values (fields_of t.composite_type.inner))) (λ (t : SubType). Any Q (field_values (fields_of t.composite_type.inner))) (λ t. any_weaker P Q f (field_values (fields_of t.composite_type.inner))) types any
 
-pub types_nullable : (config : Config) (off : config.non_nullable_enabled ≡ false) (context : Context) (space : Space) (bytes : List ℕ) → IsOrderly space.types → ¬ HoldsNonNullableField space.types → ¬ HoldsNonNullableField (types_at config context space bytes).0.types
+pub types_nullable : (config : Config) (off : config.non_nullable_enabled ≡ false) (context : Context) (space : GroupedTypes) (bytes : List ℕ) → IsOrderly space.types → ¬ HoldsNonNullableField space.types → ¬ HoldsNonNullableField (types_at config context space bytes).0.types
 types_nullable config off context space bytes orderly none holds =
     let drawn = (types_at config context space bytes).0.types in
     types_grounded config context space bytes orderly

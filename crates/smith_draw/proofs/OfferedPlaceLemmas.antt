@@ -12,7 +12,7 @@ use Rattle.smith_types.specs.declared.composite_type.CompositeInnerType.{Composi
 use Rattle.smith_types.specs.declared.composite_type.SubType.{SubType}
 use Rattle.smith_types.specs.Kinds.{shared, bottom}
 use Rattle.smith_types.specs.Types.{IsOrderly}
-use Rattle.smith_types.specs.Space.{HasDepth, root, deeper}
+use Rattle.smith_types.specs.GroupedTypes.{HasDepth, root, deeper}
 use Rattle.smith_types.specs.Subtyping.{IsBelow}
 use Rattle.smith_types.specs.KindCounts.{is_inner_of_kind, indices_from, indices_of_kind}
 use Rattle.smith_types.specs.KindCounts as kinds
@@ -22,7 +22,7 @@ use Rattle.smith_types.proofs.ListLemmas.{slice_get-grown}
 use Rattle.smith_types.proofs.PathLemmas.{below_declared}
 use Rattle.smith_types.proofs.SpaceLemmas.{depth_alone, depth_some}
 use Rattle.smith_types.proofs.WalkLemmas.{below_level, below_above}
-use Rattle.smith_draw.specs.Offered.{is_of_kind, is_kind, is_index, is_declared_below, direct_subtypes, picked_from, of_kinds, supertype_of, ancestors, supertypes_of_inner, kinds_at, of_standing, bottom_at, gc_supertypes}
+use Rattle.smith_draw.specs.Offered.{is_of_kind, is_kind, direct_subtypes, picked_from, of_kinds, supertype_of, ancestors, supertypes_of_inner, kinds_at, of_standing, bottom_at, gc_supertypes}
 use Rattle.smith_draw.proofs.AncestorLemmas.{ancestors_up, ancestors_none}
 
 -- an item of the second of two lists comes after the first in their concatenation
@@ -163,11 +163,7 @@ up_found types o i d n place a deep up past high below =
 
 -- the direct subtypes of a type, by their indices
 direct_indices : (types : List SubType) (i : ℕ) → direct_subtypes types i ≡ map Concrete (families.direct_subtypes types i)
-direct_indices types i = picked_indices (is_declared_below i) (is_directly_below i) (λ t. one t.supertype) 0 types
-  where
-    one : (o : Option ℕ) → is_index i o ≡ families.is_index i o
-    one None = refl
-    one (Some s) = refl
+direct_indices types i = picked_indices (is_directly_below i) (is_directly_below i) (λ t. refl) 0 types
 
 pub direct_counted : (types : List SubType) (i n : ℕ) → n ≡ length (families.direct_subtypes types i) → n ≡ length (direct_subtypes types i)
 direct_counted types i n count = count ∙ sym (length-map (families.direct_subtypes types i) Concrete) ∙ ap length (sym (direct_indices types i))

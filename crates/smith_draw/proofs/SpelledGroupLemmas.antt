@@ -9,7 +9,7 @@ use Rattle.smith_bytes.specs.Draws.{bool_at, range_at, ratio_at}
 use Rattle.smith_bytes.specs.Spelling.{SpellsRefusal, SpellsBool, Where}
 use Rattle.smith_bytes.proofs.SpelledLemmas.{joined_parts, bool_read, number_read}
 use Rattle.smith_types.specs.Expressions.{Context}
-use Rattle.smith_types.specs.Space.{Space}
+use Rattle.smith_types.specs.GroupedTypes.{GroupedTypes}
 use Rattle.smith_types.specs.Types.{next_start}
 use Rattle.smith_types.proofs.SpaceLemmas.{next_start-push}
 use Rattle.smith_types.specs.declared.composite_type.SubType.{SubType}
@@ -30,12 +30,12 @@ size_without true drawn bytes e = cc
 size_without false drawn bytes e = refl
 
 -- no clone is drawn, and a size is drawn
-record IsSized (config : Config) (space : Space) (size : ℕ) (bytes after : List ℕ) : Type 0 where
+record IsSized (config : Config) (space : GroupedTypes) (size : ℕ) (bytes after : List ℕ) : Type 0 where
   pub behind : List ℕ
   pub new : clone_wanted_at config space bytes ≡ (false, behind)
   pub sized : group_size_at config true (types_left config space) behind ≡ (size, after)
 
-size_read : (gc : Bool) (config : Config) (space : Space) (size : ℕ) (piece after : List ℕ) → config.gc_enabled ≡ gc → SpellsSize gc config (nat_lt 0 (length space.groups)) (types_left config space) size piece
+size_read : (gc : Bool) (config : Config) (space : GroupedTypes) (size : ℕ) (piece after : List ℕ) → config.gc_enabled ≡ gc → SpellsSize gc config (nat_lt 0 (length space.groups)) (types_left config space) size piece
     → IsSized config space size (piece ++ after) after
 size_read true config space size piece after e h =
     let some = nat_lt 0 (length space.groups) in
@@ -56,17 +56,17 @@ size_read false config space size piece after e h =
       sized = size_without config.gc_enabled (range_at 0 (types_left config space) bytes) bytes e ∙ rw (none, h.0) refl;
     }
 
-group_of : (config : Config) (context : Context) (space : Space) (group : List SubType) (bytes behind mid after : List ℕ) → clone_wanted_at config space bytes ≡ (false, behind) → group_size_at config true (types_left config space) behind ≡ (length group, mid)
+group_of : (config : Config) (context : Context) (space : GroupedTypes) (group : List SubType) (bytes behind mid after : List ℕ) → clone_wanted_at config space bytes ≡ (false, behind) → group_size_at config true (types_left config space) behind ≡ (length group, mid)
     → types_until_at config context (length space.types + length group) space.types mid ≡ (space.types ++ group, after) → rec_group_at config context true space bytes ≡ (with_group (space.types ++ group) space.groups, after)
 unfolding rec_group_at new_group_at
 group_of config context space group bytes behind mid after new sized types = rw (new, sized, types) refl
 
 -- a group is drawn, and no type has a supertype afterwards
-pub record IsAdded (config : Config) (context : Context) (space : Space) (group : List SubType) (bytes after : List ℕ) : Type 0 where
+pub record IsAdded (config : Config) (context : Context) (space : GroupedTypes) (group : List SubType) (bytes after : List ℕ) : Type 0 where
   pub made : rec_group_at config context true space bytes ≡ (with_group (space.types ++ group) space.groups, after)
   pub roots : All IsRoot (space.types ++ group)
 
-pub group_read : (config : Config) (context : Context) (same : context.features.custom_descriptors ≡ config.custom_descriptors_enabled) (space : Space) (group : List SubType) (piece after : List ℕ) → IsSanitized config → All IsRoot space.types → ReferBack config space.types group
+pub group_read : (config : Config) (context : Context) (same : context.features.custom_descriptors ≡ config.custom_descriptors_enabled) (space : GroupedTypes) (group : List SubType) (piece after : List ℕ) → IsSanitized config → All IsRoot space.types → ReferBack config space.types group
     → SpellsGroup config space.types (nat_lt 0 (length space.groups)) group piece → IsAdded config context space group (piece ++ after) after
 unfolding types_until_at SpellsGroup
 group_read config context same space group piece after sanitized roots back h =
@@ -82,16 +82,16 @@ group_read config context same space group piece after sanitized roots back h =
     }
 
 -- a space with groups appended
-abbrev pub with_groups : Space → List (List SubType) → Space
+abbrev pub with_groups : GroupedTypes → List (List SubType) → GroupedTypes
 with_groups space [] = space
 with_groups space (group ∷ groups) = with_groups (with_group (space.types ++ group) space.groups) groups
 
-ended : (room : Bool) (space : Space) (piece after : List ℕ) (more : Space × List ℕ) → Where room (SpellsBool false) piece
+ended : (room : Bool) (space : GroupedTypes) (piece after : List ℕ) (more : GroupedTypes × List ℕ) → Where room (SpellsBool false) piece
     → cond room (cond (bool_at (piece ++ after)).0 more (space, (bool_at (piece ++ after)).1)) (space, piece ++ after) ≡ (space, after)
 ended true space piece after more h = rw (bool_read false piece after h) refl
 ended false space piece after more h = rw h refl
 
-groups_read : (config : Config) (context : Context) (same : context.features.custom_descriptors ≡ config.custom_descriptors_enabled) (turns : ℕ) (space : Space) (stands : Bool) (groups : List (List SubType)) (piece after : List ℕ) → IsSanitized config → stands ≡ nat_lt 0 (length space.groups) → length groups < turns → All IsRoot space.types
+groups_read : (config : Config) (context : Context) (same : context.features.custom_descriptors ≡ config.custom_descriptors_enabled) (turns : ℕ) (space : GroupedTypes) (stands : Bool) (groups : List (List SubType)) (piece after : List ℕ) → IsSanitized config → stands ≡ nat_lt 0 (length space.groups) → length groups < turns → All IsRoot space.types
     → GroupsFit config space.types groups → SpellsGroups config space.types stands groups piece → more_types_at config context turns space (piece ++ after) ≡ (with_groups space groups, after)
 unfolding more_types_at SpellsGroups
 groups_read config context same zero space stands groups piece after sanitized some enough roots fit h = absurd (omega arith)
@@ -124,7 +124,7 @@ groups_short config before stands (group ∷ groups) piece h =
     omega arith
 
 -- groups appended to a space whose groups cover its types
-with_groups_is : (space : Space) (groups : List (List SubType)) → next_start space.groups ≡ length space.types
+with_groups_is : (space : GroupedTypes) (groups : List (List SubType)) → next_start space.groups ≡ length space.types
     → with_groups space groups ≡ record { types = space.types ++ flat_map (λ group. group) groups; groups = space.groups ++ ranges_from (length space.types) groups }
 with_groups_is space [] covered = rw (append-nil, append-nil) refl
 with_groups_is space (group ∷ groups) covered =
@@ -132,7 +132,7 @@ with_groups_is space (group ∷ groups) covered =
     let again = with_groups_is (with_group types space.groups) groups (next_start-push types space.groups) in
     again ∙ simp (append_assoc, length-append, covered)
 
-least_none : (config : Config) (context : Context) (least : ℕ) (space : Space) (bytes : List ℕ) → least ≡ 0 → least_types_at config context least space bytes ≡ (space, bytes)
+least_none : (config : Config) (context : Context) (least : ℕ) (space : GroupedTypes) (bytes : List ℕ) → least ≡ 0 → least_types_at config context least space bytes ≡ (space, bytes)
 unfolding least_types_at
 least_none config context zero space bytes e = refl
 least_none config context (suc least) space bytes e = absurd (omega arith)
@@ -146,4 +146,4 @@ types_read config context same groups piece after sanitized least fit h =
     let long = length-append piece after in
     let enough : length groups < length bytes + 1 = omega arith in
     rw (least_none config context config.min_types (space_of []) bytes least)
-    (groups_read config context same (length bytes + 1) (space_of []) false groups piece after sanitized refl enough (All-nil IsRoot) fit h ∙ ap (λ (space : Space). (space, after)) (with_groups_is (space_of []) groups refl))
+    (groups_read config context same (length bytes + 1) (space_of []) false groups piece after sanitized refl enough (All-nil IsRoot) fit h ∙ ap (λ (space : GroupedTypes). (space, after)) (with_groups_is (space_of []) groups refl))

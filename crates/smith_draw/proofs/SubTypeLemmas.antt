@@ -5,7 +5,7 @@ use Rattle.std.proofs.lemmas.Bool.{ltb-true}
 use Rattle.std.proofs.lemmas.Option.{slice_get-get_or}
 use Rattle.smith_bytes.specs.Draws.{bool_at, ratio_at}
 use Rattle.smith_types.specs.Expressions.{Context}
-use Rattle.smith_types.specs.Space.{Space}
+use Rattle.smith_types.specs.GroupedTypes.{GroupedTypes}
 use Rattle.smith_types.specs.OpenTypes.{AreTypesOpen}
 use Rattle.smith_types.specs.ValidTypes.{values_of, IsTypeValid}
 use Rattle.smith_types.specs.declared.composite_type.SubType.{SubType}
@@ -55,11 +55,11 @@ not_final_of true deep e = cc
 not_final_of false deep e = refl
 
 -- each existing type is shared only if that is enabled
-sharing : (config : Config) (limit : ℕ) (space : Space) → AreTypesOpen (features_of config) limit space → All (IsSharingEnabled (features_of config)) space.types
+sharing : (config : Config) (limit : ℕ) (space : GroupedTypes) → AreTypesOpen (features_of config) limit space → All (IsSharingEnabled (features_of config)) space.types
 sharing config limit space open_types k d inside =
     (AreTypesOpen-at (features_of config) limit space open_types k (slice_index_or space.types k d) (slice_get-get_or space.types k d inside)).enabled.shared
 
-module _ (config : Config) (context : Context) (space : Space) (limit : ℕ) where
+module _ (config : Config) (context : Context) (space : GroupedTypes) (limit : ℕ) where
   below_valid : (index : ℕ) (t : SubType) (bytes : List ℕ) → IsSanitized config → IsTrue config.gc_enabled → AreTypesOpen (features_of config) limit space → slice_get space.types index ≡ Some t → t.is_final ≡ false
       → IsTypeValid (features_of config) space.types limit (sub_type_below_at config (over context space.types) limit index (Some t) bytes).0
   unfolding matching_composite_type_at
@@ -98,7 +98,7 @@ below_follows config context limit index t bytes at may = record {
 }
 
 -- a type drawn as a subtype of a type that may have subtypes, or without a supertype
-pub record IsSubTypeDrawn (config : Config) (space : Space) (limit : ℕ) (t : SubType) : Type 0 where
+pub record IsSubTypeDrawn (config : Config) (space : GroupedTypes) (limit : ℕ) (t : SubType) : Type 0 where
   pub valid : IsTypeValid (features_of config) space.types limit t
   pub follows : HasSuperType space.types t
 
@@ -109,7 +109,7 @@ sub_type_of_follows config context limit bytes some =
     let chosen = chosen_of (IsSupertype context.types) 0 (supertypes context.types) bytes some (supertypes_all context.types) in
     subst (λ (at : Option SubType). HasSuperType context.types (sub_type_below_at config context limit index.0 at index.1).0) (sym chosen.stands) (below_follows config context limit index.0 chosen.ty index.1 chosen.stands chosen.allowed)
 
-pub sub_type_of_valid : (config : Config) (context : Context) (space : Space) (limit : ℕ) (bytes : List ℕ) → IsSanitized config → IsTrue config.gc_enabled → AreTypesOpen (features_of config) limit space → 0 < length (supertypes space.types)
+pub sub_type_of_valid : (config : Config) (context : Context) (space : GroupedTypes) (limit : ℕ) (bytes : List ℕ) → IsSanitized config → IsTrue config.gc_enabled → AreTypesOpen (features_of config) limit space → 0 < length (supertypes space.types)
     → IsTypeValid (features_of config) space.types limit (sub_type_of_at config (over context space.types) limit (supertypes space.types) bytes).0
 unfolding sub_type_of_at
 sub_type_of_valid config context space limit bytes sanitized gc open_types some =
@@ -139,7 +139,7 @@ sub_type_follows config context limit bytes =
     cond_where (λ (r : SubType × List ℕ). HasSuperType context.types r.0) wanted.0 (sub_type_of_at config context limit (supertypes context.types) wanted.1) (root_type_at config context limit wanted.1)
     (λ on. sub_type_of_follows config context limit wanted.1 (wanted_some config (length (supertypes context.types)) bytes on).1) (root_type_follows config context limit wanted.1)
 
-pub sub_type_valid : (config : Config) (context : Context) (space : Space) (limit : ℕ) (bytes : List ℕ) → IsSanitized config → AreTypesOpen (features_of config) limit space → IsTypeValid (features_of config) space.types limit (sub_type_at config (over context space.types) limit bytes).0
+pub sub_type_valid : (config : Config) (context : Context) (space : GroupedTypes) (limit : ℕ) (bytes : List ℕ) → IsSanitized config → AreTypesOpen (features_of config) limit space → IsTypeValid (features_of config) space.types limit (sub_type_at config (over context space.types) limit bytes).0
 unfolding sub_type_at
 sub_type_valid config context space limit bytes sanitized open_types =
     let wanted = supertype_wanted_at config (length (supertypes space.types)) bytes in

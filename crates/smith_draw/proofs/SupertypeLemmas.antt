@@ -8,7 +8,7 @@ use Rattle.smith_bytes.specs.Draws.{range_at}
 use Rattle.smith_bytes.proofs.DrawnLemmas.{range_within}
 use Rattle.smith_types.specs.declared.composite_type.SubType.{SubType}
 use Rattle.smith_types.specs.Types.{IsOrderly}
-use Rattle.smith_types.specs.Space.{HasDepth, AreExtensible, root, deeper, extensible_from}
+use Rattle.smith_types.specs.GroupedTypes.{HasDepth, AreExtensible, root, deeper, extensible_from}
 use Rattle.smith_draw.specs.Choices.{chosen_at}
 use Rattle.smith_draw.specs.Offered.{supertype_at}
 use Rattle.smith_draw.specs.SubTypes.{depth_at, may_have_subtypes, supertypes_from, supertypes, SomeMayHaveSubtypes}

@@ -18,7 +18,7 @@ use Rattle.smith_types.specs.declared.composite_type.FuncType.{FuncType}
 use Rattle.smith_types.specs.declared.composite_type.StructType.{StructType}
 use Rattle.smith_types.specs.declared.composite_type.CompositeInnerType.TheVariants.{Array, Func, Struct}
 use Rattle.smith_types.specs.declared.composite_type.CompositeType.{CompositeType}
-use Rattle.smith_types.specs.Space.{Space}
+use Rattle.smith_types.specs.GroupedTypes.{GroupedTypes}
 use Rattle.smith_types.specs.declared.composite_type.SubType.{SubType}
 use Rattle.smith_config.specs.declared.config.Config.{Config}
 use Rattle.smith_config.specs.Sanitized.{IsSanitized}
@@ -88,16 +88,16 @@ sub_type_taken config context same limit old drawn new sanitized roots made =
     let held = λ (t : SubType). inner_readable config context t.composite_type.inner same (roots_orderly context.types roots) in
     takes_by (sub_type_at config context limit) (λ t piece after h. sub_type_read config context limit t piece after sanitized roots (held t h.holds) h.spelled) made
 
-pub rec_group_taken : (config : Config) (context : Context) (same : context.features.custom_descriptors ≡ config.custom_descriptors_enabled) (allow_empty : Bool) (space : Space) (old : List ℕ) (drawn : Space) (new : List ℕ) → IsSanitized config → allow_empty ≡ true → All IsRoot space.types
+pub rec_group_taken : (config : Config) (context : Context) (same : context.features.custom_descriptors ≡ config.custom_descriptors_enabled) (allow_empty : Bool) (space : GroupedTypes) (old : List ℕ) (drawn : GroupedTypes) (new : List ℕ) → IsSanitized config → allow_empty ≡ true → All IsRoot space.types
     → rec_group_at config context allow_empty space old ≡ (drawn, new) → Takes (SpellsAdded config space) old drawn new
 rec_group_taken config context same allow_empty space old drawn new sanitized may roots made =
     takes_by (rec_group_at config context true space)
-    (λ more piece after h. (group_read config context same space h.added piece after sanitized roots h.back h.spelled).made ∙ ap (λ (space : Space). (space, after)) (sym h.is_behind))
+    (λ more piece after h. (group_read config context same space h.added piece after sanitized roots h.back h.spelled).made ∙ ap (λ (space : GroupedTypes). (space, after)) (sym h.is_behind))
     (subst (λ (may : Bool). rec_group_at config context may space old ≡ (drawn, new)) may made)
 
-pub types_taken : (config : Config) (context : Context) (same : context.features.custom_descriptors ≡ config.custom_descriptors_enabled) (space : Space) (old : List ℕ) (drawn : Space) (new : List ℕ) → IsSanitized config → config.min_types ≡ 0 → space ≡ space_of []
+pub types_taken : (config : Config) (context : Context) (same : context.features.custom_descriptors ≡ config.custom_descriptors_enabled) (space : GroupedTypes) (old : List ℕ) (drawn : GroupedTypes) (new : List ℕ) → IsSanitized config → config.min_types ≡ 0 → space ≡ space_of []
     → types_at config context space old ≡ (drawn, new) → Takes (SpellsSpace config) old drawn new
 types_taken config context same space old drawn new sanitized least empty made =
     takes_by (types_at config context (space_of []))
-    (λ more piece after h. types_read config context same h.parts piece after sanitized least h.fit h.spelled ∙ ap (λ (space : Space). (space, after)) (sym h.is_of))
-    (subst (λ (from : Space). types_at config context from old ≡ (drawn, new)) empty made)
+    (λ more piece after h. types_read config context same h.parts piece after sanitized least h.fit h.spelled ∙ ap (λ (space : GroupedTypes). (space, after)) (sym h.is_of))
+    (subst (λ (from : GroupedTypes). types_at config context from old ≡ (drawn, new)) empty made)

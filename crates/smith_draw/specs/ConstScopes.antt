@@ -17,7 +17,7 @@ use Rattle.smith_types.specs.Expressions.{IsStructAt, field_values}
 use Rattle.smith_config.specs.Features.{features_of}
 use Rattle.smith_draw.specs.declared.const_expr.scope.Scope.{Scope}
 
--- the context of a scope
+-- the context of a scope (Validation, Contexts)
 abbrev pub context_of : Scope → Context
 context_of scope = record {
   features = features_of scope.config.now;
@@ -29,7 +29,7 @@ context_of scope = record {
   visible = scope.visible;
 }
 
--- the fields of a struct, and the element of an array
+-- the fields of a struct, and the element of an array (Structure, Composite Types)
 abbrev pub fields_of : CompositeInnerType → List FieldType
 fields_of (Struct structure) = structure.fields
 fields_of (Array array) = array.0 ∷ []
@@ -49,11 +49,11 @@ pub record IsScope (context : Context) : Type 0 where
   pub fields : (index : ℕ) (t : SubType) → slice_get context.types index ≡ Some t → All (IsValTypeValid context.features (length context.types)) (field_values (fields_of t.composite_type.inner))
 
 -- the end of the globals that may be read: after the imported globals, or after all globals if that
--- is allowed with garbage collection
+-- is allowed (Validation, Modules) with garbage collection (own rule)
 abbrev pub visible_end : Config → Spaces → Bool → ℕ
 visible_end config spaces allow_defined = if config.gc_enabled && allow_defined then length spaces.entities.globals.now else spaces.entities.imported_globals
 
--- the context of an expression over spaces
+-- the context of an expression over spaces (Validation, Contexts)
 abbrev pub seen_by : Config → Spaces → Bool → Context
 seen_by config spaces allow_defined = record {
   features = features_of config;

@@ -1,5 +1,5 @@
 -- The subtypes and supertypes of a heap type that are offered in its place.
-use Rattle.std.specs.Prelude.{◌≡◌, ℕ, zero, suc, ◌+◌, Bool, true, false, not, ◌&&◌, Option, Some, None, List, [], ◌∷◌, ◌++◌, map, length, slice_get, ◌==◌, if◌then◌else◌}
+use Rattle.std.specs.Prelude.{◌≡◌, ℕ, zero, suc, ◌+◌, Bool, true, false, not, ◌&&◌, Option, Some, None, List, [], ◌∷◌, ◌++◌, map, length, slice_get, if◌then◌else◌}
 use Rattle.std.specs.List.{flat_map}
 use Rattle.smith_types.specs.declared.value_type.AbstractHeapType.{AbstractHeapType}
 use Rattle.smith_types.specs.declared.value_type.AbstractHeapType.TheVariants as heap
@@ -10,6 +10,7 @@ use Rattle.smith_types.specs.declared.composite_type.CompositeInnerType.TheVaria
 use Rattle.smith_types.specs.declared.composite_type.SubType.{SubType}
 use Rattle.smith_types.specs.Kinds.{bottom, shared}
 use Rattle.smith_types.specs.Types.{IsOrderly}
+use Rattle.smith_types.specs.Families.{is_directly_below}
 use Rattle.smith_config.specs.declared.config.Config.{Config}
 
 -- the abstract heap types that are offered as subtypes of an abstract heap type, including itself
@@ -81,15 +82,6 @@ is_shared_as false t = not (shared t)
 abbrev pub is_kind : Bool → AbstractHeapType → SubType → Bool
 is_kind is_shared kind t = is_shared_as is_shared t && is_of_kind kind t.composite_type.inner
 
--- the option holds this index
-abbrev pub is_index : ℕ → Option ℕ → Bool
-is_index index None = false
-is_index index (Some other) = other == index
-
--- a type declares the type at this index as its supertype (Structure, Recursive Types)
-abbrev pub is_declared_below : ℕ → SubType → Bool
-is_declared_below index t = is_index index t.supertype
-
 -- the concrete heap types of the types that satisfy a test, by index; the first type has the index
 -- `start` (own rule)
 abbrev pub picked_from : (SubType → Bool) → ℕ → List SubType → List HeapType
@@ -103,7 +95,7 @@ of_kinds types is_shared kinds = flat_map (λ kind. picked_from (is_kind is_shar
 
 -- the types that declare the type at this index as their supertype, by index (own rule)
 abbrev pub direct_subtypes : List SubType → ℕ → List HeapType
-direct_subtypes types index = picked_from (is_declared_below index) 0 types
+direct_subtypes types index = picked_from (is_directly_below index) 0 types
 
 -- the declared supertype of a type, if it exists (Structure, Recursive Types)
 abbrev pub supertype_of : Option SubType → Option ℕ

@@ -18,7 +18,7 @@ use Rattle.smith_types.specs.declared.composite_type.CompositeInnerType.TheVaria
 use Rattle.smith_types.specs.declared.composite_type.CompositeType.{CompositeType}
 use Rattle.smith_types.specs.declared.composite_type.SubType.{SubType}
 use Rattle.smith_types.specs.Grounded.{IsGroundedByStructs}
-use Rattle.smith_types.specs.Space.{Space}
+use Rattle.smith_types.specs.GroupedTypes.{GroupedTypes}
 use Rattle.smith_types.specs.Subtyping.{IsInRange}
 use Rattle.smith_types.specs.ValidTypes.{values_of}
 use Rattle.smith_config.specs.declared.config.Config.{Config}
@@ -193,14 +193,14 @@ GroupsFit config before (group ∷ groups) =
 
 -- a space with one more group, of types that refer only to types before them, which ground their
 -- non-nullable references
-pub record SpellsAdded (config : Config) (before space : Space) (piece : List ℕ) : Type 0 where
+pub record SpellsAdded (config : Config) (before space : GroupedTypes) (piece : List ℕ) : Type 0 where
   pub added : List SubType
   pub is_behind : space ≡ with_group (before.types ++ added) before.groups
   pub back : ReferBack config before.types added
   pub spelled : SpellsGroup config before.types (nat_lt 0 (length before.groups)) added piece
 
 -- the space of groups that fit
-pub record SpellsSpace (config : Config) (space : Space) (piece : List ℕ) : Type 0 where
+pub record SpellsSpace (config : Config) (space : GroupedTypes) (piece : List ℕ) : Type 0 where
   pub parts : List (List SubType)
   pub is_of : space ≡ space_of parts
   pub fit : GroupsFit config [] parts

@@ -3,7 +3,7 @@ use Rattle.std.specs.Prelude.{◌≡◌, ℕ, suc, ◌<◌, ◌+◌, Bool, true,
 use Rattle.smith_types.specs.declared.composite_type.SubType.{SubType}
 use Rattle.smith_types.specs.Expressions.{Context}
 use Rattle.smith_types.specs.Types.{IsAlike}
-use Rattle.smith_types.specs.Space.{HasDepth}
+use Rattle.smith_types.specs.GroupedTypes.{HasDepth}
 use Rattle.smith_config.specs.declared.config.Config.{Config}
 use Rattle.smith_bytes.specs.Draws.{bool_at, ratio_at}
 use Rattle.smith_draw.specs.Choices.{chosen_at}

@@ -2,7 +2,7 @@ ghost use Rattle.std.specs.Prelude.{◌≡◌, ◌<◌, ◌^◌, false, length, 
 ghost use Rattle.smith_bytes.specs.Takes.{Takes, SpellsSuch};
 ghost use Rattle.smith_types.specs.Entities.{IsGlobalValid};
 ghost use Rattle.smith_types.specs.Floats.{IsNoFloat};
-ghost use Rattle.smith_types.specs.Space.{Space};
+ghost use Rattle.smith_types.specs.GroupedTypes.{GroupedTypes};
 ghost use Rattle.smith_types.specs.ValidTypes.{AreTypesValid};
 ghost use Rattle.smith_config.specs.Features.{features_of};
 ghost use Rattle.smith_config.specs.Sanitized.{IsSanitized};
@@ -61,7 +61,7 @@ pub fn draw_global_type(
 ) -> GlobalType
     requires { IsSanitized config.now }
     ensures draws { AlwaysDraws (global_type_at config.now standing.now u.old) result u.old u.new }
-    ensures valid { (space : Space) → space.types ≡ standing.now.types
+    ensures valid { (space : GroupedTypes) → space.types ≡ standing.now.types
         → AreTypesValid (features_of config.now) space
         → IsGlobalValid (features_of config.now) space.types result }
     ensures floats { config.now.allow_floats ≡ false → IsNoFloat result.val_type }

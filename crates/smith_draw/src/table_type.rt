@@ -1,6 +1,6 @@
 ghost use Rattle.std.specs.Prelude.{◌≡◌, ◌≤◌, false, true, IsOk, IfOk};
 ghost use Rattle.smith_types.specs.Entities.{IsTableValid, most_elements};
-ghost use Rattle.smith_types.specs.Space.{Space};
+ghost use Rattle.smith_types.specs.GroupedTypes.{GroupedTypes};
 ghost use Rattle.smith_types.specs.ValidTypes.{AreTypesValid};
 ghost use Rattle.smith_config.specs.Features.{features_of};
 ghost use Rattle.smith_config.specs.Sanitized.{IsSanitized};
@@ -45,7 +45,7 @@ pub fn draw_table_type(
 ) -> TableType
     requires { IsSanitized config.now }
     ensures draws { AlwaysDraws (table_type_at config.now standing.now u.old) result u.old u.new }
-    ensures valid { (space : Space) → space.types ≡ standing.now.types
+    ensures valid { (space : GroupedTypes) → space.types ≡ standing.now.types
         → AreTypesValid (features_of config.now) space
         → IsTableValid (features_of config.now) space.types result }
     ensures within { IsTableWithin config.now result }

@@ -58,4 +58,4 @@ one_function_short (IsTooLong.globals long) = no_long_section IsGlobal IsNeverLo
 one_function_short (IsTooLong.exports long) = no_long_section IsExport IsLongExport long
 one_function_short (IsTooLong.elements long) = no_long_section IsElement IsLongElement long
 one_function_short (IsTooLong.bodies long) = one_long_section IsBodyWritten IsLongBody ([], 0x00 ∷ 0x0B ∷ []) 12 (omega arith) body_within body_short long
-one_function_short (IsTooLong.segments long) = no_long_section IsData IsLongData long
+one_function_short (IsTooLong.datas long) = no_long_section IsData IsLongData long

@@ -112,13 +112,13 @@ middle_is m more piece h =
 back_is : (m : ModuleParts) (Bodies : List ℕ → Type 0) (piece : List ℕ) → IsBack m Bodies piece
     → Joined (IsStartSection m.start)
     (Joined (IsListSection 9 IsElement (contents_of m).elements)
-    (Joined (IsDataCount (contents_of m).segments) (Joined (IsSectionIf (is_filled m.code) 10 Bodies) (IsListSection 11 IsData (contents_of m).segments)))) piece
+    (Joined (IsDataCount (contents_of m).datas) (Joined (IsSectionIf (is_filled m.code) 10 Bodies) (IsListSection 11 IsData (contents_of m).datas)))) piece
 back_is m Bodies piece h =
     both_as piece (λ p start. start)
     (λ p rest. both_as p (mapped_optional (is_filled m.elems) 9 IsElementWritten IsElement element_of element_spelled m.elems (none_mapped element_of m.elems))
     (λ q later. both_as q
-    (optional (writes_data_count m) 12 (Unit {0}) (IsUnsigned 32 (length m.segments)) (IsUnsigned 32 (length (contents_of m).segments)) (λ e. tt) (λ c count. subst (λ (n : ℕ). IsUnsigned 32 n c) (sym (length-map m.segments data_of)) count))
-    (λ r last. both_as r (λ s code. code) (mapped_optional (is_filled m.segments) 11 IsDataWritten IsData data_of data_spelled m.segments (none_mapped data_of m.segments)) last)
+    (optional (writes_data_count m) 12 (Unit {0}) (IsUnsigned 32 (length m.datas)) (IsUnsigned 32 (length (contents_of m).datas)) (λ e. tt) (λ c count. subst (λ (n : ℕ). IsUnsigned 32 n c) (sym (length-map m.datas data_of)) count))
+    (λ r last. both_as r (λ s code. code) (mapped_optional (is_filled m.datas) 11 IsDataWritten IsData data_of data_spelled m.datas (none_mapped data_of m.datas)) last)
     later) rest)
     h
 
@@ -129,7 +129,7 @@ module_around m Bodies piece h = both_as piece (λ p preamble. preamble) (λ p r
 -- a module whose code section has a property that implies another
 pub around_as : (m : Contents) (Code Other : List ℕ → Type 0) → ((piece : List ℕ) → Code piece → Other piece) → (piece : List ℕ) → IsModuleAround m Code piece → IsModuleAround m Other piece
 around_as m Code Other weaker piece h =
-    let last : (p : List ℕ) → Joined Code (IsListSection 11 IsData m.segments) p → Joined Other (IsListSection 11 IsData m.segments) p = λ p. both_as p weaker (λ q same. same) in
+    let last : (p : List ℕ) → Joined Code (IsListSection 11 IsData m.datas) p → Joined Other (IsListSection 11 IsData m.datas) p = λ p. both_as p weaker (λ q same. same) in
     behind (behind (behind (behind (behind (behind (behind (behind (behind (behind (behind (behind last))))))))))) piece h
 
 -- the section of a list of bodies, by the meaning of the bodies as they are written
@@ -190,12 +190,12 @@ middle_ids m ids more piece h =
     (regrouped h)
 
 back_ids : (m : ModuleParts) (Bodies : List ℕ → Type 0) (piece : List ℕ) → IsBack m Bodies piece
-    → Each IsAnySection (id_if (is_some m.start) 8 ++ (id_if (is_filled m.elems) 9 ++ (id_if (writes_data_count m) 12 ++ (id_if (is_filled m.code) 10 ++ id_if (is_filled m.segments) 11)))) piece
+    → Each IsAnySection (id_if (is_some m.start) 8 ++ (id_if (is_filled m.elems) 9 ++ (id_if (writes_data_count m) 12 ++ (id_if (is_filled m.code) 10 ++ id_if (is_filled m.datas) 11)))) piece
 back_ids m Bodies piece h =
     ids_joined (id_if (is_some m.start) 8) _
     (both_as piece (start_id m.start)
     (one_id (is_filled m.elems) 9 (IsList IsElementWritten m.elems) _
-    (one_id (writes_data_count m) 12 (IsUnsigned 32 (length m.segments)) _ (one_id (is_filled m.code) 10 Bodies _ (section_id (is_filled m.segments) 11 (IsList IsDataWritten m.segments)))))
+    (one_id (writes_data_count m) 12 (IsUnsigned 32 (length m.datas)) _ (one_id (is_filled m.code) 10 Bodies _ (section_id (is_filled m.datas) 11 (IsList IsDataWritten m.datas)))))
     h)
 
 pub sections_are : (m : ModuleParts) (Bodies : List ℕ → Type 0) (piece : List ℕ) → Joined IsPreamble (Joined (IsFront m) (Joined (IsMiddle m) (IsBack m Bodies))) piece → HasSections (section_ids m) piece

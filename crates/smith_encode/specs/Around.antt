@@ -27,4 +27,4 @@ IsModuleAround m Code =
     (Joined (IsListSection 7 IsExport m.exports)
     (Joined (IsStartSection m.start)
     (Joined (IsListSection 9 IsElement m.elements)
-    (Joined (IsDataCount m.segments) (Joined Code (IsListSection 11 IsData m.segments)))))))))))))
+    (Joined (IsDataCount m.datas) (Joined Code (IsListSection 11 IsData m.datas)))))))))))))

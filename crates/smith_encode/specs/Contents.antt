@@ -29,5 +29,5 @@ contents_of m = record {
   start = m.start;
   elements = map element_of m.elems;
   bodies = map (body_of m.fuel_globals) m.code;
-  segments = map data_of m.segments;
+  datas = map data_of m.datas;
 }

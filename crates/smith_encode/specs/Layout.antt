@@ -22,7 +22,7 @@ writes_imports m = m.encodes_imports || is_filled m.imports
 
 -- the number of data segments is stated if bulk memory is on and there is one
 abbrev pub writes_data_count : ModuleParts → Bool
-writes_data_count m = m.config.bulk_memory_enabled && is_filled m.segments
+writes_data_count m = m.config.bulk_memory_enabled && is_filled m.datas
 
 -- the identifiers of the sections that are written: of those other than the type and import
 -- section, none that is empty
@@ -32,7 +32,7 @@ section_ids m =
     ++ (id_if (is_filled m.defined_tables) 4 ++ (id_if (is_filled (defined m.num_defined_memories m.memories)) 5
     ++ (id_if (is_filled (defined m.num_defined_tags m.tags)) 13 ++ (id_if (is_filled m.defined_globals) 6
     ++ (id_if (is_filled m.exports) 7 ++ (id_if (is_some m.start) 8 ++ (id_if (is_filled m.elems) 9
-    ++ (id_if (writes_data_count m) 12 ++ (id_if (is_filled m.code) 10 ++ id_if (is_filled m.segments) 11)))))))))))
+    ++ (id_if (writes_data_count m) 12 ++ (id_if (is_filled m.code) 10 ++ id_if (is_filled m.datas) 11)))))))))))
 
 -- a section of any content
 abbrev pub IsAnySection : ℕ → List ℕ → Type 0

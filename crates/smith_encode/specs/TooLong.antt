@@ -26,4 +26,4 @@ pub data IsTooLong (m : ModuleParts) : Type 0 where
   exports : IsLongSection IsExport IsLongExport m.exports → IsTooLong m
   elements : IsLongSection IsElement IsLongElement (contents_of m).elements → IsTooLong m
   bodies : IsLongSection IsBodyWritten IsLongBody (contents_of m).bodies → IsTooLong m
-  segments : IsLongSection IsData IsLongData (contents_of m).segments → IsTooLong m
+  datas : IsLongSection IsData IsLongData (contents_of m).datas → IsTooLong m

@@ -40,8 +40,8 @@ abbrev pub IsBack : ModuleParts → (List ℕ → Type 0) → List ℕ → Type 
 IsBack m Bodies =
     Joined (IsStartSection m.start)
     (Joined (IsSectionIf (is_filled m.elems) 9 (IsList IsElementWritten m.elems))
-    (Joined (IsSectionIf (writes_data_count m) 12 (IsUnsigned 32 (length m.segments)))
-    (Joined (IsSectionIf (is_filled m.code) 10 Bodies) (IsSectionIf (is_filled m.segments) 11 (IsList IsDataWritten m.segments)))))
+    (Joined (IsSectionIf (writes_data_count m) 12 (IsUnsigned 32 (length m.datas)))
+    (Joined (IsSectionIf (is_filled m.code) 10 Bodies) (IsSectionIf (is_filled m.datas) 11 (IsList IsDataWritten m.datas)))))
 
 -- a module as it is written, if this spells the content of the code section
 abbrev pub IsWritten : ModuleParts → (List ℕ → Type 0) → List ℕ → Type 0

@@ -203,7 +203,7 @@ pub(crate) fn write_elements(module: &Module, sink: &mut Sink) -> Result<(), Enc
 /// Writes the data count section.
 pub(crate) fn write_data_count(module: &Module, sink: &mut Sink) -> Result<(), EncodeError>
     ensures writes { OnOk result (Writes (IsSectionIf (writes_data_count «module».now) 12
-        (IsUnsigned 32 (length «module».now.segments))) sink.old sink.new) }
+        (IsUnsigned 32 (length «module».now.datas))) sink.old sink.new) }
     ensures fault { IfErr result (IsFault (IsTooLong «module».now)) }
 {
     let count = Count(module.data().len());
@@ -226,8 +226,8 @@ pub(crate) fn write_bodies<B: Encode>(
 
 /// Writes the data section.
 pub(crate) fn write_segments(module: &Module, sink: &mut Sink) -> Result<(), EncodeError>
-    ensures writes { OnOk result (Writes (IsSectionIf (is_filled «module».now.segments) 11
-        (IsList IsDataWritten «module».now.segments)) sink.old sink.new) }
+    ensures writes { OnOk result (Writes (IsSectionIf (is_filled «module».now.datas) 11
+        (IsList IsDataWritten «module».now.datas)) sink.old sink.new) }
     ensures fault { IfErr result (IsFault (IsTooLong «module».now)) }
 {
     let segments = Listed {

@@ -101,7 +101,7 @@ all_tail =
 
 -- the parts of a module, and a module of parts
 abbrev parts_of : Contents → Parts
-parts_of m = (m.types, (m.imports, (m.functions, (m.tables, (m.memories, (m.tags, (m.globals, (m.exports, (m.start, (m.elements, (tt, (m.bodies, m.segments))))))))))))
+parts_of m = (m.types, (m.imports, (m.functions, (m.tables, (m.memories, (m.tags, (m.globals, (m.exports, (m.start, (m.elements, (tt, (m.bodies, m.datas))))))))))))
 
 abbrev made_of : Parts → Contents
 made_of x = record {
@@ -116,7 +116,7 @@ made_of x = record {
   start = x.1.1.1.1.1.1.1.1.0;
   elements = x.1.1.1.1.1.1.1.1.1.0;
   bodies = x.1.1.1.1.1.1.1.1.1.1.1.0;
-  segments = x.1.1.1.1.1.1.1.1.1.1.1.1;
+  datas = x.1.1.1.1.1.1.1.1.1.1.1.1;
 }
 
 second_as : {A B W : List ℕ → Type 0} (piece : List ℕ) → ((p : List ℕ) → B p → W p) → Joined A B piece → Joined A W piece
@@ -127,7 +127,7 @@ first_as piece one h = record { first = h.first; second = h.second; is_first = o
 
 -- the sections of a module are those of its parts
 all_of : (m : Contents) (piece : List ℕ) → IsModule m piece → Joined IsPreamble (IsAll (parts_of m)) piece
-all_of m piece h = second_as piece (λ a. second_as a (λ b. second_as b (λ c. second_as c (λ d. second_as d (λ e. second_as e (λ f. second_as f (λ g. second_as g (λ i. second_as i (λ j. second_as j (λ l. second_as l (λ n. first_as n (λ p count. (length m.segments, count))))))))))))) h
+all_of m piece h = second_as piece (λ a. second_as a (λ b. second_as b (λ c. second_as c (λ d. second_as d (λ e. second_as e (λ f. second_as f (λ g. second_as g (λ i. second_as i (λ j. second_as j (λ l. second_as l (λ n. first_as n (λ p count. (length m.datas, count))))))))))))) h
 
 -- bytes after equal bytes
 same_rest : (xs ys rest other : List ℕ) → xs ≡ ys → xs ++ rest ≡ ys ++ other → rest ≡ other

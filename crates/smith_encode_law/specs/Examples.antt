@@ -16,5 +16,5 @@ empty_module = record {
   start = None;
   elements = [];
   bodies = [];
-  segments = [];
+  datas = [];
 }

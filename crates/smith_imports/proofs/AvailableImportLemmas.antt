@@ -11,7 +11,7 @@ use Rattle.smith_bytes.specs.Draws.{bool_at}
 use Rattle.smith_bytes.specs.declared.error.Which.TheVariants.{AvailableImports}
 use Rattle.smith_types.specs.Entities.{AreEntitiesValid, IsTagValid, IsFuncTypeIndex, IsTableValid, IsMemoryValid, IsGlobalValid}
 use Rattle.smith_types.specs.Features.{Features}
-use Rattle.smith_types.specs.Imports.{IndexSpaces, flattened, imported, imported_spaces, tag_of, func_of, table_of, memory_of, global_of}
+use Rattle.smith_types.specs.Imports.{EntitySpaces, flattened, imported, imported_spaces, tag_of, func_of, table_of, memory_of, global_of}
 use Rattle.smith_types.specs.Sizes.{IsTyped, size_in, value_count}
 use Rattle.smith_types.specs.declared.composite_type.CompositeInnerType.{CompositeInnerType}
 use Rattle.smith_types.specs.declared.composite_type.CompositeInnerType.TheVariants.{Array, Func, Struct}
@@ -35,7 +35,7 @@ use Rattle.smith_imports.specs.declared.imported.Imported.{Imported}
 use Rattle.smith_imports.proofs.ImportedEntityLemmas.{first_holds, second_holds}
 use Rattle.smith_imports.proofs.ImportsGrownLemmas.{imported_more, spaces_more, numbers_more, tags_on}
 
-room_is : (config : Config) (spaces : IndexSpaces) (one : EntityType) → has_room config spaces (entity_kind one) ≡ nat_lt (count_in spaces (count_for one)) (maximum_of config (count_for one))
+room_is : (config : Config) (spaces : EntitySpaces) (one : EntityType) → has_room config spaces (entity_kind one) ≡ nat_lt (count_in spaces (count_for one)) (maximum_of config (count_for one))
 room_is config spaces (entity.Tag index) = refl
 room_is config spaces (entity.Func index) = refl
 room_is config spaces (entity.Table table) = refl
@@ -43,7 +43,7 @@ room_is config spaces (entity.Memory memory) = refl
 room_is config spaces (entity.Global global) = refl
 
 -- the counts decide whether an import fits
-fits_counted : (config : Config) (types : List SubType) (taken : List Import) (one : Import) (spaces : IndexSpaces) (count size : ℕ) → spaces ≡ imported_spaces taken → count ≡ length taken → size ≡ sizes_of types taken
+fits_counted : (config : Config) (types : List SubType) (taken : List Import) (one : Import) (spaces : EntitySpaces) (count size : ℕ) → spaces ≡ imported_spaces taken → count ≡ length taken → size ≡ sizes_of types taken
     → (nat_lt count config.max_imports && has_room config spaces (entity_kind one.entity_type) && is_allowed config one.entity_type && nat_le (size + size_in types one.entity_type) config.max_type_size) ≡ is_fitting config types taken one
 unfolding is_fitting
 fits_counted config types taken one spaces count size same_spaces same_count same_size = rw (same_spaces, same_count, same_size, room_is config (imported_spaces taken) one.entity_type) refl

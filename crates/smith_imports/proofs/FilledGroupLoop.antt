@@ -6,7 +6,7 @@ use Rattle.smith_types.specs.declared.composite_type.SubType.{SubType}
 use Rattle.smith_types.specs.declared.entity_type.EntityType.{EntityType}
 use Rattle.smith_types.specs.declared.imports.Import.{Import}
 use Rattle.smith_types.specs.declared.imports.Imports.{Imports}
-use Rattle.smith_types.specs.Imports.{IndexSpaces, imports_of, imported_spaces}
+use Rattle.smith_types.specs.Imports.{EntitySpaces, imports_of, imported_spaces}
 use Rattle.smith_config.specs.declared.config.Config.{Config}
 use Rattle.smith_imports.specs.ImportNames.{import_name_at}
 use Rattle.smith_imports.specs.ImportedEntities.{sizes}
@@ -31,7 +31,7 @@ module _ {config : Config} {types : List SubType} {distinct : Bool} {before : Li
       let one : fill_at config types distinct before (config.max_imports - count) group bytes ≡ (true, (group, bytes)) = rw k refl in
       sym now.so_far ∙ one
 
-  pub fill_end : {mid after : List ℕ} {b : Bool} {spaces : IndexSpaces} {size : ℕ} {next : Option EntityType} → IsFilling config types distinct before count group bytes total → count < config.max_imports → bool_at bytes ≡ (b, mid) → b ≡ true
+  pub fill_end : {mid after : List ℕ} {b : Bool} {spaces : EntitySpaces} {size : ℕ} {next : Option EntityType} → IsFilling config types distinct before count group bytes total → count < config.max_imports → bool_at bytes ≡ (b, mid) → b ≡ true
       → spaces ≡ imported_spaces (before ++ imports_of group) → size ≡ sizes types (before ++ imports_of group) → next_entity_at config types spaces size group mid ≡ (next, after) → next ≡ None → total ≡ (false, (group, after))
   unfolding fill_at
   fill_end {mid = mid} {after = after} {next = next} now room drawn on spaces_are size_is chosen none =
@@ -40,7 +40,7 @@ module _ {config : Config} {types : List SubType} {distinct : Bool} {before : Li
       let one : fill_at config types distinct before (config.max_imports - count) group bytes ≡ (false, (group, after)) = rw (k, drawn, on, chosen_so, none) refl in
       sym now.so_far ∙ one
 
-  pub fill_more : {mid after name rest : List ℕ} {b : Bool} {spaces : IndexSpaces} {size : ℕ} {next : Option EntityType} {one : EntityType} → IsFilling config types distinct before count group bytes total → count < config.max_imports → bool_at bytes ≡ (b, mid) → b ≡ true
+  pub fill_more : {mid after name rest : List ℕ} {b : Bool} {spaces : EntitySpaces} {size : ℕ} {next : Option EntityType} {one : EntityType} → IsFilling config types distinct before count group bytes total → count < config.max_imports → bool_at bytes ≡ (b, mid) → b ≡ true
       → spaces ≡ imported_spaces (before ++ imports_of group) → size ≡ sizes types (before ++ imports_of group) → next_entity_at config types spaces size group mid ≡ (next, after) → next ≡ Some one
       → import_name_at distinct (before ++ imports_of group) (module_name group) after ≡ (name, rest) → IsFilling config types distinct before (count + 1) (with_import group name one) rest total
   unfolding fill_at

@@ -2,8 +2,8 @@
 use Rattle.std.proofs.Common.{◌≡◌, ℕ, ◌+◌, false, List, [], ◌∷◌, ◌++◌, length, refl, sym, ◌∙◌, arith}
 use Rattle.std.proofs.lemmas.List.{length-append}
 use Rattle.smith_types.specs.FuncGrounds.{IsFunctionAdded}
-use Rattle.smith_types.specs.Imports.{IndexSpaces}
-use Rattle.smith_types.specs.IndexSpaces.{with_entity}
+use Rattle.smith_types.specs.Imports.{EntitySpaces}
+use Rattle.smith_types.specs.EntitySpaces.{with_entity}
 use Rattle.smith_types.specs.declared.composite_type.SubType.{SubType}
 use Rattle.smith_types.specs.declared.entity_type.EntityType.{EntityType}
 use Rattle.smith_types.specs.declared.entity_type.EntityType.TheVariants as entity
@@ -13,7 +13,7 @@ use Rattle.smith_draw.specs.KeptGrounds.{AreKeptGrounds}
 use Rattle.smith_draw.specs.declared.kept_grounds.KeptGrounds.{KeptGrounds}
 use Rattle.smith_imports.specs.ImportedEntities.{import_scope}
 
-module _ (config : Config) (types : List SubType) (spaces : IndexSpaces) where
+module _ (config : Config) (types : List SubType) (spaces : EntitySpaces) where
   -- an imported function pushes a reference that is not exact
   pub function_imported : (index : ℕ) → IsFunctionAdded (import_scope config types spaces) (import_scope config types (with_entity spaces (entity.Func index))) index false
   function_imported index =

@@ -5,8 +5,8 @@ use Rattle.std.specs.Prelude.{IsTrue, All}
 use Rattle.std.specs.List.{AllByRecursion as ByRecursion}
 use Rattle.std.proofs.lemmas.List.Elements.{All-nil, All-cons, All-from_recursion}
 use Rattle.smith_types.specs.Entities.{IsTagValid, IsFuncTypeIndex, IsTableValid, IsMemoryValid, IsGlobalValid}
-use Rattle.smith_types.specs.Imports.{IndexSpaces, table_of, global_of}
-use Rattle.smith_types.specs.Space.{Space}
+use Rattle.smith_types.specs.Imports.{EntitySpaces, table_of, global_of}
+use Rattle.smith_types.specs.GroupedTypes.{GroupedTypes}
 use Rattle.smith_types.specs.declared.composite_type.SubType.{SubType}
 use Rattle.smith_types.specs.declared.entity_type.EntityType.{EntityType}
 use Rattle.smith_types.specs.declared.entity_type.EntityType.TheVariants as entity
@@ -30,7 +30,7 @@ use Rattle.smith_config.specs.Granted.{HasGroundedElements, HasGroundedValue}
 use Rattle.smith_draw.proofs.FuncSizeLemmas.{small_at}
 use Rattle.smith_imports.specs.ImportedEntities.{import_scope, kind_rows}
 
-kind_offered : (config : Config) (types : List SubType) (spaces : IndexSpaces) (bytes : List ℕ) (of_kind : ExportKind) (after : List ℕ) → 0 < length (enabled (kind_rows config types spaces)) → chosen_at kind.Memory (enabled (kind_rows config types spaces)) bytes ≡ (of_kind, after)
+kind_offered : (config : Config) (types : List SubType) (spaces : EntitySpaces) (bytes : List ℕ) (of_kind : ExportKind) (after : List ℕ) → 0 < length (enabled (kind_rows config types spaces)) → chosen_at kind.Memory (enabled (kind_rows config types spaces)) bytes ≡ (of_kind, after)
     → MayImportKind config types spaces of_kind
 kind_offered config types spaces bytes of_kind after some chosen =
     let P = MayImportKind config types spaces in
@@ -39,7 +39,7 @@ kind_offered config types spaces bytes of_kind after some chosen =
     subst (λ (drawn : ExportKind × List ℕ). P drawn.0) chosen (chosen_of P kind.Memory (enabled (kind_rows config types spaces)) bytes some each)
 
 -- the kind chosen from a table with the rows of the kinds may be imported
-pub row_offered : (config : Config) (types : List SubType) (spaces : IndexSpaces) (table : List (ExportKind × Bool)) (bytes after : List ℕ) (of_kind : ExportKind) (count : ℕ) → table ≡ kind_rows config types spaces → count ≡ length (enabled table) → (count ≡ 0 → ⊥)
+pub row_offered : (config : Config) (types : List SubType) (spaces : EntitySpaces) (table : List (ExportKind × Bool)) (bytes after : List ℕ) (of_kind : ExportKind) (count : ℕ) → table ≡ kind_rows config types spaces → count ≡ length (enabled table) → (count ≡ 0 → ⊥)
     → chosen_at kind.Memory (enabled table) bytes ≡ (of_kind, after) → MayImportKind config types spaces of_kind
 row_offered config types spaces table bytes after of_kind count is size some chosen =
     let filled : 0 < length (enabled table) = omega arith in
@@ -59,13 +59,13 @@ pub chosen_usable : (for_use : TypeUse) (types : List SubType) (bytes : List ℕ
 chosen_usable for_use types bytes some = chosen_of (IsUsable for_use types) 0 (types_for for_use types) bytes some (types_usable for_use types)
 
 -- an entity other than a table and a global has no references to ground
-pub fit_without_references : (config : Config) (types : List SubType) (spaces : IndexSpaces) (added : EntityType) → IsEntityFit config types added → table_of added ≡ [] → global_of added ≡ [] → IsFitBeside config types spaces added
+pub fit_without_references : (config : Config) (types : List SubType) (spaces : EntitySpaces) (added : EntityType) → IsEntityFit config types added → table_of added ≡ [] → global_of added ≡ [] → IsFitBeside config types spaces added
 fit_without_references config types spaces added fit no_table no_global =
     let Elements = HasGroundedElements config (import_scope config types spaces) in
     let Values = HasGroundedValue config (import_scope config types spaces) in
     record { entity = fit; grounded_tables = subst (All Elements) (sym no_table) (All-nil Elements); grounded_globals = subst (All Values) (sym no_global) (All-nil Values) }
 
-module _ (config : Config) (space : Space) (may : MayImport config space) where
+module _ (config : Config) (space : GroupedTypes) (may : MayImport config space) where
   pub tag_fit : (index : ℕ) → IsTrue config.exceptions_enabled → IsTagValid space.types index → IsEntityFit config space.types (entity.Tag index)
   tag_fit index on valid = record {
     valid = record {

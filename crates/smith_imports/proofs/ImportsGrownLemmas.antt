@@ -20,8 +20,8 @@ use Rattle.smith_types.specs.declared.entity_type.TableType.{TableType}
 use Rattle.smith_types.specs.declared.value_type.ValType.{ValType}
 use Rattle.smith_types.specs.declared.value_type.ValType.TheVariants as vals
 use Rattle.smith_types.proofs.GroundGrowthLemmas.{imports_grounded}
-use Rattle.smith_types.specs.Imports.{IsImportsValid, flattened, IndexSpaces, import_of, imports_of, imported, imported_spaces, tag_of, func_of, table_of, memory_of, global_of, entity_spaces}
-use Rattle.smith_types.specs.IndexSpaces.{with_entity}
+use Rattle.smith_types.specs.Imports.{IsImportsValid, flattened, EntitySpaces, import_of, imports_of, imported, imported_spaces, tag_of, func_of, table_of, memory_of, global_of, entity_spaces}
+use Rattle.smith_types.specs.EntitySpaces.{with_entity}
 use Rattle.smith_types.specs.Sizes.{size_in}
 use Rattle.smith_types.specs.declared.composite_type.SubType.{SubType}
 use Rattle.smith_types.specs.declared.entity_type.EntityType.{EntityType}
@@ -50,7 +50,7 @@ pub imported_more : {A : Type 0} (of_kind : EntityType → List A) (imports : Li
 imported_more of_kind imports one = flat_map-append (λ (each : Import). of_kind each.entity_type) imports (one ∷ []) ∙ ap (λ xs. imported of_kind imports ++ xs) (append-nil (of_kind one.entity_type))
 
 -- one index space after another
-abbrev pub joined : IndexSpaces → IndexSpaces → IndexSpaces
+abbrev pub joined : EntitySpaces → EntitySpaces → EntitySpaces
 joined a b = record { tags = a.tags ++ b.tags; funcs = a.funcs ++ b.funcs; tables = a.tables ++ b.tables; memories = a.memories ++ b.memories; globals = a.globals ++ b.globals }
 
 pub spaces_more : (imports : List Import) (one : Import) → imported_spaces (imports ++ one ∷ []) ≡ joined (imported_spaces imports) (entity_spaces one.entity_type)
@@ -59,7 +59,7 @@ spaces_more imports one = rw (imported_more tag_of imports one, imported_more fu
 pub sizes_more : (types : List SubType) (imports : List Import) (one : Import) → sizes types (imports ++ one ∷ []) ≡ sizes types imports + (size_in types one.entity_type + 1)
 sizes_more types imports one = let parts = sum_by-append (λ (each : Import). size_in types each.entity_type + 1) imports (one ∷ []) in omega (arith, parts)
 
-entities_more : (features : Features) (types : List SubType) (a b : IndexSpaces) → AreEntitiesValid features types a → AreEntitiesValid features types b → AreEntitiesValid features types (joined a b)
+entities_more : (features : Features) (types : List SubType) (a b : EntitySpaces) → AreEntitiesValid features types a → AreEntitiesValid features types b → AreEntitiesValid features types (joined a b)
 entities_more features types a b old new = record {
   tags = All-append (IsTagValid types) a.tags b.tags old.tags new.tags;
   funcs = All-append (IsFuncTypeIndex types) a.funcs b.funcs old.funcs new.funcs;
@@ -75,14 +75,14 @@ pushed xs x most room = let lt = ltb-true (length xs) most room in omega (arith,
 same : {A : Type 0} (xs : List A) (most : ℕ) → length xs ≤ most → length (xs ++ []) ≤ most
 same xs most le = rw append-nil le
 
-pub numbers_more : (config : Config) (spaces : IndexSpaces) (one : EntityType) → AreNumbersWithin config spaces → has_room config spaces (entity_kind one) ≡ true → AreNumbersWithin config (joined spaces (entity_spaces one))
+pub numbers_more : (config : Config) (spaces : EntitySpaces) (one : EntityType) → AreNumbersWithin config spaces → has_room config spaces (entity_kind one) ≡ true → AreNumbersWithin config (joined spaces (entity_spaces one))
 numbers_more config spaces (entity.Tag x) w room = record { tags = pushed spaces.tags x _ room; funcs = same _ _ w.funcs; tables = same _ _ w.tables; memories = same _ _ w.memories; globals = same _ _ w.globals }
 numbers_more config spaces (entity.Func x) w room = record { tags = same _ _ w.tags; funcs = pushed spaces.funcs x _ room; tables = same _ _ w.tables; memories = same _ _ w.memories; globals = same _ _ w.globals }
 numbers_more config spaces (entity.Table x) w room = record { tags = same _ _ w.tags; funcs = same _ _ w.funcs; tables = pushed spaces.tables x _ room; memories = same _ _ w.memories; globals = same _ _ w.globals }
 numbers_more config spaces (entity.Memory x) w room = record { tags = same _ _ w.tags; funcs = same _ _ w.funcs; tables = same _ _ w.tables; memories = pushed spaces.memories x _ room; globals = same _ _ w.globals }
 numbers_more config spaces (entity.Global x) w room = record { tags = same _ _ w.tags; funcs = same _ _ w.funcs; tables = same _ _ w.tables; memories = same _ _ w.memories; globals = pushed spaces.globals x _ room }
 
-within_more : (config : Config) (types : List SubType) (spaces : IndexSpaces) (one : EntityType) → AreSpacesWithin config spaces → IsEntityFit config types one → has_room config spaces (entity_kind one) ≡ true → AreSpacesWithin config (joined spaces (entity_spaces one))
+within_more : (config : Config) (types : List SubType) (spaces : EntitySpaces) (one : EntityType) → AreSpacesWithin config spaces → IsEntityFit config types one → has_room config spaces (entity_kind one) ≡ true → AreSpacesWithin config (joined spaces (entity_spaces one))
 within_more config types spaces one w fit room =
     let old : AreNumbersWithin config spaces = record { tags = w.tags; funcs = w.funcs; tables = w.tables; memories = w.memories; globals = w.globals } in
     let numbers = numbers_more config spaces one old room in
@@ -129,7 +129,7 @@ module _ (config : Config) {A : Type 0} (value_of : A → ValType) where
   abbrev IsFilled : Context → A → Type 0
   IsFilled context item = ¬ IsUngrounded config context (value_of item)
 
-  grounded_later : (types : List SubType) (old new : IndexSpaces) (more : List ℕ) → new.funcs ≡ old.funcs ++ more → (items : List A) → All (IsFilled (import_scope config types old)) items → All (IsFilled (import_scope config types new)) items
+  grounded_later : (types : List SubType) (old new : EntitySpaces) (more : List ℕ) → new.funcs ≡ old.funcs ++ more → (items : List A) → All (IsFilled (import_scope config types old)) items → All (IsFilled (import_scope config types new)) items
   grounded_later types old new more grown items h =
       let before = import_scope config types old in
       let after = import_scope config types new in
@@ -178,7 +178,7 @@ fit_more config types distinct imports one fit next room fresh =
     }
 
 -- an entity after index spaces
-entity_behind : (spaces : IndexSpaces) (added : EntityType) → with_entity spaces added ≡ joined spaces (entity_spaces added)
+entity_behind : (spaces : EntitySpaces) (added : EntityType) → with_entity spaces added ≡ joined spaces (entity_spaces added)
 entity_behind spaces (entity.Tag x) = simp append-nil refl
 entity_behind spaces (entity.Func x) = simp append-nil refl
 entity_behind spaces (entity.Table x) = simp append-nil refl
@@ -200,17 +200,17 @@ import_added (Single imported) name one compact of_group = absurd compact
 import_added (Compact1 from items) name one compact of_group = map-append (λ (item : ImportItem). import_of from item.name item.entity_type) items (record { name = name; entity_type = one } ∷ [])
 import_added (Compact2 from entity_type names) name one compact of_group = rw of_group (map-append (λ (n : List ℕ). import_of from n entity_type) names (name ∷ []))
 
-funcs_grown : (spaces : IndexSpaces) (added : EntityType) → (with_entity spaces added).funcs ≡ spaces.funcs ++ func_of added
-funcs_grown spaces added = ap (λ (all : IndexSpaces). all.funcs) (entity_behind spaces added)
+funcs_grown : (spaces : EntitySpaces) (added : EntityType) → (with_entity spaces added).funcs ≡ spaces.funcs ++ func_of added
+funcs_grown spaces added = ap (λ (all : EntitySpaces). all.funcs) (entity_behind spaces added)
 
-fit_later : (config : Config) (types : List SubType) (spaces : IndexSpaces) (one added : EntityType) → IsFitBeside config types spaces one → IsFitBeside config types (with_entity spaces added) one
+fit_later : (config : Config) (types : List SubType) (spaces : EntitySpaces) (one added : EntityType) → IsFitBeside config types spaces one → IsFitBeside config types (with_entity spaces added) one
 fit_later config types spaces one added h = record {
   entity = h.entity;
   grounded_tables = grounded_later config elements_of types spaces (with_entity spaces added) (func_of added) (funcs_grown spaces added) (table_of one) h.grounded_tables;
   grounded_globals = grounded_later config value_in types spaces (with_entity spaces added) (func_of added) (funcs_grown spaces added) (global_of one) h.grounded_globals;
 }
 
-pub ready_more : (config : Config) (types : List SubType) (spaces : IndexSpaces) (group : Imports) (name : List ℕ) (one : EntityType) → IsOpen config types spaces group → IsOpen config types (with_entity spaces one) (with_import group name one)
+pub ready_more : (config : Config) (types : List SubType) (spaces : EntitySpaces) (group : Imports) (name : List ℕ) (one : EntityType) → IsOpen config types spaces group → IsOpen config types (with_entity spaces one) (with_import group name one)
 ready_more config types spaces (Single imported) name one ready = absurd ready.compact
 ready_more config types spaces (Compact1 from items) name one ready = record { fit = tt; enabled = ready.enabled; compact = tt }
 ready_more config types spaces (Compact2 from entity_type names) name one ready = record { fit = fit_later config types spaces entity_type one ready.fit; enabled = ready.enabled; compact = tt }

@@ -9,10 +9,10 @@ use Rattle.smith_types.specs.Entities.{AreEntitiesValid}
 use Rattle.smith_types.specs.Exports.{AreDistinct, entity_kind}
 use Rattle.smith_types.specs.Flags.{IsImportsEnabled}
 use Rattle.smith_types.specs.Floats.{HasNoFloatValue}
-use Rattle.smith_types.specs.Imports.{IndexSpaces, IsImportsValid, flattened, imported_spaces, tag_of, table_of, memory_of, global_of, entity_spaces}
-use Rattle.smith_types.specs.IndexSpaces.{spaces_in, with_entity}
+use Rattle.smith_types.specs.Imports.{EntitySpaces, IsImportsValid, flattened, imported_spaces, tag_of, table_of, memory_of, global_of, entity_spaces}
+use Rattle.smith_types.specs.EntitySpaces.{spaces_in, with_entity}
 use Rattle.smith_types.specs.Sizes.{IsTyped, size_in}
-use Rattle.smith_types.specs.Space.{Space}
+use Rattle.smith_types.specs.GroupedTypes.{GroupedTypes}
 use Rattle.smith_types.specs.ValidTypes.{AreTypesValid}
 use Rattle.smith_types.specs.declared.composite_type.SubType.{SubType}
 use Rattle.smith_types.specs.declared.entity_type.EntityType.{EntityType}
@@ -36,7 +36,7 @@ use Rattle.smith_imports.specs.declared.imported.Imported.{Imported}
 
 -- imports may be drawn over these types: no shape fixes the imports, and the function types are
 -- small
-pub record MayImport (config : Config) (space : Space) : Type 0 where
+pub record MayImport (config : Config) (space : GroupedTypes) : Type 0 where
   pub passes : Passes config
   pub sanitized : IsSanitized config
   pub free : FixesImports config → ⊥
@@ -45,7 +45,7 @@ pub record MayImport (config : Config) (space : Space) : Type 0 where
   pub small : All IsSmall space.types
 
 -- the index spaces of the imports so far
-abbrev pub spaces_of : Imported → IndexSpaces
+abbrev pub spaces_of : Imported → EntitySpaces
 spaces_of imported = spaces_in imported.spaces
 
 -- nothing is imported yet
@@ -72,7 +72,7 @@ pub record Counts (types : List SubType) (distinct : Bool) (imported : Imported)
   pub pairs : KnowsPairs distinct imported.pairs imports
 
 -- index spaces have no more of each kind than the configuration allows
-pub record AreNumbersWithin (config : Config) (spaces : IndexSpaces) : Type 0 where
+pub record AreNumbersWithin (config : Config) (spaces : EntitySpaces) : Type 0 where
   pub tags : length spaces.tags ≤ config.max_tags
   pub funcs : length spaces.funcs ≤ config.max_funcs
   pub tables : length spaces.tables ≤ config.max_tables
@@ -80,7 +80,7 @@ pub record AreNumbersWithin (config : Config) (spaces : IndexSpaces) : Type 0 wh
   pub globals : length spaces.globals ≤ config.max_globals
 
 -- index spaces have no more of each kind, and no larger tables and memories, than are allowed
-pub record AreSpacesWithin (config : Config) (spaces : IndexSpaces) : Type 0 where
+pub record AreSpacesWithin (config : Config) (spaces : EntitySpaces) : Type 0 where
   pub tags : length spaces.tags ≤ config.max_tags
   pub funcs : length spaces.funcs ≤ config.max_funcs
   pub tables : length spaces.tables ≤ config.max_tables
@@ -114,25 +114,25 @@ pub record IsEntityFit (config : Config) (types : List SubType) (added : EntityT
   pub typed : IsTyped types added
 
 -- an entity may be imported after these index spaces
-pub record IsFitBeside (config : Config) (types : List SubType) (spaces : IndexSpaces) (added : EntityType) : Type 0 where
+pub record IsFitBeside (config : Config) (types : List SubType) (spaces : EntitySpaces) (added : EntityType) : Type 0 where
   pub entity : IsEntityFit config types added
   pub grounded_tables : All (HasGroundedElements config (import_scope config types spaces)) (table_of added)
   pub grounded_globals : All (HasGroundedValue config (import_scope config types spaces)) (global_of added)
 
 -- an entity may be imported after these index spaces and this type size
-pub record IsNext (config : Config) (types : List SubType) (spaces : IndexSpaces) (size : ℕ) (added : EntityType) : Type 0 where
+pub record IsNext (config : Config) (types : List SubType) (spaces : EntitySpaces) (size : ℕ) (added : EntityType) : Type 0 where
   pub fit : IsFitBeside config types spaces added
   pub room : has_room config spaces (entity_kind added) ≡ true
   pub fits : size + (size_in types added + 1) ≤ config.max_type_size
   pub sum : size + (size_in types added + 1) < 2 ^ 32
 
 -- one more of a kind may be imported
-abbrev pub MayImportKind : Config → List SubType → IndexSpaces → ExportKind → Type 0
+abbrev pub MayImportKind : Config → List SubType → EntitySpaces → ExportKind → Type 0
 MayImportKind config types spaces of_kind = (may_import config types of_kind && has_room config spaces of_kind) ≡ true
 
 -- imports may end at these index spaces and this type size: an import may be too large, or a kind
 -- is full
-abbrev pub MayEndAt : Config → IndexSpaces → ℕ → Type 0
+abbrev pub MayEndAt : Config → EntitySpaces → ℕ → Type 0
 MayEndAt config spaces size = (config.max_type_size < size + 42) ⊎ ((of_kind : ExportKind) × (has_room config spaces of_kind ≡ false))
 
 -- imports may end at `count` imports: the next one may be too large, or they may fill some kind
@@ -148,7 +148,7 @@ IsCompact _ = Unit {0}
 
 -- the type shared by all imports of a group, if there is one, may be imported after these index
 -- spaces
-abbrev pub HasFitEntity : Config → List SubType → IndexSpaces → Imports → Type 0
+abbrev pub HasFitEntity : Config → List SubType → EntitySpaces → Imports → Type 0
 HasFitEntity config types spaces (Compact2 from entity_type names) = IsFitBeside config types spaces entity_type
 HasFitEntity config types spaces _ = Unit {0}
 
@@ -158,7 +158,7 @@ IsOfGroup (Compact2 from entity_type names) added = added ≡ entity_type
 IsOfGroup _ added = Unit {0}
 
 -- imports may be added to a group after these index spaces
-pub record IsOpen (config : Config) (types : List SubType) (spaces : IndexSpaces) (group : Imports) : Type 0 where
+pub record IsOpen (config : Config) (types : List SubType) (spaces : EntitySpaces) (group : Imports) : Type 0 where
   pub fit : HasFitEntity config types spaces group
   pub enabled : IsImportsEnabled (features_of config) group
   pub compact : IsCompact group

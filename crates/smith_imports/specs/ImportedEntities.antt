@@ -2,7 +2,7 @@
 use Rattle.std.specs.Prelude.{ℕ, ◌+◌, Bool, true, ◌&&◌, nat_lt, nat_le, Option, Some, None, List, [], ◌∷◌, length, sum_by, if◌then◌else◌}
 use Rattle.std.specs.Option.{option_map_or}
 use Rattle.smith_types.specs.Expressions.{Context}
-use Rattle.smith_types.specs.Imports.{IndexSpaces}
+use Rattle.smith_types.specs.Imports.{EntitySpaces}
 use Rattle.smith_types.specs.Sizes.{size_in}
 use Rattle.smith_types.specs.declared.composite_type.SubType.{SubType}
 use Rattle.smith_types.specs.declared.entity_type.EntityType.{EntityType}
@@ -21,7 +21,7 @@ use Rattle.smith_draw.specs.TypeUses.{types_for}
 use Rattle.smith_draw.specs.declared.type_use.TypeUse.TheVariants as uses
 
 -- whether index spaces have room for one more of a kind
-abbrev pub has_room : Config → IndexSpaces → ExportKind → Bool
+abbrev pub has_room : Config → EntitySpaces → ExportKind → Bool
 has_room config spaces kind.Tag = nat_lt (length spaces.tags) config.max_tags
 has_room config spaces kind.Func = nat_lt (length spaces.funcs) config.max_funcs
 has_room config spaces kind.Global = nat_lt (length spaces.globals) config.max_globals
@@ -35,24 +35,24 @@ may_import config types kind.Func = nat_lt 0 (length (types_for uses.ImportedFun
 may_import config types _ = true
 
 -- a kind, and whether one more of it may be imported
-abbrev pub kind_row : Config → List SubType → IndexSpaces → ExportKind → ExportKind × Bool
+abbrev pub kind_row : Config → List SubType → EntitySpaces → ExportKind → ExportKind × Bool
 kind_row config types spaces of_kind = (of_kind, may_import config types of_kind && has_room config spaces of_kind)
 
 -- the kinds in the order in which they are counted
-abbrev pub kind_rows : Config → List SubType → IndexSpaces → List (ExportKind × Bool)
+abbrev pub kind_rows : Config → List SubType → EntitySpaces → List (ExportKind × Bool)
 kind_rows config types spaces =
     kind_row config types spaces kind.Tag ∷ (kind_row config types spaces kind.Func
     ∷ (kind_row config types spaces kind.Global ∷ (kind_row config types spaces kind.Memory ∷ (kind_row config types spaces kind.Table ∷ []))))
 
 -- a kind of which one more may be imported, if there is one
-unfoldable pub kind_at : Config → List SubType → IndexSpaces → List ℕ → Option ExportKind × List ℕ
+unfoldable pub kind_at : Config → List SubType → EntitySpaces → List ℕ → Option ExportKind × List ℕ
 kind_at config types spaces bytes =
     let offered = enabled (kind_rows config types spaces) in
     let chosen = chosen_at kind.Memory offered bytes in
     if nat_lt 0 (length offered) then (Some chosen.0, chosen.1) else (None, bytes)
 
 -- the context in which an imported entity is drawn: types, and the functions imported so far
-abbrev pub import_scope : Config → List SubType → IndexSpaces → Context
+abbrev pub import_scope : Config → List SubType → EntitySpaces → Context
 import_scope config types spaces = record {
   features = features_of config;
   types = types;
@@ -80,7 +80,7 @@ abbrev pub fits : Config → List SubType → ℕ → EntityType → Bool
 fits config types size added = nat_le (size + (size_in types added + 1)) config.max_type_size
 
 -- an entity of a kind that has room, if there is such a kind and the entity fits
-unfoldable pub entity_at : Config → List SubType → IndexSpaces → ℕ → List ℕ → Option EntityType × List ℕ
+unfoldable pub entity_at : Config → List SubType → EntitySpaces → ℕ → List ℕ → Option EntityType × List ℕ
 entity_at config types spaces size bytes =
     let chosen = kind_at config types spaces bytes in
     option_map_or
@@ -88,5 +88,5 @@ entity_at config types spaces size bytes =
     chosen.0 (None, chosen.1)
 
 -- the same entity once more, if its kind has room and it fits
-abbrev pub again : Config → List SubType → IndexSpaces → ℕ → EntityType → Option EntityType
+abbrev pub again : Config → List SubType → EntitySpaces → ℕ → EntityType → Option EntityType
 again config types spaces size added = if has_room config spaces (entity_kind added) && fits config types size added then Some added else None

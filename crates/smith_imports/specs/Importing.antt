@@ -9,7 +9,7 @@ use Rattle.smith_bytes.specs.declared.error.Why.TheVariants.{Unmet}
 use Rattle.smith_bytes.specs.Draws.{bool_at}
 use Rattle.smith_bytes.specs.Growth.{goes_at}
 use Rattle.smith_bytes.specs.Names.{text_at}
-use Rattle.smith_types.specs.Imports.{IndexSpaces, import_of, imports_of, flattened, imported_spaces}
+use Rattle.smith_types.specs.Imports.{EntitySpaces, import_of, imports_of, flattened, imported_spaces}
 use Rattle.smith_types.specs.declared.composite_type.SubType.{SubType}
 use Rattle.smith_types.specs.declared.entity_type.EntityType.{EntityType}
 use Rattle.smith_types.specs.declared.imports.Import.{Import}
@@ -35,7 +35,7 @@ with_import (Compact2 from entity_type names) name added = Compact2 from entity_
 
 -- the entity that a compact group imports next: the same entity again if the group has one type,
 -- else a drawn one
-abbrev pub next_entity_at : Config → List SubType → IndexSpaces → ℕ → Imports → List ℕ → Option EntityType × List ℕ
+abbrev pub next_entity_at : Config → List SubType → EntitySpaces → ℕ → Imports → List ℕ → Option EntityType × List ℕ
 next_entity_at config types spaces size (Compact2 from entity_type names) bytes = (again config types spaces size entity_type, bytes)
 next_entity_at config types spaces size _ bytes = entity_at config types spaces size bytes
 

@@ -18,11 +18,11 @@ pub(crate) struct ImportTypes<'a> {
 
 impl<'a> Model for ImportTypes<'a> {
     ghost use Rattle.std.specs.Prelude.{◌≡◌};
-    ghost use Rattle.smith_types.specs.Space.{Space};
+    ghost use Rattle.smith_types.specs.GroupedTypes.{GroupedTypes};
     ghost use Rattle.smith_draw.specs.TypeUses.{types_for};
     ghost use Rattle.smith_draw.specs.declared.type_use.TypeUse.TheVariants.{Tag, ImportedFunc};
 
-    ghost Value = { Space };
+    ghost Value = { GroupedTypes };
 
     ghost view = { λ a. a.space.now };
 

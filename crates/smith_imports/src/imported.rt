@@ -3,7 +3,7 @@ ghost use Rattle.smith_types.specs.Sizes.{IsTyped, size_in};
 ghost use Rattle.smith_imports.specs.Imported.{HasNoImports, IsCounted};
 
 use smith_bytes::Error;
-use smith_types::{EntityType, Imports, IndexSpaces, Items, TypeSpace};
+use smith_types::{EntitySpaces, EntityType, Imports, Items, TypeSpace};
 use std::alloc::Global;
 use std::collections::HashSet;
 
@@ -13,7 +13,7 @@ pub struct Imported {
     /// The imports, in groups.
     pub groups: Items<Imports>,
     /// The index spaces of the imported items.
-    pub spaces: IndexSpaces,
+    pub spaces: EntitySpaces,
     /// The number of imports in all groups.
     pub count: usize,
     /// The amount that the imports add to the type size of the module.
@@ -30,7 +30,7 @@ impl Imported {
     {
         Imported {
             groups: Items::new(alloc),
-            spaces: IndexSpaces::new(alloc),
+            spaces: EntitySpaces::new(alloc),
             count: 0,
             type_size: 0,
             pairs: HashSet::new(alloc),

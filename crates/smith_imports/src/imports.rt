@@ -2,8 +2,8 @@ ghost use Rattle.std.specs.Prelude.{◌≡◌, ◌<◌, ◌≤◌, ◌+◌, ◌-
 ghost use Rattle.std.specs.Prelude.{IsTrue, IfOk, IfErr, IfSome, OnOk};
 ghost use Rattle.smith_bytes.specs.Source.{KeepsPieces};
 ghost use Rattle.smith_bytes.specs.Takes.{Takes};
-ghost use Rattle.smith_types.specs.Imports.{IndexSpaces, imports_of, flattened};
-ghost use Rattle.smith_types.specs.IndexSpaces.{with_entity};
+ghost use Rattle.smith_types.specs.Imports.{EntitySpaces, imports_of, flattened};
+ghost use Rattle.smith_types.specs.EntitySpaces.{with_entity};
 ghost use Rattle.smith_config.specs.declared.config.Config.{Config as Configuration};
 ghost use Rattle.smith_draw.specs.Drawing.{Draws};
 ghost use Rattle.smith_imports.specs.ImportedEntities.{import_scope};
@@ -40,7 +40,7 @@ use std::alloc::Global;
 
 /// Records the import of the entity `added` in `grounds`. `types` are the types of the module.
 fn note_import(types: &TypeSpace, grounds: &mut KeptGrounds, added: EntityType)
-    ensures { (config : Configuration) (spaces : IndexSpaces)
+    ensures { (config : Configuration) (spaces : EntitySpaces)
         → AreKeptGrounds (import_scope config types.now.types spaces) grounds.old
         → AreKeptGrounds
         (import_scope config types.now.types (with_entity spaces added)) grounds.new }

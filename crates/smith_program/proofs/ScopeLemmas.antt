@@ -6,7 +6,7 @@ use Rattle.std.specs.declared.ops.Range.{Range}
 use Rattle.std.proofs.lemmas.List.Elements.{All-append, All-from_recursion, All-map, recursion_from_All, All-weaker}
 use Rattle.std.proofs.lemmas.Option.{slice_get_within, slice_get-get_or, slice_get_read, get_or_from_slice_get}
 use Rattle.smith_types.specs.Features.{Features}
-use Rattle.smith_types.specs.Space.{Space}
+use Rattle.smith_types.specs.GroupedTypes.{GroupedTypes}
 use Rattle.smith_types.specs.Entities.{IsFuncAt, IsFuncTypeIndex, IsGlobalValid, IsTableValid}
 use Rattle.smith_types.specs.Segments.{IsElementValid}
 use Rattle.smith_types.specs.ValidTypes.{IsRefTypeValid, IsValTypeValid, IsGroupValid, AreTypesValid, values_of}
@@ -43,7 +43,7 @@ each_pair P Q [] h k = tt
 each_pair P Q (x ∷ xs) (p, h) (q, k) = ((p, q), each_pair P Q xs h k)
 
 -- the values of a type are valid over all types
-type_values : (features : Features) (space : Space) → AreTypesValid features space → (index : ℕ) (t : SubType) → slice_get space.types index ≡ Some t
+type_values : (features : Features) (space : GroupedTypes) → AreTypesValid features space → (index : ℕ) (t : SubType) → slice_get space.types index ≡ Some t
     → All (IsValTypeValid features (length space.types)) (values_of t.composite_type.inner)
 type_values features space valid index t at =
     let inside : index < length space.types = slice_get_within space.types index t at in
@@ -55,7 +55,7 @@ type_values features space valid index t at =
     All-weaker (IsValTypeValid features group.end) (IsValTypeValid features (length space.types)) (IsValTypeValid-later features group.end (length space.types) within) (values_of t.composite_type.inner) member.values
 
 -- the parameters and results of a function type are valid over all types
-func_values : (features : Features) (space : Space) → AreTypesValid features space → (index : ℕ) (function : FuncType) → IsFuncAt space.types index function
+func_values : (features : Features) (space : GroupedTypes) → AreTypesValid features space → (index : ℕ) (function : FuncType) → IsFuncAt space.types index function
     → All (IsValTypeValid features (length space.types)) function.params × All (IsValTypeValid features (length space.types)) function.results
 func_values features space valid index function (t, at, is) =
     let P = IsValTypeValid features (length space.types) in

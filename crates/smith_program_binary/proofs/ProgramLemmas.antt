@@ -85,7 +85,7 @@ behind_some some piece h =
 around_some : {X : Type 0} (m : Contents) (Code : List ℕ → Type 0) (Some : X → List ℕ → Type 0) → ((piece : List ℕ) → Code piece → (x : X) × Some x piece) → (piece : List ℕ) → IsModuleAround m Code piece
     → (x : X) × IsModuleAround m (Some x) piece
 around_some {X = X} m Code Some some piece h =
-    let last : (p : List ℕ) → Joined Code (IsListSection 11 IsData m.segments) p → (x : X) × Joined (Some x) (IsListSection 11 IsData m.segments) p =
+    let last : (p : List ℕ) → Joined Code (IsListSection 11 IsData m.datas) p → (x : X) × Joined (Some x) (IsListSection 11 IsData m.datas) p =
     λ p code. let (x, is) = some code.first code.is_first in (x, record { first = code.first; second = code.second; is_first = is; is_second = code.is_second; whole = code.whole }) in
     behind_some (behind_some (behind_some (behind_some (behind_some (behind_some (behind_some (behind_some (behind_some (behind_some (behind_some (behind_some last))))))))))) piece h
 

@@ -4,7 +4,7 @@ use Rattle.std.specs.Prelude.{◌≡◌, ℕ, ◌+◌, ◌≤◌, ◌⊎◌, max
 use Rattle.std.specs.List.{Contains}
 use Rattle.smith_bytes.specs.declared.error.Count.{Count}
 use Rattle.smith_bytes.specs.declared.error.Count.TheVariants as counts
-use Rattle.smith_types.specs.Imports.{IndexSpaces, flattened, imported_spaces}
+use Rattle.smith_types.specs.Imports.{EntitySpaces, flattened, imported_spaces}
 use Rattle.smith_types.specs.Segments.{item_count}
 use Rattle.smith_types.specs.Sizes.{size_in}
 use Rattle.smith_types.specs.declared.entity_type.EntityType.TheVariants as entity
@@ -35,7 +35,7 @@ count_of m counts.Globals = length m.globals
 count_of m counts.Exports = length m.exports
 count_of m counts.ElementSegments = length m.elems
 count_of m counts.Elements = sum_by (λ (segment : ElementSegment). item_count segment.items) m.elems
-count_of m counts.DataSegments = length m.segments
+count_of m counts.DataSegments = length m.datas
 
 -- the number that an exported item adds to a count; a function or a tag of a shape for exports adds
 -- a type too
@@ -119,7 +119,7 @@ exports_size config m =
     else sum_by (λ (one : List ℕ × ExportKind × ℕ). export_size m one.1 one.2 + 1) m.exports
 
 -- the tables and memories of the shapes that are used
-abbrev pub of_shapes : {A : Type 0} → (IndexSpaces → List A) → Config → List A
+abbrev pub of_shapes : {A : Type 0} → (EntitySpaces → List A) → Config → List A
 of_shapes {A} space config =
     let one = λ (given : Option Shape). unwrap_or (option_map (λ (shape : Shape). space (shape_spaces shape)) given) [] in
     let used = shapes_of config in

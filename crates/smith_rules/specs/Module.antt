@@ -4,9 +4,9 @@ use Rattle.std.specs.Prelude.{◌≡◌, ℕ, ◌+◌, Bool, IsTrue, Option, Som
 use Rattle.std.specs.List.{All}
 use Rattle.std.specs.declared.ops.Range.{Range}
 use Rattle.smith_types.specs.Features.{Features}
-use Rattle.smith_types.specs.Space.{Space}
+use Rattle.smith_types.specs.GroupedTypes.{GroupedTypes}
 use Rattle.smith_types.specs.ValidTypes.{AreTypesValid}
-use Rattle.smith_types.specs.Imports.{IndexSpaces, Defines, IsImportsValid, flattened, imported_spaces}
+use Rattle.smith_types.specs.Imports.{EntitySpaces, Defines, IsImportsValid, flattened, imported_spaces}
 use Rattle.smith_types.specs.Entities.{AreEntitiesValid, AreCountsEnabled}
 use Rattle.smith_types.specs.Expressions.{Context, IsConstExpr, seeing, seen_by_tables, seen_by_global, seen_by_segments}
 use Rattle.smith_types.specs.Segments.{IsElementValid, IsDataValid}
@@ -48,7 +48,7 @@ pub record ModuleParts : Type 0 where
   pub exports : List (List ℕ × ExportKind × ℕ)
   pub start : Option ℕ
   pub elems : List ElementSegment
-  pub segments : List DataSegment
+  pub datas : List DataSegment
   pub code : List Code
   pub fuel_globals : List ℕ
   pub encodes_types : Bool
@@ -67,15 +67,15 @@ abbrev pub module_features : ModuleParts → Features
 module_features m = features_of m.config
 
 -- a module's types in their groups (Structure, Recursive Types)
-abbrev pub module_types : ModuleParts → Space
+abbrev pub module_types : ModuleParts → GroupedTypes
 module_types m = record { types = m.types; groups = m.groups }
 
 -- a module's index spaces (Structure, Indices)
-abbrev pub module_spaces : ModuleParts → IndexSpaces
+abbrev pub module_spaces : ModuleParts → EntitySpaces
 module_spaces m = record { tags = m.tags; funcs = m.funcs; tables = m.tables; memories = m.memories; globals = m.globals }
 
 -- the index spaces of a module's imports, which come first in its index spaces (Structure, Indices)
-abbrev pub module_imports : ModuleParts → IndexSpaces
+abbrev pub module_imports : ModuleParts → EntitySpaces
 module_imports m = imported_spaces (flattened m.imports)
 
 -- the context of a module's expressions with no global visible (Validation, Modules)
@@ -153,5 +153,5 @@ pub record IsValid (m : ModuleParts) : Type 0 where
   pub exports : AreExportsValid (module_spaces m) m.exports
   pub start : IsStartValid m.types m.funcs m.start
   pub elements : All (IsElementValid (segment_context m) m.tables) m.elems
-  pub data_segments : All (IsDataValid (segment_context m) m.memories) m.segments
+  pub data_segments : All (IsDataValid (segment_context m) m.memories) m.datas
   pub bodies : AreBodiesValid m

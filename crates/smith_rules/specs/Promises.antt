@@ -72,7 +72,7 @@ HasNoStart m = m.start ≡ None
 -- or memory
 pub record IsInside (m : ModuleParts) : Type 0 where
   pub elements : All (IsElementInside m.tables) m.elems
-  pub data_segments : All (IsDataInside m.memories) m.segments
+  pub data_segments : All (IsDataInside m.memories) m.datas
 
 -- the type section is written if there are types, the import section if there are imports
 pub record WritesSections (m : ModuleParts) : Type 0 where

@@ -4,7 +4,7 @@ use Rattle.std.specs.Prelude.{ℕ, suc, ◌+◌, ◌%◌, ◌==◌, ◌&&◌, na
 use Rattle.std.specs.List.{filter}
 use Rattle.smith_bytes.specs.declared.error.Count.{Count}
 use Rattle.smith_bytes.specs.declared.error.Count.TheVariants as counts
-use Rattle.smith_types.specs.Imports.{IndexSpaces, imports_of, imported_spaces}
+use Rattle.smith_types.specs.Imports.{EntitySpaces, imports_of, imported_spaces}
 use Rattle.smith_types.specs.Sizes.{size_in}
 use Rattle.smith_types.specs.declared.composite_type.SubType.{SubType}
 use Rattle.smith_types.specs.declared.entity_type.EntityType.{EntityType}
@@ -27,7 +27,7 @@ abbrev pub kept_groups : Config → Shape → List Imports
 kept_groups config shape = if config.compact_imports_enabled then filter is_filled shape.imports else map Single (shape_imports shape)
 
 -- the number of items of a kind in index spaces
-abbrev pub count_in : IndexSpaces → Count → ℕ
+abbrev pub count_in : EntitySpaces → Count → ℕ
 count_in spaces counts.Tags = length spaces.tags
 count_in spaces counts.Funcs = length spaces.funcs
 count_in spaces counts.Tables = length spaces.tables

@@ -2,7 +2,7 @@
 use Rattle.std.specs.Prelude.{◌≡◌, ℕ, IsTrue, IfSome, List, [], None, Some, slice_get}
 use Rattle.std.specs.List.{AllZip}
 use Rattle.smith_types.specs.Grown.{Extends}
-use Rattle.smith_types.specs.Imports.{IndexSpaces, flattened}
+use Rattle.smith_types.specs.Imports.{EntitySpaces, flattened}
 use Rattle.smith_types.specs.Exports.{IsEntityAt}
 use Rattle.smith_types.specs.declared.composite_type.SubType.{SubType}
 use Rattle.smith_types.specs.declared.entity_type.EntityType.{EntityType}
@@ -21,7 +21,7 @@ pub record KeepsTypes (shape : Shape) (m : ModuleParts) : Type 0 where
   pub groups : Extends (space_of shape.groups).groups m.groups
 
 -- two exports have one name and one kind, and entities whose types are the same
-pub record IsSameExport (IsSame : EntityType → EntityType → Type 0) (ours theirs : IndexSpaces) (one other : Export) : Type 0 where
+pub record IsSameExport (IsSame : EntityType → EntityType → Type 0) (ours theirs : EntitySpaces) (one other : Export) : Type 0 where
   pub name : one.0 ≡ other.0
   pub kind : one.1 ≡ other.1
   pub mine : EntityType

@@ -34,7 +34,7 @@ elements_refused valid =
     let segment = All-head (IsElementValid (segment_context (record two_elements { config = without_bulk_memory })) []) (passive_elements (Expressions (no_function ∷ no_function ∷ []))) [] valid in
     cc segment.kind
 
-pub bytes_refused : ¬ All (IsDataValid (segment_context (record passive_bytes { config = without_bulk_memory })) []) passive_bytes.segments
+pub bytes_refused : ¬ All (IsDataValid (segment_context (record passive_bytes { config = without_bulk_memory })) []) passive_bytes.datas
 bytes_refused valid =
     let never = All-head (IsDataValid (segment_context (record passive_bytes { config = without_bulk_memory })) []) (record { kind = data_kind.Passive; init = 42 ∷ [] }) [] valid in
     cc never

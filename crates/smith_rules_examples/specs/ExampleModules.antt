@@ -49,7 +49,7 @@ empty_module configuration = record {
   exports = [];
   start = None;
   elems = [];
-  segments = [];
+  datas = [];
   code = [];
   fuel_globals = [];
   encodes_types = false;
@@ -143,7 +143,7 @@ abbrev pub one_data_segment : ModuleParts
 one_data_segment = record (empty_module (record default_config { disallow_traps = true; bulk_memory_enabled = false; min_memories = 1; min_data_segments = 1 })) {
   memories = shared_memory 1 ∷ [];
   num_defined_memories = 1;
-  segments = active_data (pos 0) [] ∷ [];
+  datas = active_data (pos 0) [] ∷ [];
 }
 
 -- a tag and a function of one type, which is exported, and a segment without references
@@ -167,7 +167,7 @@ a_float = record (empty_module default_config) { globals = global F32 true ∷ [
 
 -- a passive data segment
 abbrev pub passive_bytes : ModuleParts
-passive_bytes = record (empty_module default_config) { segments = record { kind = data_kind.Passive; init = 42 ∷ [] } ∷ [] }
+passive_bytes = record (empty_module default_config) { datas = record { kind = data_kind.Passive; init = 42 ∷ [] } ∷ [] }
 
 -- a table that begins with the reference of a global, which is imported, or defined
 abbrev pub table_from_import : ModuleParts
@@ -252,7 +252,7 @@ named_imports one other = record two_imports { imports = Compact2 [] (entity.Glo
 
 -- a memory of a number of pages, and bytes that are copied to its last address
 abbrev pub last_bytes : ℕ → List ℕ → ModuleParts
-last_bytes pages bytes = record (empty_module default_config) { memories = memory pages None ∷ []; num_defined_memories = 1; segments = active_data (negsuc 0) bytes ∷ [] }
+last_bytes pages bytes = record (empty_module default_config) { memories = memory pages None ∷ []; num_defined_memories = 1; datas = active_data (negsuc 0) bytes ∷ [] }
 
 -- a function, and a segment of these references, where the configuration requires this number
 abbrev pub elements_asked_for : ℕ → Elements → ModuleParts
@@ -319,5 +319,5 @@ abbrev pub number_and_bytes : ModuleParts
 number_and_bytes = record (empty_module default_config) {
   globals = global I32 true ∷ [];
   defined_globals = (0, I32Const (pos 7) ∷ []) ∷ [];
-  segments = record { kind = data_kind.Passive; init = 42 ∷ [] } ∷ [];
+  datas = record { kind = data_kind.Passive; init = 42 ∷ [] } ∷ [];
 }

@@ -244,7 +244,7 @@ fn given_modules()
         (three_numbers true (GlobalGet 0)) }
     ensures a_byte { MeetsMinimums last_byte.config last_byte }
     ensures data_is_missing { ¬ MeetsMinimums last_byte.config
-        (record last_byte { segments = [] }) }
+        (record last_byte { datas = [] }) }
     ensures sixty_elements { MeetsMinimums sixty_elements.config sixty_elements }
     ensures a_segment_is_missing { ¬ MeetsMinimums sixty_elements.config
         (empty_module default_config) }

@@ -162,10 +162,10 @@ fn segments()
         (segment_context (table_from_a_number false)) (table_from_a_number false).tables)
         (table_from_a_number false).elems }
     ensures bytes_in_no_memory { ¬ All (IsDataValid (segment_context last_byte) [])
-        last_byte.segments }
+        last_byte.datas }
     ensures bytes_without_bulk_memory { ¬ All (IsDataValid (segment_context
         (record passive_bytes { config = record default_config { bulk_memory_enabled = false } }))
-        []) passive_bytes.segments }
+        []) passive_bytes.datas }
 {}
 
 fn bodies()

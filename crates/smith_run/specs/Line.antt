@@ -23,7 +23,7 @@ counts_line parts =
     ++ codes " exports " ++ decimal (length parts.exports)
     ++ codes " start " ++ index_or_none parts.start
     ++ codes " elems " ++ decimal (length parts.elems)
-    ++ codes " data " ++ decimal (length parts.segments)
+    ++ codes " data " ++ decimal (length parts.datas)
     ++ codes "\n"
 
 -- the line that reports a module or a refusal

@@ -37,7 +37,7 @@ pub record Contents : Type 0 where
   pub start : Option ℕ
   pub elements : List Element
   pub bodies : List (List ValType × List ℕ)
-  pub segments : List Data
+  pub datas : List Data
 
 -- the magic number, then the version (Modules)
 abbrev pub IsPreamble : List ℕ → Type 0
@@ -52,7 +52,7 @@ IsStartSection None piece = piece ≡ []
 -- standard requires it if a body names a data segment, which this relation, over bytes of bodies,
 -- does not say
 abbrev pub IsDataCount : List Data → List ℕ → Type 0
-IsDataCount segments = IsOptionalSection 12 (Unit {0}) (IsUnsigned 32 (length segments))
+IsDataCount datas = IsOptionalSection 12 (Unit {0}) (IsUnsigned 32 (length datas))
 
 -- a module: the preamble, then its sections in order, and no byte after them (Modules)
 abbrev pub IsModule : Contents → List ℕ → Type 0
@@ -68,4 +68,4 @@ IsModule m =
     (Joined (IsListSection 7 IsExport m.exports)
     (Joined (IsStartSection m.start)
     (Joined (IsListSection 9 IsElement m.elements)
-    (Joined (IsDataCount m.segments) (Joined (IsListSection 10 IsBody m.bodies) (IsListSection 11 IsData m.segments)))))))))))))
+    (Joined (IsDataCount m.datas) (Joined (IsListSection 10 IsBody m.bodies) (IsListSection 11 IsData m.datas)))))))))))))

@@ -7,7 +7,7 @@ use Rattle.std.proofs.Math.ListN.{drop_of_length-le}
 use Rattle.std.proofs.lemmas.List.{length-take}
 use Rattle.smith_bytes.specs.Spelling.{SpellsBool, Where}
 use Rattle.smith_types.specs.Groups.{space_of}
-use Rattle.smith_types.specs.Space.{Space}
+use Rattle.smith_types.specs.GroupedTypes.{GroupedTypes}
 use Rattle.smith_types.specs.declared.composite_type.SubType.{SubType}
 use Rattle.smith_types.proofs.GroupsAddedLemmas.{space_of_push, groups_cut}
 use Rattle.smith_types.proofs.ListLemmas.{slice_get-grown}
@@ -60,7 +60,7 @@ group_room groups i group d inside read =
 pub types_turn : (groups : List (List SubType)) (i : ℕ) (group d : List SubType) → i < length groups → group ≡ get_or groups i d → (space_of (take i groups)).types ++ group ≡ (space_of (take (i + 1) groups)).types
 types_turn groups i group d inside read =
     let more : take i groups ++ group ∷ [] ≡ take (i + 1) groups = ap (λ (g : List SubType). take i groups ++ g ∷ []) read ∙ sym (take-suc groups i d inside) ∙ ap (λ (n : ℕ). take n groups) (sym (add-one i)) in
-    sym (ap (λ (s : Space). s.types) (space_of_push (take i groups) group)) ∙ ap (λ (g : List (List SubType)). (space_of g).types) more
+    sym (ap (λ (s : GroupedTypes). s.types) (space_of_push (take i groups) group)) ∙ ap (λ (g : List (List SubType)). (space_of g).types) more
 
 pub summary_turn : (groups : List (List SubType)) (i : ℕ) (group d : List SubType) (after : Before) → i < length groups → group ≡ get_or groups i d → IsSummary ((space_of (take i groups)).types ++ group) after
     → IsSummary (space_of (take (i + 1) groups)).types after

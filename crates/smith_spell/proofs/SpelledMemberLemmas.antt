@@ -4,7 +4,7 @@ use Rattle.std.specs.Prelude.{fold, if◌then◌else◌}
 use Rattle.std.proofs.Math.Dec.{T, eqb, eqb_refl}
 use Rattle.smith_bytes.specs.Spelling.{Joined, SpellsAnyByte, SpellsNone}
 use Rattle.smith_types.specs.Expressions.{Context}
-use Rattle.smith_types.specs.Space.{Space}
+use Rattle.smith_types.specs.GroupedTypes.{GroupedTypes}
 use Rattle.smith_types.specs.declared.value_type.HeapType.{HeapType}
 use Rattle.smith_types.specs.declared.value_type.HeapType.TheVariants.{Abstract, Concrete, Exact}
 use Rattle.smith_types.specs.declared.value_type.ValType.{ValType}
@@ -33,7 +33,7 @@ SpellsBehindGroups config types funcs = Joined (SpellsNone config.max_imports) (
 abbrev pub no_functions : Config → Context
 no_functions config = record { features = features_of config; types = []; funcs = []; globals = []; imported_funcs = 0; imported_globals = 0; visible = 0 }
 
-pub member_read : (config : Config) (groups : List (List SubType)) (funcs bytes left : List ℕ) (space : Space) → IsSanitized config → config.min_types ≡ 0 → GroupsFit config [] groups
+pub member_read : (config : Config) (groups : List (List SubType)) (funcs bytes left : List ℕ) (space : GroupedTypes) → IsSanitized config → config.min_types ≡ 0 → GroupsFit config [] groups
     → types_at config (no_functions config) (space_of []) bytes ≡ (space, left) → SpellsMember config groups funcs bytes
     → (space ≡ space_of groups) × SpellsBehindGroups config (space_of groups).types funcs left
 unfolding SpellsMember
@@ -73,14 +73,14 @@ inner_number (Struct structure) = 3 * fold (λ n field. 64 * n + (1 + field_numb
 abbrev type_number : SubType → ℕ
 type_number t = 2 * inner_number t.composite_type.inner + (if t.is_final then 1 else 0)
 
-abbrev pub number_of : Space → ℕ
+abbrev pub number_of : GroupedTypes → ℕ
 number_of space = fold (λ n t. 2 ^ 64 * n + (1 + type_number t)) (length space.groups) space.types
 
 not_both : (answer : Bool) → T answer → answer ≡ false → ⊥
 not_both true holds fails = cc fails
 not_both false holds fails = holds
 
-pub other_number : (space other : Space) → eqb (number_of space) (number_of other) ≡ false → space ≡ other → ⊥
+pub other_number : (space other : GroupedTypes) → eqb (number_of space) (number_of other) ≡ false → space ≡ other → ⊥
 other_number space other apart same =
-    let never : eqb (number_of other) (number_of other) ≡ false = subst (λ (s : Space). eqb (number_of s) (number_of other) ≡ false) same apart in
+    let never : eqb (number_of other) (number_of other) ≡ false = subst (λ (s : GroupedTypes). eqb (number_of s) (number_of other) ≡ false) same apart in
     not_both (eqb (number_of other) (number_of other)) (eqb_refl (number_of other)) never

@@ -12,7 +12,7 @@ use Rattle.smith_types.specs.declared.composite_type.SubType.{SubType}
 use Rattle.smith_types.specs.declared.entity_type.GlobalType.{GlobalType}
 use Rattle.smith_types.specs.declared.entity_type.TableType.{TableType}
 use Rattle.smith_types.specs.ValidTypes.{IsHeapTypeValid, IsRefTypeValid, IsValTypeValid}
-use Rattle.smith_types.specs.Imports.{IndexSpaces}
+use Rattle.smith_types.specs.Imports.{EntitySpaces}
 use Rattle.smith_types.specs.Entities.{IsFuncAt, IsFuncTypeIndex, IsTagValid, IsTableValid, IsGlobalValid, AreEntitiesValid}
 use Rattle.smith_types.proofs.ListLemmas.{slice_get-grown}
 use Rattle.smith_types.proofs.ValidityLemmas.{IsShareable-grown}
@@ -65,7 +65,7 @@ module _ (features : Features) (types more : List SubType) where
     shared = λ shared. let (on, held) = h.shared shared in (on, IsShareable-grown features types more ty.val_type held);
   }
 
-  pub AreEntitiesValid-grown : (spaces : IndexSpaces) → AreEntitiesValid features types spaces → AreEntitiesValid features (types ++ more) spaces
+  pub AreEntitiesValid-grown : (spaces : EntitySpaces) → AreEntitiesValid features types spaces → AreEntitiesValid features (types ++ more) spaces
   AreEntitiesValid-grown spaces h = record {
     tags = All-weaker (IsTagValid types) (IsTagValid (types ++ more)) (IsTagValid-grown types more) spaces.tags h.tags;
     funcs = All-weaker (IsFuncTypeIndex types) (IsFuncTypeIndex (types ++ more)) (IsFuncValid-grown types more) spaces.funcs h.funcs;

@@ -6,7 +6,7 @@ use Rattle.std.proofs.lemmas.Option.{slice_get_within, slice_get-get_or, get_or_
 use Rattle.std.proofs.lemmas.List.{append-nil, length-append, length-set, get_or-set_same, get_or-set_other}
 use Rattle.smith_types.specs.declared.composite_type.SubType.{SubType}
 use Rattle.smith_types.specs.declared.family.Family.{Family}
-use Rattle.smith_types.specs.Space.{MayFollow}
+use Rattle.smith_types.specs.GroupedTypes.{MayFollow}
 use Rattle.smith_types.specs.KindCounts.{indices_from}
 use Rattle.smith_types.specs.Families.{is_directly_below, direct_subtypes, AreFamilies}
 use Rattle.smith_types.proofs.KindCountLemmas.{count_most, length_indices}

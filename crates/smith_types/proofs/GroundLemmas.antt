@@ -8,7 +8,7 @@ use Rattle.smith_types.specs.declared.composite_type.SubType.{SubType}
 use Rattle.smith_types.specs.declared.value_type.HeapType.TheVariants.{Concrete}
 use Rattle.smith_types.specs.declared.ground.Ground.{Ground}
 use Rattle.smith_types.specs.Types.{IsOrderly}
-use Rattle.smith_types.specs.Space.{MayFollow}
+use Rattle.smith_types.specs.GroupedTypes.{MayFollow}
 use Rattle.smith_types.specs.Subtyping.{IsBelow, itself}
 use Rattle.smith_types.specs.Grounds.{is_ground, IsGroundBelow, own_at, below_at, AreGrounds, AreClosed, AreMarked}
 use Rattle.smith_types.proofs.ListLemmas.{slice_get-grown, slice_get-last, slice_get-push, slice_get-front}

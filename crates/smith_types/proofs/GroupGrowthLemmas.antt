@@ -6,7 +6,7 @@ use Rattle.std.specs.declared.ops.Range.{Range}
 use Rattle.std.proofs.lemmas.List.Elements.{All-weaker, All-push, All-from_recursion, recursion_from_All}
 use Rattle.std.proofs.lemmas.Option.{slice_get_within}
 use Rattle.smith_types.specs.Features.{Features}
-use Rattle.smith_types.specs.Space.{Space}
+use Rattle.smith_types.specs.GroupedTypes.{GroupedTypes}
 use Rattle.smith_types.specs.Types.{IsAlike, next_start, next_group}
 use Rattle.smith_types.specs.ValidTypes.{IsHeapTypeValid, IsValTypeValid, IsTypeValid, IsGroupValid, AreTypesValid, values_of}
 use Rattle.smith_types.specs.OpenTypes.{AreTypesOpen}
@@ -47,7 +47,7 @@ both_each P Q [] p q = tt
 both_each P Q (g ∷ groups) p q = ((p.0, q.0), both_each P Q groups p.1 q.1)
 
 -- each existing type is valid for the end of the group under construction
-pub AreTypesOpen-at : (features : Features) (end : ℕ) (space : Space) → AreTypesOpen features end space → (i : ℕ) (t : SubType) → slice_get space.types i ≡ Some t → IsTypeValid features space.types end t
+pub AreTypesOpen-at : (features : Features) (end : ℕ) (space : GroupedTypes) → AreTypesOpen features end space → (i : ℕ) (t : SubType) → slice_get space.types i ≡ Some t → IsTypeValid features space.types end t
 AreTypesOpen-at features end space open_types i t at =
     elim (before_or_not i (next_start space.groups)) [
       | inl before ↦
@@ -63,7 +63,7 @@ AreTypesOpen-at features end space open_types i t at =
     ]
 
 -- valid types, before anything is added
-pub AreTypesOpen-start : (features : Features) (end : ℕ) (space : Space) → length space.types ≤ end → AreTypesValid features space → AreTypesOpen features end space
+pub AreTypesOpen-start : (features : Features) (end : ℕ) (space : GroupedTypes) → length space.types ≤ end → AreTypesValid features space → AreTypesOpen features end space
 AreTypesOpen-start features end space le valid =
     let whole = valid.covered.whole in
     record {

@@ -6,7 +6,7 @@ use Rattle.std.proofs.Math.Seq.{split_at, take-suc}
 use Rattle.std.proofs.lemmas.Grind.{flat_map-append}
 use Rattle.std.proofs.lemmas.Option.{slice_get_within}
 use Rattle.smith_types.specs.Features.{Features}
-use Rattle.smith_types.specs.Space.{Space, MayFollow}
+use Rattle.smith_types.specs.GroupedTypes.{GroupedTypes, MayFollow}
 use Rattle.smith_types.specs.Types.{next_group, end_from}
 use Rattle.smith_types.specs.ValidTypes.{AreTypesValid}
 use Rattle.smith_types.specs.Groups.{ranges_from, space_of, AreFollowing}
@@ -52,7 +52,7 @@ not_following types before members i t d inside read is few refused following =
     })
 
 -- the space with one more group
-abbrev pub with_group : Space → List SubType → Space
+abbrev pub with_group : GroupedTypes → List SubType → GroupedTypes
 with_group space group = record { types = space.types ++ group; groups = space.groups ++ next_group (space.types ++ group) space.groups ∷ [] }
 
 ranges_end : (start : ℕ) (groups : List (List SubType)) → end_from start (ranges_from start groups) ≡ start + length (flat_map (λ (group : List SubType). group) groups)
@@ -86,34 +86,34 @@ groups_cut groups i group d inside read =
     ∙ ap (λ (g : List SubType). all (take i groups) ++ (g ++ all (drop (suc i) groups))) (sym read)
     ∙ joined_again (all (take i groups)) group (all (drop (suc i) groups))
 
-pub groups_room : (groups : List (List SubType)) (i : ℕ) (space : Space) (group d : List SubType) → i < length groups → group ≡ get_or groups i d → space ≡ space_of (take i groups)
+pub groups_room : (groups : List (List SubType)) (i : ℕ) (space : GroupedTypes) (group d : List SubType) → i < length groups → group ≡ get_or groups i d → space ≡ space_of (take i groups)
     → length (space_of groups).types + 1 < 2 ^ 32 → length space.types + length group + 1 < 2 ^ 32
 groups_room groups i space group d inside read is few =
     let types = (space_of (take i groups)).types in
     let rest = flat_map (λ (group : List SubType). group) (drop (suc i) groups) in
     let whole : length (space_of groups).types ≡ length ((types ++ group) ++ rest) = ap length (groups_cut groups i group d inside read) in
     let parts : length ((types ++ group) ++ rest) ≡ (length types + length group) + length rest = simp length-append refl in
-    let same : length space.types ≡ length types = ap (λ (s : Space). length s.types) is in
+    let same : length space.types ≡ length types = ap (λ (s : GroupedTypes). length s.types) is in
     omega (arith, whole, parts, same, few)
 
-pub groups_refused : (groups : List (List SubType)) (i : ℕ) (space : Space) (group d : List SubType) → i < length groups → group ≡ get_or groups i d → space ≡ space_of (take i groups)
+pub groups_refused : (groups : List (List SubType)) (i : ℕ) (space : GroupedTypes) (group d : List SubType) → i < length groups → group ≡ get_or groups i d → space ≡ space_of (take i groups)
     → (AreFollowing (space.types ++ group) → ⊥) → AreFollowing (space_of groups).types → ⊥
 groups_refused groups i space group d inside read is refused following =
     let types = (space_of (take i groups)).types in
-    let same : types ++ group ≡ space.types ++ group = ap (λ (s : Space). s.types ++ group) (sym is) in
+    let same : types ++ group ≡ space.types ++ group = ap (λ (s : GroupedTypes). s.types ++ group) (sym is) in
     refused (subst AreFollowing same (front_follows (types ++ group) (flat_map (λ (group : List SubType). group) (drop (suc i) groups)) (subst AreFollowing (groups_cut groups i group d inside read) following)))
 
-pub groups_turn : (groups : List (List SubType)) (i : ℕ) (before now later : Space) (group d : List SubType) → i < length groups → group ≡ get_or groups i d → before ≡ space_of (take i groups)
+pub groups_turn : (groups : List (List SubType)) (i : ℕ) (before now later : GroupedTypes) (group d : List SubType) → i < length groups → group ≡ get_or groups i d → before ≡ space_of (take i groups)
     → now ≡ record before { types = before.types ++ group } → later ≡ record now { groups = now.groups ++ next_group now.types now.groups ∷ [] } → later ≡ space_of (take (i + 1) groups)
 groups_turn groups i before now later group d inside read is added closed =
     closed
-    ∙ ap (λ (s : Space). record { types = s.types; groups = s.groups ++ next_group s.types s.groups ∷ [] }) added
-    ∙ ap (λ (s : Space). with_group s group) is
+    ∙ ap (λ (s : GroupedTypes). record { types = s.types; groups = s.groups ++ next_group s.types s.groups ∷ [] }) added
+    ∙ ap (λ (s : GroupedTypes). with_group s group) is
     ∙ sym (space_of_push (take i groups) group)
     ∙ ap space_of (ap (λ (g : List SubType). take i groups ++ g ∷ []) read ∙ sym (take-suc groups i d inside) ∙ ap (λ (n : ℕ). take n groups) (sym (add-one i)))
 
 -- valid types follow one another
-pub valid_following : (features : Features) (space : Space) → AreTypesValid features space → AreFollowing space.types
+pub valid_following : (features : Features) (space : GroupedTypes) → AreTypesValid features space → AreFollowing space.types
 valid_following features space valid = record {
   under = λ i s t at up.
       let h = AreTypesOpen-at features (length space.types) space (AreTypesOpen-start features (length space.types) space (omega arith) valid) i t at in

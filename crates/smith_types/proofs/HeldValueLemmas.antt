@@ -5,7 +5,7 @@ use Rattle.std.specs.List.{flat_map, AllByRecursion as Each}
 use Rattle.std.proofs.lemmas.List.Elements.{All-nil, All-cons, All-head, All-append, All-map, All-weaker, All-from_recursion, recursion_from_All}
 use Rattle.smith_types.specs.Decided.{IsStored, AreHeld}
 use Rattle.smith_types.specs.HeldValues.{values_in}
-use Rattle.smith_types.specs.Imports.{IndexSpaces}
+use Rattle.smith_types.specs.Imports.{EntitySpaces}
 use Rattle.smith_types.specs.declared.entity_type.GlobalType.{GlobalType}
 use Rattle.smith_types.specs.declared.entity_type.TableType.{TableType}
 use Rattle.smith_types.specs.declared.value_type.ValType.TheVariants.{Ref}
@@ -72,7 +72,7 @@ before_map P f [] each = tt
 before_map P f (item ∷ items) each = (each.0, before_map P f items each.1)
 
 -- a property of the value types of types, tables and globals holds for all of them, and conversely
-module _ (P : ValType → Type 0) (types : List SubType) (spaces : IndexSpaces) where
+module _ (P : ValType → Type 0) (types : List SubType) (spaces : EntitySpaces) where
   of_table : TableType → ValType
   of_table table = Ref table.element_type
 

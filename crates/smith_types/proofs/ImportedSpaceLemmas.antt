@@ -4,8 +4,8 @@ use Rattle.std.proofs.Math.Seq.{drop-cons}
 use Rattle.std.specs.List.{flat_map}
 use Rattle.std.proofs.lemmas.Grind.{flat_map-append}
 use Rattle.std.proofs.lemmas.List.Folds.{flat_map-map}
-use Rattle.smith_types.specs.Imports.{IndexSpaces, imported_spaces, flattened, imports_of, import_of, imported, tag_of, func_of, table_of, memory_of, global_of}
-use Rattle.smith_types.specs.IndexSpaces.{with_entity, with_entities, entities_of}
+use Rattle.smith_types.specs.Imports.{EntitySpaces, imported_spaces, flattened, imports_of, import_of, imported, tag_of, func_of, table_of, memory_of, global_of}
+use Rattle.smith_types.specs.EntitySpaces.{with_entity, with_entities, entities_of}
 use Rattle.smith_types.specs.declared.imports.Import.{Import}
 use Rattle.smith_types.specs.declared.imports.ImportItem.{ImportItem}
 use Rattle.smith_types.specs.declared.imports.Imports.{Imports}
@@ -13,12 +13,12 @@ use Rattle.smith_types.specs.declared.imports.Imports.TheVariants.{Single, Compa
 use Rattle.smith_types.specs.declared.entity_type.EntityType.{EntityType}
 use Rattle.smith_types.specs.declared.entity_type.EntityType.TheVariants as entity
 
-pub with_entities_append : (spaces : IndexSpaces) (xs ys : List EntityType) → with_entities spaces (xs ++ ys) ≡ with_entities (with_entities spaces xs) ys
+pub with_entities_append : (spaces : EntitySpaces) (xs ys : List EntityType) → with_entities spaces (xs ++ ys) ≡ with_entities (with_entities spaces xs) ys
 with_entities_append spaces [] ys = refl
 with_entities_append spaces (x ∷ xs) ys = with_entities_append (with_entity spaces x) xs ys
 
 -- the spaces with these entities appended
-abbrev behind : IndexSpaces → List EntityType → IndexSpaces
+abbrev behind : EntitySpaces → List EntityType → EntitySpaces
 behind spaces more = record {
   tags = spaces.tags ++ flat_map tag_of more;
   funcs = spaces.funcs ++ flat_map func_of more;
@@ -27,7 +27,7 @@ behind spaces more = record {
   globals = spaces.globals ++ flat_map global_of more;
 }
 
-with_entities_behind : (spaces : IndexSpaces) (more : List EntityType) → with_entities spaces more ≡ behind spaces more
+with_entities_behind : (spaces : EntitySpaces) (more : List EntityType) → with_entities spaces more ≡ behind spaces more
 with_entities_behind spaces [] = simp append-nil refl
 with_entities_behind spaces (entity.Tag index ∷ more) = with_entities_behind (with_entity spaces (entity.Tag index)) more ∙ simp append_assoc refl
 with_entities_behind spaces (entity.Func index ∷ more) = with_entities_behind (with_entity spaces (entity.Func index)) more ∙ simp append_assoc refl
@@ -57,7 +57,7 @@ imported_is_grown groups =
     ∙ rw (imported_same tag_of groups, imported_same func_of groups, imported_same table_of groups, imported_same memory_of groups, imported_same global_of groups) refl
 
 -- one turn of the loop over groups
-pub groups_turn : (now later whole : IndexSpaces) (groups : List Imports) (i : ℕ) (group d : Imports) → i < length groups → group ≡ get_or groups i d → later ≡ with_entities now (entities_of group)
+pub groups_turn : (now later whole : EntitySpaces) (groups : List Imports) (i : ℕ) (group d : Imports) → i < length groups → group ≡ get_or groups i d → later ≡ with_entities now (entities_of group)
     → with_entities now (flat_map entities_of (drop i groups)) ≡ whole → with_entities later (flat_map entities_of (drop (i + 1) groups)) ≡ whole
 groups_turn now later whole groups i group d inside read is before =
     let rest = drop (suc i) groups in

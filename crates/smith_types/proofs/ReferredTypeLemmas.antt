@@ -5,7 +5,7 @@ use Rattle.std.proofs.lemmas.List.Elements.{All-weaker}
 use Rattle.std.proofs.lemmas.Option.{slice_get-get_or, slice_get_within, same_Some}
 use Rattle.smith_types.proofs.HeldValueLemmas.{held_from_values, all_apart}
 use Rattle.smith_types.specs.Features.{Features}
-use Rattle.smith_types.specs.Space.{Space}
+use Rattle.smith_types.specs.GroupedTypes.{GroupedTypes}
 use Rattle.smith_types.specs.Decided.{IsStored, AreInRange}
 use Rattle.smith_types.specs.declared.value_type.HeapType.{HeapType}
 use Rattle.smith_types.specs.declared.value_type.HeapType.TheVariants.{Abstract, Concrete, Exact}
@@ -57,7 +57,7 @@ value_in_range features types F64 h = tt
 value_in_range features types V128 h = tt
 
 -- the types of a valid space refer only to existing types
-pub valid_in_range : (features : Features) (space : Space) → AreTypesValid features space → All (λ (t : SubType). All (IsValInRange space.types) (values_of t.composite_type.inner)) space.types
+pub valid_in_range : (features : Features) (space : GroupedTypes) → AreTypesValid features space → All (λ (t : SubType). All (IsValInRange space.types) (values_of t.composite_type.inner)) space.types
 valid_in_range features space valid i d inside =
     let t = get_or space.types i d in
     All-weaker (IsValTypeValid features (length space.types)) (IsValInRange space.types) (value_in_range features space.types) (values_of t.composite_type.inner)

@@ -6,7 +6,7 @@ use Rattle.std.proofs.lemmas.Option.{slice_get_within, same_Some}
 use Rattle.std.proofs.lemmas.List.{length-append}
 use Rattle.smith_types.specs.declared.composite_type.SubType.{SubType}
 use Rattle.smith_types.specs.Types.{IsAlike, IsOrderly, end_from, next_start, next_group, AreConsecutive, AreCovered}
-use Rattle.smith_types.specs.Space.{IsSound, MayFollow, HasDepth, root, deeper, extensible_from}
+use Rattle.smith_types.specs.GroupedTypes.{IsSound, MayFollow, HasDepth, root, deeper, extensible_from}
 use Rattle.smith_types.proofs.ListLemmas.{slice_get-grown, slice_get-push}
 
 -- an item below the end of a list was there before another was appended

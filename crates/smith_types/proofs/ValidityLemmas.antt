@@ -6,7 +6,7 @@ use Rattle.std.specs.declared.ops.Range.{Range}
 use Rattle.std.proofs.lemmas.List.Elements.{All-nil, All-weaker, All-push, All-from_recursion, recursion_from_All}
 use Rattle.std.proofs.lemmas.Option.{slice_get_within}
 use Rattle.smith_types.specs.Features.{Features}
-use Rattle.smith_types.specs.Space.{Space}
+use Rattle.smith_types.specs.GroupedTypes.{GroupedTypes}
 use Rattle.smith_types.specs.Types.{IsOrderly, AreConsecutive, end_from, next_start, next_group}
 use Rattle.smith_types.specs.ValidTypes.{IsHeapTypeShared, IsShareable, IsTypeValid, IsGroupValid, AreTypesValid, values_of}
 use Rattle.smith_types.specs.declared.composite_type.SubType.{SubType}
@@ -108,7 +108,7 @@ group_at P start (group ∷ groups) i (begins, ordered, rest) (h, more) low high
     ]
 
 -- each type is valid for the end of its group
-pub AreTypesValid-at : (features : Features) (space : Space) → AreTypesValid features space → (i : ℕ) (t : SubType) → slice_get space.types i ≡ Some t → (end : ℕ) × IsTypeValid features space.types end t
+pub AreTypesValid-at : (features : Features) (space : GroupedTypes) → AreTypesValid features space → (i : ℕ) (t : SubType) → slice_get space.types i ≡ Some t → (end : ℕ) × IsTypeValid features space.types end t
 AreTypesValid-at features space valid i t at =
     let inside : i < length space.types = slice_get_within space.types i t at in
     let each = recursion_from_All (IsGroupValid features space.types) space.groups valid.groups in

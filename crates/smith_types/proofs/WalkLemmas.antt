@@ -10,7 +10,7 @@ use Rattle.smith_types.specs.declared.composite_type.CompositeInnerType.{Composi
 use Rattle.smith_types.specs.declared.composite_type.SubType.{SubType}
 use Rattle.smith_types.specs.Kinds.{kind, bottom, shared, kind_of, bottom_of}
 use Rattle.smith_types.specs.Types.{IsOrderly}
-use Rattle.smith_types.specs.Space.{HasDepth, root, deeper}
+use Rattle.smith_types.specs.GroupedTypes.{HasDepth, root, deeper}
 use Rattle.smith_types.specs.Subtyping.{IsStep, is_abstract_step, is_abstract_below, IsBelow, itself, by_step, IsInRange}
 use Rattle.smith_types.proofs.GrowthLemmas.{IsBelow-trans}
 use Rattle.smith_types.proofs.SpaceLemmas.{depth_alone}

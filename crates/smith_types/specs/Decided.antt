@@ -3,7 +3,7 @@
 use Rattle.std.specs.Prelude.{◌≡◌, ◌<◌, ◌≤◌, ℕ, List, [], Some, All, length, slice_get}
 use Rattle.std.specs.declared.ops.Range.{Range}
 use Rattle.smith_types.specs.Features.{Features}
-use Rattle.smith_types.specs.Imports.{IndexSpaces}
+use Rattle.smith_types.specs.Imports.{EntitySpaces}
 use Rattle.smith_types.specs.ValidTypes.{values_of, IsTypeValid}
 use Rattle.smith_types.specs.Matching.{IsInnerInRange}
 use Rattle.smith_types.specs.Entities.{IsFuncTypeIndex, IsTagValid, IsTableValid, IsMemoryValid, IsGlobalValid}
@@ -34,7 +34,7 @@ AreHeld P (Func function) = All P function.params × All P function.results
 AreHeld P (Struct structure) = All (λ (field : FieldType). IsStored P field.element_type) structure.fields
 
 -- each value type in types, tables and globals has the property
-pub record AreNamed (P : ValType → Type 0) (listed : List SubType) (spaces : IndexSpaces) : Type 0 where
+pub record AreNamed (P : ValType → Type 0) (listed : List SubType) (spaces : EntitySpaces) : Type 0 where
   pub of_types : All (λ (t : SubType). All P (values_of t.composite_type.inner)) listed
   pub of_tables : All (λ (table : TableType). P (Ref table.element_type)) spaces.tables
   pub of_globals : All (λ (global : GlobalType). P global.val_type) spaces.globals
@@ -61,7 +61,7 @@ pub record AreTagsValid (types : List SubType) (tags : List ℕ) : Type 0 where
   pub each : All (IsTagValid types) tags
 
 -- each entity is valid, list by list
-pub record AreListsValid (features : Features) (types : List SubType) (spaces : IndexSpaces) : Type 0 where
+pub record AreListsValid (features : Features) (types : List SubType) (spaces : EntitySpaces) : Type 0 where
   pub of_tags : AreTagsValid types spaces.tags
   pub of_funcs : AreFuncsValid types spaces.funcs
   pub of_tables : All (IsTableValid features types) spaces.tables
@@ -69,7 +69,7 @@ pub record AreListsValid (features : Features) (types : List SubType) (spaces : 
   pub of_globals : All (IsGlobalValid features types) spaces.globals
 
 -- the number of entities of a kind
-abbrev pub count_at : IndexSpaces → ExportKind → ℕ
+abbrev pub count_at : EntitySpaces → ExportKind → ℕ
 count_at spaces kind.Func = length spaces.funcs
 count_at spaces kind.Table = length spaces.tables
 count_at spaces kind.Memory = length spaces.memories
@@ -77,5 +77,5 @@ count_at spaces kind.Global = length spaces.globals
 count_at spaces kind.Tag = length spaces.tags
 
 -- each exported entity exists
-pub record AreExportsFound (spaces : IndexSpaces) (exported : List (List ℕ × ExportKind × ℕ)) : Type 0 where
+pub record AreExportsFound (spaces : EntitySpaces) (exported : List (List ℕ × ExportKind × ℕ)) : Type 0 where
   pub each : AreExportsStanding spaces exported

@@ -4,7 +4,7 @@
 use Rattle.std.specs.Prelude.{◌≡◌, ℕ, ◌-◌, ◌/◌, ◌^◌, ◌<◌, ◌≤◌, ◌⊎◌, min, Bool, IsTrue, IsSome, IfSome, List, [], Option, Some, None, length, slice_get, All, if◌then◌else◌}
 use Rattle.smith_types.specs.Features.{Features}
 use Rattle.smith_types.specs.Flags.{IsElementEnabled}
-use Rattle.smith_types.specs.Imports.{IndexSpaces}
+use Rattle.smith_types.specs.Imports.{EntitySpaces}
 use Rattle.smith_types.specs.ValidTypes.{IsRefTypeValid, IsValTypeValid, IsShareable}
 use Rattle.smith_types.specs.declared.value_type.ValType.TheVariants.{Ref}
 use Rattle.smith_types.specs.declared.composite_type.CompositeInnerType.TheVariants.{Func}
@@ -74,7 +74,7 @@ abbrev pub IsTagValid : List SubType → ℕ → Type 0
 IsTagValid types index = (function : FuncType) × IsFuncAt types index function × (function.results ≡ [])
 
 -- every entity of the index spaces, imported or defined, is valid (Validation, External Types)
-pub record AreEntitiesValid (features : Features) (types : List SubType) (spaces : IndexSpaces) : Type 0 where
+pub record AreEntitiesValid (features : Features) (types : List SubType) (spaces : EntitySpaces) : Type 0 where
   pub tags : All (IsTagValid types) spaces.tags
   pub funcs : All (IsFuncTypeIndex types) spaces.funcs
   pub tables : All (IsTableValid features types) spaces.tables
@@ -82,7 +82,7 @@ pub record AreEntitiesValid (features : Features) (types : List SubType) (spaces
   pub globals : All (IsGlobalValid features types) spaces.globals
 
 -- tags, a second table and a second memory require their features (own rule)
-pub record AreCountsEnabled (features : Features) (spaces : IndexSpaces) : Type 0 where
+pub record AreCountsEnabled (features : Features) (spaces : EntitySpaces) : Type 0 where
   pub tags : 0 < length spaces.tags → IsTrue features.exceptions
   pub several_tables : 1 < length spaces.tables → IsTrue features.reference_types
   pub several_memories : 1 < length spaces.memories → IsTrue features.multi_memory

@@ -11,7 +11,7 @@ use Rattle.smith_types.specs.declared.entity_type.EntityType.TheVariants as enti
 use Rattle.smith_types.specs.declared.imports.Import.{Import}
 use Rattle.smith_types.specs.declared.imports.ImportItem.{ImportItem}
 use Rattle.smith_types.specs.Flags.{funcref}
-use Rattle.smith_types.specs.Imports.{IndexSpaces, import_of}
+use Rattle.smith_types.specs.Imports.{EntitySpaces, import_of}
 
 -- an unshared memory with 32-bit addresses and pages of 64 KiB
 abbrev pub memory : ℕ → Option ℕ → MemoryType
@@ -34,7 +34,7 @@ abbrev pub variable_global : ValType → GlobalType
 variable_global value = record { val_type = value; mutable = true; shared = false }
 
 -- a function and a tag of the first type, a table, a memory and a global
-abbrev pub one_of_each : IndexSpaces
+abbrev pub one_of_each : EntitySpaces
 one_of_each = record {
   tags = 0 ∷ [];
   funcs = 0 ∷ [];

@@ -15,7 +15,7 @@ use Rattle.smith_types.specs.declared.composite_type.FuncType.{FuncType}
 use Rattle.smith_types.specs.declared.composite_type.CompositeInnerType.{CompositeInnerType}
 use Rattle.smith_types.specs.declared.composite_type.CompositeInnerType.TheVariants.{Array, Func, Struct}
 use Rattle.smith_types.specs.declared.composite_type.SubType.{SubType}
-use Rattle.smith_types.specs.Space.{Space}
+use Rattle.smith_types.specs.GroupedTypes.{GroupedTypes}
 
 -- an unshared type that is not final
 abbrev pub open_type : Option ℕ → CompositeInnerType → SubType
@@ -120,7 +120,7 @@ abbrev pub func_and_below : FuncType → FuncType → List SubType
 func_and_below upper lower = open_type None (Func upper) ∷ open_type (Some 0) (Func lower) ∷ []
 
 -- these types in one group
-abbrev pub in_one_group : List SubType → Space
+abbrev pub in_one_group : List SubType → GroupedTypes
 in_one_group types = record { types = types; groups = range 0 (length types) ∷ [] }
 
 -- the abstract heap types without a supertype

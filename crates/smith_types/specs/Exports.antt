@@ -2,7 +2,7 @@
 -- of the WebAssembly Core Specification 3.0.
 use Rattle.std.specs.Prelude.{◌≡◌, ℕ, List, [], Option, Some, None, slice_get, map, All}
 use Rattle.smith_types.specs.Entities.{IsFuncAt}
-use Rattle.smith_types.specs.Imports.{IndexSpaces}
+use Rattle.smith_types.specs.Imports.{EntitySpaces}
 use Rattle.smith_types.specs.declared.composite_type.SubType.{SubType}
 use Rattle.smith_types.specs.declared.entity_type.EntityType.{EntityType}
 use Rattle.smith_types.specs.declared.entity_type.EntityType.TheVariants as entity
@@ -13,7 +13,7 @@ use Rattle.smith_types.specs.declared.entity_type.MemoryType.{MemoryType}
 use Rattle.smith_types.specs.declared.entity_type.TableType.{TableType}
 
 -- the type of the entity with this kind and index, if it exists (Validation, Exports)
-abbrev pub IsEntityAt : IndexSpaces → ExportKind → ℕ → EntityType → Type 0
+abbrev pub IsEntityAt : EntitySpaces → ExportKind → ℕ → EntityType → Type 0
 IsEntityAt spaces kind.Func index ty = (func : ℕ) × (slice_get spaces.funcs index ≡ Some func) × (ty ≡ entity.Func func)
 IsEntityAt spaces kind.Table index ty = (table : TableType) × (slice_get spaces.tables index ≡ Some table) × (ty ≡ entity.Table table)
 IsEntityAt spaces kind.Memory index ty = (memory : MemoryType) × (slice_get spaces.memories index ≡ Some memory) × (ty ≡ entity.Memory memory)
@@ -25,11 +25,11 @@ pub record AreDistinct {A : Type 0} (items : List A) : Type 0 where
   pub once : (i j : ℕ) (item : A) → slice_get items i ≡ Some item → slice_get items j ≡ Some item → i ≡ j
 
 -- each export refers to an entity that exists (Validation, Exports)
-abbrev pub AreExportsStanding : IndexSpaces → List (List ℕ × ExportKind × ℕ) → Type 0
+abbrev pub AreExportsStanding : EntitySpaces → List (List ℕ × ExportKind × ℕ) → Type 0
 AreExportsStanding spaces exports = All (λ (one : List ℕ × ExportKind × ℕ). (ty : EntityType) × IsEntityAt spaces one.1 one.2 ty) exports
 
 -- each export refers to an entity that exists, and names are distinct (Validation, Modules)
-pub record AreExportsValid (spaces : IndexSpaces) (exports : List (List ℕ × ExportKind × ℕ)) : Type 0 where
+pub record AreExportsValid (spaces : EntitySpaces) (exports : List (List ℕ × ExportKind × ℕ)) : Type 0 where
   pub stand : AreExportsStanding spaces exports
   pub distinct : AreDistinct (map (λ (one : List ℕ × ExportKind × ℕ). one.0) exports)
 

@@ -3,7 +3,7 @@
 use Rattle.std.specs.Prelude.{◌≡◌, ℕ, ◌+◌, ◌<◌, List, [], ◌∷◌, Some, length, slice_get}
 use Rattle.std.specs.List.{flat_map}
 use Rattle.std.specs.declared.ops.Range.{Range}
-use Rattle.smith_types.specs.Space.{Space}
+use Rattle.smith_types.specs.GroupedTypes.{GroupedTypes}
 use Rattle.smith_types.specs.Types.{IsAlike}
 use Rattle.smith_types.specs.declared.composite_type.SubType.{SubType}
 
@@ -13,7 +13,7 @@ ranges_from start [] = []
 ranges_from start (group ∷ groups) = record { start = start; end = start + length group } ∷ ranges_from (start + length group) groups
 
 -- the types of the groups, and the groups as ranges (Structure, Recursive Types)
-abbrev pub space_of : List (List SubType) → Space
+abbrev pub space_of : List (List SubType) → GroupedTypes
 space_of groups = record { types = flat_map (λ group. group) groups; groups = ranges_from 0 groups }
 
 -- each declared supertype precedes its subtype and has the same kind and sharedness (Validation,

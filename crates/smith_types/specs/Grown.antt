@@ -4,7 +4,7 @@ use Rattle.std.specs.declared.ops.Range.{Range}
 use Rattle.smith_types.specs.Features.{Features}
 use Rattle.smith_types.specs.Types.{IsOrderly, AreConsecutive, end_from}
 use Rattle.smith_types.specs.ValidTypes.{IsGroupValid}
-use Rattle.smith_types.specs.Imports.{IndexSpaces}
+use Rattle.smith_types.specs.Imports.{EntitySpaces}
 use Rattle.smith_types.specs.Expressions.{Context}
 use Rattle.smith_types.specs.declared.composite_type.SubType.{SubType}
 
@@ -34,7 +34,7 @@ pub record AreImportsGrown (old new : Context) : Type 0 where
   pub still_imported : new.imported_funcs ≡ length new.funcs
 
 -- index spaces with entities of each kind appended
-pub record AreSpacesGrown (old new : IndexSpaces) : Type 0 where
+pub record AreSpacesGrown (old new : EntitySpaces) : Type 0 where
   pub tags : Extends old.tags new.tags
   pub funcs : Extends old.funcs new.funcs
   pub tables : Extends old.tables new.tables

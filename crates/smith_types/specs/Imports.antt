@@ -57,7 +57,7 @@ imported of_kind imports = flat_map (λ (one : Import). of_kind one.entity_type)
 
 -- the index spaces except that of types (Structure, Indices); tags and functions are given by the
 -- indices of their types
-pub record IndexSpaces : Type 0 where
+pub record EntitySpaces : Type 0 where
   pub tags : List ℕ
   pub funcs : List ℕ
   pub tables : List TableType
@@ -65,7 +65,7 @@ pub record IndexSpaces : Type 0 where
   pub globals : List GlobalType
 
 -- the index spaces of the imports alone (Validation, Modules)
-abbrev pub imported_spaces : List Import → IndexSpaces
+abbrev pub imported_spaces : List Import → EntitySpaces
 imported_spaces imports = record {
   tags = imported tag_of imports;
   funcs = imported func_of imports;
@@ -86,5 +86,5 @@ pub record IsImportsValid (features : Features) (group : Imports) : Type 0 where
   pub enabled : IsImportsEnabled features group
 
 -- the index spaces of a single entity (Structure, Indices)
-abbrev pub entity_spaces : EntityType → IndexSpaces
+abbrev pub entity_spaces : EntityType → EntitySpaces
 entity_spaces one = record { tags = tag_of one; funcs = func_of one; tables = table_of one; memories = memory_of one; globals = global_of one }

@@ -11,7 +11,7 @@ use Rattle.smith_types.specs.Subtyping.{IsBelow, IsRefBelow, IsValBelow}
 use Rattle.smith_types.specs.Matching.{IsCompositeMatch}
 use Rattle.smith_types.specs.Features.{Features}
 use Rattle.smith_types.specs.ValidTypes.{AreTypesValid}
-use Rattle.smith_types.specs.Imports.{IndexSpaces}
+use Rattle.smith_types.specs.Imports.{EntitySpaces}
 use Rattle.smith_types.specs.Entities.{IsTableValid, IsGlobalValid, IsTagValid, IsFuncTypeIndex, AreEntitiesValid}
 use Rattle.smith_types.specs.Expressions.{Context, HasType, IsStackStep, AreStackSteps, IsConstExpr}
 use Rattle.smith_types.specs.Segments.{IsElementValid, IsDataValid}
@@ -68,7 +68,7 @@ pub record ValidEntitiesSurviveGrowth : Type 0 where
   pub global : (features : Features) (types more : List SubType) (ty : GlobalType) → IsGlobalValid features types ty → IsGlobalValid features (types ++ more) ty
   pub tag : (types more : List SubType) (index : ℕ) → IsTagValid types index → IsTagValid (types ++ more) index
   pub func : (types more : List SubType) (index : ℕ) → IsFuncTypeIndex types index → IsFuncTypeIndex (types ++ more) index
-  pub all : (features : Features) (types more : List SubType) (spaces : IndexSpaces) → AreEntitiesValid features types spaces → AreEntitiesValid features (types ++ more) spaces
+  pub all : (features : Features) (types more : List SubType) (spaces : EntitySpaces) → AreEntitiesValid features types spaces → AreEntitiesValid features (types ++ more) spaces
 
 -- typing and validity of constant expressions are preserved in a grown context
 pub record ValidExpressionsSurviveGrowth : Type 0 where
@@ -89,6 +89,6 @@ pub record ValidSegmentsSurviveGrowth : Type 0 where
 
 -- exported entities and start functions stay valid in grown index spaces
 pub record ValidExportsSurviveGrowth : Type 0 where
-  pub entity : (old new : IndexSpaces) (kind : ExportKind) (index : ℕ) (ty : EntityType) → AreSpacesGrown old new → IsEntityAt old kind index ty → IsEntityAt new kind index ty
-  pub exports : (old new : IndexSpaces) (exports : List (List ℕ × ExportKind × ℕ)) → AreSpacesGrown old new → AreExportsValid old exports → AreExportsValid new exports
+  pub entity : (old new : EntitySpaces) (kind : ExportKind) (index : ℕ) (ty : EntityType) → AreSpacesGrown old new → IsEntityAt old kind index ty → IsEntityAt new kind index ty
+  pub exports : (old new : EntitySpaces) (exports : List (List ℕ × ExportKind × ℕ)) → AreSpacesGrown old new → AreExportsValid old exports → AreExportsValid new exports
   pub start : (types more_types : List SubType) (funcs more_funcs : List ℕ) (function : Option ℕ) → IsStartValid types funcs function → IsStartValid (types ++ more_types) (funcs ++ more_funcs) function

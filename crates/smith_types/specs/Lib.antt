@@ -2,7 +2,7 @@ pub mod Features
 pub mod FeatureBits
 pub mod Kinds
 pub mod Types
-pub mod Space
+pub mod GroupedTypes
 pub mod Subtyping
 pub mod KindCounts
 pub mod Places
@@ -12,7 +12,7 @@ pub mod Flags
 pub mod ValidTypes
 pub mod Imports
 pub mod Floats
-pub mod IndexSpaces
+pub mod EntitySpaces
 pub mod Groups
 pub mod HeldValues
 pub mod OpenTypes

@@ -3,13 +3,13 @@
 use Rattle.std.specs.Prelude.{◌≡◌, ℕ, ◌≤◌, Some, length, slice_get, All}
 use Rattle.smith_types.specs.declared.composite_type.SubType.{SubType}
 use Rattle.smith_types.specs.Features.{Features}
-use Rattle.smith_types.specs.Space.{Space}
+use Rattle.smith_types.specs.GroupedTypes.{GroupedTypes}
 use Rattle.smith_types.specs.Types.{IsOrderly, AreConsecutive, next_start}
 use Rattle.smith_types.specs.ValidTypes.{IsTypeValid, IsGroupValid}
 
 -- valid groups, followed by types that are valid in a group that will end at `end` (Validation,
 -- Recursive Types)
-pub record AreTypesOpen (features : Features) (end : ℕ) (space : Space) : Type 0 where
+pub record AreTypesOpen (features : Features) (end : ℕ) (space : GroupedTypes) : Type 0 where
   pub consecutive : AreConsecutive 0 space.groups
   pub within : next_start space.groups ≤ length space.types
   pub room : length space.types ≤ end

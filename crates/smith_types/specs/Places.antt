@@ -5,7 +5,7 @@ use Rattle.smith_types.specs.declared.composite_type.SubType.{SubType}
 use Rattle.std.specs.declared.alloc.Global.{Global}
 use Rattle.smith_types.specs.declared.place.Place.{Place}
 use Rattle.smith_types.specs.declared.value_type.HeapType.TheVariants.{Concrete}
-use Rattle.smith_types.specs.Space.{HasDepth}
+use Rattle.smith_types.specs.GroupedTypes.{HasDepth}
 use Rattle.smith_types.specs.declared.kind_counts.KindCounts.{KindCounts}
 use Rattle.smith_types.specs.KindCounts.{AreCounts}
 use Rattle.smith_types.specs.Subtyping.{IsBelow}

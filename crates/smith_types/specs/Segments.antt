@@ -39,7 +39,8 @@ IsOffsetValid context wide (Global index) = IsVisible context index (address_typ
 abbrev pub IsItem : Context → RefType → ℕ → Type 0
 IsItem context ty function = (index : ℕ) × (slice_get context.funcs function ≡ Some index) × IsValBelow context.types (function_reference context function index) (Ref ty)
 
--- each item has the type of the segment; expressions as items require reference types (own rule)
+-- each item has the type of the segment (Validation, Element Segments); expressions as items
+-- require reference types (own rule)
 abbrev pub AreItemsValid : Context → RefType → Elements → Type 0
 AreItemsValid context ty (Functions functions) = All (IsItem context ty) functions
 AreItemsValid context ty (Expressions expressions) = IsTrue context.features.reference_types × All (IsConstExpr context (Ref ty)) expressions

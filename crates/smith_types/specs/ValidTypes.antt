@@ -5,7 +5,7 @@ use Rattle.std.specs.Prelude.{◌≡◌, ℕ, ◌+◌, ◌<◌, ◌≤◌, false
 use Rattle.std.specs.List.{flat_map}
 use Rattle.std.specs.declared.ops.Range.{Range}
 use Rattle.smith_types.specs.Features.{Features}
-use Rattle.smith_types.specs.Space.{Space}
+use Rattle.smith_types.specs.GroupedTypes.{GroupedTypes}
 use Rattle.smith_types.specs.Types.{IsOrderly, AreCovered}
 use Rattle.smith_types.specs.Matching.{IsCompositeMatch}
 use Rattle.smith_types.specs.Flags.{IsHeapTypeEnabled, IsInnerEnabled, IsSubTypeEnabled}
@@ -93,7 +93,7 @@ pub record IsGroupValid (features : Features) (types : List SubType) (group : Ra
 
 -- valid types in consecutive groups that cover them, each supertype before its subtypes
 -- (Validation, Modules)
-pub record AreTypesValid (features : Features) (space : Space) : Type 0 where
+pub record AreTypesValid (features : Features) (space : GroupedTypes) : Type 0 where
   pub covered : AreCovered space.types space.groups
   pub orderly : IsOrderly space.types
   pub groups : All (IsGroupValid features space.types) space.groups

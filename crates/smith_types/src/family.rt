@@ -1,6 +1,6 @@
 ghost use Rattle.std.specs.Prelude.{◌≡◌, ◌++◌, ◌<◌, ℕ, [], ◌∷◌, Some, length, OnOk, IfErr};
 ghost use Rattle.smith_types.specs.Types.{IsOrderly};
-ghost use Rattle.smith_types.specs.Space.{MayFollow};
+ghost use Rattle.smith_types.specs.GroupedTypes.{MayFollow};
 ghost use Rattle.smith_types.specs.Families.{AreFamilies};
 
 use crate::composite_type::SubType;

@@ -1,7 +1,7 @@
 ghost use Rattle.std.specs.Prelude.{◌≡◌, ◌+◌, ◌++◌, ◌<◌, ℕ, [], ◌∷◌, None, Some, length, false};
 ghost use Rattle.std.specs.Prelude.{true, vec_len, vec_capacity, if◌then◌else◌};
 ghost use Rattle.smith_types.specs.Types.{IsOrderly};
-ghost use Rattle.smith_types.specs.Space.{MayFollow};
+ghost use Rattle.smith_types.specs.GroupedTypes.{MayFollow};
 ghost use Rattle.smith_types.specs.Expressions.{unpacked};
 ghost use Rattle.smith_types.specs.Grounded.{is_defaultable, are_defaultable};
 ghost use Rattle.smith_types.specs.Grounds.{is_ground, kind_at, kinds_with, AreGrounds};

@@ -1,5 +1,5 @@
 ghost use Rattle.std.specs.Prelude.{◌↔◌, IsTrue, All};
-ghost use Rattle.smith_types.specs.IndexSpaces.{spaces_in};
+ghost use Rattle.smith_types.specs.EntitySpaces.{spaces_in};
 ghost use Rattle.smith_types.specs.HeldValues.{values_in};
 ghost use Rattle.smith_types.specs.Decided.{IsStored, AreHeld, AreNamed};
 ghost use Rattle.smith_types.specs.ValidTypes.{values_of};
@@ -10,8 +10,8 @@ ghost use Rattle.smith_types.specs.declared.entity_type.GlobalType.{GlobalType a
 ghost use Rattle.smith_types.specs.declared.entity_type.TableType.{TableType as Table};
 
 use crate::composite_type::{CompositeInnerType, FieldType, StorageType, SubType};
+use crate::entity_spaces::EntitySpaces;
 use crate::entity_type::{GlobalType, TableType};
-use crate::index_spaces::IndexSpaces;
 use crate::predicate::{Predicate, all_hold};
 use crate::value_type::ValType;
 
@@ -27,7 +27,7 @@ pub fn all_values_hold<P: Predicate<ValType>>(predicate: &P, inner: &CompositeIn
 pub fn all_named_values_hold<P: Predicate<ValType>>(
     predicate: &P,
     types: &[SubType],
-    spaces: &IndexSpaces,
+    spaces: &EntitySpaces,
 ) -> bool
     ensures { IsTrue result
         ↔ All (P.meaning predicate.now) (values_in types.now (spaces_in spaces.now)) }
@@ -35,7 +35,7 @@ pub fn all_named_values_hold<P: Predicate<ValType>>(
     are_named(predicate, types, spaces)
 }
 
-fn are_named<P: Predicate<ValType>>(predicate: &P, types: &[SubType], spaces: &IndexSpaces) -> bool
+fn are_named<P: Predicate<ValType>>(predicate: &P, types: &[SubType], spaces: &EntitySpaces) -> bool
     ensures { IsTrue result ↔ AreNamed (P.meaning predicate.now) types.now (spaces_in spaces.now) }
 {
     are_in_types(predicate, types)

@@ -7,6 +7,7 @@ mod clone_in;
 mod code;
 mod composite_type;
 mod const_instr;
+mod entity_spaces;
 mod entity_type;
 mod exact;
 mod family;
@@ -16,7 +17,6 @@ mod ground;
 mod grouped_types;
 mod held_values;
 mod imports;
-mod index_spaces;
 mod instruction_kind;
 mod kind_counts;
 /// Laws: functions with empty bodies whose clauses state theorems.
@@ -42,6 +42,7 @@ pub use composite_type::{
     SubType,
 };
 pub use const_instr::ConstInstr;
+pub use entity_spaces::{EntitySpaces, imported_spaces_of};
 pub use entity_type::{EntityType, ExportKind, GlobalType, MemoryType, TableType};
 pub use exact::{Exact, is_same};
 pub use features::WasmFeatures;
@@ -50,7 +51,6 @@ pub use ground::{are_defaultable, is_defaultable, unpacked};
 pub use grouped_types::type_space_of;
 pub use held_values::{all_named_values_hold, all_values_hold};
 pub use imports::{Import, ImportItem, Imports};
-pub use index_spaces::{IndexSpaces, imported_spaces_of};
 pub use instruction_kind::{InstructionKind, InstructionKinds, UnknownKind};
 pub use list::{Items, Name};
 pub use predicate::{Predicate, all_hold};

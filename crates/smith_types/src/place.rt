@@ -1,6 +1,6 @@
 ghost use Rattle.std.specs.Prelude.{◌≡◌, ◌+◌, ◌++◌, ◌≤◌, ◌<◌, [], ◌∷◌, length, IfOk, IfErr};
 ghost use Rattle.smith_types.specs.Types.{IsOrderly};
-ghost use Rattle.smith_types.specs.Space.{MayFollow};
+ghost use Rattle.smith_types.specs.GroupedTypes.{MayFollow};
 ghost use Rattle.smith_types.specs.Places.{last_counts, IsPlace, ArePlaces, IsLonger, IsRowAtEnd};
 
 use crate::composite_type::SubType;

@@ -1,17 +1,17 @@
 ghost use Rattle.std.specs.Prelude.{◌≡◌, ◌↔◌, IsTrue};
-ghost use Rattle.smith_types.specs.IndexSpaces.{spaces_in};
+ghost use Rattle.smith_types.specs.EntitySpaces.{spaces_in};
 ghost use Rattle.smith_types.specs.Exports.{IsEntityAt};
 ghost use Rattle.smith_types.specs.Decided.{count_at, AreExportsFound};
 ghost use Rattle.smith_types.specs.declared.entity_type.EntityType.{EntityType};
 
+use crate::entity_spaces::EntitySpaces;
 use crate::entity_type::ExportKind;
-use crate::index_spaces::IndexSpaces;
 use crate::list::Name;
 use crate::predicate::{Predicate, all_hold};
 
 /// Returns whether each of `exports`, given by name, kind and index, refers to an entity of
 /// `spaces` (Validation, Exports).
-pub fn are_exports_standing(spaces: &IndexSpaces, exports: &[(Name, ExportKind, u32)]) -> bool
+pub fn are_exports_standing(spaces: &EntitySpaces, exports: &[(Name, ExportKind, u32)]) -> bool
     ensures { IsTrue result ↔ AreExportsFound (spaces_in spaces.now) exports.now }
 {
     all_hold(&StandingExport { spaces }, exports)
@@ -19,7 +19,7 @@ pub fn are_exports_standing(spaces: &IndexSpaces, exports: &[(Name, ExportKind, 
 
 #[derive(Clone, Copy)]
 struct StandingExport<'a> {
-    spaces: &'a IndexSpaces,
+    spaces: &'a EntitySpaces,
 }
 
 impl<'a> Predicate<(Name, ExportKind, u32)> for StandingExport<'a> {
@@ -31,14 +31,14 @@ impl<'a> Predicate<(Name, ExportKind, u32)> for StandingExport<'a> {
     }
 }
 
-fn is_entity_at(spaces: &IndexSpaces, kind: ExportKind, index: u32) -> bool
+fn is_entity_at(spaces: &EntitySpaces, kind: ExportKind, index: u32) -> bool
     ensures { IsTrue result
         ↔ ((ty : EntityType) × IsEntityAt (spaces_in spaces.now) kind index ty) }
 {
     (index as usize) < count_of(spaces, kind)
 }
 
-fn count_of(spaces: &IndexSpaces, kind: ExportKind) -> usize
+fn count_of(spaces: &EntitySpaces, kind: ExportKind) -> usize
     ensures { result ≡ count_at (spaces_in spaces.now) kind }
 {
     match kind {

@@ -27,7 +27,8 @@ ghost use Rattle.std.specs.Prelude.{
 };
 ghost use Rattle.std.specs.declared.ops.Range.{Range};
 ghost use Rattle.smith_types.specs.Types.{IsAlike, IsOrderly, next_start, next_group};
-ghost use Rattle.smith_types.specs.Space.{AreExtensible, HasDepth, MayFollow, extensible_from};
+ghost use Rattle.smith_types.specs.GroupedTypes.{AreExtensible, HasDepth, MayFollow};
+ghost use Rattle.smith_types.specs.GroupedTypes.{extensible_from};
 ghost use Rattle.smith_types.specs.Places.{IsPlace, ArePlaces, AreBeside, IsLonger, depths_in};
 ghost use Rattle.smith_types.specs.Families.{direct_subtypes, AreFamilies};
 ghost use Rattle.smith_types.specs.Grounded.{IsGroundedBy, IsGroundedByStructs};
@@ -83,12 +84,12 @@ pub struct TypeSpace {
 
 impl Model for TypeSpace {
     ghost use Rattle.std.specs.Prelude.{◌≡◌, true};
-    ghost use Rattle.smith_types.specs.Space.{Space, IsSound, extensible_from};
+    ghost use Rattle.smith_types.specs.GroupedTypes.{GroupedTypes, IsSound, extensible_from};
     ghost use Rattle.smith_types.specs.Places.{ArePlaces, AreBeside, depths_in};
     ghost use Rattle.smith_types.specs.Families.{AreFamilies};
     ghost use Rattle.smith_types.specs.Grounds.{AreGrounds, AreGroundKinds};
 
-    ghost Value = { Space };
+    ghost Value = { GroupedTypes };
 
     ghost view = { λ a. record { types = a.types.items; groups = a.groups.items } };
 
@@ -112,7 +113,7 @@ impl fmt::Debug for TypeSpace {
 }
 
 impl TypeSpace {
-    ghost use Rattle.smith_types.specs.Space.{IsSound};
+    ghost use Rattle.smith_types.specs.GroupedTypes.{IsSound};
     ghost use Rattle.smith_types.specs.Places.{ArePlaces};
     ghost use Rattle.smith_types.specs.Types.{next_group, AreCovered};
     ghost use Rattle.smith_types.specs.Sizes.{size_in, IsTyped};

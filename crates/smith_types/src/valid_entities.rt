@@ -1,6 +1,6 @@
 ghost use Rattle.std.specs.Prelude.{◌≡◌, ◌↔◌, ◌⊎◌, IsTrue, IfSome, All, Some, slice_get};
 ghost use Rattle.smith_types.specs.FeatureBits.{features_in};
-ghost use Rattle.smith_types.specs.IndexSpaces.{spaces_in};
+ghost use Rattle.smith_types.specs.EntitySpaces.{spaces_in};
 ghost use Rattle.smith_types.specs.Flags.{IsElementEnabled, funcref};
 ghost use Rattle.smith_types.specs.ValidTypes.{IsShareable};
 ghost use Rattle.smith_types.specs.Entities.{
@@ -19,9 +19,9 @@ ghost use Rattle.smith_types.specs.Decided.{IsTagType, AreTagsValid, AreFuncsVal
 ghost use Rattle.smith_types.specs.declared.composite_type.SubType.{SubType};
 
 use crate::composite_type::{CompositeInnerType, SubType};
+use crate::entity_spaces::EntitySpaces;
 use crate::entity_type::{GlobalType, MemoryType, TableType};
 use crate::features::WasmFeatures;
-use crate::index_spaces::IndexSpaces;
 use crate::predicate::{Predicate, all_hold};
 use crate::valid_values::{ShareableValue, is_ref_type_valid, is_val_type_valid};
 use crate::value_type::{AbstractHeapType, HeapType, RefType, ValType};
@@ -29,14 +29,14 @@ use crate::value_type::{AbstractHeapType, HeapType, RefType, ValType};
 /// Returns whether every entity of `spaces` is valid for `types` and `features` (Validation,
 /// External Types). The conditions on features, sharedness, explicit page sizes and results of tags
 /// are rules of this project.
-pub fn are_entities_valid(features: WasmFeatures, types: &[SubType], spaces: &IndexSpaces) -> bool
+pub fn are_entities_valid(features: WasmFeatures, types: &[SubType], spaces: &EntitySpaces) -> bool
     ensures { IsTrue result
         ↔ AreEntitiesValid (features_in features) types.now (spaces_in spaces.now) }
 {
     are_lists_valid(features, types, spaces)
 }
 
-fn are_lists_valid(features: WasmFeatures, types: &[SubType], spaces: &IndexSpaces) -> bool
+fn are_lists_valid(features: WasmFeatures, types: &[SubType], spaces: &EntitySpaces) -> bool
     ensures { IsTrue result
         ↔ AreListsValid (features_in features) types.now (spaces_in spaces.now) }
 {
@@ -50,7 +50,7 @@ fn are_lists_valid(features: WasmFeatures, types: &[SubType], spaces: &IndexSpac
 /// Returns whether `features` permit the numbers of entities in `spaces`. By rules of this project,
 /// tags require exceptions, a second table requires reference types, and a second memory requires
 /// multi-memory.
-pub fn are_counts_enabled(features: WasmFeatures, spaces: &IndexSpaces) -> bool
+pub fn are_counts_enabled(features: WasmFeatures, spaces: &EntitySpaces) -> bool
     ensures { IsTrue result ↔ AreCountsEnabled (features_in features) (spaces_in spaces.now) }
 {
     (spaces.tags.is_empty() || features.contains(WasmFeatures::EXCEPTIONS))

@@ -9,7 +9,7 @@ ghost use Rattle.smith_types.specs.Flags.{funcref};
 ghost use Rattle.smith_types.specs.Groups.{ranges_from, space_of, AreFollowing};
 ghost use Rattle.smith_types.specs.HeldValues.{values_in};
 ghost use Rattle.smith_types.specs.Imports.{import_of};
-ghost use Rattle.smith_types.specs.IndexSpaces.{with_entity, with_entities, entities_of};
+ghost use Rattle.smith_types.specs.EntitySpaces.{with_entity, with_entities, entities_of};
 ghost use Rattle.smith_types.specs.ExampleTypes.{open_type, final_type, empty_struct, plain_func};
 ghost use Rattle.smith_types.specs.ExampleTypes.{taking, struct_and_below, below_itself, range};
 ghost use Rattle.smith_types.specs.ExampleEntities.{memory, table, constant_global, item};
@@ -43,7 +43,7 @@ fn named_values()
         (record one_of_each { tables = []; globals = [] }) ≡ [] }
 {}
 
-fn index_spaces()
+fn entity_spaces()
     ensures function { with_entity one_of_each (entity.Func 5)
         ≡ record one_of_each { funcs = 0 ∷ 5 ∷ [] } }
     ensures memory { with_entity one_of_each (entity.Memory (memory 2 None))

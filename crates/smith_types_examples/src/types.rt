@@ -2,8 +2,8 @@ ghost use Rattle.std.specs.Prelude.{◌≡◌, ◌+◌, ◌^◌, List, [], ◌�
 ghost use Rattle.smith_types.specs.declared.composite_type.SubType.{SubType};
 ghost use Rattle.smith_types.specs.Types.{IsAlike, IsOrderly, AreConsecutive, AreCovered, end_from};
 ghost use Rattle.smith_types.specs.Types.{next_start, next_group};
-ghost use Rattle.smith_types.specs.Space.{IsSound, MayFollow, HasDepth, AreDepths, AreExtensible};
-ghost use Rattle.smith_types.specs.Space.{extensible_from};
+ghost use Rattle.smith_types.specs.GroupedTypes.{IsSound, MayFollow, HasDepth, AreDepths};
+ghost use Rattle.smith_types.specs.GroupedTypes.{AreExtensible, extensible_from};
 ghost use Rattle.smith_types.specs.ExampleTypes.{
   open_type,
   final_type,

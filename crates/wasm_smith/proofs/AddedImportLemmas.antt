@@ -4,8 +4,8 @@ use Rattle.std.specs.Prelude.{All, IsSome, Option, Some, None, is_some}
 use Rattle.smith_bytes.specs.declared.error.Count.TheVariants as counts
 use Rattle.smith_types.specs.Grown.{Extends, AreImportsGrown, AreSpacesGrown}
 use Rattle.smith_types.specs.Expressions.{Context}
-use Rattle.smith_types.specs.Imports.{IndexSpaces, imported_spaces}
-use Rattle.smith_types.specs.IndexSpaces.{spaces_in}
+use Rattle.smith_types.specs.Imports.{EntitySpaces, imported_spaces}
+use Rattle.smith_types.specs.EntitySpaces.{spaces_in}
 use Rattle.smith_types.proofs.ExportGrowthLemmas.{AreExportsValid-grown}
 use Rattle.smith_config.specs.declared.config.Config.{Config}
 use Rattle.smith_config.specs.declared.shape.Shape.{Shape}
@@ -20,10 +20,10 @@ use Rattle.smith_draw.specs.ConstBounds.{HoldsUngroundedField}
 use Rattle.smith_draw.proofs.FilledLemmas.{fields_imported}
 use Rattle.smith_imports.proofs.ImportsGrownLemmas.{ungrounded_imported}
 use Rattle.smith_imports.specs.declared.imported.Imported.{Imported}
-use Rattle.wasm_smith.specs.Begun.{begun_of}
+use Rattle.wasm_smith.specs.FirstParts.{module_so_far}
 use Rattle.smith_rules.specs.Bounds.{items_of_shapes}
 use Rattle.wasm_smith.specs.DrawnSteps.{AreImportsDrawn, AreTypesDrawn, HoldsGrounded, IsBeyond, drawn_next}
-use Rattle.wasm_smith.specs.declared.build.drawn.Drawn.{Drawn}
+use Rattle.wasm_smith.specs.declared.build.parts_so_far.PartsSoFar.{PartsSoFar}
 use Rattle.smith_defined.proofs.ExtensionLemmas.{all_kept}
 use Rattle.smith_defined.proofs.DefinedGrowthLemmas.{none_float}
 use Rattle.wasm_smith.proofs.FreelyImportedLemmas.{freely_stands}
@@ -43,16 +43,16 @@ free_of config free none (inr given) = let gone = subst (λ (one : Option Shape)
 from_none : {A : Type 0} (none all : List A) → none ≡ [] → Extends none all
 from_none none all empty = record { more = all; parts = rw empty refl }
 
-grown_from_none : (none all : IndexSpaces) → none ≡ imported_spaces [] → AreSpacesGrown none all
+grown_from_none : (none all : EntitySpaces) → none ≡ imported_spaces [] → AreSpacesGrown none all
 grown_from_none none all empty = record {
-  tags = from_none none.tags all.tags (ap (λ (spaces : IndexSpaces). spaces.tags) empty);
-  funcs = from_none none.funcs all.funcs (ap (λ (spaces : IndexSpaces). spaces.funcs) empty);
-  tables = from_none none.tables all.tables (ap (λ (spaces : IndexSpaces). spaces.tables) empty);
-  memories = from_none none.memories all.memories (ap (λ (spaces : IndexSpaces). spaces.memories) empty);
-  globals = from_none none.globals all.globals (ap (λ (spaces : IndexSpaces). spaces.globals) empty);
+  tags = from_none none.tags all.tags (ap (λ (spaces : EntitySpaces). spaces.tags) empty);
+  funcs = from_none none.funcs all.funcs (ap (λ (spaces : EntitySpaces). spaces.funcs) empty);
+  tables = from_none none.tables all.tables (ap (λ (spaces : EntitySpaces). spaces.tables) empty);
+  memories = from_none none.memories all.memories (ap (λ (spaces : EntitySpaces). spaces.memories) empty);
+  globals = from_none none.globals all.globals (ap (λ (spaces : EntitySpaces). spaces.globals) empty);
 }
 
-module _ (config : Config) (drawn : Drawn) (passes : Passes config) (sanitized : IsSanitized config) (old : AreTypesDrawn config drawn) (free : config.available_imports ≡ None) (none : config.module_shape ≡ None) where
+module _ (config : Config) (drawn : PartsSoFar) (passes : Passes config) (sanitized : IsSanitized config) (old : AreTypesDrawn config drawn) (free : config.available_imports ≡ None) (none : config.module_shape ≡ None) where
   -- imports may be drawn over the existing types
   pub may_import : MayImport config drawn.types
   may_import = record {
@@ -73,7 +73,7 @@ module _ (config : Config) (drawn : Drawn) (passes : Passes config) (sanitized :
     grounded_later held =
         let alone = old.free (free_of config free none) in
         let later = drawn_next config (record drawn { imported = made }) in
-        let none_yet : drawn.imported.spaces.funcs ≡ [] = ap (λ (spaces : IndexSpaces). spaces.funcs) alone.imports.spaces in
+        let none_yet : drawn.imported.spaces.funcs ≡ [] = ap (λ (spaces : EntitySpaces). spaces.funcs) alone.imports.spaces in
         let earlier : Context = record later { funcs = []; imported_funcs = 0 } in
         let all_imported : later.imported_funcs ≡ length made.spaces.funcs = rw alone.nothing (omega arith) in
         let growth : AreImportsGrown earlier later = record {
@@ -90,9 +90,9 @@ module _ (config : Config) (drawn : Drawn) (passes : Passes config) (sanitized :
           fields = λ lacks. held.fields (subst (HoldsUngroundedField config) (sym same) (fields_imported config earlier later growth refl lacks));
           types = types_later config earlier later (ungrounded_imported config earlier later growth) drawn.types.types (subst (AreTypesGranted config) same held.types);
           elements = subst (λ (context : Context). All (HasGroundedElements config context) made.spaces.tables) in_scope
-              (subst (λ (each : IndexSpaces). All (HasGroundedElements config (import_scope config drawn.types.types each)) each.tables) (sym so_far.counts.spaces) so_far.fit.grounded_tables);
+              (subst (λ (each : EntitySpaces). All (HasGroundedElements config (import_scope config drawn.types.types each)) each.tables) (sym so_far.counts.spaces) so_far.fit.grounded_tables);
           globals = subst (λ (context : Context). All (HasGroundedValue config context) made.spaces.globals) in_scope
-              (subst (λ (each : IndexSpaces). All (HasGroundedValue config (import_scope config drawn.types.types each)) each.globals) (sym so_far.counts.spaces) so_far.fit.grounded_globals);
+              (subst (λ (each : EntitySpaces). All (HasGroundedValue config (import_scope config drawn.types.types each)) each.globals) (sym so_far.counts.spaces) so_far.fit.grounded_globals);
         }
 
     -- more may be drawn over the parts with the imports
@@ -112,12 +112,12 @@ module _ (config : Config) (drawn : Drawn) (passes : Passes config) (sanitized :
           small = λ shapeless. record { types = alone.small; imports = omega (arith, so_far.counts.type_size, fit.small, fit.most) };
           floats = λ calm shapeless. record {
             types = old.floats calm shapeless;
-            defined = rw alone.nothing (none_float (spaces_in made.spaces) (subst (λ (each : IndexSpaces). All HasNoFloatValue each.globals) (sym spaces) (fit.floats calm)));
+            defined = rw alone.nothing (none_float (spaces_in made.spaces) (subst (λ (each : EntitySpaces). All HasNoFloatValue each.globals) (sym spaces) (fit.floats calm)));
           };
         }
 
     -- the imports follow the parts before
-    pub imports_beyond : IsBeyond config (begun_of drawn) (begun_of (record drawn { imported = made }))
+    pub imports_beyond : IsBeyond config (module_so_far drawn) (module_so_far (record drawn { imported = made }))
     imports_beyond = record {
       types = all_kept drawn.types.types;
       groups = all_kept drawn.types.groups;

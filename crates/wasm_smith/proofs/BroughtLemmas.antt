@@ -17,7 +17,7 @@ use Rattle.smith_rules.specs.Bounds.{items_of_export_shape, items_of_shapes, ite
 use Rattle.smith_defined.specs.Defined.{HasRoom}
 use Rattle.smith_rules.specs.Refusals.{AreShapesValid, shape_for}
 use Rattle.smith_rules.specs.ExportedItems.{Export}
-use Rattle.wasm_smith.proofs.BegunLemmas.{imported_room}
+use Rattle.wasm_smith.proofs.FirstPartsLemmas.{imported_room}
 
 -- an export is at most one item of a kind
 one_counted : (count : Count) (of_kind : ExportKind) → counts_as count of_kind ≤ 1

@@ -6,25 +6,25 @@ use Rattle.std.proofs.lemmas.List.Elements.{All-weaker}
 use Rattle.smith_bytes.specs.declared.error.Count.TheVariants as counts
 use Rattle.smith_types.specs.Entities.{IsMemoryValid, page_log2}
 use Rattle.smith_types.specs.Features.{Features}
-use Rattle.smith_types.specs.Imports.{IndexSpaces}
-use Rattle.smith_types.specs.Space.{Space}
+use Rattle.smith_types.specs.Imports.{EntitySpaces}
+use Rattle.smith_types.specs.GroupedTypes.{GroupedTypes}
 use Rattle.smith_types.specs.declared.entity_type.MemoryType.{MemoryType}
 use Rattle.smith_config.specs.declared.config.Config.{Config}
 use Rattle.smith_config.specs.Features.{features_of}
 use Rattle.smith_config.specs.InUse.{FixesExports}
 use Rattle.smith_draw.specs.ConstScopes.{AreSpacesValid}
 use Rattle.smith_draw.specs.declared.spaces.Spaces.{Spaces}
-use Rattle.smith_types.specs.IndexSpaces.{spaces_in}
+use Rattle.smith_types.specs.EntitySpaces.{spaces_in}
 use Rattle.wasm_smith.specs.Contents.{MayHoldContents, AreSpacesOver}
 use Rattle.wasm_smith.specs.DrawnContents.{TellsImported, imported_in}
 use Rattle.wasm_smith.specs.DrawnSteps.{AreExportsDrawn}
-use Rattle.wasm_smith.specs.declared.build.drawn.Drawn.{Drawn}
+use Rattle.wasm_smith.specs.declared.build.parts_so_far.PartsSoFar.{PartsSoFar}
 use Rattle.smith_defined.proofs.StandsBehindLemmas.{defined_end}
 use Rattle.smith_contents.specs.DrawnElements.{MayDrawElements}
 use Rattle.smith_contents.specs.Exported.{MayExport, MayExportFreely, MayDrawExports}
 
 -- definitions determine the imports
-pub imports_told : {config : Config} {drawn : Drawn} → AreExportsDrawn config drawn → TellsImported (imported_in drawn.imported) (spaces_in drawn.imported.spaces) drawn.definitions
+pub imports_told : {config : Config} {drawn : PartsSoFar} → AreExportsDrawn config drawn → TellsImported (imported_in drawn.imported) (spaces_in drawn.imported.spaces) drawn.definitions
 imports_told h = record { funcs = omega (arith, defined_end h.whole.stands.funcs); globals = defined_end h.whole.stands.globals }
 
 -- a page has at most 64 KiB
@@ -33,7 +33,7 @@ page_small features None h = omega arith
 page_small features (Some log2) (inl byte, on) = omega (arith, byte)
 page_small features (Some log2) (inr whole, on) = omega (arith, whole)
 
-module _ {config : Config} {space : Space} {spaces : IndexSpaces} {imports_size : ℕ} (may : MayHoldContents config space spaces imports_size) where
+module _ {config : Config} {space : GroupedTypes} {spaces : EntitySpaces} {imports_size : ℕ} (may : MayHoldContents config space spaces imports_size) where
   -- the pages of memories are small, as interesting values require
   pub pages_small : All (λ (memory : MemoryType). page_log2 memory.page_size_log2 ≤ 16) spaces.memories
   pages_small = All-weaker (IsMemoryValid (features_of config)) (λ (memory : MemoryType). page_log2 memory.page_size_log2 ≤ 16) (λ memory valid. page_small (features_of config) memory.page_size_log2 valid.page_size) spaces.memories may.entities.memories

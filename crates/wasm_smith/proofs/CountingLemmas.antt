@@ -159,7 +159,7 @@ module _ (fuel : ℕ) (old : ModuleParts) (valid : IsValid old) where
     exports = AreExportsValid-grown (module_spaces old) (module_spaces new) spaces_grown old.exports valid.exports;
     start = valid.start;
     elements = All-weaker (IsElementValid (segment_context old) old.tables) (IsElementValid (segment_context new) old.tables) element_grown old.elems valid.elements;
-    data_segments = All-weaker (IsDataValid (segment_context old) old.memories) (IsDataValid (segment_context new) old.memories) data_grown old.segments valid.data_segments;
+    data_segments = All-weaker (IsDataValid (segment_context old) old.memories) (IsDataValid (segment_context new) old.memories) data_grown old.datas valid.data_segments;
     bodies = record { each = valid.bodies.each; bodies = valid.bodies.bodies; fuel = fuel_valid };
   }
 

@@ -10,17 +10,17 @@ use Rattle.smith_config.specs.declared.config.Config.{Config}
 use Rattle.smith_config.specs.declared.shape.Shape.{Shape}
 use Rattle.smith_config.specs.Faults.{minimum_of, maximum_of}
 use Rattle.smith_rules.specs.Bounds.{KeepsBounds, MeetsMinimums, MaximumApplies, MinimumApplies, count_of, items_of_shapes, items_of_export_shape, export_size, imports_size, exports_size}
-use Rattle.smith_types.specs.Imports.{IndexSpaces}
-use Rattle.smith_types.specs.IndexSpaces.{spaces_in}
+use Rattle.smith_types.specs.Imports.{EntitySpaces}
+use Rattle.smith_types.specs.EntitySpaces.{spaces_in}
 use Rattle.smith_types.specs.declared.composite_type.SubType.{SubType}
 use Rattle.smith_contents.specs.declared.exported.Exports.{Exports}
-use Rattle.wasm_smith.specs.Begun.{size_of_imports}
+use Rattle.wasm_smith.specs.FirstParts.{size_of_imports}
 use Rattle.wasm_smith.specs.Build.{parts_of}
 use Rattle.wasm_smith.specs.DrawnContents.{AreExportsMade}
 use Rattle.wasm_smith.specs.DrawnParts.{IsDrawnFor}
 use Rattle.smith_rules.specs.ExportedItems.{Export, item_size, exported_size}
 use Rattle.smith_rules.specs.Module.{ModuleParts, module_spaces}
-use Rattle.wasm_smith.specs.declared.build.drawn.Drawn.{Drawn}
+use Rattle.wasm_smith.specs.declared.build.parts_so_far.PartsSoFar.{PartsSoFar}
 use Rattle.wasm_smith.proofs.MadeExportsLemmas.{exports_free}
 
 -- an export has the size of its item
@@ -40,17 +40,17 @@ module _ (config : Config) (m : ModuleParts) where
   exports_counted = λ i. if is_some config.module_shape || is_some config.exports then 0 else same_sizes m m.exports i
 
 -- the type size of exports in both cases
-sized_so : (config : Config) (types : List SubType) (spaces : IndexSpaces) (size : ℕ) (made : Exports) (of_module exports : Option Shape) → config.module_shape ≡ of_module → config.exports ≡ exports → AreExportsMade config types spaces size made
+sized_so : (config : Config) (types : List SubType) (spaces : EntitySpaces) (size : ℕ) (made : Exports) (of_module exports : Option Shape) → config.module_shape ≡ of_module → config.exports ≡ exports → AreExportsMade config types spaces size made
     → made.type_size ≡ size + (if is_some of_module || is_some exports then 0 else exported_size types spaces made.exports)
 sized_so config types spaces size made (Some shape) exports given also h = let fixed = h.fixed_size (inr (rw given refl)) in omega (arith, fixed)
 sized_so config types spaces size made None (Some shape) none given h = let fixed = h.fixed_size (inl (rw given refl)) in omega (arith, fixed)
 sized_so config types spaces size made None None none free h = h.type_size (λ fixes. exports_free config none free fixes)
 
-pub made_size : (config : Config) (types : List SubType) (spaces : IndexSpaces) (size : ℕ) (made : Exports) → AreExportsMade config types spaces size made
+pub made_size : (config : Config) (types : List SubType) (spaces : EntitySpaces) (size : ℕ) (made : Exports) → AreExportsMade config types spaces size made
     → made.type_size ≡ size + (if is_some config.module_shape || is_some config.exports then 0 else exported_size types spaces made.exports)
 made_size config types spaces size made h = sized_so config types spaces size made config.module_shape config.exports refl refl h
 
-module _ (distinct : Bool) (config : Config) (drawn : Drawn) (h : IsDrawnFor distinct config drawn) where
+module _ (distinct : Bool) (config : Config) (drawn : PartsSoFar) (h : IsDrawnFor distinct config drawn) where
   abbrev m : ModuleParts
   m = parts_of config drawn
 

@@ -8,9 +8,9 @@ use Rattle.smith_bytes.specs.declared.error.Error.{Error}
 use Rattle.smith_types.specs.Expressions.{Context}
 use Rattle.smith_types.specs.Floats.{HasNoFloat}
 use Rattle.smith_types.specs.Grown.{IsContextGrown}
-use Rattle.smith_types.specs.Imports.{IndexSpaces, flattened, imported_spaces}
-use Rattle.smith_types.specs.IndexSpaces.{spaces_in}
-use Rattle.smith_types.specs.declared.index_spaces.IndexSpaces.{IndexSpaces as Held}
+use Rattle.smith_types.specs.Imports.{EntitySpaces, flattened, imported_spaces}
+use Rattle.smith_types.specs.EntitySpaces.{spaces_in}
+use Rattle.smith_types.specs.declared.entity_spaces.EntitySpaces.{EntitySpaces as Held}
 use Rattle.smith_config.specs.declared.config.Config.{Config}
 use Rattle.smith_config.specs.Faults.{Passes, minimum_of}
 use Rattle.smith_config.specs.Sanitized.{IsSanitized}
@@ -18,12 +18,12 @@ use Rattle.smith_draw.specs.ConstBounds.{HoldsUngroundedField}
 use Rattle.smith_draw.proofs.FilledLemmas.{fields_before, ungrounded_before}
 use Rattle.smith_config.specs.Granted.{HasGroundedElements, HasGroundedValue}
 use Rattle.smith_rules.specs.ShapeImports.{count_in}
-use Rattle.wasm_smith.specs.Begun.{IsOfEntities, StandsSoFar}
+use Rattle.wasm_smith.specs.FirstParts.{IsOfEntities, StandsSoFar}
 use Rattle.smith_defined.specs.Defined.{AreDefinedMore, AreFilled, HasRoom, HaveNoFloats, MayDefine, MayRefuseDefined, drawn_beside}
 use Rattle.wasm_smith.specs.DrawnSteps.{AreEntitiesDrawn, AreImportsDrawn, HoldsGrounded, MayGoOn, drawn_next}
 use Rattle.smith_rules.specs.Refusals.{AreShapesValid, HoldsNonNullable, MayRefuse}
 use Rattle.smith_defined.specs.declared.definitions.Definitions.{Definitions}
-use Rattle.wasm_smith.specs.declared.build.drawn.Drawn.{Drawn}
+use Rattle.wasm_smith.specs.declared.build.parts_so_far.PartsSoFar.{PartsSoFar}
 use Rattle.wasm_smith.proofs.BroughtLemmas.{few_brought}
 use Rattle.smith_defined.proofs.ExtensionLemmas.{all_kept}
 use Rattle.smith_defined.proofs.StandsBehindLemmas.{defined_end}
@@ -35,7 +35,7 @@ use Rattle.wasm_smith.proofs.NonNullableLemmas.{holds_or_not}
 use Rattle.wasm_smith.proofs.StandsDefinedLemmas.{stands_defined}
 
 -- the indices of all existing entities have 32 bits, even with as many more as a shape may list
-pub room_so_far : (config : Config) (drawn : Drawn) (more : ℕ) → Passes config → AreShapesValid config → StandsSoFar config drawn → more ≤ 2 ^ 29 → HasRoom (spaces_in drawn.imported.spaces) more
+pub room_so_far : (config : Config) (drawn : PartsSoFar) (more : ℕ) → Passes config → AreShapesValid config → StandsSoFar config drawn → more ≤ 2 ^ 29 → HasRoom (spaces_in drawn.imported.spaces) more
 room_so_far config drawn more passes valid now few = record {
   tags = omega (arith, few, now.most counts.Tags tt, passes.few counts.Tags, few_brought config valid counts.Tags);
   funcs = omega (arith, few, now.most counts.Funcs tt, passes.few counts.Funcs, few_brought config valid counts.Funcs);
@@ -45,12 +45,12 @@ room_so_far config drawn more passes valid now few = record {
 }
 
 -- entities may be defined after imports
-pub may_define_drawn : (config : Config) (drawn : Drawn) → Passes config → IsSanitized config → AreShapesValid config → AreImportsDrawn config drawn → MayDefine config drawn.types (spaces_in drawn.imported.spaces) drawn.definitions
+pub may_define_drawn : (config : Config) (drawn : PartsSoFar) → Passes config → IsSanitized config → AreShapesValid config → AreImportsDrawn config drawn → MayDefine config drawn.types (spaces_in drawn.imported.spaces) drawn.definitions
 may_define_drawn config drawn passes sanitized valid so_far =
     let now : StandsSoFar config drawn = so_far.may.so_far in
     may_define_behind passes sanitized so_far.may.least_types (omega (arith, now.most_types, passes.few counts.Types, few_brought config valid counts.Types)) (room_so_far config drawn 0 passes valid now (omega arith)) now.stands
 
-at_least : (config : Config) (before spaces : IndexSpaces) → AreFilled config before spaces → (count : Count) → IsOfEntities count → minimum_of config count ≤ count_in spaces count
+at_least : (config : Config) (before spaces : EntitySpaces) → AreFilled config before spaces → (count : Count) → IsOfEntities count → minimum_of config count ≤ count_in spaces count
 at_least config before spaces filled counts.Tags is = filled.tags.enough
 at_least config before spaces filled counts.Funcs is = filled.funcs.enough
 at_least config before spaces filled counts.Tables is = filled.tables.enough
@@ -59,7 +59,7 @@ at_least config before spaces filled counts.Globals is = filled.globals.enough
 at_least config before spaces filled _ is = absurd is
 
 -- grounded references stay grounded after entities are defined
-grounded_later : (config : Config) (drawn : Drawn) (spaces : Held) (defined : Definitions) → StandsSoFar config drawn → AreDefinedMore config drawn.types (spaces_in drawn.imported.spaces) drawn.definitions (spaces_in spaces) defined
+grounded_later : (config : Config) (drawn : PartsSoFar) (spaces : Held) (defined : Definitions) → StandsSoFar config drawn → AreDefinedMore config drawn.types (spaces_in drawn.imported.spaces) drawn.definitions (spaces_in spaces) defined
     → HoldsGrounded config (drawn_next config drawn) (spaces_in drawn.imported.spaces) → HoldsGrounded config (drawn_beside config drawn.types.types (spaces_in spaces) defined) (spaces_in spaces)
 grounded_later config drawn spaces defined now made old =
     let before = drawn_next config drawn in
@@ -83,7 +83,7 @@ grounded_later config drawn spaces defined now made old =
     }
 
 -- the state after entities are defined
-pub entities_drawn : {X : Type 0} (r : Result X Error) (config : Config) (drawn : Drawn) (spaces : Held) (defined : Definitions) → AreImportsDrawn config drawn
+pub entities_drawn : {X : Type 0} (r : Result X Error) (config : Config) (drawn : PartsSoFar) (spaces : Held) (defined : Definitions) → AreImportsDrawn config drawn
     → OnOk r (AreDefinedMore config drawn.types (spaces_in drawn.imported.spaces) drawn.definitions (spaces_in spaces) defined)
     → (config.allow_floats ≡ false → All HasNoFloat drawn.types.types → HaveNoFloats (spaces_in drawn.imported.spaces) drawn.definitions → OnOk r (HaveNoFloats (spaces_in spaces) defined))
     → OnOk r (AreEntitiesDrawn config (record drawn { imported = record drawn.imported { spaces = spaces }; definitions = defined }))

@@ -5,7 +5,7 @@ use Rattle.std.specs.List.{flat_map}
 use Rattle.std.proofs.lemmas.List.Elements.{All-weaker}
 use Rattle.smith_types.specs.Expressions.{Context}
 use Rattle.smith_types.specs.Grounded.{IsGrounded}
-use Rattle.smith_types.specs.IndexSpaces.{spaces_in}
+use Rattle.smith_types.specs.EntitySpaces.{spaces_in}
 use Rattle.smith_types.specs.declared.code.Code.{Code}
 use Rattle.smith_types.specs.declared.segments.ElementSegment.{ElementSegment}
 use Rattle.smith_types.specs.declared.value_type.ValType.{ValType}
@@ -16,14 +16,14 @@ use Rattle.smith_config.specs.Granted.{IsUngrounded, IsGranted, HasGroundedItems
 use Rattle.smith_rules.specs.Module.{ModuleParts, module_context}
 use Rattle.smith_rules.specs.Promises.{HasGrantedLocals, HoldsGranted}
 use Rattle.smith_defined.proofs.StandsBehindLemmas.{left_over}
-use Rattle.wasm_smith.specs.Begun.{StandsWhole}
+use Rattle.wasm_smith.specs.FirstParts.{StandsWhole}
 use Rattle.wasm_smith.specs.Build.{parts_of}
 use Rattle.wasm_smith.specs.DrawnContents.{HasGrantedContents}
 use Rattle.wasm_smith.specs.DrawnSteps.{HoldsGrounded, drawn_next}
-use Rattle.wasm_smith.specs.declared.build.drawn.Drawn.{Drawn}
+use Rattle.wasm_smith.specs.declared.build.parts_so_far.PartsSoFar.{PartsSoFar}
 use Rattle.wasm_smith.proofs.GrantedLaterLemmas.{elements_later, globals_later, types_later, value_later}
 
-module _ (config : Config) (drawn : Drawn) (whole : StandsWhole config drawn) where
+module _ (config : Config) (drawn : PartsSoFar) (whole : StandsWhole config drawn) where
   abbrev m : ModuleParts
   m = parts_of config drawn
 

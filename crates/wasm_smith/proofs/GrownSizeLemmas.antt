@@ -8,9 +8,9 @@ use Rattle.std.proofs.lemmas.Option.{slice_get_within}
 use Rattle.smith_types.specs.Entities.{IsFuncTypeIndex}
 use Rattle.smith_types.specs.Grown.{Extends}
 use Rattle.smith_types.specs.Imports.{flattened, imported, imported_spaces, func_of}
-use Rattle.smith_types.specs.IndexSpaces.{spaces_in}
+use Rattle.smith_types.specs.EntitySpaces.{spaces_in}
 use Rattle.smith_types.specs.Sizes.{IsTyped, size_in, value_count}
-use Rattle.smith_types.specs.Space.{Space}
+use Rattle.smith_types.specs.GroupedTypes.{GroupedTypes}
 use Rattle.smith_types.specs.ValidTypes.{AreTypesValid}
 use Rattle.smith_types.specs.declared.composite_type.SubType.{SubType}
 use Rattle.smith_types.specs.declared.entity_type.EntityType.{EntityType}
@@ -19,8 +19,8 @@ use Rattle.smith_types.specs.declared.imports.Import.{Import}
 use Rattle.smith_types.proofs.HeldValueLemmas.{all_apart}
 use Rattle.smith_config.specs.declared.config.Config.{Config}
 use Rattle.smith_config.specs.Features.{features_of}
-use Rattle.wasm_smith.specs.Begun.{StandsSoFar, size_of_imports}
-use Rattle.wasm_smith.specs.declared.build.drawn.Drawn.{Drawn}
+use Rattle.wasm_smith.specs.FirstParts.{StandsSoFar, size_of_imports}
+use Rattle.wasm_smith.specs.declared.build.parts_so_far.PartsSoFar.{PartsSoFar}
 use Rattle.smith_defined.proofs.StandsBehindLemmas.{stands_over}
 
 same_place : {A : Type 0} (xs more : List A) (i : ℕ) → i < length xs → slice_get (xs ++ more) i ≡ slice_get xs i
@@ -67,7 +67,7 @@ imports_grown config types more imports longer valid =
     λ i. if is_some config.module_shape then 0 else if is_some config.available_imports then plain i else one_more i
 
 -- with more types at the end, the parts stay valid and within the bounds
-pub stands_typed : (config : Config) (drawn : Drawn) (types : Space) → StandsSoFar config drawn → AreTypesValid (features_of config) types → Extends drawn.types.types types.types → length types.types ≤ max config.max_types (length drawn.types.types) → StandsSoFar config (record drawn { types = types })
+pub stands_typed : (config : Config) (drawn : PartsSoFar) (types : GroupedTypes) → StandsSoFar config drawn → AreTypesValid (features_of config) types → Extends drawn.types.types types.types → length types.types ≤ max config.max_types (length drawn.types.types) → StandsSoFar config (record drawn { types = types })
 stands_typed config drawn types now valid longer few =
     let spaces = spaces_in drawn.imported.spaces in
     let all = imported_spaces (flattened drawn.imported.groups) in

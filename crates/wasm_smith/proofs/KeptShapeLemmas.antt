@@ -4,7 +4,7 @@ use Rattle.std.specs.Prelude.{◌&&◌, IfSome, if◌then◌else◌}
 use Rattle.std.specs.List.{AllZip}
 use Rattle.smith_bytes.specs.declared.error.Count.{Count}
 use Rattle.smith_bytes.specs.declared.error.Count.TheVariants as counts
-use Rattle.smith_types.specs.IndexSpaces.{spaces_in}
+use Rattle.smith_types.specs.EntitySpaces.{spaces_in}
 use Rattle.smith_types.specs.declared.composite_type.SubType.{SubType}
 use Rattle.smith_types.specs.declared.entity_type.EntityType.{EntityType}
 use Rattle.smith_types.specs.declared.entity_type.EntityType.TheVariants as entity
@@ -15,12 +15,12 @@ use Rattle.smith_config.specs.Faults.{maximum_of}
 use Rattle.smith_config.specs.InUse.{shapes_of}
 use Rattle.smith_config.specs.Shapes.{shape_imports, shape_spaces, shape_types}
 use Rattle.smith_rules.specs.ShapeImports.{count_for, is_allowed, is_fitting, is_picked, taken_from}
-use Rattle.wasm_smith.specs.Begun.{ModuleSoFar, begun_of}
+use Rattle.wasm_smith.specs.FirstParts.{ModuleSoFar, module_so_far}
 use Rattle.wasm_smith.specs.Build.{parts_of}
-use Rattle.wasm_smith.specs.DrawnSteps.{BeginsWithTypes, IsBeyond, KeepsBegun, KeepsImportsSoFar, KeepsModuleSoFar}
+use Rattle.wasm_smith.specs.DrawnSteps.{BeginsWithTypes, IsBeyond, KeepsShapesSoFar, KeepsImportsSoFar, KeepsModuleSoFar}
 use Rattle.smith_rules.specs.ExportedItems.{Export}
 use Rattle.smith_rules.specs.ShapesKept.{IsSameExport, IsSameType, KeepsAvailableImports, KeepsModuleShape, KeepsShapes}
-use Rattle.wasm_smith.specs.declared.build.drawn.Drawn.{Drawn}
+use Rattle.wasm_smith.specs.declared.build.parts_so_far.PartsSoFar.{PartsSoFar}
 use Rattle.wasm_smith.proofs.ExportsGrownLemmas.{same_exports_grown}
 use Rattle.smith_defined.proofs.RequiredExportsLoop.{extends_both}
 
@@ -78,7 +78,7 @@ of_available config P shape none given h = rw (none, given) at h
 to_available : (config : Config) (P : Shape → Type 0) (shape : Shape) → config.module_shape ≡ None → config.available_imports ≡ Some shape → P shape → IfSome (shapes_of config).available_imports P
 to_available config P shape none given h = rw (none, given) h
 
-kept_by : (config : Config) (bytes : List ℕ) (old new : ModuleSoFar) (of_module available : Option Shape) → config.module_shape ≡ of_module → config.available_imports ≡ available → IsBeyond config old new → KeepsBegun config bytes old → KeepsBegun config bytes new
+kept_by : (config : Config) (bytes : List ℕ) (old new : ModuleSoFar) (of_module available : Option Shape) → config.module_shape ≡ of_module → config.available_imports ≡ available → IsBeyond config old new → KeepsShapesSoFar config bytes old → KeepsShapesSoFar config bytes new
 kept_by config bytes old new (Some shape) available given also beyond kept =
     let was = of_module_shape config (λ each. KeepsModuleSoFar config each old) shape given kept.module_shape in
     record {
@@ -98,21 +98,21 @@ kept_by config bytes old new None (Some shape) none given beyond kept =
 kept_by config bytes old new None None none free beyond kept = record { module_shape = rw none tt; available_imports = rw (none, free) tt }
 
 -- later parts keep the shapes that a module begins with
-pub kept_beyond : {config : Config} {bytes : List ℕ} {old new : ModuleSoFar} → IsBeyond config old new → KeepsBegun config bytes old → KeepsBegun config bytes new
+pub kept_beyond : {config : Config} {bytes : List ℕ} {old new : ModuleSoFar} → IsBeyond config old new → KeepsShapesSoFar config bytes old → KeepsShapesSoFar config bytes new
 kept_beyond {config = config} {bytes = bytes} {old = old} {new = new} beyond kept = kept_by config bytes old new config.module_shape config.available_imports refl refl beyond kept
 
-shown_by : (config : Config) (bytes : List ℕ) (drawn : Drawn) (of_module available : Option Shape) → config.module_shape ≡ of_module → config.available_imports ≡ available → KeepsBegun config bytes (begun_of drawn)
+shown_by : (config : Config) (bytes : List ℕ) (drawn : PartsSoFar) (of_module available : Option Shape) → config.module_shape ≡ of_module → config.available_imports ≡ available → KeepsShapesSoFar config bytes (module_so_far drawn)
     → IfSome (shapes_of config).exports (λ shape. AllZip (IsSameExport (IsSameType drawn.types.types (shape_types shape)) (spaces_in drawn.imported.spaces) (shape_spaces shape)) drawn.contents.exports shape.exports)
     → KeepsShapes config bytes (parts_of config drawn)
 shown_by config bytes drawn (Some shape) available given also kept exports =
-    let was = of_module_shape config (λ each. KeepsModuleSoFar config each (begun_of drawn)) shape given kept.module_shape in
+    let was = of_module_shape config (λ each. KeepsModuleSoFar config each (module_so_far drawn)) shape given kept.module_shape in
     record {
       module_shape = to_module_shape config (λ each. KeepsModuleShape each (parts_of config drawn)) shape given (record { types = record { types = was.types.types; groups = was.types.groups }; imports = was.imports; exports = was.exports });
       available_imports = rw given tt;
       exports = exports;
     }
 shown_by config bytes drawn None (Some shape) none given kept exports =
-    let was = of_available config (λ each. KeepsImportsSoFar config bytes each (begun_of drawn)) shape none given kept.available_imports in
+    let was = of_available config (λ each. KeepsImportsSoFar config bytes each (module_so_far drawn)) shape none given kept.available_imports in
     record {
       module_shape = rw none tt;
       available_imports = to_available config (λ each. KeepsAvailableImports bytes each (parts_of config drawn)) shape none given (record {
@@ -124,13 +124,13 @@ shown_by config bytes drawn None (Some shape) none given kept exports =
 shown_by config bytes drawn None None none free kept exports = record { module_shape = rw none tt; available_imports = rw (none, free) tt; exports = exports }
 
 -- the exports of a module are those of the shape for exports
-abbrev AreExportsKept : Config → Drawn → List Export → Type 0
+abbrev AreExportsKept : Config → PartsSoFar → List Export → Type 0
 AreExportsKept config drawn exports =
     IfSome (shapes_of config).exports (λ shape. AllZip (IsSameExport (IsSameType drawn.types.types (shape_types shape)) (spaces_in drawn.imported.spaces) (shape_spaces shape)) exports shape.exports)
 
 -- a module made of drawn parts, with the exports that were made, keeps the shapes in use
-pub shapes_kept : (config : Config) (bytes : List ℕ) (drawn : Drawn) (made : List Export) → drawn.contents.exports ≡ made → KeepsBegun config bytes (record (begun_of drawn) { exports = made }) → AreExportsKept config drawn made
+pub shapes_kept : (config : Config) (bytes : List ℕ) (drawn : PartsSoFar) (made : List Export) → drawn.contents.exports ≡ made → KeepsShapesSoFar config bytes (record (module_so_far drawn) { exports = made }) → AreExportsKept config drawn made
     → KeepsShapes config bytes (parts_of config drawn)
 shapes_kept config bytes drawn made same kept exports =
-    shown_by config bytes drawn config.module_shape config.available_imports refl refl (subst (λ (all : List Export). KeepsBegun config bytes (record (begun_of drawn) { exports = all })) (sym same) kept)
+    shown_by config bytes drawn config.module_shape config.available_imports refl refl (subst (λ (all : List Export). KeepsShapesSoFar config bytes (record (module_so_far drawn) { exports = all })) (sym same) kept)
     (subst (AreExportsKept config drawn) (sym same) exports)

@@ -15,7 +15,7 @@ use Rattle.smith_bytes.specs.declared.error.Why.TheVariants.{SeveralMemories, Se
 use Rattle.smith_types.specs.Decided.{IsStored, AreHeld}
 use Rattle.smith_types.specs.Expressions.{Context, field_values, unpacked}
 use Rattle.smith_types.specs.HeldValues.{values_in}
-use Rattle.smith_types.specs.Imports.{IndexSpaces, imported_spaces}
+use Rattle.smith_types.specs.Imports.{EntitySpaces, imported_spaces}
 use Rattle.smith_types.specs.ValidTypes.{values_of}
 use Rattle.smith_types.specs.declared.composite_type.CompositeInnerType.{CompositeInnerType}
 use Rattle.smith_types.specs.declared.composite_type.CompositeInnerType.TheVariants.{Array, Func, Struct}
@@ -36,7 +36,7 @@ use Rattle.smith_draw.specs.ConstScopes.{fields_of}
 use Rattle.smith_draw.specs.Grounding.{over}
 use Rattle.smith_draw.proofs.FilledLemmas.{any_weaker}
 use Rattle.smith_draw.proofs.NullableLemmas.{ungrounded_not_null}
-use Rattle.wasm_smith.specs.Begun.{MayRefuseBegun}
+use Rattle.wasm_smith.specs.FirstParts.{MayRefuseFirstParts}
 use Rattle.smith_rules.specs.Bounds.{items_of_module_shape}
 use Rattle.wasm_smith.specs.DrawnSteps.{HoldsGrounded}
 use Rattle.smith_defined.specs.Defined.{drawn_beside, nothing_defined}
@@ -73,12 +73,12 @@ granted_null : (config : Config) (context : Context) (value : ValType) → MayBe
 granted_null config context value may lacks = may (ungrounded_not_null config context value lacks)
 
 -- no value of types, tables and globals is ungrounded in a context, which may have other types
-pub record AreValuesGranted (config : Config) (context : Context) (types : List SubType) (spaces : IndexSpaces) : Type 0 where
+pub record AreValuesGranted (config : Config) (context : Context) (types : List SubType) (spaces : EntitySpaces) : Type 0 where
   pub of_types : All (HasGranted config context) types
   pub elements : All (HasGroundedElements config context) spaces.tables
   pub globals : All (HasGroundedValue config context) spaces.globals
 
-module _ (config : Config) (types : List SubType) (spaces : IndexSpaces) (none : ¬ Any IsNonNullable (values_in types spaces)) where
+module _ (config : Config) (types : List SubType) (spaces : EntitySpaces) (none : ¬ Any IsNonNullable (values_in types spaces)) where
   apart : All (λ (t : SubType). All MayBeNull (values_of t.composite_type.inner)) types × All (λ (table : TableType). MayBeNull (Ref table.element_type)) spaces.tables × All (λ (global : GlobalType). MayBeNull global.val_type) spaces.globals
   apart = all_values_apart MayBeNull types spaces (none_has IsNonNullable (values_in types spaces) none)
 
@@ -150,6 +150,6 @@ refused_by_module config e (Some shape) given h = module_refused config shape e 
 refused_by_module config e None given h = absurd h
 
 -- the first parts of a module are refused only as a module may be
-pub begun_refused : (config : Config) (e : Error) → MayRefuseBegun config e → MayRefuse config e
-begun_refused config e (inl memory) = subst (MayRefuse config) (sym memory) tt
-begun_refused config e (inr by_module) = refused_by_module config e config.module_shape refl by_module
+pub first_parts_refused : (config : Config) (e : Error) → MayRefuseFirstParts config e → MayRefuse config e
+first_parts_refused config e (inl memory) = subst (MayRefuse config) (sym memory) tt
+first_parts_refused config e (inr by_module) = refused_by_module config e config.module_shape refl by_module

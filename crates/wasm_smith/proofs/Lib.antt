@@ -10,10 +10,10 @@ pub mod ReachedLemmas
 pub mod CountingLemmas
 pub mod NoFloatLemmas
 pub mod GrantedModuleLemmas
-pub mod BegunLemmas
+pub mod FirstPartsLemmas
 pub mod TypesGrownLemmas
 pub mod GrownSizeLemmas
-pub mod BegunStandsLemmas
+pub mod FirstPartsStandLemmas
 pub mod FreelyImportedLemmas
 pub mod StandsDefinedLemmas
 pub mod NonNullableLemmas
@@ -22,7 +22,7 @@ pub mod KeptShapeLemmas
 pub mod PartsLemmas
 pub mod GrantedLaterLemmas
 pub mod LackingLemmas
-pub mod BegunTypedLemmas
+pub mod FirstPartsTypedLemmas
 pub mod AddedImportLemmas
 pub mod ExportsGrownLemmas
 pub mod BroughtLemmas

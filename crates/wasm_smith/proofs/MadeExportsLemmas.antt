@@ -11,10 +11,10 @@ use Rattle.smith_bytes.specs.declared.error.Which.TheVariants as which
 use Rattle.smith_bytes.specs.declared.error.Why.TheVariants.{SeveralMemories, SeveralTables}
 use Rattle.smith_types.specs.Grown.{Extends, IsContextGrown, AreSpacesGrown}
 use Rattle.smith_types.specs.Imports.{flattened, imported_spaces}
-use Rattle.smith_types.specs.IndexSpaces.{spaces_in}
-use Rattle.smith_types.specs.Space.{Space}
+use Rattle.smith_types.specs.EntitySpaces.{spaces_in}
+use Rattle.smith_types.specs.GroupedTypes.{GroupedTypes}
 use Rattle.smith_types.specs.declared.composite_type.SubType.{SubType}
-use Rattle.smith_types.specs.declared.index_spaces.IndexSpaces.{IndexSpaces as Held}
+use Rattle.smith_types.specs.declared.entity_spaces.EntitySpaces.{EntitySpaces as Held}
 use Rattle.smith_types.proofs.EntityGrowthLemmas.{no_fewer}
 use Rattle.smith_config.specs.declared.config.Config.{Config}
 use Rattle.smith_config.specs.declared.shape.Shape.{Shape}
@@ -30,16 +30,16 @@ use Rattle.smith_rules.specs.ShapeImports.{count_in}
 use Rattle.smith_rules.specs.ExportedItems.{Export, exported_size}
 use Rattle.smith_contents.specs.declared.exported.Exports.{Exports}
 use Rattle.smith_contents.proofs.SizedLemmas.{few_sized}
-use Rattle.wasm_smith.specs.Begun.{ModuleSoFar, IsOfEntities, StandsSoFar, begun_of, size_of_imports}
+use Rattle.wasm_smith.specs.FirstParts.{ModuleSoFar, IsOfEntities, StandsSoFar, module_so_far, size_of_imports}
 use Rattle.smith_rules.specs.Bounds.{items_of_exports}
-use Rattle.wasm_smith.specs.Build.{begun_size, exports_of}
+use Rattle.wasm_smith.specs.Build.{size_so_far, exports_of}
 use Rattle.wasm_smith.specs.Contents.{MayHoldContents}
 use Rattle.smith_defined.specs.Defined.{StandsBehind, drawn_beside}
 use Rattle.wasm_smith.specs.DrawnSteps.{AreEntitiesDrawn, AreExportsDrawn, HoldsGrounded, IsBeyond, MayGoOn, drawn_next}
 use Rattle.smith_rules.specs.Refusals.{AreShapesValid, HoldsNonNullable, MayRefuse, shape_for}
 use Rattle.smith_defined.specs.Required.{AddsLimitsOf, AddsTypesOf, MayDefineMore, MayLackIn, MayRefuseRequired}
 use Rattle.smith_defined.specs.declared.definitions.Definitions.{Definitions}
-use Rattle.wasm_smith.specs.declared.build.drawn.Drawn.{Drawn}
+use Rattle.wasm_smith.specs.declared.build.parts_so_far.PartsSoFar.{PartsSoFar}
 use Rattle.wasm_smith.proofs.BroughtLemmas.{few_added, few_brought}
 use Rattle.smith_defined.proofs.ExtensionLemmas.{all_kept}
 use Rattle.smith_defined.proofs.DefinedGrowthLemmas.{stands_within}
@@ -66,7 +66,7 @@ none_given None off = refl
 none_given (Some one) off = absurd cc
 
 -- if no exports are added, the state is whole
-pub stands_already : (config : Config) (drawn : Drawn) → AreEntitiesDrawn config drawn → AreExportsDrawn config drawn
+pub stands_already : (config : Config) (drawn : PartsSoFar) → AreEntitiesDrawn config drawn → AreExportsDrawn config drawn
 stands_already config drawn now = record {
   whole = stands_whole config drawn now.may.so_far;
   few_values = now.may.few_values;
@@ -78,7 +78,7 @@ stands_already config drawn now = record {
 }
 
 -- contents may be drawn over the parts with exports
-pub may_hold_contents : (config : Config) (drawn : Drawn) → Passes config → IsSanitized config → AreShapesValid config → AreExportsDrawn config drawn → MayHoldContents config drawn.types (spaces_in drawn.imported.spaces) drawn.imported.type_size
+pub may_hold_contents : (config : Config) (drawn : PartsSoFar) → Passes config → IsSanitized config → AreShapesValid config → AreExportsDrawn config drawn → MayHoldContents config drawn.types (spaces_in drawn.imported.spaces) drawn.imported.type_size
 may_hold_contents config drawn passes sanitized valid now =
     let few : (count : Count) → IsOfEntities count → count_in (spaces_in drawn.imported.spaces) count < 2 ^ 32 = λ count is. omega (arith, now.whole.most count is, passes.few count, few_brought config valid count, few_added config valid count) in
     record {
@@ -100,15 +100,15 @@ may_hold_contents config drawn passes sanitized valid now =
 nothing_more : {A : Type 0} (size more : ℕ) (of_module exports : Option A) (one : A) → of_module ≡ None → exports ≡ Some one → size ≡ size + (if is_some of_module || is_some exports then 0 else more)
 nothing_more size more of_module exports one none given = rw (none, given) (omega arith)
 
-pub required_size : (config : Config) (shape : Shape) (begun : ModuleSoFar) (type_size : ℕ) → config.module_shape ≡ None → config.exports ≡ Some shape → type_size ≡ size_of_imports config begun.types.types (flattened begun.groups)
-    → ◌≡◌ {A = Exports} (record { exports = begun.exports; type_size = type_size }) (exports_of config begun)
-required_size config shape begun type_size none given is =
-    let size = begun_size config begun in
-    let whole : type_size ≡ size + (if is_some config.module_shape || is_some config.exports then 0 else exported_size begun.types.types begun.spaces begun.exports) =
-    is ∙ nothing_more size (exported_size begun.types.types begun.spaces begun.exports) config.module_shape config.exports shape none given in
-    ap (λ (n : ℕ). record { exports = begun.exports; type_size = n }) whole
+pub required_size : (config : Config) (shape : Shape) (so_far : ModuleSoFar) (type_size : ℕ) → config.module_shape ≡ None → config.exports ≡ Some shape → type_size ≡ size_of_imports config so_far.types.types (flattened so_far.groups)
+    → ◌≡◌ {A = Exports} (record { exports = so_far.exports; type_size = type_size }) (exports_of config so_far)
+required_size config shape so_far type_size none given is =
+    let size = size_so_far config so_far in
+    let whole : type_size ≡ size + (if is_some config.module_shape || is_some config.exports then 0 else exported_size so_far.types.types so_far.spaces so_far.exports) =
+    is ∙ nothing_more size (exported_size so_far.types.types so_far.spaces so_far.exports) config.module_shape config.exports shape none given in
+    ap (λ (n : ℕ). record { exports = so_far.exports; type_size = n }) whole
 
-module _ (config : Config) (shape : Shape) (drawn : Drawn) (passes : Passes config) (valid : AreShapesValid config) (one : IsShapeValid which.Exports config shape) (now : StandsSoFar config drawn) where
+module _ (config : Config) (shape : Shape) (drawn : PartsSoFar) (passes : Passes config) (valid : AreShapesValid config) (one : IsShapeValid which.Exports config shape) (now : StandsSoFar config drawn) where
   room_for : (count : Count) → IsOfEntities count → count_in (spaces_in drawn.imported.spaces) count + length shape.exports < 2 ^ 32
   room_for count is = omega (arith, now.most count is, passes.few count, few_brought config valid count, one.short.exports)
 
@@ -126,7 +126,7 @@ module _ (config : Config) (shape : Shape) (drawn : Drawn) (passes : Passes conf
   pub types_room : length drawn.types.types + length shape.exports < 2 ^ 32
   types_room = omega (arith, now.most_types, passes.few counts.Types, few_brought config valid counts.Types, one.short.exports)
 
-module _ (config : Config) (shape : Shape) (drawn : Drawn) (none : config.module_shape ≡ None) (given : config.exports ≡ Some shape) (may : MayGoOn config drawn) where
+module _ (config : Config) (shape : Shape) (drawn : PartsSoFar) (none : config.module_shape ≡ None) (given : config.exports ≡ Some shape) (may : MayGoOn config drawn) where
   lacks : MayLackIn config (drawn_next config drawn) shape → HoldsNonNullable config
   lacks (inl value) = (which.Exports, rw (none, given) value)
   lacks (inr field) = elim (holds_or_not config) [
@@ -144,7 +144,7 @@ module _ (config : Config) (shape : Shape) (drawn : Drawn) (none : config.module
   required_refuses (errors.IncorrectFormat SeveralTables) (some, off) = (inl (rw (none, given) some), off)
   required_refuses e refused = lacks_so e refused
 
-  required_grounded : (types : Space) (spaces : Held) (defined : Definitions) → Extends drawn.types.types types.types → AreSpacesGrown (spaces_in drawn.imported.spaces) (spaces_in spaces)
+  required_grounded : (types : GroupedTypes) (spaces : Held) (defined : Definitions) → Extends drawn.types.types types.types → AreSpacesGrown (spaces_in drawn.imported.spaces) (spaces_in spaces)
       → (HoldsUngroundedField config (drawn_beside config types.types (spaces_in spaces) defined) → HoldsUngroundedField config (drawn_next config drawn)) → AddsTypesOf shape drawn.types.types types.types → AddsLimitsOf shape (spaces_in drawn.imported.spaces) (spaces_in spaces)
       → StandsBehind config (imported_spaces (flattened drawn.imported.groups)) types (spaces_in spaces) defined → (HoldsNonNullable config → ⊥) → HoldsGrounded config (drawn_beside config types.types (spaces_in spaces) defined) (spaces_in spaces)
   required_grounded types spaces defined longer grown lacking listed limits stands never =
@@ -179,7 +179,7 @@ module _ (config : Config) (shape : Shape) (drawn : Drawn) (none : config.module
       }
 
 -- the exports of a shape are made after the existing entities
-module _ (config : Config) (shape : Shape) (drawn : Drawn) (types : Space) (spaces : Held) (defined : Definitions) (none : config.module_shape ≡ None) (given : config.exports ≡ Some shape) where
+module _ (config : Config) (shape : Shape) (drawn : PartsSoFar) (types : GroupedTypes) (spaces : Held) (defined : Definitions) (none : config.module_shape ≡ None) (given : config.exports ≡ Some shape) where
   pub required_drawn : AreEntitiesDrawn config drawn → Extends drawn.types.types types.types → length types.types ≤ length drawn.types.types + items_of_exports counts.Types shape
       → (HoldsUngroundedField config (drawn_beside config types.types (spaces_in spaces) defined) → HoldsUngroundedField config (drawn_next config drawn)) → (All (HasFewValues most_listed) drawn.types.types → All (HasFewValues most_listed) types.types)
       → ((count : Count) → (count ≡ counts.Types → ⊥) → count_in (spaces_in spaces) count ≡ count_in (spaces_in drawn.imported.spaces) count + items_of_exports count shape)
@@ -199,7 +199,7 @@ module _ (config : Config) (shape : Shape) (drawn : Drawn) (types : Space) (spac
   }
 
   pub required_beyond : (exports : List Export) → Extends drawn.types.types types.types → Extends drawn.types.groups types.groups → AreSpacesGrown (spaces_in drawn.imported.spaces) (spaces_in spaces)
-      → IsBeyond config (begun_of drawn) (record { types = types; groups = drawn.imported.groups; spaces = spaces_in spaces; defined = defined; exports = exports })
+      → IsBeyond config (module_so_far drawn) (record { types = types; groups = drawn.imported.groups; spaces = spaces_in spaces; defined = defined; exports = exports })
   required_beyond exports longer groups grown = record {
     types = longer;
     groups = groups;
@@ -209,7 +209,7 @@ module _ (config : Config) (shape : Shape) (drawn : Drawn) (types : Space) (spac
   }
 
 -- nothing is added if the exports were made before
-pub exports_beyond : (config : Config) (drawn : Drawn) (exports : List Export) → (IsTrue (is_some config.module_shape) → exports ≡ drawn.contents.exports) → IsBeyond config (begun_of drawn) (record (begun_of drawn) { exports = exports })
+pub exports_beyond : (config : Config) (drawn : PartsSoFar) (exports : List Export) → (IsTrue (is_some config.module_shape) → exports ≡ drawn.contents.exports) → IsBeyond config (module_so_far drawn) (record (module_so_far drawn) { exports = exports })
 exports_beyond config drawn exports same =
     let spaces = spaces_in drawn.imported.spaces in
     record {
@@ -220,10 +220,10 @@ exports_beyond config drawn exports same =
       exports = same;
     }
 
-pub nothing_beyond : (config : Config) (drawn : Drawn) (exports : List Export) → exports ≡ drawn.contents.exports → IsBeyond config (begun_of drawn) (record (begun_of drawn) { exports = exports })
+pub nothing_beyond : (config : Config) (drawn : PartsSoFar) (exports : List Export) → exports ≡ drawn.contents.exports → IsBeyond config (module_so_far drawn) (record (module_so_far drawn) { exports = exports })
 nothing_beyond config drawn exports same = exports_beyond config drawn exports (λ shaped. same)
 
 -- drawn exports change nothing else
-pub drawn_beyond : (config : Config) (drawn : Drawn) (made : Result Exports Error) → config.module_shape ≡ None → IfOk made (λ made. IsBeyond config (begun_of drawn) (record (begun_of drawn) { exports = made.exports }))
+pub drawn_beyond : (config : Config) (drawn : PartsSoFar) (made : Result Exports Error) → config.module_shape ≡ None → IfOk made (λ made. IsBeyond config (module_so_far drawn) (record (module_so_far drawn) { exports = made.exports }))
 drawn_beyond config drawn (Ok made) none = exports_beyond config drawn made.exports (λ shaped. let never = subst (λ (one : Option Shape). IsTrue (is_some one)) none shaped in absurd cc)
 drawn_beyond config drawn (Err e) none = tt

@@ -15,14 +15,14 @@ use Rattle.wasm_smith.specs.Build.{parts_of}
 use Rattle.wasm_smith.specs.DrawnParts.{HasNoFloatParts}
 use Rattle.smith_rules.specs.Held.{expressions_of}
 use Rattle.smith_rules.specs.Promises.{HasNoFloats, initial_of}
-use Rattle.wasm_smith.specs.declared.build.drawn.Drawn.{Drawn}
+use Rattle.wasm_smith.specs.declared.build.parts_so_far.PartsSoFar.{PartsSoFar}
 
 of_types : (types : List SubType) → Each HasNoFloat types → All IsNoFloat (flat_map (λ (t : SubType). values_of t.composite_type.inner) types)
 of_types [] each = All-nil IsNoFloat
 of_types (t ∷ types) each =
     All-append IsNoFloat (values_of t.composite_type.inner) (flat_map (λ (t : SubType). values_of t.composite_type.inner) types) each.0 (of_types types each.1)
 
-pub no_floats_drawn : (config : Config) (drawn : Drawn) → HasNoFloatParts drawn → HasNoFloats (parts_of config drawn)
+pub no_floats_drawn : (config : Config) (drawn : PartsSoFar) → HasNoFloatParts drawn → HasNoFloats (parts_of config drawn)
 no_floats_drawn config drawn h =
     let types = flat_map (λ (t : SubType). values_of t.composite_type.inner) drawn.types.types in
     let globals = map (λ (global : GlobalType). global.val_type) drawn.imported.spaces.globals in

@@ -5,25 +5,25 @@ use Rattle.std.specs.Prelude.{IsTrue, Result, Ok, Err, IsErrAnd}
 use Rattle.smith_bytes.specs.declared.error.Error.{Error}
 use Rattle.smith_bytes.specs.declared.error.Error.TheVariants as errors
 use Rattle.smith_types.specs.Imports.{flattened, imported_spaces}
-use Rattle.smith_types.specs.IndexSpaces.{spaces_in}
+use Rattle.smith_types.specs.EntitySpaces.{spaces_in}
 use Rattle.smith_config.specs.declared.config.Config.{Config}
 use Rattle.smith_config.specs.InUse.{FixesImports, HasNoShapes}
 use Rattle.smith_bytes.specs.Steps.{section_flag_at, Returns, is_lack}
 use Rattle.smith_imports.specs.declared.imported.Imported.{Imported}
 use Rattle.smith_contents.specs.declared.exported.Exports.{Exports}
-use Rattle.wasm_smith.specs.Begun.{ModuleSoFar, StandsWhole}
-use Rattle.wasm_smith.specs.Build.{begun_typed_at, defined_at, exported_at, exports_of, imported_at, in_full, module_at, module_of}
+use Rattle.wasm_smith.specs.FirstParts.{ModuleSoFar, StandsWhole}
+use Rattle.wasm_smith.specs.Build.{first_parts_typed_at, defined_at, exported_at, exports_of, imported_at, in_full, module_at, module_of}
 use Rattle.wasm_smith.specs.DrawnContents.{AreContents, HasGrantedContents, HasNoFloatContents, behind_exports_at, imported_in}
 use Rattle.wasm_smith.specs.DrawnParts.{IsDrawnFor}
 use Rattle.wasm_smith.specs.DrawnSteps.{AreExportsDrawn, AreFreeImports, HasSameImports, drawn_next}
 use Rattle.smith_rules.specs.Module.{ModuleParts}
 use Rattle.smith_rules.specs.InterestingValues.{AreAll, IsInteresting32, IsInteresting64}
 use Rattle.wasm_smith.specs.declared.build.contents.Contents.{Contents}
-use Rattle.wasm_smith.specs.declared.build.drawn.Drawn.{Drawn}
+use Rattle.wasm_smith.specs.declared.build.parts_so_far.PartsSoFar.{PartsSoFar}
 
 -- the draws of the steps together are the draw of the module
 pub module_read : (distinct : Bool) (config : Config) (bytes : List ℕ) (typed imported defined whole : ModuleSoFar) (flag : Bool) (made : Exports) (contents : Contents) (count : ℕ) (first second third fourth fifth last : List ℕ)
-    → begun_typed_at config bytes ≡ Ok (typed, first) → imported_at distinct config typed first ≡ Ok (imported, second) → section_flag_at (length imported.groups) second ≡ (flag, third)
+    → first_parts_typed_at config bytes ≡ Ok (typed, first) → imported_at distinct config typed first ≡ Ok (imported, second) → section_flag_at (length imported.groups) second ≡ (flag, third)
     → defined_at config imported third ≡ Ok (defined, fourth) → exported_at config defined fourth ≡ Ok (whole, fifth) → made ≡ exports_of config whole
     → in_full (behind_exports_at config whole.types.types (imported_spaces (flattened whole.groups)) whole.spaces made fifth) ≡ Ok (contents, last) → count ≡ length (flattened whole.groups)
     → module_at distinct config bytes ≡ Ok (record (module_of config whole contents flag) { num_imports = count }, last)
@@ -40,7 +40,7 @@ lacks_so view own e read whole both h = both h
 
 -- if contents are refused, so is the module
 pub module_refused : {X Z : Type 0} (view : X → ModuleParts × List ℕ) (own : Z → Contents × List ℕ) (result : Result X Error) (e : Error) (distinct : Bool) (config : Config) (bytes : List ℕ) (typed imported defined whole : ModuleSoFar) (flag : Bool) (made : Exports)
-    (first second third fourth fifth : List ℕ) → begun_typed_at config bytes ≡ Ok (typed, first) → imported_at distinct config typed first ≡ Ok (imported, second) → section_flag_at (length imported.groups) second ≡ (flag, third)
+    (first second third fourth fifth : List ℕ) → first_parts_typed_at config bytes ≡ Ok (typed, first) → imported_at distinct config typed first ≡ Ok (imported, second) → section_flag_at (length imported.groups) second ≡ (flag, third)
     → defined_at config imported third ≡ Ok (defined, fourth) → exported_at config defined fourth ≡ Ok (whole, fifth) → made ≡ exports_of config whole
     → Returns is_lack own (Err e) (in_full (behind_exports_at config whole.types.types (imported_spaces (flattened whole.groups)) whole.spaces made fifth)) → IsErrAnd result (λ y. y ≡ e) → Returns is_lack view result (module_at distinct config bytes)
 unfolding module_at
@@ -52,7 +52,7 @@ module_refused view own (Err y) e distinct config bytes typed imported defined w
     (lacks_so view own e (behind_exports (exports_of config whole)) (module_at distinct config bytes) (λ fails. rw (begins, imports, flags, defines, exports, fails) refl) refused_own)
 
 -- a whole state stays whole with contents
-whole_with : {config : Config} {drawn : Drawn} (later : Drawn) → later.types ≡ drawn.types → later.imported ≡ drawn.imported → later.definitions ≡ drawn.definitions → StandsWhole config drawn → StandsWhole config later
+whole_with : {config : Config} {drawn : PartsSoFar} (later : PartsSoFar) → later.types ≡ drawn.types → later.imported ≡ drawn.imported → later.definitions ≡ drawn.definitions → StandsWhole config drawn → StandsWhole config later
 whole_with later types imported definitions h = record {
   groups = rw imported h.groups;
   count = rw imported h.count;
@@ -77,13 +77,13 @@ written_so : {old new : Imported} (flag : Bool) → HasSameImports old new → (
 written_so flag same written some = written (rw same.groups at some)
 
 -- the parts of a module, from the state after exports were made
-pub drawn_for : {distinct : Bool} {config : Config} {before : Imported} {drawn : Drawn} (contents : Contents) (flag : Bool) (narrow wide : List ℕ) → AreExportsDrawn config drawn
+pub drawn_for : {distinct : Bool} {config : Config} {before : Imported} {drawn : PartsSoFar} (contents : Contents) (flag : Bool) (narrow wide : List ℕ) → AreExportsDrawn config drawn
     → ((FixesImports config → ⊥) → AreFreeImports distinct config before) → HasSameImports before drawn.imported → (0 < length before.groups → IsTrue flag)
     → AreContents config drawn.types.types (imported_in drawn.imported) (spaces_in drawn.imported.spaces) drawn.imported.type_size contents → (config.allow_floats ≡ false → HasNoShapes config → HasNoFloatContents contents)
     → HasGrantedContents config (drawn_next config drawn) drawn.imported.spaces.tables contents → AreAll (IsInteresting32 drawn.imported.spaces.tables drawn.imported.spaces.memories) narrow → AreAll (IsInteresting64 drawn.imported.spaces.tables drawn.imported.spaces.memories) wide
     → IsDrawnFor distinct config (record drawn { contents = contents; encodes_imports = flag; interesting_values32 = narrow; interesting_values64 = wide })
 drawn_for {drawn = drawn} contents flag narrow wide h free same written kept calm granted those32 those64 =
-    let later : Drawn = record drawn { contents = contents; encodes_imports = flag; interesting_values32 = narrow; interesting_values64 = wide } in
+    let later : PartsSoFar = record drawn { contents = contents; encodes_imports = flag; interesting_values32 = narrow; interesting_values64 = wide } in
     record {
       whole = whole_with later refl refl refl h.whole;
       least_types = h.least_types;

@@ -10,8 +10,8 @@ use Rattle.smith_bytes.specs.declared.error.Error.{Error}
 use Rattle.smith_bytes.specs.declared.error.Error.TheVariants as errors
 use Rattle.smith_bytes.specs.declared.error.Why.{Why}
 use Rattle.smith_bytes.proofs.SpelledLemmas.{joined_parts}
-use Rattle.smith_types.specs.Imports.{IndexSpaces, flattened, imported_spaces}
-use Rattle.smith_types.specs.Space.{Space}
+use Rattle.smith_types.specs.Imports.{EntitySpaces, flattened, imported_spaces}
+use Rattle.smith_types.specs.GroupedTypes.{GroupedTypes}
 use Rattle.smith_types.specs.declared.composite_type.SubType.{SubType}
 use Rattle.smith_types.specs.declared.entity_type.GlobalType.{GlobalType}
 use Rattle.smith_types.specs.declared.const_instr.ConstInstr.{ConstInstr}
@@ -29,9 +29,9 @@ use Rattle.smith_spell.specs.SpellAnswers.{IsSpellable}
 use Rattle.smith_spell.specs.Spelling.{SpellsMember, SpellsRest, SpellsSegments}
 use Rattle.smith_draw.specs.SpelledParts.{SpellsNoTag, SpellsFuncs, SpellsGlobal, SpellsNoStart}
 use Rattle.smith_spell.proofs.FamilyFitLemmas.{family_fits}
-use Rattle.wasm_smith.specs.Begun.{ModuleSoFar, begun_at, nothing_begun}
+use Rattle.wasm_smith.specs.FirstParts.{ModuleSoFar, first_parts_at, nothing_so_far}
 use Rattle.smith_bytes.specs.Steps.{Returns, is_lack, ◌>>=◌, section_flag_at}
-use Rattle.wasm_smith.specs.Build.{IsGiven, as_drawn, begun_size, begun_typed_at, defined_at, exported_at, exported_for, exports_of, functions_begun, imported_at, in_full, module_at, module_of, with_types_at}
+use Rattle.wasm_smith.specs.Build.{IsGiven, as_drawn, size_so_far, first_parts_typed_at, defined_at, exported_at, exported_for, exports_of, functions_so_far, imported_at, in_full, module_at, module_of, with_types_at}
 use Rattle.smith_defined.specs.Defined.{nothing_defined}
 use Rattle.smith_defined.specs.Definitions.{defined_in, definitions_at, scope_over, tables_at, memories_at, globals_at}
 use Rattle.wasm_smith.specs.DrawnContents.{segment_scope, all_segments_at, behind_exports_at}
@@ -69,17 +69,17 @@ unfolding section_flag_at
 flag_read count piece after h = flag_by (count == 0) piece after h
 
 -- the index spaces without imports
-abbrev nothing : IndexSpaces
+abbrev nothing : EntitySpaces
 nothing = imported_spaces (flattened [])
 
 -- the tables, memories and globals that the bytes after functions produce, without imports
-abbrev behind_funcs_at : Config → List SubType → List ℕ → List ℕ → (IndexSpaces × Definitions) × List ℕ
+abbrev behind_funcs_at : Config → List SubType → List ℕ → List ℕ → (EntitySpaces × Definitions) × List ℕ
 behind_funcs_at config types funcs bytes =
     let standing = scope_over types funcs 0 [] in
     let tables = tables_at config standing [] [] bytes in
     let memories = memories_at config [] tables.1 in
     let globals = globals_at config standing [] [] memories.1 in
-    let spaces : IndexSpaces = record { tags = []; funcs = funcs; tables = tables.0.0; memories = memories.0; globals = globals.0.0 } in
+    let spaces : EntitySpaces = record { tags = []; funcs = funcs; tables = tables.0.0; memories = memories.0; globals = globals.0.0 } in
     ((spaces, defined_in nothing nothing_defined spaces tables.0.1 globals.0.1), globals.1)
 
 definitions_read : (config : Config) (types : List SubType) (funcs piece after : List ℕ) → HasNoMinimums config → Joined (SpellsNoTag config types) (SpellsFuncs config types funcs) piece
@@ -93,8 +93,8 @@ definitions_read config types funcs piece after least h =
     ) refl
 
 -- the state after entities are defined over types, without imports
-abbrev with_entities : List (List SubType) → IndexSpaces × Definitions → ModuleSoFar
-with_entities groups made = record nothing_begun { types = space_of groups; spaces = made.0; defined = made.1 }
+abbrev with_entities : List (List SubType) → EntitySpaces × Definitions → ModuleSoFar
+with_entities groups made = record nothing_so_far { types = space_of groups; spaces = made.0; defined = made.1 }
 
 -- the module that the bytes after exports produce, with this flag of imports
 abbrev whole_at : Config → Bool → ModuleSoFar → List ℕ → Result (ModuleParts × List ℕ) Error
@@ -103,23 +103,23 @@ whole_at config flag whole bytes =
 
 -- the module that the bytes after entities produce
 abbrev ending_at : Config → Bool → ModuleSoFar → List ℕ → Result (ModuleParts × List ℕ) Error
-ending_at config flag begun bytes = exported_at config begun bytes >>= λ (exported : ModuleSoFar × List ℕ). whole_at config flag exported.0 exported.1
+ending_at config flag so_far bytes = exported_at config so_far bytes >>= λ (exported : ModuleSoFar × List ℕ). whole_at config flag exported.0 exported.1
 
 -- without shapes a module begins with the drawn types
-types_alone : (config : Config) (bytes : List ℕ) → HasNoShapes config → begun_typed_at config bytes ≡ Ok (with_types_at config nothing_begun bytes)
-unfolding begun_typed_at begun_at
+types_alone : (config : Config) (bytes : List ℕ) → HasNoShapes config → first_parts_typed_at config bytes ≡ Ok (with_types_at config nothing_so_far bytes)
+unfolding first_parts_typed_at first_parts_at
 types_alone config bytes none = rw (none.module_shape, none.available_imports) refl
 
 -- without shapes neither imports nor exports are fixed
-freely_imported : (distinct : Bool) (config : Config) (begun : ModuleSoFar) (bytes : List ℕ) → HasNoShapes config
-    → imported_at distinct config begun bytes ≡ then_with (λ groups. record begun { groups = groups; spaces = imported_spaces (flattened groups) }) (in_full (imports_at config begun.types.types distinct bytes))
+freely_imported : (distinct : Bool) (config : Config) (so_far : ModuleSoFar) (bytes : List ℕ) → HasNoShapes config
+    → imported_at distinct config so_far bytes ≡ then_with (λ groups. record so_far { groups = groups; spaces = imported_spaces (flattened groups) }) (in_full (imports_at config so_far.types.types distinct bytes))
 unfolding imported_at
-freely_imported distinct config begun bytes none = rw (none.module_shape, none.available_imports) refl
+freely_imported distinct config so_far bytes none = rw (none.module_shape, none.available_imports) refl
 
-freely_exported : (config : Config) (begun : ModuleSoFar) (bytes : List ℕ) → HasNoShapes config → exported_at config begun bytes ≡ exported_for config None None begun bytes
+freely_exported : (config : Config) (so_far : ModuleSoFar) (bytes : List ℕ) → HasNoShapes config → exported_at config so_far bytes ≡ exported_for config None None so_far bytes
 unfolding exported_at
-freely_exported config begun bytes none =
-    ap (λ (given : Option Shape). exported_for config given config.exports begun bytes) none.module_shape ∙ ap (λ (given : Option Shape). exported_for config None given begun bytes) none.exports
+freely_exported config so_far bytes none =
+    ap (λ (given : Option Shape). exported_for config given config.exports so_far bytes) none.module_shape ∙ ap (λ (given : Option Shape). exported_for config None given so_far bytes) none.exports
 
 entities_defined : (config : Config) (groups : List (List SubType)) (funcs piece after : List ℕ) → HasNoMinimums config → Joined (SpellsNoTag config (space_of groups).types) (SpellsFuncs config (space_of groups).types funcs) piece
     → (let drawn = behind_funcs_at config (space_of groups).types funcs after in defined_at config (with_entities groups (nothing, nothing_defined)) (piece ++ after) ≡ Ok (with_entities groups drawn.0, drawn.1))
@@ -138,7 +138,7 @@ member_read distinct config groups funcs piece after sanitized none least member
       rw (
         types_alone config (piece ++ after) none,
         joined_parts h after,
-        types_read config (functions_begun config nothing_begun) refl groups h.first (h.second ++ after) sanitized (least counts.Types) (family_fits config groups funcs member) h.is_first,
+        types_read config (functions_so_far config nothing_so_far) refl groups h.first (h.second ++ after) sanitized (least counts.Types) (family_fits config groups funcs member) h.is_first,
         freely_imported distinct config (with_entities groups (nothing, nothing_defined)) (h.second ++ after) none,
         joined_parts imports after,
         no_import_read config types distinct imports.first (imports.second ++ after) (least counts.Imports) imports.is_first,
@@ -149,12 +149,12 @@ member_read distinct config groups funcs piece after sanitized none least member
     )
 
 -- these are the types and functions of the module, whatever bytes follow
-whole_ended : (config : Config) (groups : List (List SubType)) (begun : ModuleSoFar) (flag : Bool) (contents : Result (Contents × List ℕ) Why) → begun.types ≡ space_of groups
-    → IfOk {T = ModuleParts × List ℕ} (in_full contents >>= λ (made : Contents × List ℕ). Ok (module_of config begun made.0 flag, made.1)) (λ drawn. HasMember groups begun.spaces.funcs drawn.0)
-whole_ended config groups begun flag (Ok made) same = record { types = ap (λ (space : Space). space.types) same; groups_are = ap (λ (space : Space). space.groups) same; funcs_are = refl }
-whole_ended config groups begun flag (Err why) same = tt
+whole_ended : (config : Config) (groups : List (List SubType)) (so_far : ModuleSoFar) (flag : Bool) (contents : Result (Contents × List ℕ) Why) → so_far.types ≡ space_of groups
+    → IfOk {T = ModuleParts × List ℕ} (in_full contents >>= λ (made : Contents × List ℕ). Ok (module_of config so_far made.0 flag, made.1)) (λ drawn. HasMember groups so_far.spaces.funcs drawn.0)
+whole_ended config groups so_far flag (Ok made) same = record { types = ap (λ (space : GroupedTypes). space.types) same; groups_are = ap (λ (space : GroupedTypes). space.groups) same; funcs_are = refl }
+whole_ended config groups so_far flag (Err why) same = tt
 
-member_ended : (config : Config) (groups : List (List SubType)) (made : IndexSpaces × Definitions) (flag : Bool) (exports : Result (List Export × List ℕ) Why)
+member_ended : (config : Config) (groups : List (List SubType)) (made : EntitySpaces × Definitions) (flag : Bool) (exports : Result (List Export × List ℕ) Why)
     → IfOk (then_with (λ exports. record (with_entities groups made) { exports = exports }) (in_full exports) >>= λ (exported : ModuleSoFar × List ℕ). whole_at config flag exported.0 exported.1) (λ drawn. HasMember groups made.0.funcs drawn.0)
 member_ended config groups made flag (Ok drawn) =
     let whole : ModuleSoFar = record (with_entities groups made) { exports = drawn.0 } in
@@ -166,8 +166,8 @@ member_reached : (distinct : Bool) (config : Config) (groups : List (List SubTyp
 member_reached distinct config groups funcs piece after sanitized none least member h =
     let read = member_read distinct config groups funcs piece after sanitized none least member h in
     let drawn = behind_funcs_at config (space_of groups).types funcs after in
-    let begun = with_entities groups drawn.0 in
-    rw (read.1, freely_exported config begun drawn.1 none) (member_ended config groups drawn.0 read.0 (exports_at config begun.types.types begun.spaces (begun_size config begun) drawn.1))
+    let so_far = with_entities groups drawn.0 in
+    rw (read.1, freely_exported config so_far drawn.1 none) (member_ended config groups drawn.0 read.0 (exports_at config so_far.types.types so_far.spaces (size_so_far config so_far) drawn.1))
 
 -- contents have these passive data, and no export, start or element segment
 record IsBare (passive : List (List ℕ)) (contents : Contents) : Type 0 where
@@ -176,7 +176,7 @@ record IsBare (passive : List (List ℕ)) (contents : Contents) : Type 0 where
   elements : contents.segments.elements ≡ []
   data_segments : contents.segments.data_segments ≡ map (λ bytes. passive_data bytes) passive
 
-segments_read : (config : Config) (types : List SubType) (imported spaces : IndexSpaces) (passive : List (List ℕ)) (piece after : List ℕ) → HasNoMinimums config → spaces.tables ≡ [] → spaces.memories ≡ [] → SpellsSegments config passive piece
+segments_read : (config : Config) (types : List SubType) (imported spaces : EntitySpaces) (passive : List (List ℕ)) (piece after : List ℕ) → HasNoMinimums config → spaces.tables ≡ [] → spaces.memories ≡ [] → SpellsSegments config passive piece
     → all_segments_at config types imported spaces (piece ++ after) ≡ Ok (record { elements = []; data_segments = map (λ bytes. passive_data bytes) passive }, after)
 unfolding all_segments_at
 segments_read config types imported spaces passive piece after least tables memories h =
@@ -191,7 +191,7 @@ segments_read config types imported spaces passive piece after least tables memo
 abbrev SpellsBehindExports : Config → List SubType → List ℕ → List (List ℕ) → List ℕ → Type 0
 SpellsBehindExports config types funcs passive = Joined (Where (length types == 0) SpellsAnyByte) (Joined (SpellsNoStart config types funcs) (SpellsSegments config passive))
 
-contents_read : (config : Config) (types : List SubType) (imported spaces : IndexSpaces) (made : Exports) (passive : List (List ℕ)) (piece after : List ℕ) → HasNoMinimums config → made.exports ≡ []
+contents_read : (config : Config) (types : List SubType) (imported spaces : EntitySpaces) (made : Exports) (passive : List (List ℕ)) (piece after : List ℕ) → HasNoMinimums config → made.exports ≡ []
     → spaces.tables ≡ [] → spaces.memories ≡ [] → SpellsBehindExports config types spaces.funcs passive piece → IfOk (behind_exports_at config types imported spaces made (piece ++ after)) (λ drawn. IsBare passive drawn.0)
 unfolding behind_exports_at
 contents_read config types imported spaces made passive piece after least exports tables memories h =
@@ -210,7 +210,7 @@ abbrev Listing : Type 0
 Listing = List GlobalType × List (List ConstInstr)
 
 -- no table and no memory, globals of these numbers, and these bytes left
-record AreNumbered (numbers : List ℤ) (drawn : (IndexSpaces × Definitions) × List ℕ) (after : List ℕ) : Type 0 where
+record AreNumbered (numbers : List ℤ) (drawn : (EntitySpaces × Definitions) × List ℕ) (after : List ℕ) : Type 0 where
   tables : drawn.0.0.tables ≡ []
   memories : drawn.0.0.memories ≡ []
   globals : drawn.0.0.globals ≡ map (λ number. mutable_i32) numbers
@@ -234,17 +234,17 @@ entities_read config types funcs numbers tables memories globals after least no_
     })
 
 -- without shapes, there is no export if the bytes spell none
-no_export_made : (config : Config) (begun : ModuleSoFar) (piece after : List ℕ) → HasNoShapes config → HasNoMinimums config → config.export_everything ≡ false → SpellsNone config.max_exports piece
-    → exported_at config begun (piece ++ after) ≡ Ok (record begun { exports = [] }, after)
-no_export_made config begun piece after none least some h =
-    let size = begun_size config begun in
+no_export_made : (config : Config) (so_far : ModuleSoFar) (piece after : List ℕ) → HasNoShapes config → HasNoMinimums config → config.export_everything ≡ false → SpellsNone config.max_exports piece
+    → exported_at config so_far (piece ++ after) ≡ Ok (record so_far { exports = [] }, after)
+no_export_made config so_far piece after none least some h =
+    let size = size_so_far config so_far in
     rw (
-      freely_exported config begun (piece ++ after) none,
-      exports_free config begun.types.types begun.spaces size (piece ++ after) some,
-      no_export_read config begun.types.types begun.spaces size [] piece after (least counts.Exports) (record { none = refl; spelled = h }),
+      freely_exported config so_far (piece ++ after) none,
+      exports_free config so_far.types.types so_far.spaces size (piece ++ after) some,
+      no_export_read config so_far.types.types so_far.spaces size [] piece after (least counts.Exports) (record { none = refl; spelled = h }),
     ) refl
 
-rest_ended : (config : Config) (groups : List (List SubType)) (numbers : List ℤ) (passive : List (List ℕ)) (drawn : (IndexSpaces × Definitions) × List ℕ) (after : List ℕ) (flag : Bool) (contents : Result (Contents × List ℕ) Why)
+rest_ended : (config : Config) (groups : List (List SubType)) (numbers : List ℤ) (passive : List (List ℕ)) (drawn : (EntitySpaces × Definitions) × List ℕ) (after : List ℕ) (flag : Bool) (contents : Result (Contents × List ℕ) Why)
     → AreNumbered numbers drawn after → IfOk contents (λ made. IsBare passive made.0)
     → IfOk {T = ModuleParts × List ℕ} (in_full contents >>= λ (made : Contents × List ℕ). Ok (module_of config (with_entities groups drawn.0) made.0 flag, made.1)) (λ made. HasRest numbers passive made.0)
 rest_ended config groups numbers passive drawn after flag (Ok made) numbered bare = record {
@@ -272,13 +272,13 @@ rest_reached distinct config groups funcs numbers passive piece rest after sanit
     let read = member_read distinct config groups funcs piece (rest ++ after) sanitized none least member spelled in
     let parts : rest ++ after ≡ h.first ++ (memories.first ++ (globals.first ++ later)) = rw (joined_parts h after, joined_parts memories after, joined_parts globals after, joined_parts exports after) refl in
     let drawn = behind_funcs_at config types funcs (h.first ++ (memories.first ++ (globals.first ++ later))) in
-    let begun = with_entities groups drawn.0 in
+    let so_far = with_entities groups drawn.0 in
     let numbered = entities_read config types funcs numbers h.first memories.first globals.first later least h.is_first memories.is_first globals.is_first in
-    let made = no_export_made config begun exports.first behind_exports none least some exports.is_first in
-    let whole : ModuleSoFar = record begun { exports = [] } in
+    let made = no_export_made config so_far exports.first behind_exports none least some exports.is_first in
+    let whole : ModuleSoFar = record so_far { exports = [] } in
     let bare = contents_read config types nothing drawn.0.0 (exports_of config whole) passive exports.second after least refl numbered.tables numbered.memories exports.is_second in
     let ended = rest_ended config groups numbers passive drawn later read.0 (behind_exports_at config types nothing drawn.0.0 (exports_of config whole) behind_exports) numbered bare in
-    let ending : IfOk (ending_at config read.0 begun drawn.1) (λ made. HasRest numbers passive made.0) = rw (numbered.left, made) ended in
+    let ending : IfOk (ending_at config read.0 so_far drawn.1) (λ made. HasRest numbers passive made.0) = rw (numbered.left, made) ended in
     rw read.1 (subst (λ (bytes : List ℕ). let all = behind_funcs_at config types funcs bytes in IfOk (ending_at config read.0 (with_entities groups all.0) all.1) (λ made. HasRest numbers passive made.0)) (sym parts) ending)
 
 -- a property of every module of these bytes, apart from interesting values, is one of the result

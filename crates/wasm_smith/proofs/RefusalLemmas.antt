@@ -2,7 +2,7 @@
 use Rattle.std.proofs.Common.{◌≡◌, ◌⊎◌, List, refl, sym, subst, inl, inr}
 use Rattle.std.specs.Prelude.{Option, Some, None, Result, Ok, Err, IfErr, All}
 use Rattle.smith_types.specs.Expressions.{Context}
-use Rattle.smith_types.specs.Imports.{IndexSpaces}
+use Rattle.smith_types.specs.Imports.{EntitySpaces}
 use Rattle.smith_types.specs.declared.entity_type.TableType.{TableType}
 use Rattle.smith_config.specs.declared.config.Config.{Config}
 use Rattle.smith_config.specs.declared.shape.Shape.{Shape}
@@ -65,7 +65,7 @@ module _ (config : Config) (context : Context) (tables : List TableType) where
   contents_refuse (Err (errors.Shape for_use fault)) lacks h = h
 
 -- if there may be nothing to choose from, a shape in use holds a non-nullable reference
-pub lacks_so : (config : Config) (context : Context) (spaces : IndexSpaces) → ((HoldsNonNullable config → ⊥) → HoldsGrounded config context spaces) → MayLackItem config context spaces.tables → HoldsNonNullable config
+pub lacks_so : (config : Config) (context : Context) (spaces : EntitySpaces) → ((HoldsNonNullable config → ⊥) → HoldsGrounded config context spaces) → MayLackItem config context spaces.tables → HoldsNonNullable config
 lacks_so config context spaces grounded lack = elim (holds_or_not config) [
   | inl holds ↦ holds
   | inr none ↦ let all = grounded none in elim lack [ inl field ↦ absurd (all.fields field) | inr table ↦ absurd (none_lacks config context spaces.tables all.elements table) ]

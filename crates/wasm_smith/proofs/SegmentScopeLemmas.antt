@@ -1,7 +1,7 @@
 -- The scope of segments, after all imports and definitions.
 use Rattle.std.proofs.Common.{◌≡◌, ℕ, Bool, true, false, ◌&&◌, cond, length, refl}
-use Rattle.smith_types.specs.Imports.{IndexSpaces}
-use Rattle.smith_types.specs.Space.{Space}
+use Rattle.smith_types.specs.Imports.{EntitySpaces}
+use Rattle.smith_types.specs.GroupedTypes.{GroupedTypes}
 use Rattle.smith_config.specs.declared.config.Config.{Config}
 use Rattle.smith_draw.specs.ConstScopes.{seen_by}
 use Rattle.smith_draw.specs.declared.spaces.Spaces.{Spaces}
@@ -13,7 +13,7 @@ seen_end : (on : Bool) (all imported : ℕ) → cond (on && true) all imported �
 seen_end true all imported = refl
 seen_end false all imported = refl
 
-pub seen_over : {space : Space} {spaces : IndexSpaces} {imported_funcs imported_globals : ℕ} {over : Spaces} (imported : IndexSpaces) (config : Config) → AreSpacesOver space spaces imported_funcs imported_globals over
+pub seen_over : {space : GroupedTypes} {spaces : EntitySpaces} {imported_funcs imported_globals : ℕ} {over : Spaces} (imported : EntitySpaces) (config : Config) → AreSpacesOver space spaces imported_funcs imported_globals over
     → imported_funcs ≡ length imported.funcs → imported_globals ≡ length imported.globals → seen_by config over true ≡ segment_scope config space.types imported spaces
 seen_over {over = over} imported config seen funcs globals =
     rw (seen_end config.gc_enabled (length over.entities.globals.now) over.entities.imported_globals, seen.types, seen.funcs, seen.globals, seen.imported_funcs, seen.imported_globals, funcs, globals) refl

@@ -3,21 +3,21 @@
 use Rattle.std.proofs.Common.{◌≤◌, max, inr, arith}
 use Rattle.smith_bytes.specs.declared.error.Count.{Count}
 use Rattle.smith_bytes.specs.declared.error.Count.TheVariants as counts
-use Rattle.smith_types.specs.Imports.{IndexSpaces, flattened, imported_spaces}
-use Rattle.smith_types.specs.IndexSpaces.{spaces_in}
-use Rattle.smith_types.specs.declared.index_spaces.IndexSpaces.{IndexSpaces as Held}
+use Rattle.smith_types.specs.Imports.{EntitySpaces, flattened, imported_spaces}
+use Rattle.smith_types.specs.EntitySpaces.{spaces_in}
+use Rattle.smith_types.specs.declared.entity_spaces.EntitySpaces.{EntitySpaces as Held}
 use Rattle.smith_config.specs.declared.config.Config.{Config}
 use Rattle.smith_config.specs.Faults.{maximum_of}
 use Rattle.smith_config.specs.EntityBounds.{IsTableWithin, IsMemoryWithin}
 use Rattle.smith_rules.specs.ShapeImports.{count_in}
-use Rattle.wasm_smith.specs.Begun.{IsMemoryKept, IsOfEntities, IsTableKept, StandsSoFar}
+use Rattle.wasm_smith.specs.FirstParts.{IsMemoryKept, IsOfEntities, IsTableKept, StandsSoFar}
 use Rattle.smith_defined.specs.Defined.{AreDefinedMore, AreFilled}
 use Rattle.smith_defined.specs.declared.definitions.Definitions.{Definitions}
-use Rattle.wasm_smith.specs.declared.build.drawn.Drawn.{Drawn}
+use Rattle.wasm_smith.specs.declared.build.parts_so_far.PartsSoFar.{PartsSoFar}
 use Rattle.smith_defined.proofs.DefinedLemmas.{added_weaker, all_behind}
 
 -- of each kind there are at most the maximum, or as many as before
-no_more_than : (config : Config) (before spaces : IndexSpaces) → AreFilled config before spaces → (count : Count) → IsOfEntities count → count_in spaces count ≤ max (maximum_of config count) (count_in before count)
+no_more_than : (config : Config) (before spaces : EntitySpaces) → AreFilled config before spaces → (count : Count) → IsOfEntities count → count_in spaces count ≤ max (maximum_of config count) (count_in before count)
 no_more_than config before spaces filled counts.Tags is = filled.tags.within
 no_more_than config before spaces filled counts.Funcs is = filled.funcs.within
 no_more_than config before spaces filled counts.Tables is = filled.tables.within
@@ -26,7 +26,7 @@ no_more_than config before spaces filled counts.Globals is = filled.globals.with
 no_more_than config before spaces filled _ is = absurd is
 
 -- with entities defined at the end, the parts stay valid and within the bounds
-pub stands_defined : (config : Config) (drawn : Drawn) (spaces : Held) (defined : Definitions) → StandsSoFar config drawn → AreDefinedMore config drawn.types (spaces_in drawn.imported.spaces) drawn.definitions (spaces_in spaces) defined
+pub stands_defined : (config : Config) (drawn : PartsSoFar) (spaces : Held) (defined : Definitions) → StandsSoFar config drawn → AreDefinedMore config drawn.types (spaces_in drawn.imported.spaces) drawn.definitions (spaces_in spaces) defined
     → StandsSoFar config (record drawn { imported = record drawn.imported { spaces = spaces }; definitions = defined })
 stands_defined config drawn spaces defined now made = record {
   groups = now.groups;

@@ -9,24 +9,24 @@ use Rattle.smith_bytes.specs.declared.error.Count.TheVariants as counts
 use Rattle.smith_types.specs.Entities.{IsFuncTypeIndex}
 use Rattle.smith_types.specs.Grown.{Extends}
 use Rattle.smith_types.specs.Imports.{flattened, imported_spaces}
-use Rattle.smith_types.specs.IndexSpaces.{spaces_in}
-use Rattle.smith_types.specs.Space.{Space}
-use Rattle.smith_types.specs.declared.index_spaces.IndexSpaces.{IndexSpaces as Held}
+use Rattle.smith_types.specs.EntitySpaces.{spaces_in}
+use Rattle.smith_types.specs.GroupedTypes.{GroupedTypes}
+use Rattle.smith_types.specs.declared.entity_spaces.EntitySpaces.{EntitySpaces as Held}
 use Rattle.smith_types.proofs.HeldValueLemmas.{all_apart}
 use Rattle.smith_config.specs.declared.config.Config.{Config}
 use Rattle.smith_config.specs.declared.shape.Shape.{Shape}
 use Rattle.smith_config.specs.Shapes.{shape_spaces}
 use Rattle.smith_rules.specs.ShapeImports.{count_in}
-use Rattle.wasm_smith.specs.Begun.{IsMemoryKept, IsOfEntities, IsTableKept, StandsSoFar, StandsWhole}
+use Rattle.wasm_smith.specs.FirstParts.{IsMemoryKept, IsOfEntities, IsTableKept, StandsSoFar, StandsWhole}
 use Rattle.smith_rules.specs.Bounds.{items_of_export_shape, items_of_exports}
 use Rattle.smith_defined.specs.Defined.{StandsBehind}
 use Rattle.smith_defined.specs.Required.{AddsLimitsOf}
 use Rattle.smith_defined.specs.declared.definitions.Definitions.{Definitions}
-use Rattle.wasm_smith.specs.declared.build.drawn.Drawn.{Drawn}
+use Rattle.wasm_smith.specs.declared.build.parts_so_far.PartsSoFar.{PartsSoFar}
 use Rattle.wasm_smith.proofs.GrownSizeLemmas.{imports_grown}
 
 -- if no exports of a shape are made, the state is whole
-pub stands_whole : (config : Config) (drawn : Drawn) → StandsSoFar config drawn → StandsWhole config drawn
+pub stands_whole : (config : Config) (drawn : PartsSoFar) → StandsSoFar config drawn → StandsWhole config drawn
 stands_whole config drawn now = record {
   groups = now.groups;
   count = now.count;
@@ -63,7 +63,7 @@ either_kept {A = A} Kept before theirs space stood shape either =
       | inr given ↦ shape x given
     ]) space either
 
-module _ (config : Config) (shape : Shape) (drawn : Drawn) (types : Space) (spaces : Held) (defined : Definitions) where
+module _ (config : Config) (shape : Shape) (drawn : PartsSoFar) (types : GroupedTypes) (spaces : Held) (defined : Definitions) where
   pub stands_required : config.module_shape ≡ None → config.exports ≡ Some shape → StandsSoFar config drawn → Extends drawn.types.types types.types → length types.types ≤ length drawn.types.types + items_of_exports counts.Types shape
       → ((count : Count) → (count ≡ counts.Types → ⊥) → count_in (spaces_in spaces) count ≡ count_in (spaces_in drawn.imported.spaces) count + items_of_exports count shape)
       → AddsLimitsOf shape (spaces_in drawn.imported.spaces) (spaces_in spaces)

@@ -6,7 +6,7 @@ use Rattle.smith_bytes.specs.Growth.{goes_at, grow_at}
 use Rattle.smith_bytes.proofs.GrownLemmas.{cond_both}
 use Rattle.smith_types.specs.Expressions.{Context}
 use Rattle.smith_types.specs.Grown.{Extends}
-use Rattle.smith_types.specs.Space.{Space}
+use Rattle.smith_types.specs.GroupedTypes.{GroupedTypes}
 use Rattle.smith_config.specs.declared.config.Config.{Config}
 use Rattle.smith_draw.specs.RecGroups.{types_until_at, new_group_at, clone_rec_group_at, clone_wanted_at, cloned_or_new_at, rec_group_at, least_types_at, more_types_at, types_at, with_clone, may_be_cloned, members}
 use Rattle.smith_draw.specs.Choices.{chosen_at}
@@ -26,43 +26,43 @@ grow_extends {A = A} draw least (suc most) made bytes =
     (extends_both (one_more made x.0) (grow_extends draw least most (made ++ x.0 ∷ []) x.1)) (all_kept made)
 
 -- a space begins with the types and the groups of another
-pub record IsBehind (old new : Space) : Type 0 where
+pub record IsBehind (old new : GroupedTypes) : Type 0 where
   pub types : Extends old.types new.types
   pub groups : Extends old.groups new.groups
 
-same_space : (space : Space) → IsBehind space space
+same_space : (space : GroupedTypes) → IsBehind space space
 same_space space = record { types = all_kept space.types; groups = all_kept space.groups }
 
-behind_both : {first second third : Space} → IsBehind first second → IsBehind second third → IsBehind first third
+behind_both : {first second third : GroupedTypes} → IsBehind first second → IsBehind second third → IsBehind first third
 behind_both one two = record { types = extends_both one.types two.types; groups = extends_both one.groups two.groups }
 
-new_group_behind : (config : Config) (functions : Context) (allow_empty : Bool) (space : Space) (bytes : List ℕ) → IsBehind space (new_group_at config functions allow_empty space bytes).0
+new_group_behind : (config : Config) (functions : Context) (allow_empty : Bool) (space : GroupedTypes) (bytes : List ℕ) → IsBehind space (new_group_at config functions allow_empty space bytes).0
 unfolding new_group_at types_until_at
 new_group_behind config functions allow_empty space bytes = record {
   types = grow_extends _ _ _ space.types _;
   groups = one_more space.groups _;
 }
 
-clone_behind : (config : Config) (allow_empty : Bool) (space : Space) (bytes : List ℕ) → IsBehind space (clone_rec_group_at config allow_empty space bytes).1.0
+clone_behind : (config : Config) (allow_empty : Bool) (space : GroupedTypes) (bytes : List ℕ) → IsBehind space (clone_rec_group_at config allow_empty space bytes).1.0
 unfolding clone_rec_group_at
 clone_behind config allow_empty space bytes =
     let group = chosen_at (record { start = 0; end = 0 }) space.groups bytes in
     cond_both (IsBehind space) (may_be_cloned config allow_empty space group.0) (with_clone space group.0) space
     (record { types = record { more = members space.types group.0; parts = refl }; groups = one_more space.groups _ }) (same_space space)
 
-rec_group_behind : (config : Config) (functions : Context) (allow_empty : Bool) (space : Space) (bytes : List ℕ) → IsBehind space (rec_group_at config functions allow_empty space bytes).0
+rec_group_behind : (config : Config) (functions : Context) (allow_empty : Bool) (space : GroupedTypes) (bytes : List ℕ) → IsBehind space (rec_group_at config functions allow_empty space bytes).0
 unfolding rec_group_at
 rec_group_behind config functions allow_empty space bytes =
     let wanted = clone_wanted_at config space bytes in
     let clone = clone_rec_group_at config allow_empty space wanted.1 in
-    let P = λ (r : Space × List ℕ). IsBehind space r.0 in
+    let P = λ (r : GroupedTypes × List ℕ). IsBehind space r.0 in
     cond_both P wanted.0 (cloned_or_new_at config functions allow_empty space wanted.1) (new_group_at config functions allow_empty space wanted.1)
     (cond_both P _ clone.1 (new_group_at config functions allow_empty clone.1.0 clone.1.1) (clone_behind config allow_empty space wanted.1)
     (behind_both (clone_behind config allow_empty space wanted.1) (new_group_behind config functions allow_empty clone.1.0 clone.1.1)))
     (new_group_behind config functions allow_empty space wanted.1)
 
 -- existing types and groups are unchanged
-pub types_behind : (config : Config) (functions : Context) (space : Space) (bytes : List ℕ) → IsBehind space (types_at config functions space bytes).0
+pub types_behind : (config : Config) (functions : Context) (space : GroupedTypes) (bytes : List ℕ) → IsBehind space (types_at config functions space bytes).0
 unfolding types_at
 types_behind config functions space bytes =
     let least = least_types_at config functions config.min_types space bytes in
@@ -73,17 +73,17 @@ not_less : (a b : ℕ) (less : Bool) → nat_lt a b ≡ less → b ≤ a → les
 not_less a b true is most = let few = ltb-true a b is in absurd (omega (arith, few, most))
 not_less a b false is most = refl
 
-no_least : (config : Config) (functions : Context) (turns : ℕ) (space : Space) (bytes : List ℕ) → config.min_types ≤ length space.types → least_types_at config functions turns space bytes ≡ (space, bytes)
+no_least : (config : Config) (functions : Context) (turns : ℕ) (space : GroupedTypes) (bytes : List ℕ) → config.min_types ≤ length space.types → least_types_at config functions turns space bytes ≡ (space, bytes)
 unfolding least_types_at
 no_least config functions zero space bytes enough = refl
 no_least config functions (suc turns) space bytes enough = rw (not_less (length space.types) config.min_types (nat_lt (length space.types) config.min_types) refl enough) refl
 
-no_more : (config : Config) (functions : Context) (turns : ℕ) (space : Space) (bytes : List ℕ) → config.max_types ≤ length space.types → more_types_at config functions turns space bytes ≡ (space, bytes)
+no_more : (config : Config) (functions : Context) (turns : ℕ) (space : GroupedTypes) (bytes : List ℕ) → config.max_types ≤ length space.types → more_types_at config functions turns space bytes ≡ (space, bytes)
 unfolding more_types_at
 no_more config functions zero space bytes full = refl
 no_more config functions (suc turns) space bytes full = rw (not_less (length space.types) config.max_types (nat_lt (length space.types) config.max_types) refl full) refl
 
 -- if there are as many as allowed, none is drawn
-pub types_full : (config : Config) (functions : Context) (space : Space) (bytes : List ℕ) → config.min_types ≤ config.max_types → config.max_types ≤ length space.types → types_at config functions space bytes ≡ (space, bytes)
+pub types_full : (config : Config) (functions : Context) (space : GroupedTypes) (bytes : List ℕ) → config.min_types ≤ config.max_types → config.max_types ≤ length space.types → types_at config functions space bytes ≡ (space, bytes)
 unfolding types_at
 types_full config functions space bytes ordered full = rw (no_least config functions config.min_types space bytes (omega (arith, ordered, full))) (no_more config functions (length bytes + 1) space bytes full)

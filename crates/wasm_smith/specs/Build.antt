@@ -6,7 +6,7 @@ use Rattle.smith_bytes.specs.declared.error.Error.{Error}
 use Rattle.smith_bytes.specs.declared.error.Error.TheVariants as errors
 use Rattle.smith_bytes.specs.declared.error.Why.{Why}
 use Rattle.smith_types.specs.Expressions.{Context}
-use Rattle.smith_types.specs.Imports.{IndexSpaces, flattened, imported_spaces}
+use Rattle.smith_types.specs.Imports.{EntitySpaces, flattened, imported_spaces}
 use Rattle.smith_config.specs.declared.config.Config.{Config}
 use Rattle.smith_config.specs.declared.shape.Shape.{Shape}
 use Rattle.smith_config.specs.Features.{features_of}
@@ -16,7 +16,7 @@ use Rattle.smith_bytes.specs.Steps.{◌>>=◌, section_flag_at, Returns, is_lack
 use Rattle.smith_contents.specs.AllExports.{exports_at}
 use Rattle.smith_rules.specs.ExportedItems.{exported_size}
 use Rattle.smith_contents.specs.declared.exported.Exports.{Exports}
-use Rattle.wasm_smith.specs.Begun.{ModuleSoFar, begun_at, begun_of, size_of_imports}
+use Rattle.wasm_smith.specs.FirstParts.{ModuleSoFar, first_parts_at, module_so_far, size_of_imports}
 use Rattle.smith_defined.specs.Definitions.{definitions_at}
 use Rattle.wasm_smith.specs.DrawnContents.{behind_exports_at}
 use Rattle.smith_rules.specs.Module.{ModuleParts}
@@ -24,19 +24,19 @@ use Rattle.smith_rules.specs.Refusals.{MayGive}
 use Rattle.smith_defined.specs.RequiredExports.{Required, required_at, then_with}
 use Rattle.wasm_smith.specs.declared.build.contents.Contents.{Contents}
 use Rattle.smith_defined.specs.declared.definitions.Definitions.{Definitions}
-use Rattle.wasm_smith.specs.declared.build.drawn.Drawn.{Drawn}
+use Rattle.wasm_smith.specs.declared.build.parts_so_far.PartsSoFar.{PartsSoFar}
 
 -- the context of functions, of which this number is imported, without types and globals
 abbrev pub functions_over : Config → List ℕ → ℕ → Context
 functions_over config funcs imported = record { features = features_of config; types = []; funcs = funcs; globals = []; imported_funcs = imported; imported_globals = 0; visible = 0 }
 
 -- the context of the functions so far
-abbrev pub functions_begun : Config → ModuleSoFar → Context
-functions_begun config begun = functions_over config begun.spaces.funcs (length begun.spaces.funcs - begun.defined.num_funcs)
+abbrev pub functions_so_far : Config → ModuleSoFar → Context
+functions_so_far config so_far = functions_over config so_far.spaces.funcs (length so_far.spaces.funcs - so_far.defined.num_funcs)
 
 -- the state with more types at the end
 abbrev pub with_types_at : Config → ModuleSoFar → List ℕ → ModuleSoFar × List ℕ
-with_types_at config begun bytes = let types = types_at config (functions_begun config begun) begun.types bytes in (record begun { types = types.0 }, types.1)
+with_types_at config so_far bytes = let types = types_at config (functions_so_far config so_far) so_far.types bytes in (record so_far { types = types.0 }, types.1)
 
 -- the result of a step, with its reason for a refusal as the error `IncorrectFormat`
 abbrev pub in_full : {A : Type 0} → Result A Why → Result A Error
@@ -45,61 +45,61 @@ in_full (Err why) = Err (errors.IncorrectFormat why)
 
 -- the state with imports, unless a shape fixes them; with `distinct` no two have the same names
 unfoldable pub imported_at : Bool → Config → ModuleSoFar → List ℕ → Result (ModuleSoFar × List ℕ) Error
-imported_at distinct config begun bytes =
-    if is_some config.available_imports || is_some config.module_shape then Ok (begun, bytes)
-    else then_with (λ groups. record begun { groups = groups; spaces = imported_spaces (flattened groups) }) (in_full (imports_at config begun.types.types distinct bytes))
+imported_at distinct config so_far bytes =
+    if is_some config.available_imports || is_some config.module_shape then Ok (so_far, bytes)
+    else then_with (λ groups. record so_far { groups = groups; spaces = imported_spaces (flattened groups) }) (in_full (imports_at config so_far.types.types distinct bytes))
 
 -- the state with entities defined after those so far
 unfoldable pub defined_at : Config → ModuleSoFar → List ℕ → Result (ModuleSoFar × List ℕ) Error
-defined_at config begun bytes =
-    then_with (λ (made : IndexSpaces × Definitions). record begun { spaces = made.0; defined = made.1 }) (in_full (definitions_at config begun.types.types begun.spaces begun.defined bytes))
+defined_at config so_far bytes =
+    then_with (λ (made : EntitySpaces × Definitions). record so_far { spaces = made.0; defined = made.1 }) (in_full (definitions_at config so_far.types.types so_far.spaces so_far.defined bytes))
 
 -- the amount that the imports of a module add to its type size
-abbrev pub begun_size : Config → ModuleSoFar → ℕ
-begun_size config begun = size_of_imports config begun.types.types (flattened begun.groups)
+abbrev pub size_so_far : Config → ModuleSoFar → ℕ
+size_so_far config so_far = size_of_imports config so_far.types.types (flattened so_far.groups)
 
 -- the state with exports: those of a module shape exist already; those of a shape for exports are
 -- each of an entity that is defined for it; else they are drawn
 abbrev pub exported_for : Config → Option Shape → Option Shape → ModuleSoFar → List ℕ → Result (ModuleSoFar × List ℕ) Error
-exported_for config (Some shape) exports begun bytes = Ok (begun, bytes)
-exported_for config None (Some shape) begun bytes =
-    then_with (λ (made : Required). record begun { types = made.types; spaces = made.spaces; defined = made.defined; exports = made.exports }) (required_at true config shape begun.types begun.spaces begun.defined bytes)
-exported_for config None None begun bytes = then_with (λ exports. record begun { exports = exports }) (in_full (exports_at config begun.types.types begun.spaces (begun_size config begun) bytes))
+exported_for config (Some shape) exports so_far bytes = Ok (so_far, bytes)
+exported_for config None (Some shape) so_far bytes =
+    then_with (λ (made : Required). record so_far { types = made.types; spaces = made.spaces; defined = made.defined; exports = made.exports }) (required_at true config shape so_far.types so_far.spaces so_far.defined bytes)
+exported_for config None None so_far bytes = then_with (λ exports. record so_far { exports = exports }) (in_full (exports_at config so_far.types.types so_far.spaces (size_so_far config so_far) bytes))
 
 unfoldable pub exported_at : Config → ModuleSoFar → List ℕ → Result (ModuleSoFar × List ℕ) Error
-exported_at config begun bytes = exported_for config config.module_shape config.exports begun bytes
+exported_at config so_far bytes = exported_for config config.module_shape config.exports so_far bytes
 
 -- the exports, and the type size of a module with them: exports that a shape fixes add nothing to
 -- it
 abbrev pub exports_of : Config → ModuleSoFar → Exports
-exports_of config begun = record {
-  exports = begun.exports;
-  type_size = begun_size config begun + (if is_some config.module_shape || is_some config.exports then 0 else exported_size begun.types.types begun.spaces begun.exports);
+exports_of config so_far = record {
+  exports = so_far.exports;
+  type_size = size_so_far config so_far + (if is_some config.module_shape || is_some config.exports then 0 else exported_size so_far.types.types so_far.spaces so_far.exports);
 }
 
 -- the module of a state, the contents drawn after it, and whether an import section is written; its
 -- configuration has no available imports, and its interesting values are not drawn
 abbrev pub module_of : Config → ModuleSoFar → Contents → Bool → ModuleParts
-module_of config begun contents encodes_imports = record {
+module_of config so_far contents encodes_imports = record {
   config = record config { available_imports = None };
-  types = begun.types.types;
-  groups = begun.types.groups;
-  imports = begun.groups;
-  num_imports = length (flattened begun.groups);
-  tags = begun.spaces.tags;
-  funcs = begun.spaces.funcs;
-  tables = begun.spaces.tables;
-  defined_tables = begun.defined.tables;
-  memories = begun.spaces.memories;
-  globals = begun.spaces.globals;
-  defined_globals = begun.defined.globals;
-  num_defined_tags = begun.defined.num_tags;
-  num_defined_funcs = begun.defined.num_funcs;
-  num_defined_memories = begun.defined.num_memories;
+  types = so_far.types.types;
+  groups = so_far.types.groups;
+  imports = so_far.groups;
+  num_imports = length (flattened so_far.groups);
+  tags = so_far.spaces.tags;
+  funcs = so_far.spaces.funcs;
+  tables = so_far.spaces.tables;
+  defined_tables = so_far.defined.tables;
+  memories = so_far.spaces.memories;
+  globals = so_far.spaces.globals;
+  defined_globals = so_far.defined.globals;
+  num_defined_tags = so_far.defined.num_tags;
+  num_defined_funcs = so_far.defined.num_funcs;
+  num_defined_memories = so_far.defined.num_memories;
   exports = contents.exports;
   start = contents.start;
   elems = contents.segments.elements;
-  segments = contents.segments.data_segments;
+  datas = contents.segments.data_segments;
   code = contents.code;
   fuel_globals = [];
   encodes_types = contents.encodes_types;
@@ -110,15 +110,15 @@ module_of config begun contents encodes_imports = record {
 }
 
 -- the first parts of a module, and the types after them
-unfoldable pub begun_typed_at : Config → List ℕ → Result (ModuleSoFar × List ℕ) Error
-begun_typed_at config bytes = do
-  begun ← begun_at config bytes
-  Ok (with_types_at config begun.0 begun.1)
+unfoldable pub first_parts_typed_at : Config → List ℕ → Result (ModuleSoFar × List ℕ) Error
+first_parts_typed_at config bytes = do
+  so_far ← first_parts_at config bytes
+  Ok (with_types_at config so_far.0 so_far.1)
 
 -- the module that the bytes produce, step by step, and the bytes left
 unfoldable pub module_at : Bool → Config → List ℕ → Result (ModuleParts × List ℕ) Error
 module_at distinct config bytes = do
-  typed ← begun_typed_at config bytes
+  typed ← first_parts_typed_at config bytes
   imported ← imported_at distinct config typed.0 typed.1
   let import_flag = section_flag_at (length imported.0.groups) imported.1
   defined ← defined_at config imported.0 import_flag.1
@@ -128,9 +128,9 @@ module_at distinct config bytes = do
   Ok (module_of config whole contents.0 import_flag.0, contents.1)
 
 -- the parts that were drawn, as a module
-abbrev pub parts_of : Config → Drawn → ModuleParts
+abbrev pub parts_of : Config → PartsSoFar → ModuleParts
 parts_of config drawn =
-    record (module_of config (begun_of drawn) drawn.contents drawn.encodes_imports) {
+    record (module_of config (module_so_far drawn) drawn.contents drawn.encodes_imports) {
       num_imports = drawn.imported.count;
       interesting_values32 = drawn.interesting_values32;
       interesting_values64 = drawn.interesting_values64;

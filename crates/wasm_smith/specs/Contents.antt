@@ -5,8 +5,8 @@ use Rattle.smith_bytes.specs.declared.error.Error.{Error}
 use Rattle.smith_bytes.specs.declared.error.Error.TheVariants as errors
 use Rattle.smith_types.specs.Entities.{AreEntitiesValid}
 use Rattle.smith_types.specs.Expressions.{Context}
-use Rattle.smith_types.specs.Imports.{IndexSpaces}
-use Rattle.smith_types.specs.Space.{Space}
+use Rattle.smith_types.specs.Imports.{EntitySpaces}
+use Rattle.smith_types.specs.GroupedTypes.{GroupedTypes}
 use Rattle.smith_types.specs.ValidTypes.{AreTypesValid}
 use Rattle.smith_types.specs.declared.entity_type.TableType.{TableType}
 use Rattle.smith_config.specs.declared.config.Config.{Config}
@@ -23,7 +23,7 @@ use Rattle.smith_rules.specs.Refusals.{MayRefuse}
 -- contents may be drawn over these index spaces, for the amount that the imports add to the type
 -- size: all parts are valid, sizes and indices have 32 bits, and the minimums of tables, memories
 -- and globals are met; without shapes function types are small, and an import adds at most 42
-pub record MayHoldContents (config : Config) (space : Space) (spaces : IndexSpaces) (imports_size : ℕ) : Type 0 where
+pub record MayHoldContents (config : Config) (space : GroupedTypes) (spaces : EntitySpaces) (imports_size : ℕ) : Type 0 where
   pub passes : Passes config
   pub sanitized : IsSanitized config
   pub types : AreTypesValid (features_of config) space
@@ -45,7 +45,7 @@ MayRefuseContents config context tables e = MayRefuse config e
 
 -- the types and entities that a segment may refer to, with these numbers of imported functions and
 -- globals
-pub record AreSpacesOver (space : Space) (spaces : IndexSpaces) (num_funcs num_globals : ℕ) (over : Spaces) : Type 0 where
+pub record AreSpacesOver (space : GroupedTypes) (spaces : EntitySpaces) (num_funcs num_globals : ℕ) (over : Spaces) : Type 0 where
   pub types : over.types.now ≡ space
   pub funcs : over.entities.funcs.now ≡ spaces.funcs
   pub tables : over.entities.tables.now ≡ spaces.tables

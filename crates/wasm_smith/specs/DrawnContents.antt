@@ -7,7 +7,7 @@ use Rattle.smith_types.specs.Bodies.{IsBodyValid}
 use Rattle.smith_types.specs.Exports.{AreExportsValid, IsStartValid}
 use Rattle.smith_types.specs.Expressions.{Context}
 use Rattle.smith_types.specs.Floats.{IsNoFloat, GivesNoFloat}
-use Rattle.smith_types.specs.Imports.{IndexSpaces, flattened, imported_spaces}
+use Rattle.smith_types.specs.Imports.{EntitySpaces, flattened, imported_spaces}
 use Rattle.smith_types.specs.Segments.{IsElementValid, IsElementInside, IsDataValid, IsDataInside}
 use Rattle.smith_types.specs.declared.composite_type.SubType.{SubType}
 use Rattle.smith_types.specs.declared.entity_type.TableType.{TableType}
@@ -34,20 +34,20 @@ use Rattle.smith_imports.specs.declared.imported.Imported.{Imported}
 use Rattle.wasm_smith.specs.declared.build.segments.Segments.{Segments}
 
 -- the index spaces of imports
-abbrev pub imported_in : Imported → IndexSpaces
+abbrev pub imported_in : Imported → EntitySpaces
 imported_in imported = imported_spaces (flattened imported.groups)
 
 -- definitions determine the number of functions and globals of index spaces that are imported
-pub record TellsImported (imported spaces : IndexSpaces) (defined : Definitions) : Type 0 where
+pub record TellsImported (imported spaces : EntitySpaces) (defined : Definitions) : Type 0 where
   pub funcs : defined.num_funcs + length imported.funcs ≡ length spaces.funcs
   pub globals : length spaces.globals ≡ length imported.globals + length defined.globals
 
 -- the context of a segment
-abbrev pub segment_scope : Config → List SubType → IndexSpaces → IndexSpaces → Context
+abbrev pub segment_scope : Config → List SubType → EntitySpaces → EntitySpaces → Context
 segment_scope config types imported spaces = global_scope config (scope_in types imported spaces) spaces.globals
 
 -- the element segments, then the data segments
-unfoldable pub all_segments_at : Config → List SubType → IndexSpaces → IndexSpaces → List ℕ → Result (Segments × List ℕ) Why
+unfoldable pub all_segments_at : Config → List SubType → EntitySpaces → EntitySpaces → List ℕ → Result (Segments × List ℕ) Why
 all_segments_at config types imported spaces bytes = do
   elements ← elements_at config (segment_scope config types imported spaces) spaces.tables bytes
   data_segments ← data_at config (segment_scope config types imported spaces) spaces.memories elements.1
@@ -55,7 +55,7 @@ all_segments_at config types imported spaces bytes = do
 
 -- the contents that the bytes produce after exports, over types and index spaces that begin with
 -- imports: whether a type section is written, a start function, segments and bodies
-unfoldable pub behind_exports_at : Config → List SubType → IndexSpaces → IndexSpaces → Exports → List ℕ → Result (Contents × List ℕ) Why
+unfoldable pub behind_exports_at : Config → List SubType → EntitySpaces → EntitySpaces → Exports → List ℕ → Result (Contents × List ℕ) Why
 behind_exports_at config types imported spaces made bytes = do
   let type_flag = section_flag_at (length types) bytes
   let start = start_at config types spaces.funcs type_flag.1
@@ -75,7 +75,7 @@ behind_exports_at config types imported spaces made bytes = do
 
 -- exports are valid, and within the type size together with the imports; unless a shape fixes them,
 -- they are as the configuration requires; exports that a shape fixes add nothing
-pub record AreExportsMade (config : Config) (types : List SubType) (spaces : IndexSpaces) (imports_size : ℕ) (made : Exports) : Type 0 where
+pub record AreExportsMade (config : Config) (types : List SubType) (spaces : EntitySpaces) (imports_size : ℕ) (made : Exports) : Type 0 where
   pub valid : AreExportsValid spaces made.exports
   pub most : (FixesExports config → ⊥) → config.export_everything ≡ false → length made.exports ≤ config.max_exports
   pub least : (FixesExports config → ⊥) → config.export_everything ≡ false → config.min_exports ≤ length made.exports
@@ -86,7 +86,7 @@ pub record AreExportsMade (config : Config) (types : List SubType) (spaces : Ind
 
 -- segments are valid, within the minimums and maximums, and with `disallow_traps` the items and
 -- bytes that they copy fit
-pub record AreSegmentsFit (config : Config) (types : List SubType) (imported spaces : IndexSpaces) (segments : Segments) : Type 0 where
+pub record AreSegmentsFit (config : Config) (types : List SubType) (imported spaces : EntitySpaces) (segments : Segments) : Type 0 where
   pub elements : All (IsElementValid (segment_scope config types imported spaces) spaces.tables) segments.elements
   pub most_elements : length segments.elements ≤ config.max_element_segments
   pub least_elements : config.min_element_segments ≤ length segments.elements
@@ -100,7 +100,7 @@ pub record AreSegmentsFit (config : Config) (types : List SubType) (imported spa
 
 -- exports, a type section if there are types, a valid start function if one is allowed, segments,
 -- and a body for each defined function
-pub record AreContents (config : Config) (types : List SubType) (imported spaces : IndexSpaces) (imports_size : ℕ) (contents : Contents) : Type 0 where
+pub record AreContents (config : Config) (types : List SubType) (imported spaces : EntitySpaces) (imports_size : ℕ) (contents : Contents) : Type 0 where
   pub exports : AreExportsMade config types spaces imports_size (record { exports = contents.exports; type_size = contents.type_size })
   pub encodes_types : 0 < length types → IsTrue contents.encodes_types
   pub start : IsStartValid types spaces.funcs contents.start

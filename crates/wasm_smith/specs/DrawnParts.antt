@@ -2,27 +2,27 @@
 use Rattle.std.specs.Prelude.{◌≡◌, ◌<◌, ◌≤◌, Bool, false, IsTrue, length, All}
 use Rattle.smith_bytes.specs.declared.error.Count.{Count}
 use Rattle.smith_types.specs.Floats.{HasNoFloat}
-use Rattle.smith_types.specs.IndexSpaces.{spaces_in}
+use Rattle.smith_types.specs.EntitySpaces.{spaces_in}
 use Rattle.smith_config.specs.declared.config.Config.{Config}
 use Rattle.smith_config.specs.Faults.{minimum_of}
 use Rattle.smith_config.specs.InUse.{HasNoShapes, FixesImports}
 use Rattle.smith_rules.specs.ShapeImports.{count_in}
-use Rattle.wasm_smith.specs.Begun.{StandsWhole, IsOfEntities}
+use Rattle.wasm_smith.specs.FirstParts.{StandsWhole, IsOfEntities}
 use Rattle.smith_defined.specs.Defined.{HaveNoFloats}
 use Rattle.wasm_smith.specs.DrawnContents.{AreContents, HasGrantedContents, HasNoFloatContents, imported_in}
 use Rattle.wasm_smith.specs.DrawnSteps.{AreFreeImports, HoldsGrounded, drawn_next}
 use Rattle.smith_rules.specs.Refusals.{HoldsNonNullable}
 use Rattle.smith_rules.specs.InterestingValues.{AreAll, IsInteresting32, IsInteresting64}
-use Rattle.wasm_smith.specs.declared.build.drawn.Drawn.{Drawn}
+use Rattle.wasm_smith.specs.declared.build.parts_so_far.PartsSoFar.{PartsSoFar}
 
 -- no drawn part holds a float
-pub record HasNoFloatParts (drawn : Drawn) : Type 0 where
+pub record HasNoFloatParts (drawn : PartsSoFar) : Type 0 where
   pub types : All HasNoFloat drawn.types.types
   pub defined : HaveNoFloats (spaces_in drawn.imported.spaces) drawn.definitions
   pub contents : HasNoFloatContents drawn.contents
 
 -- the parts were drawn for a configuration, by one step after another
-pub record IsDrawnFor (distinct : Bool) (config : Config) (drawn : Drawn) : Type 0 where
+pub record IsDrawnFor (distinct : Bool) (config : Config) (drawn : PartsSoFar) : Type 0 where
   pub whole : StandsWhole config drawn
   pub least_types : config.min_types ≤ length drawn.types.types
   pub least : (count : Count) → IsOfEntities count → minimum_of config count ≤ count_in (spaces_in drawn.imported.spaces) count

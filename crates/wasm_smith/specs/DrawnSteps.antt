@@ -6,8 +6,8 @@ use Rattle.smith_types.specs.Exports.{AreDistinct, AreExportsValid}
 use Rattle.smith_types.specs.Expressions.{Context}
 use Rattle.smith_types.specs.Floats.{HasNoFloat}
 use Rattle.smith_types.specs.Grown.{Extends, AreSpacesGrown}
-use Rattle.smith_types.specs.Imports.{IndexSpaces, flattened}
-use Rattle.smith_types.specs.IndexSpaces.{spaces_in}
+use Rattle.smith_types.specs.Imports.{EntitySpaces, flattened}
+use Rattle.smith_types.specs.EntitySpaces.{spaces_in}
 use Rattle.smith_types.specs.declared.imports.Import.{Import}
 use Rattle.smith_config.specs.declared.config.Config.{Config}
 use Rattle.smith_config.specs.declared.shape.Shape.{Shape}
@@ -20,38 +20,38 @@ use Rattle.smith_config.specs.Granted.{AreTypesGranted, HasGroundedElements, Has
 use Rattle.smith_imports.specs.Imported.{HasNoImports}
 use Rattle.smith_rules.specs.ShapeImports.{kept_groups, taken_from, count_in}
 use Rattle.smith_imports.specs.declared.imported.Imported.{Imported}
-use Rattle.wasm_smith.specs.Begun.{ModuleSoFar, StandsSoFar, StandsWhole, IsOfEntities}
+use Rattle.wasm_smith.specs.FirstParts.{ModuleSoFar, StandsSoFar, StandsWhole, IsOfEntities}
 use Rattle.smith_defined.specs.Defined.{HaveNoFloats, drawn_beside, nothing_defined}
 use Rattle.smith_rules.specs.Refusals.{HoldsNonNullable}
 use Rattle.smith_rules.specs.ShapesKept.{IsSameExport}
-use Rattle.wasm_smith.specs.declared.build.drawn.Drawn.{Drawn}
+use Rattle.wasm_smith.specs.declared.build.parts_so_far.PartsSoFar.{PartsSoFar}
 
 -- the context of the next draw: the types and functions so far
-abbrev pub drawn_next : Config → Drawn → Context
+abbrev pub drawn_next : Config → PartsSoFar → Context
 drawn_next config drawn = drawn_beside config drawn.types.types (spaces_in drawn.imported.spaces) drawn.definitions
 
 -- references are nullable or grounded: those of the fields, parameters and results of types, of the
 -- elements of tables, and of the values of globals
-pub record HoldsGrounded (config : Config) (context : Context) (spaces : IndexSpaces) : Type 0 where
+pub record HoldsGrounded (config : Config) (context : Context) (spaces : EntitySpaces) : Type 0 where
   pub fields : HoldsUngroundedField config context → ⊥
   pub types : AreTypesGranted config context
   pub elements : All (HasGroundedElements config context) spaces.tables
   pub globals : All (HasGroundedValue config context) spaces.globals
 
 -- without shapes function types are small, and so is the amount that imports add to the type size
-pub record HasSmallSizes (config : Config) (drawn : Drawn) : Type 0 where
+pub record HasSmallSizes (config : Config) (drawn : PartsSoFar) : Type 0 where
   pub types : All IsSmall drawn.types.types
   pub imports : drawn.imported.type_size ≤ 42 * config.max_imports
 
 -- no type, no global and no constant is a float
-pub record HasNoFloatSoFar (drawn : Drawn) : Type 0 where
+pub record HasNoFloatSoFar (drawn : PartsSoFar) : Type 0 where
   pub types : All HasNoFloat drawn.types.types
   pub defined : HaveNoFloats (spaces_in drawn.imported.spaces) drawn.definitions
 
 -- more may be drawn over the parts so far: function types have no more values than a shape may
 -- list, references are nullable or grounded unless a shape holds others, and exports that were made
 -- are valid
-pub record MayGoOn (config : Config) (drawn : Drawn) : Type 0 where
+pub record MayGoOn (config : Config) (drawn : PartsSoFar) : Type 0 where
   pub so_far : StandsSoFar config drawn
   pub few_values : All (HasFewValues most_listed) drawn.types.types
   pub grounded : (HoldsNonNullable config → ⊥) → HoldsGrounded config (drawn_next config drawn) (spaces_in drawn.imported.spaces)
@@ -59,19 +59,19 @@ pub record MayGoOn (config : Config) (drawn : Drawn) : Type 0 where
   pub least_types : config.min_types ≤ length drawn.types.types
 
 -- only types exist
-pub record HasTypesAlone (drawn : Drawn) : Type 0 where
+pub record HasTypesAlone (drawn : PartsSoFar) : Type 0 where
   pub imports : HasNoImports drawn.imported
   pub nothing : drawn.definitions ≡ nothing_defined
   pub small : All IsSmall drawn.types.types
 
 -- the state after types are drawn at the end of the first parts
-pub record AreTypesDrawn (config : Config) (drawn : Drawn) : Type 0 where
+pub record AreTypesDrawn (config : Config) (drawn : PartsSoFar) : Type 0 where
   pub may : MayGoOn config drawn
   pub free : (FixesImports config → ⊥) → HasTypesAlone drawn
   pub floats : config.allow_floats ≡ false → HasNoShapes config → All HasNoFloat drawn.types.types
 
 -- the state after imports
-pub record AreImportsDrawn (config : Config) (drawn : Drawn) : Type 0 where
+pub record AreImportsDrawn (config : Config) (drawn : PartsSoFar) : Type 0 where
   pub may : MayGoOn config drawn
   pub small : HasNoShapes config → HasSmallSizes config drawn
   pub floats : config.allow_floats ≡ false → HasNoShapes config → HasNoFloatSoFar drawn
@@ -83,14 +83,14 @@ pub record AreFreeImports (distinct : Bool) (config : Config) (imported : Import
   pub least : config.min_imports ≤ imported.count
 
 -- the state after entities are defined: the minimum of each kind is met
-pub record AreEntitiesDrawn (config : Config) (drawn : Drawn) : Type 0 where
+pub record AreEntitiesDrawn (config : Config) (drawn : PartsSoFar) : Type 0 where
   pub may : MayGoOn config drawn
   pub least : (count : Count) → IsOfEntities count → minimum_of config count ≤ count_in (spaces_in drawn.imported.spaces) count
   pub small : HasNoShapes config → HasSmallSizes config drawn
   pub floats : config.allow_floats ≡ false → HasNoShapes config → HasNoFloatSoFar drawn
 
 -- the state after exports are made
-pub record AreExportsDrawn (config : Config) (drawn : Drawn) : Type 0 where
+pub record AreExportsDrawn (config : Config) (drawn : PartsSoFar) : Type 0 where
   pub whole : StandsWhole config drawn
   pub few_values : All (HasFewValues most_listed) drawn.types.types
   pub grounded : (HoldsNonNullable config → ⊥) → HoldsGrounded config (drawn_next config drawn) (spaces_in drawn.imported.spaces)
@@ -115,22 +115,22 @@ pub record IsBeyond (config : Config) (old new : ModuleSoFar) : Type 0 where
   pub exports : IsTrue (is_some config.module_shape) → new.exports ≡ old.exports
 
 -- the types and groups of a shape come first
-pub record BeginsWithTypes (shape : Shape) (begun : ModuleSoFar) : Type 0 where
-  pub types : Extends (shape_types shape) begun.types.types
-  pub groups : Extends (space_of shape.groups).groups begun.types.groups
+pub record BeginsWithTypes (shape : Shape) (so_far : ModuleSoFar) : Type 0 where
+  pub types : Extends (shape_types shape) so_far.types.types
+  pub groups : Extends (space_of shape.groups).groups so_far.types.groups
 
 -- a module shape is kept so far
-pub record KeepsModuleSoFar (config : Config) (shape : Shape) (begun : ModuleSoFar) : Type 0 where
-  pub types : BeginsWithTypes shape begun
-  pub imports : begun.groups ≡ kept_groups config shape
-  pub exports : AllZip (IsSameExport (λ mine yours. mine ≡ yours) begun.spaces (shape_spaces shape)) begun.exports shape.exports
+pub record KeepsModuleSoFar (config : Config) (shape : Shape) (so_far : ModuleSoFar) : Type 0 where
+  pub types : BeginsWithTypes shape so_far
+  pub imports : so_far.groups ≡ kept_groups config shape
+  pub exports : AllZip (IsSameExport (λ mine yours. mine ≡ yours) so_far.spaces (shape_spaces shape)) so_far.exports shape.exports
 
 -- available imports are taken, as the bytes pick them
-pub record KeepsImportsSoFar (config : Config) (bytes : List ℕ) (shape : Shape) (begun : ModuleSoFar) : Type 0 where
-  pub types : BeginsWithTypes shape begun
-  pub imports : flattened begun.groups ≡ taken_from config (shape_types shape) bytes 0 [] (shape_imports shape)
+pub record KeepsImportsSoFar (config : Config) (bytes : List ℕ) (shape : Shape) (so_far : ModuleSoFar) : Type 0 where
+  pub types : BeginsWithTypes shape so_far
+  pub imports : flattened so_far.groups ≡ taken_from config (shape_types shape) bytes 0 [] (shape_imports shape)
 
 -- the shapes that a module begins with are kept so far
-pub record KeepsBegun (config : Config) (bytes : List ℕ) (begun : ModuleSoFar) : Type 0 where
-  pub module_shape : IfSome (shapes_of config).module_shape (λ shape. KeepsModuleSoFar config shape begun)
-  pub available_imports : IfSome (shapes_of config).available_imports (λ shape. KeepsImportsSoFar config bytes shape begun)
+pub record KeepsShapesSoFar (config : Config) (bytes : List ℕ) (so_far : ModuleSoFar) : Type 0 where
+  pub module_shape : IfSome (shapes_of config).module_shape (λ shape. KeepsModuleSoFar config shape so_far)
+  pub available_imports : IfSome (shapes_of config).available_imports (λ shape. KeepsImportsSoFar config bytes shape so_far)

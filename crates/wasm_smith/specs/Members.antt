@@ -25,4 +25,4 @@ pub record HasRest (numbers : List ℤ) (passive : List (List ℕ)) (m : ModuleP
   pub exports : m.exports ≡ []
   pub start : m.start ≡ None
   pub elements : m.elems ≡ []
-  pub data_segments : m.segments ≡ map (λ bytes. record { kind = Passive; init = bytes }) passive
+  pub data_segments : m.datas ≡ map (λ bytes. record { kind = Passive; init = bytes }) passive

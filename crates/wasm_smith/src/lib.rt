@@ -33,8 +33,8 @@ pub use smith_spell::spell;
 // Plain data, and decisions about it.
 pub use smith_types::{
     AbstractHeapType, ArrayType, CloneIn, Code, CompositeInnerType, CompositeType, ConstInstr,
-    DataSegment, DataSegmentKind, ElementKind, ElementSegment, Elements, EntityType, ExportKind,
-    FieldType, FuncType, GlobalType, HeapType, Import, ImportItem, Imports, IndexSpaces,
+    DataSegment, DataSegmentKind, ElementKind, ElementSegment, Elements, EntitySpaces, EntityType,
+    ExportKind, FieldType, FuncType, GlobalType, HeapType, Import, ImportItem, Imports,
     InstructionKind, InstructionKinds, Instructions, Items, MemoryType, Name, Offset, RefType,
     StorageType, StructType, SubType, TableType, TypeSpace, UnknownKind, ValType, WasmFeatures,
     are_counts_enabled, are_defaultable, are_entities_valid, are_exports_standing, are_funcs_valid,

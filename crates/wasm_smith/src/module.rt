@@ -1,7 +1,7 @@
 ghost use Rattle.std.specs.Prelude.{◌≡◌, false, IfErr};
 ghost use Rattle.wasm_smith.specs.Generated.{is_distinct};
 
-use crate::build::{Drawn, build, check_shapes};
+use crate::build::{PartsSoFar, build, check_shapes};
 use smith_bytes::{Error, Unstructured};
 use smith_config::Config;
 use smith_types::{
@@ -40,7 +40,7 @@ pub struct Module {
     /// The configuration, sanitised, without available imports.
     pub(crate) config: Box<Config>,
     /// The parts that were drawn, and the counters of fuel among the globals.
-    pub(crate) drawn: Box<Drawn>,
+    pub(crate) drawn: Box<PartsSoFar>,
     /// The indices of the globals that count fuel.
     pub(crate) fuel_globals: Items<u32>,
 }
@@ -69,7 +69,7 @@ impl Model for Module {
       exports = m.drawn.value.contents.exports;
       start = m.drawn.value.contents.start;
       elems = m.drawn.value.contents.segments.elements;
-      segments = m.drawn.value.contents.segments.data_segments;
+      datas = m.drawn.value.contents.segments.data_segments;
       code = m.drawn.value.contents.code;
       fuel_globals = m.fuel_globals;
       encodes_types = m.drawn.value.contents.encodes_types;
@@ -341,7 +341,7 @@ impl Module {
 
     /// Returns the data segments.
     pub fn data(&self) -> &[DataSegment]
-        ensures { result.now ≡ self.now.segments }
+        ensures { result.now ≡ self.now.datas }
     {
         self.drawn.contents.segments.data_segments.as_slice()
     }

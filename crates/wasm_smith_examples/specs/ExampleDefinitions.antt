@@ -2,7 +2,7 @@
 use Rattle.std.specs.Prelude.{false, List, [], ◌∷◌, Some, None}
 use Rattle.smith_types.specs.ExampleTypes.{shared_type, plain_func}
 use Rattle.smith_types.specs.Flags.{funcref}
-use Rattle.smith_types.specs.Imports.{IndexSpaces}
+use Rattle.smith_types.specs.Imports.{EntitySpaces}
 use Rattle.smith_types.specs.declared.composite_type.SubType.{SubType}
 use Rattle.smith_types.specs.declared.entity_type.GlobalType.{GlobalType}
 use Rattle.smith_types.specs.declared.entity_type.MemoryType.{MemoryType}
@@ -86,11 +86,11 @@ abbrev pub up_to_three : MemoryType
 up_to_three = memory 0 (Some 3)
 
 -- nothing is imported
-abbrev pub no_imports : IndexSpaces
+abbrev pub no_imports : EntitySpaces
 no_imports = record { tags = []; funcs = []; tables = []; memories = []; globals = [] }
 
 -- a tag, a function of a shared type, a table, a memory and a global
-abbrev pub one_imported_of_each : IndexSpaces
+abbrev pub one_imported_of_each : EntitySpaces
 one_imported_of_each = record {
   tags = 2 ∷ [];
   funcs = 4 ∷ [];

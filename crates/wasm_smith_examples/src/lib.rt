@@ -2,7 +2,6 @@
 //! not. The clauses are proved, and nothing calls these functions.
 #![tactic(auto)]
 
-mod begun;
 mod contents;
 mod data_segments;
 mod definitions;
@@ -10,6 +9,7 @@ mod drawn_bodies;
 mod element_segments;
 mod exports;
 mod first_faulty;
+mod first_parts;
 mod imports;
 mod reached;
 mod start;

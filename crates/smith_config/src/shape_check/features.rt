@@ -1,12 +1,12 @@
 ghost use Rattle.std.specs.Prelude.{◌↔◌, IsTrue};
 ghost use Rattle.smith_types.specs.FeatureBits.{features_in};
-ghost use Rattle.smith_types.specs.IndexSpaces.{spaces_in};
+ghost use Rattle.smith_types.specs.EntitySpaces.{spaces_in};
 ghost use Rattle.smith_config.specs.Shapes.{AreCountsFor};
 ghost use Rattle.smith_config.specs.ShapeFaults.{AreFeaturesEnough};
 
 use smith_bytes::Which;
 use smith_types::{
-    IndexSpaces, TypeSpace, WasmFeatures, are_counts_enabled, are_globals_valid,
+    EntitySpaces, TypeSpace, WasmFeatures, are_counts_enabled, are_globals_valid,
     are_memories_valid, are_tables_valid, are_types_valid,
 };
 
@@ -16,7 +16,7 @@ pub(crate) fn are_features_enough(
     which: Which,
     features: WasmFeatures,
     space: &TypeSpace,
-    spaces: &IndexSpaces,
+    spaces: &EntitySpaces,
 ) -> bool
     ensures { IsTrue result
         ↔ AreFeaturesEnough which (features_in features) space.now (spaces_in spaces.now) }
@@ -28,7 +28,7 @@ pub(crate) fn are_features_enough(
         && are_counts_for(which, features, spaces)
 }
 
-fn are_counts_for(which: Which, features: WasmFeatures, spaces: &IndexSpaces) -> bool
+fn are_counts_for(which: Which, features: WasmFeatures, spaces: &EntitySpaces) -> bool
     ensures { IsTrue result ↔ AreCountsFor which (features_in features) (spaces_in spaces.now) }
 {
     match which {

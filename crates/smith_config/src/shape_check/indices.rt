@@ -1,17 +1,18 @@
 ghost use Rattle.std.specs.Prelude.{◌↔◌, IsTrue};
-ghost use Rattle.smith_types.specs.IndexSpaces.{spaces_in};
+ghost use Rattle.smith_types.specs.EntitySpaces.{spaces_in};
 ghost use Rattle.smith_config.specs.ShapeFaults.{AreIndicesSound};
 ghost use Rattle.smith_config.specs.Decided.{AreIndicesFound};
 
 use smith_types::{
-    ExportKind, IndexSpaces, Name, TypeSpace, are_exports_standing, are_funcs_valid, are_tags_valid,
+    EntitySpaces, ExportKind, Name, TypeSpace, are_exports_standing, are_funcs_valid,
+    are_tags_valid,
 };
 
 /// Returns whether the functions and tags of `spaces`, and `exports`, refer to existing items of
 /// the right kind.
 pub(crate) fn are_indices_sound(
     space: &TypeSpace,
-    spaces: &IndexSpaces,
+    spaces: &EntitySpaces,
     exports: &[(Name, ExportKind, u32)],
 ) -> bool
     ensures { IsTrue result ↔ AreIndicesSound space.now (spaces_in spaces.now) exports.now }
@@ -21,7 +22,7 @@ pub(crate) fn are_indices_sound(
 
 fn are_indices_found(
     space: &TypeSpace,
-    spaces: &IndexSpaces,
+    spaces: &EntitySpaces,
     exports: &[(Name, ExportKind, u32)],
 ) -> bool
     ensures { IsTrue result ↔ AreIndicesFound space.now (spaces_in spaces.now) exports.now }

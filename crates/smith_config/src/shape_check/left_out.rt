@@ -1,24 +1,24 @@
 ghost use Rattle.std.specs.Prelude.{◌≡◌, ◌↔◌, IsTrue, All, false};
-ghost use Rattle.smith_types.specs.IndexSpaces.{spaces_in};
+ghost use Rattle.smith_types.specs.EntitySpaces.{spaces_in};
 ghost use Rattle.smith_types.specs.declared.composite_type.SubType.{SubType as Sub};
 ghost use Rattle.smith_types.specs.declared.entity_type.GlobalType.{GlobalType as Global};
 ghost use Rattle.smith_types.specs.declared.entity_type.TableType.{TableType as Table};
 ghost use Rattle.smith_config.specs.Shapes.{IsNothingLeftOut, IsValTypeIncluded};
 
 use smith_types::{
-    GlobalType, HeapType, IndexSpaces, Predicate, SubType, TableType, TypeSpace, ValType,
+    EntitySpaces, GlobalType, HeapType, Predicate, SubType, TableType, TypeSpace, ValType,
     all_named_values_hold,
 };
 
 /// Returns whether nothing in `space` and `spaces` is shared except memories, and no reference is
 /// exact.
-pub(crate) fn is_nothing_left_out(space: &TypeSpace, spaces: &IndexSpaces) -> bool
+pub(crate) fn is_nothing_left_out(space: &TypeSpace, spaces: &EntitySpaces) -> bool
     ensures { IsTrue result ↔ IsNothingLeftOut space.now.types (spaces_in spaces.now) }
 {
     is_nothing_left_out_of(space.types(), spaces)
 }
 
-fn is_nothing_left_out_of(types: &[SubType], spaces: &IndexSpaces) -> bool
+fn is_nothing_left_out_of(types: &[SubType], spaces: &EntitySpaces) -> bool
     ensures { IsTrue result ↔ IsNothingLeftOut types.now (spaces_in spaces.now) }
 {
     are_types_unshared(types)

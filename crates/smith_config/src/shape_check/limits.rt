@@ -1,13 +1,13 @@
 ghost use Rattle.std.specs.Prelude.{◌↔◌, IsTrue, All};
 ghost use Rattle.smith_types.specs.Features.{every_feature};
-ghost use Rattle.smith_types.specs.IndexSpaces.{spaces_in};
+ghost use Rattle.smith_types.specs.EntitySpaces.{spaces_in};
 ghost use Rattle.smith_types.specs.Entities.{AreLimitsValid, most_elements, IsMemoryValid};
 ghost use Rattle.smith_types.specs.declared.entity_type.TableType.{TableType as Table};
 ghost use Rattle.smith_config.specs.Shapes.{IsShallow};
 ghost use Rattle.smith_config.specs.ShapeFaults.{AreLimitsSound};
 
 use smith_types::{
-    IndexSpaces, MemoryType, TableType, TypeSpace, WasmFeatures, are_limits_valid,
+    EntitySpaces, MemoryType, TableType, TypeSpace, WasmFeatures, are_limits_valid,
     are_memories_valid, most_elements_of,
 };
 
@@ -16,7 +16,7 @@ const MOST_DEEP: u32 = 63;
 
 /// Returns whether the limits of the tables of `spaces` fit, its memories are valid with every
 /// feature enabled, and no type of `space` is too deep.
-pub(crate) fn are_limits_sound(space: &TypeSpace, spaces: &IndexSpaces) -> bool
+pub(crate) fn are_limits_sound(space: &TypeSpace, spaces: &EntitySpaces) -> bool
     ensures { IsTrue result ↔ AreLimitsSound space.now (spaces_in spaces.now) }
 {
     are_tables_limited(spaces.tables.as_slice())

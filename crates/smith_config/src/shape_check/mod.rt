@@ -2,7 +2,7 @@
 //! [`ShapeFault`].
 
 ghost use Rattle.std.specs.Prelude.{◌≡◌, OnOk, IfOk, IfErr, MatchOption};
-ghost use Rattle.smith_types.specs.IndexSpaces.{spaces_in};
+ghost use Rattle.smith_types.specs.EntitySpaces.{spaces_in};
 ghost use Rattle.smith_config.specs.Shapes.{IsShapeValid, IsShort};
 ghost use Rattle.smith_config.specs.ShapeFaults.{IsRefused, IsFirstShapeFault};
 ghost use Rattle.smith_config.specs.Decided.{IsMade};
@@ -26,8 +26,8 @@ use names::are_names_distinct;
 use plain::is_plain_enough;
 use short::is_short;
 use smith_bytes::{Error, ShapeFault, Which};
-use smith_types::{IndexSpaces, TypeSpace, type_space_of};
-use spaces::index_spaces_of;
+use smith_types::{EntitySpaces, TypeSpace, type_space_of};
+use spaces::entity_spaces_of;
 use std::alloc::Global;
 use types::are_types_sound;
 
@@ -73,7 +73,7 @@ fn first_fault(
     let made = type_space_of(alloc, shape.groups.as_slice())?;
     match made {
         Some(space) => {
-            let spaces = index_spaces_of(alloc, shape)?;
+            let spaces = entity_spaces_of(alloc, shape)?;
             later_fault(alloc, shape, which, config, &space, &spaces)
         }
         None => Ok(Some(ShapeFault::BadType)),
@@ -88,7 +88,7 @@ fn later_fault(
     which: Which,
     config: &Config,
     space: &TypeSpace,
-    spaces: &IndexSpaces,
+    spaces: &EntitySpaces,
 ) -> Result<Option<ShapeFault>, Error>
     requires short { IsShort shape.now }
     requires made { IsMade shape.now space.now (spaces_in spaces.now) }

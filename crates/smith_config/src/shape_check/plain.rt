@@ -1,17 +1,17 @@
 ghost use Rattle.std.specs.Prelude.{◌≡◌, ◌↔◌, IsTrue, All};
 ghost use Rattle.smith_bytes.specs.declared.error.Which.TheVariants.{Exports};
-ghost use Rattle.smith_types.specs.IndexSpaces.{spaces_in};
+ghost use Rattle.smith_types.specs.EntitySpaces.{spaces_in};
 ghost use Rattle.smith_config.specs.Shapes.{IsTypePlain, ArePlain, HasNoConcrete};
 
 use smith_bytes::Which;
 use smith_types::{
-    CompositeInnerType, HeapType, IndexSpaces, Predicate, SubType, TypeSpace, ValType,
+    CompositeInnerType, EntitySpaces, HeapType, Predicate, SubType, TypeSpace, ValType,
     all_named_values_hold,
 };
 
 /// Returns whether the types of a shape for exports are plain. Shapes for other uses may have any
 /// types.
-pub(crate) fn is_plain_enough(which: Which, space: &TypeSpace, spaces: &IndexSpaces) -> bool
+pub(crate) fn is_plain_enough(which: Which, space: &TypeSpace, spaces: &EntitySpaces) -> bool
     ensures { IsTrue result ↔ (which ≡ Exports → ArePlain space.now.types (spaces_in spaces.now)) }
 {
     !is_for_exports(which) || are_plain(space.types(), spaces)
@@ -23,7 +23,7 @@ fn is_for_exports(which: Which) -> bool
     matches!(which, Which::Exports)
 }
 
-fn are_plain(types: &[SubType], spaces: &IndexSpaces) -> bool
+fn are_plain(types: &[SubType], spaces: &EntitySpaces) -> bool
     ensures { IsTrue result ↔ ArePlain types.now (spaces_in spaces.now) }
 {
     are_types_plain(types) && all_named_values_hold(&NotConcrete, types, spaces)

@@ -1,14 +1,14 @@
 ghost use Rattle.std.specs.Prelude.{◌≡◌, ◌++◌, OnOk, IfOk, IfErr};
-ghost use Rattle.smith_types.specs.IndexSpaces.{spaces_in};
+ghost use Rattle.smith_types.specs.EntitySpaces.{spaces_in};
 ghost use Rattle.smith_config.specs.Shapes.{shape_spaces};
 
 use crate::Shape;
 use smith_bytes::Error;
-use smith_types::{IndexSpaces, Items, imported_spaces_of};
+use smith_types::{EntitySpaces, Items, imported_spaces_of};
 use std::alloc::Global;
 
 /// Creates the index spaces of `shape`: imported items first, then defined ones.
-pub(crate) fn index_spaces_of(alloc: Global, shape: &Shape) -> Result<IndexSpaces, Error>
+pub(crate) fn entity_spaces_of(alloc: Global, shape: &Shape) -> Result<EntitySpaces, Error>
     ensures ok { IfOk result (λ spaces. spaces_in spaces ≡ shape_spaces shape.now) }
     ensures memory { IfErr result (λ e. e ≡ Error.Memory) }
 {

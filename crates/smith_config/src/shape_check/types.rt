@@ -1,6 +1,6 @@
 ghost use Rattle.std.specs.Prelude.{◌↔◌, IsTrue, All, length};
 ghost use Rattle.smith_types.specs.Features.{every_feature};
-ghost use Rattle.smith_types.specs.IndexSpaces.{spaces_in};
+ghost use Rattle.smith_types.specs.EntitySpaces.{spaces_in};
 ghost use Rattle.smith_types.specs.HeldValues.{values_in};
 ghost use Rattle.smith_types.specs.ValidTypes.{IsValTypeValid, IsShareable, AreTypesValid};
 ghost use Rattle.smith_types.specs.declared.value_type.ValType.TheVariants.{Ref};
@@ -9,13 +9,13 @@ ghost use Rattle.smith_types.specs.declared.entity_type.TableType.{TableType as 
 ghost use Rattle.smith_config.specs.ShapeFaults.{AreTypesSound};
 
 use smith_types::{
-    GlobalType, IndexSpaces, Predicate, ShareableValue, SubType, TableType, TypeSpace, ValType,
+    EntitySpaces, GlobalType, Predicate, ShareableValue, SubType, TableType, TypeSpace, ValType,
     ValidValue, WasmFeatures, all_named_values_hold, are_types_valid,
 };
 
 /// Returns whether the types of `space`, and the entities of `spaces` that refer to types, are
 /// valid with every feature enabled.
-pub(crate) fn are_types_sound(space: &TypeSpace, spaces: &IndexSpaces) -> bool
+pub(crate) fn are_types_sound(space: &TypeSpace, spaces: &EntitySpaces) -> bool
     ensures { IsTrue result ↔ AreTypesSound space.now (spaces_in spaces.now) }
 {
     are_types_valid_with_all(space)
@@ -30,7 +30,7 @@ fn are_types_valid_with_all(space: &TypeSpace) -> bool
     are_types_valid(WasmFeatures::every(), space)
 }
 
-fn are_values_valid_with_all(types: &[SubType], spaces: &IndexSpaces) -> bool
+fn are_values_valid_with_all(types: &[SubType], spaces: &EntitySpaces) -> bool
     ensures { IsTrue result
         ↔ All (IsValTypeValid every_feature (length types.now))
         (values_in types.now (spaces_in spaces.now)) }

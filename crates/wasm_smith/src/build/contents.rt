@@ -3,7 +3,7 @@
 ghost use Rattle.std.specs.Prelude.{◌≡◌, [], None, false, IfOk, IfErr, All};
 ghost use Rattle.smith_bytes.specs.Source.{KeepsPieces};
 ghost use Rattle.smith_types.specs.Floats.{HasNoFloat};
-ghost use Rattle.smith_types.specs.IndexSpaces.{spaces_in};
+ghost use Rattle.smith_types.specs.EntitySpaces.{spaces_in};
 ghost use Rattle.smith_config.specs.Faults.{Passes};
 ghost use Rattle.smith_config.specs.Sanitized.{IsSanitized};
 ghost use Rattle.smith_bytes.specs.Steps.{Returns, is_lack, ReturnsWhy};
@@ -17,7 +17,7 @@ ghost use Rattle.wasm_smith.specs.DrawnContents.{HasGrantedContents, HasNoFloatC
 ghost use Rattle.wasm_smith.specs.DrawnContents.{imported_in, behind_exports_at};
 ghost use Rattle.smith_imports.specs.Imported.{spaces_of};
 
-use crate::build::drawn::Drawn;
+use crate::build::parts_so_far::PartsSoFar;
 use crate::build::section_flag::draw_section_flag;
 use crate::build::segment_spaces::segment_spaces;
 use crate::build::segments::{Segments, draw_segments};
@@ -124,7 +124,7 @@ pub(crate) fn draw_behind_exports(
 pub(crate) fn draw_contents(
     alloc: Global,
     config: &Config,
-    drawn: &Drawn,
+    drawn: &PartsSoFar,
     made: Exports,
     u: &mut Unstructured<'_>,
 ) -> Result<Contents, Error>

@@ -3,12 +3,12 @@
 ghost use Rattle.std.specs.Prelude.{◌≡◌, IfErr, IfOk, IfSome, OnOk};
 ghost use Rattle.std.specs.List.{AllZip};
 ghost use Rattle.smith_bytes.specs.Source.{KeepsPieces};
-ghost use Rattle.smith_types.specs.IndexSpaces.{spaces_in};
+ghost use Rattle.smith_types.specs.EntitySpaces.{spaces_in};
 ghost use Rattle.smith_config.specs.Faults.{Passes};
 ghost use Rattle.smith_config.specs.InUse.{shapes_of};
 ghost use Rattle.smith_config.specs.Sanitized.{IsSanitized};
 ghost use Rattle.smith_config.specs.Shapes.{shape_spaces, shape_types};
-ghost use Rattle.wasm_smith.specs.Begun.{begun_of};
+ghost use Rattle.wasm_smith.specs.FirstParts.{module_so_far};
 ghost use Rattle.smith_bytes.specs.Steps.{Returns, is_lack};
 ghost use Rattle.wasm_smith.specs.Build.{exported_at, exports_of};
 ghost use Rattle.wasm_smith.specs.DrawnContents.{AreExportsMade};
@@ -17,7 +17,7 @@ ghost use Rattle.wasm_smith.specs.DrawnSteps.{IsBeyond};
 ghost use Rattle.smith_rules.specs.Refusals.{AreShapesValid, MayRefuse};
 ghost use Rattle.smith_rules.specs.ShapesKept.{IsSameExport, IsSameType};
 
-use crate::build::drawn::Drawn;
+use crate::build::parts_so_far::PartsSoFar;
 use smith_bytes::{Error, Unstructured};
 use smith_config::Config;
 use smith_contents::{Exports, arbitrary_exports};
@@ -32,7 +32,7 @@ use std::mem;
 pub(crate) fn make_exports(
     alloc: Global,
     config: &Config,
-    drawn: &mut Drawn,
+    drawn: &mut PartsSoFar,
     u: &mut Unstructured<'_>,
 ) -> Result<Exports, Error>
     requires passes { Passes config.now }
@@ -40,10 +40,10 @@ pub(crate) fn make_exports(
     requires valid { AreShapesValid config.now }
     requires entities { AreEntitiesDrawn config.now drawn.old }
     ensures exact { Returns is_lack
-        (λ made. (record (begun_of drawn.new) { exports = made.exports }, u.new)) result
-        (exported_at config.now (begun_of drawn.old) u.old) }
-    ensures size { IfOk result (λ made.
-        made ≡ exports_of config.now (record (begun_of drawn.new) { exports = made.exports })) }
+        (λ made. (record (module_so_far drawn.new) { exports = made.exports }, u.new)) result
+        (exported_at config.now (module_so_far drawn.old) u.old) }
+    ensures size { IfOk result (λ made. made
+        ≡ exports_of config.now (record (module_so_far drawn.new) { exports = made.exports })) }
     ensures drawn { OnOk result (AreExportsDrawn config.now drawn.new) }
     ensures made { IfOk result (AreExportsMade config.now drawn.new.types.types
         (spaces_in drawn.new.imported.spaces) drawn.new.imported.type_size) }
@@ -51,8 +51,8 @@ pub(crate) fn make_exports(
         AllZip (IsSameExport (IsSameType drawn.new.types.types (shape_types shape))
         (spaces_in drawn.new.imported.spaces) (shape_spaces shape)) made.exports shape.exports)) }
     ensures imports { OnOk result (HasSameImports drawn.old.imported drawn.new.imported) }
-    ensures beyond { IfOk result (λ made. IsBeyond config.now (begun_of drawn.old)
-        (record (begun_of drawn.new) { exports = made.exports })) }
+    ensures beyond { IfOk result (λ made. IsBeyond config.now (module_so_far drawn.old)
+        (record (module_so_far drawn.new) { exports = made.exports })) }
     ensures refusal { IfErr result (MayRefuse config.now) }
     ensures left { KeepsPieces u.old u.new }
 {

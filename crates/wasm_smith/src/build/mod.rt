@@ -13,10 +13,10 @@ ghost use Rattle.smith_rules.specs.Promises.{KeepsPromises};
 ghost use Rattle.smith_rules.specs.ShapesKept.{KeepsShapes};
 ghost use Rattle.smith_rules.specs.Refusals.{AreShapesValid, MayRefuse};
 
-mod begun;
 mod contents;
-mod drawn;
 mod exports;
+mod first_parts;
+mod parts_so_far;
 mod section_flag;
 mod segment_spaces;
 mod segments;
@@ -25,8 +25,8 @@ mod steps;
 mod types;
 
 use crate::module::Module;
-pub(crate) use drawn::Drawn;
-use drawn::draw;
+pub(crate) use parts_so_far::PartsSoFar;
+use parts_so_far::draw;
 pub(crate) use shapes_in_use::check_shapes;
 use smith_bytes::{Error, Unstructured};
 use smith_config::Config;

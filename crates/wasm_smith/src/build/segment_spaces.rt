@@ -1,13 +1,13 @@
-ghost use Rattle.smith_types.specs.IndexSpaces.{spaces_in};
+ghost use Rattle.smith_types.specs.EntitySpaces.{spaces_in};
 ghost use Rattle.wasm_smith.specs.Contents.{AreSpacesOver};
 
 use smith_draw::{Entities, Spaces};
-use smith_types::{IndexSpaces, TypeSpace};
+use smith_types::{EntitySpaces, TypeSpace};
 
 /// Returns the types and entities that a segment may refer to: all of `types` and of `spaces`.
 pub(crate) fn segment_spaces<'a>(
     types: &'a TypeSpace,
-    spaces: &'a IndexSpaces,
+    spaces: &'a EntitySpaces,
     imported_funcs: usize,
     imported_globals: usize,
 ) -> Spaces<'a>

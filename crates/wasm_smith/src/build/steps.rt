@@ -5,16 +5,16 @@ ghost use Rattle.smith_bytes.specs.Source.{KeepsPieces};
 ghost use Rattle.smith_config.specs.Faults.{Passes};
 ghost use Rattle.smith_config.specs.InUse.{FixesImports};
 ghost use Rattle.smith_config.specs.Sanitized.{IsSanitized};
-ghost use Rattle.wasm_smith.specs.Begun.{HasNothing, begun_of};
+ghost use Rattle.wasm_smith.specs.FirstParts.{HasNothing, module_so_far};
 ghost use Rattle.smith_bytes.specs.Steps.{Returns, is_lack};
-ghost use Rattle.wasm_smith.specs.Build.{begun_typed_at, imported_at, defined_at};
+ghost use Rattle.wasm_smith.specs.Build.{first_parts_typed_at, imported_at, defined_at};
 ghost use Rattle.wasm_smith.specs.DrawnSteps.{AreTypesDrawn, AreImportsDrawn, AreFreeImports};
 ghost use Rattle.wasm_smith.specs.DrawnSteps.{AreEntitiesDrawn, HasSameImports, IsBeyond};
-ghost use Rattle.wasm_smith.specs.DrawnSteps.{KeepsBegun};
+ghost use Rattle.wasm_smith.specs.DrawnSteps.{KeepsShapesSoFar};
 ghost use Rattle.smith_rules.specs.Refusals.{AreShapesValid, MayRefuse};
 
-use crate::build::begun::begin;
-use crate::build::drawn::Drawn;
+use crate::build::first_parts::begin;
+use crate::build::parts_so_far::PartsSoFar;
 use crate::build::types::add_more_types;
 use smith_bytes::{Error, Unstructured};
 use smith_config::Config;
@@ -24,21 +24,21 @@ use std::alloc::Global;
 
 /// Begins a module with the module shape or the available imports of `config`, and draws types
 /// after the types of the shape.
-#[tactic(auto, unfolding(crate::specs::Build::begun_typed_at))]
+#[tactic(auto, unfolding(crate::specs::Build::first_parts_typed_at))]
 pub(crate) fn begin_with_types(
     alloc: Global,
     config: &Config,
-    drawn: &mut Drawn,
+    drawn: &mut PartsSoFar,
     u: &mut Unstructured<'_>,
 ) -> Result<(), Error>
     requires passes { Passes config.now }
     requires sanitized { IsSanitized config.now }
     requires valid { AreShapesValid config.now }
     requires nothing { HasNothing drawn.old }
-    ensures exact { Returns is_lack (λ _. (begun_of drawn.new, u.new)) result
-        (begun_typed_at config.now u.old) }
+    ensures exact { Returns is_lack (λ _. (module_so_far drawn.new, u.new)) result
+        (first_parts_typed_at config.now u.old) }
     ensures drawn { OnOk result (AreTypesDrawn config.now drawn.new) }
-    ensures kept { OnOk result (KeepsBegun config.now u.old (begun_of drawn.new)) }
+    ensures kept { OnOk result (KeepsShapesSoFar config.now u.old (module_so_far drawn.new)) }
     ensures refusal { IfErr result (MayRefuse config.now) }
     ensures left { KeepsPieces u.old u.new }
 {
@@ -55,18 +55,19 @@ pub(crate) fn add_imports(
     alloc: Global,
     config: &Config,
     distinct: bool,
-    drawn: &mut Drawn,
+    drawn: &mut PartsSoFar,
     u: &mut Unstructured<'_>,
 ) -> Result<(), Error>
     requires passes { Passes config.now }
     requires sanitized { IsSanitized config.now }
     requires types { AreTypesDrawn config.now drawn.old }
-    ensures exact { Returns is_lack (λ _. (begun_of drawn.new, u.new)) result
-        (imported_at distinct config.now (begun_of drawn.old) u.old) }
+    ensures exact { Returns is_lack (λ _. (module_so_far drawn.new, u.new)) result
+        (imported_at distinct config.now (module_so_far drawn.old) u.old) }
     ensures drawn { OnOk result (AreImportsDrawn config.now drawn.new) }
     ensures free { (FixesImports config.now → ⊥)
         → OnOk result (AreFreeImports distinct config.now drawn.new.imported) }
-    ensures beyond { OnOk result (IsBeyond config.now (begun_of drawn.old) (begun_of drawn.new)) }
+    ensures beyond { OnOk result
+        (IsBeyond config.now (module_so_far drawn.old) (module_so_far drawn.new)) }
     ensures refusal { IfErr result (MayRefuse config.now) }
     ensures left { KeepsPieces u.old u.new }
 {
@@ -82,18 +83,19 @@ pub(crate) fn add_imports(
 pub(crate) fn add_definitions(
     alloc: Global,
     config: &Config,
-    drawn: &mut Drawn,
+    drawn: &mut PartsSoFar,
     u: &mut Unstructured<'_>,
 ) -> Result<(), Error>
     requires passes { Passes config.now }
     requires sanitized { IsSanitized config.now }
     requires valid { AreShapesValid config.now }
     requires imports { AreImportsDrawn config.now drawn.old }
-    ensures exact { Returns is_lack (λ _. (begun_of drawn.new, u.new)) result
-        (defined_at config.now (begun_of drawn.old) u.old) }
+    ensures exact { Returns is_lack (λ _. (module_so_far drawn.new, u.new)) result
+        (defined_at config.now (module_so_far drawn.old) u.old) }
     ensures drawn { OnOk result (AreEntitiesDrawn config.now drawn.new) }
     ensures imports { OnOk result (HasSameImports drawn.old.imported drawn.new.imported) }
-    ensures beyond { OnOk result (IsBeyond config.now (begun_of drawn.old) (begun_of drawn.new)) }
+    ensures beyond { OnOk result
+        (IsBeyond config.now (module_so_far drawn.old) (module_so_far drawn.new)) }
     ensures refusal { IfErr result (MayRefuse config.now) }
     ensures left { KeepsPieces u.old u.new }
 {

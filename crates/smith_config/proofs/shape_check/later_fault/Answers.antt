@@ -1,6 +1,6 @@
 use Rattle.std.proofs.Common.{◌≡◌}
 use Rattle.smith_bytes.specs.declared.error.Which.TheVariants.{Exports}
-use Rattle.smith_types.specs.IndexSpaces.{spaces_in}
+use Rattle.smith_types.specs.EntitySpaces.{spaces_in}
 use Rattle.smith_config.specs.Features.{features_of}
 use Rattle.smith_config.specs.Shapes.{ArePlain, IsNothingLeftOut}
 use Rattle.smith_config.specs.ShapeFaults.{AreTypesSound, AreIndicesSound, AreLimitsSound, AreFeaturesEnough}

@@ -1,5 +1,5 @@
 use Rattle.std.proofs.Common.{arith}
-use Rattle.smith_types.specs.IndexSpaces.{spaces_in}
+use Rattle.smith_types.specs.EntitySpaces.{spaces_in}
 use Rattle.smith_contents.proofs.AllExportsLemmas.{length-every_item}
 use Rattle.smith_contents.proofs.all_exports.count_items.Goals as goal
 

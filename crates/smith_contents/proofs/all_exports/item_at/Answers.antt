@@ -1,5 +1,5 @@
 use Rattle.std.proofs.Common.{arith}
-use Rattle.smith_types.specs.IndexSpaces.{spaces_in}
+use Rattle.smith_types.specs.EntitySpaces.{spaces_in}
 use Rattle.smith_contents.proofs.AllExportsLemmas.{length-every_item, func_at, table_at, memory_at, global_at, tag_at}
 use Rattle.smith_contents.proofs.all_exports.item_at.Goals as goal
 

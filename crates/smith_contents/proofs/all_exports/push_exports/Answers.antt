@@ -1,5 +1,5 @@
 use Rattle.std.proofs.Common.{arith, refl}
-use Rattle.smith_types.specs.IndexSpaces.{spaces_in}
+use Rattle.smith_types.specs.EntitySpaces.{spaces_in}
 use Rattle.smith_rules.specs.ExportedItems.{every_item}
 use Rattle.smith_contents.specs.AllExports.{everything_at}
 use Rattle.smith_contents.proofs.AllExportsLemmas.{every_item_stands}

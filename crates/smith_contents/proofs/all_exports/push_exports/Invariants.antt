@@ -1,4 +1,4 @@
-use Rattle.smith_types.specs.IndexSpaces.{spaces_in}
+use Rattle.smith_types.specs.EntitySpaces.{spaces_in}
 use Rattle.smith_rules.specs.ExportedItems.{every_item}
 use Rattle.smith_contents.proofs.AllExportsLoop.{AreExporting}
 use Rattle.smith_contents.proofs.all_exports.push_exports.Given as goal

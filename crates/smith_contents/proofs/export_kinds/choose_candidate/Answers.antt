@@ -1,5 +1,5 @@
 use Rattle.std.proofs.Common.{arith}
-use Rattle.smith_types.specs.IndexSpaces.{spaces_in}
+use Rattle.smith_types.specs.EntitySpaces.{spaces_in}
 use Rattle.smith_contents.proofs.CandidateLemmas.{candidates_fit}
 use Rattle.smith_contents.proofs.export_kinds.choose_candidate.Goals as goal
 

@@ -1,4 +1,4 @@
-use Rattle.smith_types.specs.IndexSpaces.{spaces_in}
+use Rattle.smith_types.specs.EntitySpaces.{spaces_in}
 use Rattle.smith_contents.proofs.CandidateLemmas.{chosen_offered}
 use Rattle.smith_contents.proofs.export_kinds.choose_export_kind.Goals as goal
 

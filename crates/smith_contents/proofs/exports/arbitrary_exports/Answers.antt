@@ -1,6 +1,6 @@
 use Rattle.std.proofs.Common.{inl, inr}
 use Rattle.std.proofs.lemmas.Result.{IfErr-weaker}
-use Rattle.smith_types.specs.IndexSpaces.{spaces_in}
+use Rattle.smith_types.specs.EntitySpaces.{spaces_in}
 use Rattle.smith_contents.proofs.ExportRefusalLemmas.{exports_all, exports_free}
 use Rattle.smith_contents.proofs.exports.arbitrary_exports.Goals as goal
 

@@ -1,5 +1,5 @@
 use Rattle.std.proofs.Common.{◌<◌, length, inr, refl, arith}
-use Rattle.smith_types.specs.IndexSpaces.{spaces_in}
+use Rattle.smith_types.specs.EntitySpaces.{spaces_in}
 use Rattle.smith_contents.proofs.ExportRefusalLemmas.{run_out}
 use Rattle.smith_contents.proofs.exports.draw_exports.Goals as goal
 

@@ -1,5 +1,5 @@
 use Rattle.std.proofs.Common.{refl}
-use Rattle.smith_types.specs.IndexSpaces.{spaces_in}
+use Rattle.smith_types.specs.EntitySpaces.{spaces_in}
 use Rattle.smith_draw.proofs.ConstStepLemmas.{passed_on}
 use Rattle.smith_defined.proofs.DrawnStepLemmas.{may_initialise, refused_before}
 use Rattle.smith_defined.proofs.DefinedGrowthLemmas.{defined_more}

@@ -1,6 +1,6 @@
 use Rattle.std.proofs.Common.{true}
 use Rattle.std.proofs.lemmas.Result.{on_ok_weaker}
-use Rattle.smith_types.specs.IndexSpaces.{spaces_in}
+use Rattle.smith_types.specs.EntitySpaces.{spaces_in}
 use Rattle.smith_defined.proofs.KeptOfferLemmas.{kept_beside}
 use Rattle.smith_defined.proofs.required_entities.define_entity.Goals as goal
 

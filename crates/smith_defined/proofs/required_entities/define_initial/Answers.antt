@@ -2,7 +2,7 @@ use Rattle.std.proofs.Common.{true, false, []}
 use Rattle.std.proofs.lemmas.List.Elements.{All-head}
 use Rattle.std.proofs.lemmas.Result.{IfErr-weaker, on_ok_weaker}
 use Rattle.smith_types.specs.Entities.{IsTableValid, IsGlobalValid}
-use Rattle.smith_types.specs.IndexSpaces.{spaces_in}
+use Rattle.smith_types.specs.EntitySpaces.{spaces_in}
 use Rattle.smith_config.specs.Features.{features_of}
 use Rattle.smith_defined.specs.Defined.{drawn_beside}
 use Rattle.smith_defined.proofs.KeptOfferLemmas.{kept_alike}

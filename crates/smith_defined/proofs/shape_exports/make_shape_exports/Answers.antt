@@ -1,6 +1,6 @@
 use Rattle.std.proofs.Common.{refl}
 use Rattle.std.proofs.lemmas.Result.{IfOk-weaker, IfErr-weaker}
-use Rattle.smith_types.specs.IndexSpaces.{spaces_in}
+use Rattle.smith_types.specs.EntitySpaces.{spaces_in}
 use Rattle.smith_defined.specs.Defined.{drawn_beside}
 use Rattle.smith_defined.proofs.RequiredExportsLoop.{valid_so, only_memory}
 use Rattle.smith_defined.proofs.shape_exports.make_shape_exports.Goals as goal

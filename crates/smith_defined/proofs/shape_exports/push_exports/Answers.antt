@@ -1,5 +1,5 @@
 use Rattle.std.proofs.Common.{arith, true, [], ◌∷◌, ◌++◌}
-use Rattle.smith_types.specs.IndexSpaces.{spaces_in}
+use Rattle.smith_types.specs.EntitySpaces.{spaces_in}
 use Rattle.smith_draw.proofs.ConstStepLemmas.{passed_on}
 use Rattle.smith_rules.specs.ExportedItems.{Export}
 use Rattle.smith_defined.specs.RequiredExports.{scope_beside, standing_with}

@@ -1,5 +1,5 @@
 use Rattle.std.specs.Prelude.{true}
-use Rattle.smith_types.specs.IndexSpaces.{spaces_in}
+use Rattle.smith_types.specs.EntitySpaces.{spaces_in}
 use Rattle.smith_draw.specs.KeptOffers.{AreKeptOffers}
 use Rattle.smith_defined.specs.RequiredExports.{scope_beside}
 use Rattle.smith_defined.proofs.RequiredExportsLoop.{AreRequiring}

@@ -1,6 +1,6 @@
 use Rattle.std.proofs.Common.{◌≡◌, ◌-◌, get_or, length, take, drop, sym, ap, ◌∙◌, subst, arith, length-append, length-drop}
 use Rattle.std.proofs.lemmas.List.{length-take}
-use Rattle.smith_types.specs.Space.{Space}
+use Rattle.smith_types.specs.GroupedTypes.{GroupedTypes}
 use Rattle.smith_types.specs.declared.composite_type.SubType.{SubType}
 use Rattle.smith_draw.proofs.CopiesLoop.{copied, copy_follows}
 use Rattle.smith_draw.proofs.rec_group.add_copies.Goals as goal
@@ -21,6 +21,6 @@ loop-index-preserved c =
     let at = subst (λ (t : SubType). t ≡ get_or c.loop-index.types.types c.loop-index.index t) (sym c.in_ok-copy.ensures.ok) (rw c.types.ensures.value at c.index-types-index.is) in
     record {
       types = copied c.args.types.now.types c.loop-index.types.types _ c.args.start c.args.end c.loop-index.index c.in_ok-copy.copy c.loop-index.auto.index (omega arith) c.requires.inside c.loop-index.invariant.types at
-          (ap (λ (s : Space). s.types) c.in_ok-add_type.ensures.ok);
-      groups = ap (λ (s : Space). s.groups) c.in_ok-add_type.ensures.ok ∙ c.loop-index.invariant.groups;
+          (ap (λ (s : GroupedTypes). s.types) c.in_ok-add_type.ensures.ok);
+      groups = ap (λ (s : GroupedTypes). s.groups) c.in_ok-add_type.ensures.ok ∙ c.loop-index.invariant.groups;
     }

@@ -1,6 +1,6 @@
 use Rattle.std.proofs.Common.{ap, ◌∙◌, arith, rules}
 use Rattle.smith_bytes.proofs.GrowingLoop.{grow_full}
-use Rattle.smith_types.specs.Space.{Space}
+use Rattle.smith_types.specs.GroupedTypes.{GroupedTypes}
 use Rattle.smith_draw.specs.SubTypes.{HasSuperType}
 use Rattle.smith_draw.proofs.UntilLoop.{until_go}
 use Rattle.smith_draw.proofs.ValueTypeLemmas.{drawn_is}
@@ -15,8 +15,8 @@ add_type-requires c = record {
 
 pub loop-made-preserved : goal.loop-made-preserved
 loop-made-preserved c = record {
-  grown = until_go c.loop-made.invariant.grown c.loop-made-test.true c.in_ok-added.ensures.exact (ap (λ (s : Space). s.types) c.in_ok-add_type.ensures.ok) c.in_ok-added.ensures.left;
-  groups = ap (λ (s : Space). s.groups) c.in_ok-add_type.ensures.ok ∙ c.loop-made.invariant.groups;
+  grown = until_go c.loop-made.invariant.grown c.loop-made-test.true c.in_ok-added.ensures.exact (ap (λ (s : GroupedTypes). s.types) c.in_ok-add_type.ensures.ok) c.in_ok-added.ensures.left;
+  groups = ap (λ (s : GroupedTypes). s.groups) c.in_ok-add_type.ensures.ok ∙ c.loop-made.invariant.groups;
 }
 
 pub returns-clause-draws : goal.returns-clause-draws

@@ -1,7 +1,7 @@
 use Rattle.std.proofs.Common.{◌≡◌, ◌≤◌, ◌<◌, false, length, refl}
 use Rattle.std.proofs.lemmas.Result.{on_ok_weaker}
 use Rattle.smith_bytes.specs.declared.error.Count.TheVariants.{Types}
-use Rattle.smith_types.specs.Space.{Space}
+use Rattle.smith_types.specs.GroupedTypes.{GroupedTypes}
 use Rattle.smith_types.specs.ValidTypes.{AreTypesValid}
 use Rattle.smith_config.specs.Features.{features_of}
 use Rattle.smith_config.specs.Granted.{AreTypesGranted}
@@ -21,11 +21,11 @@ returns-clause-valid c = λ valid. of_state (AreTypesValid (features_of c.args.c
 
 pub returns-clause-most : goal.returns-clause-most
 returns-clause-most c =
-    of_state (λ (space : Space). length space.types ≤ c.args.config.now.max_types) c.add_rec_group.ensures (rec_group_more _ _ _ _ _ (sound_within _ c.types-groups.ensures.sound) c.requires.room).most
+    of_state (λ (space : GroupedTypes). length space.types ≤ c.args.config.now.max_types) c.add_rec_group.ensures (rec_group_more _ _ _ _ _ (sound_within _ c.types-groups.ensures.sound) c.requires.room).most
 
 pub returns-clause-some : goal.returns-clause-some
 returns-clause-some c =
-    of_state (λ (space : Space). c.args.allow_empty ≡ false → length c.args.types.now.types < length space.types) c.add_rec_group.ensures (rec_group_more _ _ _ _ _ (sound_within _ c.types-groups.ensures.sound) c.requires.room).some
+    of_state (λ (space : GroupedTypes). c.args.allow_empty ≡ false → length c.args.types.now.types < length space.types) c.add_rec_group.ensures (rec_group_more _ _ _ _ _ (sound_within _ c.types-groups.ensures.sound) c.requires.room).some
 
 pub returns-clause-reach : goal.returns-clause-reach
 returns-clause-reach c = λ may roots. on_ok_weaker c.add_rec_group.result (rec_group_taken c.args.config.now (functions_in c.args.config.now c.args.entities.now) refl _ _ _ _ _ c.requires.sanitized may roots) c.add_rec_group.ensures.exact
@@ -33,4 +33,4 @@ returns-clause-reach c = λ may roots. on_ok_weaker c.add_rec_group.result (rec_
 pub returns-clause-granted : goal.returns-clause-granted
 returns-clause-granted c = λ all.
     let context = functions_in c.args.config.now c.args.entities.now in
-    of_state (λ (space : Space). AreTypesGranted c.args.config.now (over context space.types)) c.add_rec_group.ensures (rec_group_granted c.args.config.now context c.args.allow_empty c.args.types.now c.args.u.now c.types-groups.ensures.sound.orderly all)
+    of_state (λ (space : GroupedTypes). AreTypesGranted c.args.config.now (over context space.types)) c.add_rec_group.ensures (rec_group_granted c.args.config.now context c.args.allow_empty c.args.types.now c.args.u.now c.types-groups.ensures.sound.orderly all)

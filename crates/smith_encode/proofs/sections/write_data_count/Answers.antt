@@ -12,7 +12,7 @@ pub returns-clause-fault : goal.returns-clause-fault
 returns-clause-fault c =
     fault_weaker c.write_section_if.result
     (λ long. elim long.1 [
-      | inl many ↦ IsTooLong.segments (long_mapped IsData IsLongData data_of c.args.module.now.segments (inl (inl many)))
+      | inl many ↦ IsTooLong.datas (long_mapped IsData IsLongData data_of c.args.module.now.datas (inl (inl many)))
       | inr content ↦ absurd (index_never_long _ content)
     ])
     (rw c.data.ensures at c.write_section_if.ensures.fault)

@@ -1,5 +1,5 @@
 use Rattle.std.proofs.Common.{◌+◌, length, refl, ap, arith}
-use Rattle.smith_types.specs.Imports.{IndexSpaces}
+use Rattle.smith_types.specs.Imports.{EntitySpaces}
 use Rattle.smith_imports.specs.Imported.{spaces_of}
 use Rattle.smith_imports.specs.ImportedEntities.{import_scope}
 use Rattle.smith_bytes.specs.declared.error.Count.TheVariants as counts
@@ -19,4 +19,4 @@ returns-then-config-eq0-clause-least c = λ few. absurd (omega (arith, c.require
 pub add_groups-requires-clause-kept : goal.add_groups-requires-clause-kept
 add_groups-requires-clause-kept c =
     rw c.in_ok-types.ensures.exact
-    (c.in_ok-begin.ensures.none (import_scope c.args.config.now c.args.types.now.types (spaces_of c.args.imported.now)) refl (ap (λ (spaces : IndexSpaces). spaces.funcs) c.requires.none.spaces))
+    (c.in_ok-begin.ensures.none (import_scope c.args.config.now c.args.types.now.types (spaces_of c.args.imported.now)) refl (ap (λ (spaces : EntitySpaces). spaces.funcs) c.requires.none.spaces))

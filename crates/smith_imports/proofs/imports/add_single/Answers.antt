@@ -2,7 +2,7 @@ use Rattle.std.proofs.Common.{◌≡◌, ◌+◌, refl, sym, subst, arith}
 use Rattle.smith_bytes.specs.declared.error.Count.TheVariants as counts
 use Rattle.smith_draw.specs.KeptGrounds.{AreKeptGrounds}
 use Rattle.smith_imports.specs.ImportedEntities.{import_scope}
-use Rattle.smith_types.specs.Imports.{IndexSpaces, import_of, flattened}
+use Rattle.smith_types.specs.Imports.{EntitySpaces, import_of, flattened}
 use Rattle.smith_imports.specs.Imported.{IsNext, spaces_of}
 use Rattle.smith_draw.proofs.GroupsLoop.{piece_short}
 use Rattle.smith_imports.proofs.ImportsGrownLemmas.{ends_counted, single_added}
@@ -33,4 +33,4 @@ pub returns-clause-kept : goal.returns-clause-kept
 returns-clause-kept c =
     let counted = rw c.space.ensures at c.in_ok-count_entity.ensures.counted in
     let noted = rw c.space-2.ensures at (c.note_import.ensures c.args.config.now (spaces_of c.args.imported.now)) in
-    subst (λ (spaces : IndexSpaces). AreKeptGrounds (import_scope c.args.config.now c.args.types.now.types spaces) c.note_import.new.grounds) (sym counted.spaces) (noted c.requires.kept)
+    subst (λ (spaces : EntitySpaces). AreKeptGrounds (import_scope c.args.config.now c.args.types.now.types spaces) c.note_import.new.grounds) (sym counted.spaces) (noted c.requires.kept)

@@ -3,7 +3,7 @@ use Rattle.smith_bytes.specs.declared.error.Count.TheVariants as counts
 use Rattle.smith_types.specs.declared.imports.Import.{Import}
 use Rattle.smith_draw.specs.KeptGrounds.{AreKeptGrounds}
 use Rattle.smith_imports.specs.ImportedEntities.{import_scope}
-use Rattle.smith_types.specs.Imports.{IndexSpaces, import_of, imports_of, flattened}
+use Rattle.smith_types.specs.Imports.{EntitySpaces, import_of, imports_of, flattened}
 use Rattle.smith_imports.specs.Importing.{module_name, with_import}
 use Rattle.smith_imports.specs.Imported.{IsNext, spaces_of}
 use Rattle.smith_imports.proofs.ImportsGrownLemmas.{fit_more, counts_more, import_added, ready_more}
@@ -44,7 +44,7 @@ loop-imported-preserved c =
     let count : c.count_entity.new.self.count ≡ c.loop-imported.imported.count + 1 = counted.count in
     let noted = rw c.space-in-loop-imported.ensures at (c.note_import.ensures c.args.config.now (spaces_of c.loop-imported.imported)) in
     record {
-      kept = subst (λ (spaces : IndexSpaces). AreKeptGrounds (import_scope c.args.config.now c.args.types.now.types spaces) c.note_import.new.grounds) (sym counted.spaces) (noted i.kept);
+      kept = subst (λ (spaces : EntitySpaces). AreKeptGrounds (import_scope c.args.config.now c.args.types.now.types spaces) c.note_import.new.grounds) (sym counted.spaces) (noted i.kept);
       ready = rw (c.in_ok-push_import.ensures.ok, counted.spaces) (ready_more c.args.config.now c.args.types.now.types (spaces_of c.loop-imported.imported) group c.in_ok-name.name c.in-Some.added i.ready);
       counts = rw (c.in_ok-push_import.ensures.ok, grown) (counts_more one i.counts pairs counted);
       fit = rw (c.in_ok-push_import.ensures.ok, grown) (fit_more c.args.config.now c.args.types.now.types c.args.distinct imports one i.fit (rw (i.counts.spaces, i.counts.type_size) at next) (rw i.counts.count at c.loop-imported-test.true) fresh);

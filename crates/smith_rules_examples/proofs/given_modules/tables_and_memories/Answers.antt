@@ -15,4 +15,4 @@ pub returns-clause-more_references : goal.returns-clause-more_references
 returns-clause-more_references c = search (rules, each_place (IsTableDefined (null_table 996093)) (null_table 996093).defined_tables ((table funcref 996093 None, refl, refl), tt))
 
 pub returns-clause-a_byte_at_the_last_address : goal.returns-clause-a_byte_at_the_last_address
-returns-clause-a_byte_at_the_last_address c = search (rules, All-from_recursion (IsDataValid (segment_context last_byte) last_byte.memories) last_byte.segments ((memory 65536 None, refl, refl), tt))
+returns-clause-a_byte_at_the_last_address c = search (rules, All-from_recursion (IsDataValid (segment_context last_byte) last_byte.memories) last_byte.datas ((memory 65536 None, refl, refl), tt))

@@ -33,7 +33,7 @@ returns-clause-elements c =
     )
 
 pub returns-clause-copied_bytes : goal.returns-clause-copied_bytes
-returns-clause-copied_bytes c = search (rules, All-from_recursion (IsDataValid (segment_context one_data_segment) one_data_segment.memories) one_data_segment.segments ((shared_memory 1, refl, refl), tt))
+returns-clause-copied_bytes c = search (rules, All-from_recursion (IsDataValid (segment_context one_data_segment) one_data_segment.memories) one_data_segment.datas ((shared_memory 1, refl, refl), tt))
 
 pub returns-clause-beside_a_tag_and_an_export : goal.returns-clause-beside_a_tag_and_an_export
 returns-clause-beside_a_tag_and_an_export c =

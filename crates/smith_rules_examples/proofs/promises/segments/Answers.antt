@@ -11,7 +11,7 @@ use Rattle.smith_rules_examples.proofs.promises.segments.Goals as goal
 pub returns-clause-no_bytes : goal.returns-clause-no_bytes
 returns-clause-no_bytes c = record {
   elements = search rules;
-  data_segments = All-from_recursion (IsDataInside one_data_segment.memories) one_data_segment.segments ((shared_memory 1, refl, omega arith), tt);
+  data_segments = All-from_recursion (IsDataInside one_data_segment.memories) one_data_segment.datas ((shared_memory 1, refl, omega arith), tt);
 }
 
 pub returns-clause-up_to_the_last_byte : goal.returns-clause-up_to_the_last_byte

@@ -1,4 +1,4 @@
-use Rattle.smith_types.specs.IndexSpaces.{spaces_in}
+use Rattle.smith_types.specs.EntitySpaces.{spaces_in}
 use Rattle.smith_types.proofs.HeldValueLemmas.{all_values_joined, all_values_apart}
 use Rattle.smith_types.proofs.held_values.all_named_values_hold.Goals as goal
 

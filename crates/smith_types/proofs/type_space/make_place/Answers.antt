@@ -1,6 +1,6 @@
 use Rattle.std.proofs.Common.{◌≡◌, ◌∙◌, sym, ap, arith, ◌++◌, ◌∷◌, [], length}
 use Rattle.std.proofs.lemmas.List.{map-append}
-use Rattle.smith_types.specs.Space.{extensible_from}
+use Rattle.smith_types.specs.GroupedTypes.{extensible_from}
 use Rattle.smith_types.specs.Places.{depths_in}
 use Rattle.smith_types.specs.declared.place.Place.{Place}
 use Rattle.smith_types.proofs.SpaceLemmas.{extensible-push}

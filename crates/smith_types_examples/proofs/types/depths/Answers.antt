@@ -1,6 +1,6 @@
 use Rattle.std.proofs.Common.{rules, arith, [], ◌∷◌, ℕ, zero, suc, ◌<◌, Some, None, refl}
 use Rattle.std.specs.Prelude.{slice_index}
-use Rattle.smith_types.specs.Space.{HasDepth, root, deeper}
+use Rattle.smith_types.specs.GroupedTypes.{HasDepth, root, deeper}
 use Rattle.smith_types.specs.ExampleTypes.{open_type, empty_struct, struct_and_below}
 use Rattle.smith_types_examples.proofs.types.depths.Goals as goal
 

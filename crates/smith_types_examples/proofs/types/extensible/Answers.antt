@@ -1,6 +1,6 @@
 use Rattle.std.proofs.Common.{◌≡◌, ℕ, zero, suc, ◌<◌, List, [], ◌∷◌, None, refl, arith}
 use Rattle.std.specs.Prelude.{slice_index}
-use Rattle.smith_types.specs.Space.{HasDepth, root, extensible_from}
+use Rattle.smith_types.specs.GroupedTypes.{HasDepth, root, extensible_from}
 use Rattle.smith_types.specs.ExampleTypes.{open_type, final_type, empty_struct}
 use Rattle.smith_types_examples.proofs.types.extensible.Goals as goal
 

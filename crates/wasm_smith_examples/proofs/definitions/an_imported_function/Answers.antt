@@ -11,8 +11,8 @@ use Rattle.smith_draw.specs.ValueTypes.{val_type_at, sharedness_at}
 use Rattle.std.specs.Str.{is_utf8, chars}
 use Rattle.std.specs.Str.Lossy.{utf8_valid_len}
 use Rattle.smith_contents.specs.AllExports.{exports_at}
-use Rattle.wasm_smith.specs.Begun.{begun_at}
-use Rattle.wasm_smith.specs.Build.{module_at, begun_typed_at, imported_at, defined_at as defined_behind, exported_at}
+use Rattle.wasm_smith.specs.FirstParts.{first_parts_at}
+use Rattle.wasm_smith.specs.Build.{module_at, first_parts_typed_at, imported_at, defined_at as defined_behind, exported_at}
 use Rattle.smith_contents.specs.DataSegments.{data_at, counting_at, segments_at}
 use Rattle.smith_defined.specs.Definitions.{definitions_at, items_defined_at, type_indices_at, tags_at, funcs_at, tables_at, memories_at, globals_at}
 use Rattle.smith_contents.specs.DrawnBodies.{bodies_at}
@@ -28,5 +28,5 @@ use Rattle.smith_bytes.specs.Steps.{section_flag_at}
 use Rattle.wasm_smith_examples.proofs.definitions.an_imported_function.Goals as goal
 
 pub returns : goal.returns
-unfolding types_at least_types_at more_types_at rec_group_at new_group_at types_until_at imports_at groups_at group_at group_of_kind_at module_at begun_typed_at begun_at imported_at defined_behind exported_at definitions_at section_flag_at behind_exports_at all_segments_at exports_at free_exports_at exports_from start_at start_wanted_at elements_at element_kinds_at table_kinds_at element_segments_at data_at counting_at segments_at bodies_at items_defined_at type_indices_at tags_at funcs_at tables_at memories_at globals_at grow_at is_tag_type is_unshared_function val_type_at sharedness_at chosen_at bool_at range_at digit_count len_at sub_type_at sub_type_of_at root_type_at supertypes composite_type_at func_type_at val_types_at group_kind_at kind_at entity_of_kind_at entity_at import_name_at text_at utf8_valid_len is_utf8 chars
+unfolding types_at least_types_at more_types_at rec_group_at new_group_at types_until_at imports_at groups_at group_at group_of_kind_at module_at first_parts_typed_at first_parts_at imported_at defined_behind exported_at definitions_at section_flag_at behind_exports_at all_segments_at exports_at free_exports_at exports_from start_at start_wanted_at elements_at element_kinds_at table_kinds_at element_segments_at data_at counting_at segments_at bodies_at items_defined_at type_indices_at tags_at funcs_at tables_at memories_at globals_at grow_at is_tag_type is_unshared_function val_type_at sharedness_at chosen_at bool_at range_at digit_count len_at sub_type_at sub_type_of_at root_type_at supertypes composite_type_at func_type_at val_types_at group_kind_at kind_at entity_of_kind_at entity_at import_name_at text_at utf8_valid_len is_utf8 chars
 returns c = refl

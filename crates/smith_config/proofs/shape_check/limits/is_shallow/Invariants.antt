@@ -1,5 +1,5 @@
 use Rattle.std.proofs.Common.{◌<◌, ◌≤◌, ◌≡◌, ℕ, length}
-use Rattle.smith_types.specs.Space.{HasDepth}
+use Rattle.smith_types.specs.GroupedTypes.{HasDepth}
 use Rattle.smith_config.proofs.shape_check.limits.is_shallow.Given as goal
 
 abbrev pub invariant-loop-index : goal.invariant-loop-index

@@ -14,7 +14,7 @@ use Rattle.smith_draw.specs.Spelling.{GroupsFit, SpellsGroups}
 use Rattle.smith_config.specs.Config.{default_config}
 use Rattle.smith_config.specs.Sanitized.{IsSanitized}
 use Rattle.smith_config.specs.Shapes.{space_of}
-use Rattle.smith_types.specs.Space.{Space}
+use Rattle.smith_types.specs.GroupedTypes.{GroupedTypes}
 use Rattle.smith_draw.specs.TypeUses.{is_tag_type, is_unshared_function}
 use Rattle.smith_spell.specs.Spelling.{SpellsMember}
 use Rattle.smith_config.specs.ExampleMembers.{alone, one_function_type, array_and_struct, struct_and_holder, taking_a_number, one_of_each_without_gc, with_non_nullable}
@@ -42,23 +42,23 @@ full_fits = search rules
 both_fit : GroupsFit default_config [] array_and_struct
 both_fit = search rules
 
-function_read : (bytes : List ℕ) {left : List ℕ} {space : Space} → types_at default_config (no_functions default_config) (space_of []) bytes ≡ (space, left) → SpellsMember default_config one_function_type (0 ∷ []) bytes
+function_read : (bytes : List ℕ) {left : List ℕ} {space : GroupedTypes} → types_at default_config (no_functions default_config) (space_of []) bytes ≡ (space, left) → SpellsMember default_config one_function_type (0 ∷ []) bytes
     → (space ≡ space_of one_function_type) × SpellsBehindGroups default_config (space_of one_function_type).types (0 ∷ []) left
 function_read bytes {left} {space} drawn h = member_read default_config one_function_type (0 ∷ []) bytes left space defaults_agree refl function_fits drawn h
 
-full_read : (bytes : List ℕ) {left : List ℕ} {space : Space} → types_at one_of_each_without_gc (no_functions one_of_each_without_gc) (space_of []) bytes ≡ (space, left) → SpellsMember one_of_each_without_gc (alone taking_a_number ∷ []) (0 ∷ []) bytes
+full_read : (bytes : List ℕ) {left : List ℕ} {space : GroupedTypes} → types_at one_of_each_without_gc (no_functions one_of_each_without_gc) (space_of []) bytes ≡ (space, left) → SpellsMember one_of_each_without_gc (alone taking_a_number ∷ []) (0 ∷ []) bytes
     → (space ≡ space_of (alone taking_a_number ∷ [])) × SpellsBehindGroups one_of_each_without_gc (space_of (alone taking_a_number ∷ [])).types (0 ∷ []) left
 full_read bytes {left} {space} drawn h = member_read one_of_each_without_gc (alone taking_a_number ∷ []) (0 ∷ []) bytes left space plain_agree refl full_fits drawn h
 
-both_read : (bytes : List ℕ) {left : List ℕ} {space : Space} → types_at default_config (no_functions default_config) (space_of []) bytes ≡ (space, left) → SpellsMember default_config array_and_struct [] bytes
+both_read : (bytes : List ℕ) {left : List ℕ} {space : GroupedTypes} → types_at default_config (no_functions default_config) (space_of []) bytes ≡ (space, left) → SpellsMember default_config array_and_struct [] bytes
     → (space ≡ space_of array_and_struct) × SpellsBehindGroups default_config (space_of array_and_struct).types [] left
 both_read bytes {left} {space} drawn h = member_read default_config array_and_struct [] bytes left space defaults_agree refl both_fit drawn h
 
-holder_read : (bytes : List ℕ) {left : List ℕ} {space : Space} → types_at with_non_nullable (no_functions with_non_nullable) (space_of []) bytes ≡ (space, left) → SpellsMember with_non_nullable struct_and_holder [] bytes
+holder_read : (bytes : List ℕ) {left : List ℕ} {space : GroupedTypes} → types_at with_non_nullable (no_functions with_non_nullable) (space_of []) bytes ≡ (space, left) → SpellsMember with_non_nullable struct_and_holder [] bytes
     → (space ≡ space_of struct_and_holder) × SpellsBehindGroups with_non_nullable (space_of struct_and_holder).types [] left
 holder_read bytes {left} {space} drawn h = member_read with_non_nullable struct_and_holder [] bytes left space holder_agrees refl (family_fits with_non_nullable struct_and_holder [] holder_in_family) drawn h
 
-none_read : (bytes : List ℕ) {left : List ℕ} {space : Space} → types_at default_config (no_functions default_config) (space_of []) bytes ≡ (space, left) → SpellsMember default_config [] [] bytes
+none_read : (bytes : List ℕ) {left : List ℕ} {space : GroupedTypes} → types_at default_config (no_functions default_config) (space_of []) bytes ≡ (space, left) → SpellsMember default_config [] [] bytes
     → (space ≡ space_of []) × SpellsBehindGroups default_config (space_of []).types [] left
 none_read bytes {left} {space} drawn h = member_read default_config [] [] bytes left space defaults_agree refl tt drawn h
 

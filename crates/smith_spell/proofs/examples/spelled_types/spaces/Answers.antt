@@ -3,7 +3,7 @@ use Rattle.std.proofs.lemmas.List.{append-nil}
 use Rattle.std.proofs.lemmas.List.Elements.{All-head, All-nil, All-from_recursion}
 use Rattle.smith_bytes.specs.Draws.{digit_count}
 use Rattle.smith_bytes.specs.Spelling.{SpellsNothing, SpellsNumber, Listed}
-use Rattle.smith_types.specs.Space.{Space}
+use Rattle.smith_types.specs.GroupedTypes.{GroupedTypes}
 use Rattle.smith_types.specs.declared.value_type.AbstractHeapType.TheVariants as heap
 use Rattle.smith_types.specs.declared.value_type.HeapType.TheVariants.{Concrete}
 use Rattle.smith_types.specs.declared.value_type.ValType.TheVariants.{Ref}
@@ -80,19 +80,19 @@ returns-clause-a_space c = record {
 
 -- a space of one type comes from one group
 one_part : (t : SubType) (parts : List (List SubType)) → space_of ((t ∷ []) ∷ []) ≡ space_of parts → parts ≡ (t ∷ []) ∷ []
-one_part t [] same = cc (ap (λ (space : Space). space.groups) same)
-one_part t (part ∷ []) same = ap (λ (group : List SubType). group ∷ []) (sym (ap (λ (space : Space). space.types) same ∙ append-nil part))
-one_part t (part ∷ other ∷ parts) same = cc (ap (λ (space : Space). space.groups) same)
+one_part t [] same = cc (ap (λ (space : GroupedTypes). space.groups) same)
+one_part t (part ∷ []) same = ap (λ (group : List SubType). group ∷ []) (sym (ap (λ (space : GroupedTypes). space.types) same ∙ append-nil part))
+one_part t (part ∷ other ∷ parts) same = cc (ap (λ (space : GroupedTypes). space.groups) same)
 
 pub returns-clause-one_group_that_refers_to_itself : goal.returns-clause-one_group_that_refers_to_itself
 returns-clause-one_group_that_refers_to_itself c = λ spelled.
-    let same : alone (struct_of 0) ≡ spelled.added = ap (λ (space : Space). space.types) spelled.is_behind in
+    let same : alone (struct_of 0) ≡ spelled.added = ap (λ (space : GroupedTypes). space.types) spelled.is_behind in
     refers_to_itself (subst (ReferBack default_config []) (sym same) spelled.back)
 
 pub returns-clause-one_group_of_other_bytes : goal.returns-clause-one_group_of_other_bytes
 unfolding SpellsGroup digit_count
 returns-clause-one_group_of_other_bytes c = λ spelled.
-    let same : alone plain_function ≡ spelled.added = ap (λ (space : Space). space.types) spelled.is_behind in
+    let same : alone plain_function ≡ spelled.added = ap (λ (space : GroupedTypes). space.types) spelled.is_behind in
     let group : SpellsGroup default_config [] false (alone plain_function) (2 ∷ 1 ∷ 1 ∷ 0 ∷ 0 ∷ []) = subst (λ (added : List SubType). SpellsGroup default_config [] false added (2 ∷ 1 ∷ 1 ∷ 0 ∷ 0 ∷ [])) (sym same) spelled.spelled in
     cc (digit_first refl (without_nothing (opened SpellsNothing (SpellsNumber 1 0 100) group (λ part is. is)))).0
 

@@ -1,6 +1,6 @@
 use Rattle.std.proofs.Common.{◌∙◌, ap, subst}
 use Rattle.smith_types.specs.Places.{depths_in}
-use Rattle.smith_types.specs.Space.{AreExtensible}
+use Rattle.smith_types.specs.GroupedTypes.{AreExtensible}
 use Rattle.smith_types.proofs.PlaceLemmas.{depths_known}
 use Rattle.smith_types.proofs.type_space.TypeSpace.extensible.Goals as goal
 

@@ -1,7 +1,7 @@
 use Rattle.std.proofs.Common.{◌≡◌, ◌∙◌, ap, List, arith, ◌++◌, ◌∷◌, []}
 use Rattle.smith_types.specs.declared.composite_type.SubType.{SubType}
 use Rattle.smith_types.specs.declared.place.Place.{Place}
-use Rattle.smith_types.specs.Space.{MayFollow}
+use Rattle.smith_types.specs.GroupedTypes.{MayFollow}
 use Rattle.smith_types.proofs.ListLemmas.{slice_get-last}
 use Rattle.smith_types.proofs.SpaceLemmas.{IsSound-type}
 use Rattle.smith_types.proofs.PlaceLemmas.{ArePlaces-push, ArePlaces-longer}

@@ -2,9 +2,9 @@ use Rattle.std.proofs.Common.{◌≡◌}
 use Rattle.std.specs.Prelude.{None}
 use Rattle.std.proofs.lemmas.Result.{IfErr-weaker}
 use Rattle.smith_types.specs.Imports.{flattened, imported_spaces}
-use Rattle.smith_types.specs.IndexSpaces.{spaces_in}
+use Rattle.smith_types.specs.EntitySpaces.{spaces_in}
 use Rattle.smith_draw.proofs.ConstStepLemmas.{passed_on}
-use Rattle.wasm_smith.specs.Begun.{ModuleSoFar}
+use Rattle.wasm_smith.specs.FirstParts.{ModuleSoFar}
 use Rattle.wasm_smith.proofs.ContentsLemmas.{may_draw_exports}
 use Rattle.wasm_smith.proofs.RefusalLemmas.{exports_refuse}
 use Rattle.wasm_smith.proofs.MadeExportsLemmas.{exports_used, exports_free, none_given, stands_already, may_hold_contents, required_size, may_require, types_room, required_refuses, required_drawn, required_beyond, drawn_beyond, nothing_beyond}

@@ -1,6 +1,6 @@
 use Rattle.std.proofs.Common.{◌≡◌, ℕ, List, ap}
 use Rattle.smith_bytes.specs.declared.error.Count.TheVariants.{Types}
-use Rattle.smith_types.specs.Space.{Space}
+use Rattle.smith_types.specs.GroupedTypes.{GroupedTypes}
 use Rattle.std.proofs.lemmas.Result.{on_ok_weaker}
 use Rattle.wasm_smith.specs.Build.{functions_over}
 use Rattle.wasm_smith.proofs.TypesGrownLemmas.{types_behind, types_full}
@@ -16,5 +16,5 @@ returns-clause-groups c =
 
 pub returns-clause-full : goal.returns-clause-full
 returns-clause-full c = λ full.
-    on_ok_weaker c.arbitrary_types.result (λ drawn. let none = types_full c.args.config.now (functions_over c.args.config.now c.args.funcs.now c.args.imported_funcs) c.args.types.now c.args.u.now (c.requires.passes.ordered Types tt) full in let both : (c.arbitrary_types.new.types, c.arbitrary_types.new.u) ≡ (c.args.types.now, c.args.u.now) = cc in ap (λ (r : Space × List ℕ). r.0) both)
+    on_ok_weaker c.arbitrary_types.result (λ drawn. let none = types_full c.args.config.now (functions_over c.args.config.now c.args.funcs.now c.args.imported_funcs) c.args.types.now c.args.u.now (c.requires.passes.ordered Types tt) full in let both : (c.arbitrary_types.new.types, c.arbitrary_types.new.u) ≡ (c.args.types.now, c.args.u.now) = cc in ap (λ (r : GroupedTypes × List ℕ). r.0) both)
     c.arbitrary_types.ensures.draws.exact

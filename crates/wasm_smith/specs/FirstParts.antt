@@ -4,10 +4,10 @@ use Rattle.std.specs.List.{AllZip, Contains}
 use Rattle.smith_bytes.specs.declared.error.Error.{Error}
 use Rattle.smith_bytes.specs.declared.error.Error.TheVariants as errors
 use Rattle.smith_types.specs.Exports.{AreExportsValid}
-use Rattle.smith_types.specs.Imports.{IndexSpaces, IsImportsValid, flattened, imported_spaces}
-use Rattle.smith_types.specs.IndexSpaces.{spaces_in}
+use Rattle.smith_types.specs.Imports.{EntitySpaces, IsImportsValid, flattened, imported_spaces}
+use Rattle.smith_types.specs.EntitySpaces.{spaces_in}
 use Rattle.smith_types.specs.Sizes.{size_in}
-use Rattle.smith_types.specs.Space.{Space}
+use Rattle.smith_types.specs.GroupedTypes.{GroupedTypes}
 use Rattle.smith_types.specs.declared.composite_type.SubType.{SubType}
 use Rattle.smith_types.specs.declared.entity_type.MemoryType.{MemoryType}
 use Rattle.smith_types.specs.declared.entity_type.TableType.{TableType}
@@ -32,19 +32,19 @@ use Rattle.smith_defined.specs.Required.{MayRefuseRequired}
 use Rattle.smith_defined.specs.RequiredExports.{Required, required_at, then_with}
 use Rattle.smith_rules.specs.ShapesKept.{IsSameExport}
 use Rattle.smith_defined.specs.declared.definitions.Definitions.{Definitions}
-use Rattle.wasm_smith.specs.declared.build.drawn.Drawn.{Drawn}
+use Rattle.wasm_smith.specs.declared.build.parts_so_far.PartsSoFar.{PartsSoFar}
 
 -- the state of a module: types, groups of imports, index spaces, their definitions, and exports
 pub record ModuleSoFar : Type 0 where
-  pub types : Space
+  pub types : GroupedTypes
   pub groups : List Imports
-  pub spaces : IndexSpaces
+  pub spaces : EntitySpaces
   pub defined : Definitions
   pub exports : List Export
 
 -- the state with the parts of a module
-abbrev pub begun_of : Drawn → ModuleSoFar
-begun_of drawn = record {
+abbrev pub module_so_far : PartsSoFar → ModuleSoFar
+module_so_far drawn = record {
   types = drawn.types;
   groups = drawn.imported.groups;
   spaces = spaces_in drawn.imported.spaces;
@@ -53,39 +53,39 @@ begun_of drawn = record {
 }
 
 -- the empty state
-abbrev pub nothing_begun : ModuleSoFar
-nothing_begun = record { types = record { types = []; groups = [] }; groups = []; spaces = imported_spaces []; defined = nothing_defined; exports = [] }
+abbrev pub nothing_so_far : ModuleSoFar
+nothing_so_far = record { types = record { types = []; groups = [] }; groups = []; spaces = imported_spaces []; defined = nothing_defined; exports = [] }
 
-pub record HasNothing (drawn : Drawn) : Type 0 where
-  pub begun : begun_of drawn ≡ nothing_begun
+pub record HasNothing (drawn : PartsSoFar) : Type 0 where
+  pub so_far : module_so_far drawn ≡ nothing_so_far
   pub imports : HasNoImports drawn.imported
 
 -- the state from a module shape: its types and its imports, and its exports, each of an entity that
 -- is defined for it
-unfoldable pub begun_by_module_at : Config → Shape → List ℕ → Result (ModuleSoFar × List ℕ) Error
-begun_by_module_at config shape bytes =
+unfoldable pub first_parts_by_module_at : Config → Shape → List ℕ → Result (ModuleSoFar × List ℕ) Error
+first_parts_by_module_at config shape bytes =
     then_with
     (λ (made : Required). record { types = made.types; groups = kept_groups config shape; spaces = made.spaces; defined = made.defined; exports = made.exports })
     (required_at false config shape (space_of shape.groups) (imported_spaces (shape_imports shape)) nothing_defined bytes)
 
 -- the state from available imports: the types of their shape, and those imports that the bytes take
-unfoldable pub begun_by_imports_at : Config → Shape → List ℕ → ModuleSoFar × List ℕ
-begun_by_imports_at config shape bytes =
+unfoldable pub first_parts_by_imports_at : Config → Shape → List ℕ → ModuleSoFar × List ℕ
+first_parts_by_imports_at config shape bytes =
     let taken = available_at config shape bytes in
     (record { types = space_of shape.groups; groups = taken.0; spaces = imported_spaces (flattened taken.0); defined = nothing_defined; exports = [] }, taken.1)
 
 -- the state from the shapes that are used: a module shape, else available imports, else the empty
 -- state
-abbrev pub begun_for : Config → Option Shape → Option Shape → List ℕ → Result (ModuleSoFar × List ℕ) Error
-begun_for config (Some shape) available bytes = begun_by_module_at config shape bytes
-begun_for config None (Some shape) bytes = Ok (begun_by_imports_at config shape bytes)
-begun_for config None None bytes = Ok (nothing_begun, bytes)
+abbrev pub first_parts_for : Config → Option Shape → Option Shape → List ℕ → Result (ModuleSoFar × List ℕ) Error
+first_parts_for config (Some shape) available bytes = first_parts_by_module_at config shape bytes
+first_parts_for config None (Some shape) bytes = Ok (first_parts_by_imports_at config shape bytes)
+first_parts_for config None None bytes = Ok (nothing_so_far, bytes)
 
-unfoldable pub begun_at : Config → List ℕ → Result (ModuleSoFar × List ℕ) Error
-begun_at config bytes = begun_for config config.module_shape config.available_imports bytes
+unfoldable pub first_parts_at : Config → List ℕ → Result (ModuleSoFar × List ℕ) Error
+first_parts_at config bytes = first_parts_for config config.module_shape config.available_imports bytes
 
 -- the parts of a module from a module shape, all of them valid
-pub record IsBegunByModule (config : Config) (shape : Shape) (drawn : Drawn) : Type 0 where
+pub record AreFirstPartsByModule (config : Config) (shape : Shape) (drawn : PartsSoFar) : Type 0 where
   pub types : drawn.types ≡ space_of shape.groups
   pub groups : drawn.imported.groups ≡ kept_groups config shape
   pub flat : flattened drawn.imported.groups ≡ shape_imports shape
@@ -101,7 +101,7 @@ pub record IsBegunByModule (config : Config) (shape : Shape) (drawn : Drawn) : T
   pub exports_valid : AreExportsValid (spaces_in drawn.imported.spaces) drawn.contents.exports
 
 -- the parts of a module from available imports, all of them valid and within the bounds
-pub record IsBegunByImports (config : Config) (shape : Shape) (bytes : List ℕ) (drawn : Drawn) : Type 0 where
+pub record AreFirstPartsByImports (config : Config) (shape : Shape) (bytes : List ℕ) (drawn : PartsSoFar) : Type 0 where
   pub types : drawn.types ≡ space_of shape.groups
   pub kept : flattened drawn.imported.groups ≡ taken_from config (shape_types shape) bytes 0 [] (shape_imports shape)
   pub count : drawn.imported.count ≡ length (flattened drawn.imported.groups)
@@ -116,14 +116,14 @@ pub record IsBegunByImports (config : Config) (shape : Shape) (bytes : List ℕ)
   pub exports : drawn.contents.exports ≡ []
 
 -- the parts of a module from the shapes that a configuration uses
-pub record IsBegun (config : Config) (bytes : List ℕ) (drawn : Drawn) : Type 0 where
-  pub by_module : IfSome config.module_shape (λ shape. IsBegunByModule config shape drawn)
-  pub by_imports : IfSome config.available_imports (λ shape. IsBegunByImports config shape bytes drawn)
+pub record AreFirstParts (config : Config) (bytes : List ℕ) (drawn : PartsSoFar) : Type 0 where
+  pub by_module : IfSome config.module_shape (λ shape. AreFirstPartsByModule config shape drawn)
+  pub by_imports : IfSome config.available_imports (λ shape. AreFirstPartsByImports config shape bytes drawn)
   pub freely : (FixesImports config → ⊥) → HasNothing drawn
 
 -- errors of the shapes that are used: lack of memory, or errors of the exports of a module shape
-abbrev pub MayRefuseBegun : Config → Error → Type 0
-MayRefuseBegun config e = (e ≡ errors.Memory) ⊎ IsSomeAnd config.module_shape (λ shape. MayRefuseRequired config (drawn_beside config (shape_types shape) (imported_spaces (shape_imports shape)) nothing_defined) shape e)
+abbrev pub MayRefuseFirstParts : Config → Error → Type 0
+MayRefuseFirstParts config e = (e ≡ errors.Memory) ⊎ IsSomeAnd config.module_shape (λ shape. MayRefuseRequired config (drawn_beside config (shape_types shape) (imported_spaces (shape_imports shape)) nothing_defined) shape e)
 
 -- a kind of entities
 abbrev pub IsOfEntities : Count → Type 0
@@ -151,7 +151,7 @@ IsMemoryKept config memory = Contains (of_shapes (λ spaces. spaces.memories) co
 
 -- the parts of a module so far, whichever shapes it uses: all of them valid, and no more than the
 -- shapes and the configuration allow
-pub record StandsSoFar (config : Config) (drawn : Drawn) : Type 0 where
+pub record StandsSoFar (config : Config) (drawn : PartsSoFar) : Type 0 where
   pub groups : All (IsImportsValid (features_of config)) drawn.imported.groups
   pub count : drawn.imported.count ≡ length (flattened drawn.imported.groups)
   pub stands : StandsBehind config (imported_spaces (flattened drawn.imported.groups)) drawn.types (spaces_in drawn.imported.spaces) drawn.definitions
@@ -165,7 +165,7 @@ pub record StandsSoFar (config : Config) (drawn : Drawn) : Type 0 where
 
 -- the parts of a module after the exports of a shape are made: the same properties, with the
 -- entities that are defined for the exports
-pub record StandsWhole (config : Config) (drawn : Drawn) : Type 0 where
+pub record StandsWhole (config : Config) (drawn : PartsSoFar) : Type 0 where
   pub groups : All (IsImportsValid (features_of config)) drawn.imported.groups
   pub count : drawn.imported.count ≡ length (flattened drawn.imported.groups)
   pub stands : StandsBehind config (imported_spaces (flattened drawn.imported.groups)) drawn.types (spaces_in drawn.imported.spaces) drawn.definitions

@@ -1,7 +1,7 @@
 -- The index spaces of the code, which grow by one entity at a time.
 use Rattle.std.specs.Prelude.{List, [], ◌∷◌, ◌++◌, map}
-use Rattle.smith_types.specs.Imports.{IndexSpaces as Given}
-use Rattle.smith_types.specs.declared.index_spaces.IndexSpaces.{IndexSpaces}
+use Rattle.smith_types.specs.Imports.{EntitySpaces as EntityLists}
+use Rattle.smith_types.specs.declared.entity_spaces.EntitySpaces.{EntitySpaces}
 use Rattle.smith_types.specs.declared.imports.ImportItem.{ImportItem}
 use Rattle.smith_types.specs.declared.imports.Imports.{Imports}
 use Rattle.smith_types.specs.declared.imports.Imports.TheVariants.{Single, Compact1, Compact2}
@@ -9,11 +9,11 @@ use Rattle.smith_types.specs.declared.entity_type.EntityType.{EntityType}
 use Rattle.smith_types.specs.declared.entity_type.EntityType.TheVariants as entity
 
 -- the lists of the index spaces
-abbrev pub spaces_in : IndexSpaces → Given
+abbrev pub spaces_in : EntitySpaces → EntityLists
 spaces_in spaces = record { tags = spaces.tags; funcs = spaces.funcs; tables = spaces.tables; memories = spaces.memories; globals = spaces.globals }
 
 -- the index spaces with one more entity
-abbrev pub with_entity : Given → EntityType → Given
+abbrev pub with_entity : EntityLists → EntityType → EntityLists
 with_entity spaces (entity.Tag index) = record spaces { tags = spaces.tags ++ index ∷ [] }
 with_entity spaces (entity.Func index) = record spaces { funcs = spaces.funcs ++ index ∷ [] }
 with_entity spaces (entity.Table table) = record spaces { tables = spaces.tables ++ table ∷ [] }
@@ -21,7 +21,7 @@ with_entity spaces (entity.Memory memory) = record spaces { memories = spaces.me
 with_entity spaces (entity.Global global) = record spaces { globals = spaces.globals ++ global ∷ [] }
 
 -- the index spaces with several more entities
-abbrev pub with_entities : Given → List EntityType → Given
+abbrev pub with_entities : EntityLists → List EntityType → EntityLists
 with_entities spaces [] = spaces
 with_entities spaces (one ∷ more) = with_entities (with_entity spaces one) more
 

@@ -1,10 +1,10 @@
 use Rattle.wasm_smith.specs.declared.build.contents.Contents.{Contents}
-use Rattle.wasm_smith.specs.declared.build.drawn.Drawn.{Drawn}
+use Rattle.wasm_smith.specs.declared.build.parts_so_far.PartsSoFar.{PartsSoFar}
 use Rattle.wasm_smith.proofs.ContentsLemmas.{pages_small}
 use Rattle.wasm_smith.proofs.KeptShapeLemmas.{kept_beyond, shapes_kept}
 use Rattle.wasm_smith.proofs.MadeExportsLemmas.{may_hold_contents}
 use Rattle.wasm_smith.proofs.PartsLemmas.{drawn_for, module_read, module_refused, same_imports}
-use Rattle.wasm_smith.proofs.build.drawn.draw_parts.Goals as goal
+use Rattle.wasm_smith.proofs.build.parts_so_far.draw_parts.Goals as goal
 
 pub returns-in_err-made-clause-left : goal.returns-in_err-made-clause-left
 returns-in_err-made-clause-left c = λ whole h.
@@ -46,7 +46,7 @@ returns-clause-kept c =
     let made = c.in_ok-made.ensures in
     let contents = c.in_ok-drawn.ensures in
     let kept = kept_beyond made.beyond (kept_beyond c.in_ok-add_definitions.ensures.beyond (kept_beyond c.in_ok-add_imports.ensures.beyond c.in_ok-begin_with_types.ensures.kept)) in
-    let drawn : Drawn = record c.make_exports.new.drawn {
+    let drawn : PartsSoFar = record c.make_exports.new.drawn {
       contents = c.in_ok-drawn.field-0;
       encodes_imports = c.draw_section_flag-encodes_imports.result;
       interesting_values32 = c.in_ok-narrow.narrow;

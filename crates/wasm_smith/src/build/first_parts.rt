@@ -5,16 +5,18 @@ ghost use Rattle.smith_bytes.specs.Source.{KeepsPieces};
 ghost use Rattle.smith_bytes.specs.declared.error.Which.TheVariants.{AvailableImports, ModuleShape};
 ghost use Rattle.smith_config.specs.Sanitized.{IsSanitized};
 ghost use Rattle.smith_config.specs.Shapes.{IsShapeValid, shape_imports, shape_types};
-ghost use Rattle.wasm_smith.specs.Begun.{begun_of, HasNothing, begun_by_module_at};
-ghost use Rattle.wasm_smith.specs.Begun.{begun_by_imports_at, begun_at, IsBegunByModule};
-ghost use Rattle.wasm_smith.specs.Begun.{IsBegunByImports, IsBegun, MayRefuseBegun};
+ghost use Rattle.wasm_smith.specs.FirstParts.{module_so_far, HasNothing};
+ghost use Rattle.wasm_smith.specs.FirstParts.{first_parts_by_module_at, first_parts_by_imports_at};
+ghost use Rattle.wasm_smith.specs.FirstParts.{first_parts_at, AreFirstPartsByModule};
+ghost use Rattle.wasm_smith.specs.FirstParts.{AreFirstPartsByImports, AreFirstParts};
+ghost use Rattle.wasm_smith.specs.FirstParts.{MayRefuseFirstParts};
 ghost use Rattle.smith_types.specs.Imports.{imported_spaces};
 ghost use Rattle.smith_defined.specs.Defined.{drawn_beside, nothing_defined};
 ghost use Rattle.smith_rules.specs.Refusals.{AreShapesValid};
 ghost use Rattle.smith_defined.specs.Required.{MayRefuseRequired};
 ghost use Rattle.smith_bytes.specs.Steps.{Returns, is_memory};
 
-use crate::build::drawn::Drawn;
+use crate::build::parts_so_far::PartsSoFar;
 use smith_bytes::{Error, Unstructured};
 use smith_config::{Config, Shape};
 use smith_defined::make_shape_exports;
@@ -24,20 +26,20 @@ use std::alloc::Global;
 
 /// Begins a module with the types, the imports and the exports of the module shape `shape`. Defines
 /// an entity for each export.
-#[tactic(auto, unfolding(crate::specs::Begun::begun_by_module_at))]
+#[tactic(auto, unfolding(crate::specs::FirstParts::first_parts_by_module_at))]
 pub(crate) fn begin_with_module(
     alloc: Global,
     config: &Config,
     shape: &Shape,
-    drawn: &mut Drawn,
+    drawn: &mut PartsSoFar,
     u: &mut Unstructured<'_>,
 ) -> Result<(), Error>
     requires sanitized { IsSanitized config.now }
     requires valid { IsShapeValid ModuleShape config.now shape.now }
     requires nothing { HasNothing drawn.old }
-    ensures exact { Returns is_memory (λ _. (begun_of drawn.new, u.new)) result
-        (begun_by_module_at config.now shape.now u.old) }
-    ensures begun { OnOk result (IsBegunByModule config.now shape.now drawn.new) }
+    ensures exact { Returns is_memory (λ _. (module_so_far drawn.new, u.new)) result
+        (first_parts_by_module_at config.now shape.now u.old) }
+    ensures parts { OnOk result (AreFirstPartsByModule config.now shape.now drawn.new) }
     ensures refusal { IfErr result
         (MayRefuseRequired config.now (drawn_beside config.now (shape_types shape.now)
         (imported_spaces (shape_imports shape.now)) nothing_defined) shape.now) }
@@ -59,20 +61,20 @@ pub(crate) fn begin_with_module(
 
 /// Begins a module with the types of the available imports `shape`, and those of its imports that
 /// the bytes pick and that fit.
-#[tactic(auto, unfolding(crate::specs::Begun::begun_by_imports_at))]
+#[tactic(auto, unfolding(crate::specs::FirstParts::first_parts_by_imports_at))]
 pub(crate) fn begin_with_imports(
     alloc: Global,
     config: &Config,
     shape: &Shape,
-    drawn: &mut Drawn,
+    drawn: &mut PartsSoFar,
     u: &mut Unstructured<'_>,
 ) -> Result<(), Error>
     requires sanitized { IsSanitized config.now }
     requires valid { IsShapeValid AvailableImports config.now shape.now }
     requires nothing { HasNothing drawn.old }
     ensures exact { OnOk result
-        (begun_by_imports_at config.now shape.now u.old ≡ (begun_of drawn.new, u.new)) }
-    ensures begun { OnOk result (IsBegunByImports config.now shape.now u.old drawn.new) }
+        (first_parts_by_imports_at config.now shape.now u.old ≡ (module_so_far drawn.new, u.new)) }
+    ensures parts { OnOk result (AreFirstPartsByImports config.now shape.now u.old drawn.new) }
     ensures memory { IfErr result (λ e. e ≡ Error.Memory) }
     ensures left { KeepsPieces u.old u.new }
 {
@@ -84,20 +86,20 @@ pub(crate) fn begin_with_imports(
 
 /// Begins a module with the shapes that `config` uses: a module shape, else available imports, else
 /// nothing.
-#[tactic(auto, unfolding(crate::specs::Begun::begun_at))]
+#[tactic(auto, unfolding(crate::specs::FirstParts::first_parts_at))]
 pub(crate) fn begin(
     alloc: Global,
     config: &Config,
-    drawn: &mut Drawn,
+    drawn: &mut PartsSoFar,
     u: &mut Unstructured<'_>,
 ) -> Result<(), Error>
     requires sanitized { IsSanitized config.now }
     requires valid { AreShapesValid config.now }
     requires nothing { HasNothing drawn.old }
-    ensures exact { Returns is_memory (λ _. (begun_of drawn.new, u.new)) result
-        (begun_at config.now u.old) }
-    ensures begun { OnOk result (IsBegun config.now u.old drawn.new) }
-    ensures refusal { IfErr result (MayRefuseBegun config.now) }
+    ensures exact { Returns is_memory (λ _. (module_so_far drawn.new, u.new)) result
+        (first_parts_at config.now u.old) }
+    ensures parts { OnOk result (AreFirstParts config.now u.old drawn.new) }
+    ensures refusal { IfErr result (MayRefuseFirstParts config.now) }
     ensures left { KeepsPieces u.old u.new }
 {
     if let Some(shape) = &config.module_shape {

@@ -1,5 +1,5 @@
-use Rattle.wasm_smith.proofs.BegunLemmas.{module_used, imports_used}
-use Rattle.wasm_smith.proofs.build.begun.begin.Goals as goal
+use Rattle.wasm_smith.proofs.FirstPartsLemmas.{module_used, imports_used}
+use Rattle.wasm_smith.proofs.build.first_parts.begin.Goals as goal
 
 pub begin_with_module-requires-clause-valid : goal.begin_with_module-requires-clause-valid
 begin_with_module-requires-clause-valid c = module_used c.args.config.now c.in-Some.shape c.in-Some.is c.requires.valid

@@ -9,8 +9,8 @@ use Rattle.smith_bytes.specs.declared.error.Count.TheVariants as counts
 use Rattle.smith_bytes.specs.declared.error.Error.{Error}
 use Rattle.smith_bytes.specs.declared.error.Which.TheVariants.{AvailableImports, ModuleShape}
 use Rattle.smith_types.specs.Entities.{AreEntitiesValid, AreCountsEnabled}
-use Rattle.smith_types.specs.Imports.{IndexSpaces, Defines, imported, imported_spaces, tag_of, func_of, table_of, memory_of, global_of}
-use Rattle.smith_types.specs.Space.{Space}
+use Rattle.smith_types.specs.Imports.{EntitySpaces, Defines, imported, imported_spaces, tag_of, func_of, table_of, memory_of, global_of}
+use Rattle.smith_types.specs.GroupedTypes.{GroupedTypes}
 use Rattle.smith_types.specs.ValidTypes.{AreTypesValid}
 use Rattle.smith_types.specs.declared.entity_type.EntityType.{EntityType}
 use Rattle.smith_types.specs.declared.entity_type.EntityType.TheVariants as entity
@@ -81,7 +81,7 @@ imported_room imports more few =
 defines_none : {A : Type 0} (xs : List A) → Defines xs 0 xs
 defines_none xs = record { defined = []; count_is = refl; parts = sym (append-nil xs) }
 
-pub stands_alone : (config : Config) (space : Space) (spaces : IndexSpaces) → AreTypesValid (features_of config) space → AreEntitiesValid (features_of config) space.types spaces → AreCountsEnabled (features_of config) spaces
+pub stands_alone : (config : Config) (space : GroupedTypes) (spaces : EntitySpaces) → AreTypesValid (features_of config) space → AreEntitiesValid (features_of config) space.types spaces → AreCountsEnabled (features_of config) spaces
     → StandsBehind config spaces space spaces nothing_defined
 stands_alone config space spaces types entities counts = record {
   types = types;
@@ -130,13 +130,13 @@ of_one {A = A} before more all h =
     ]) all h
 
 -- the tables, memories and globals that a module shape adds are its own
-pub tables_of_shape : (shape : Shape) (spaces : IndexSpaces) → AddsLimitsOf shape (imported_spaces (shape_imports shape)) spaces → All (Contains (shape_spaces shape).tables) spaces.tables
+pub tables_of_shape : (shape : Shape) (spaces : EntitySpaces) → AddsLimitsOf shape (imported_spaces (shape_imports shape)) spaces → All (Contains (shape_spaces shape).tables) spaces.tables
 tables_of_shape shape spaces added = of_one (imported_spaces (shape_imports shape)).tables shape.tables spaces.tables added.tables
 
-pub memories_of_shape : (shape : Shape) (spaces : IndexSpaces) → AddsLimitsOf shape (imported_spaces (shape_imports shape)) spaces → All (Contains (shape_spaces shape).memories) spaces.memories
+pub memories_of_shape : (shape : Shape) (spaces : EntitySpaces) → AddsLimitsOf shape (imported_spaces (shape_imports shape)) spaces → All (Contains (shape_spaces shape).memories) spaces.memories
 memories_of_shape shape spaces added = of_one (imported_spaces (shape_imports shape)).memories shape.memories spaces.memories added.memories
 
-pub globals_of_shape : (shape : Shape) (spaces : IndexSpaces) → AddsLimitsOf shape (imported_spaces (shape_imports shape)) spaces → All (Contains (shape_spaces shape).globals) spaces.globals
+pub globals_of_shape : (shape : Shape) (spaces : EntitySpaces) → AddsLimitsOf shape (imported_spaces (shape_imports shape)) spaces → All (Contains (shape_spaces shape).globals) spaces.globals
 globals_of_shape shape spaces added = of_one (imported_spaces (shape_imports shape)).globals shape.globals spaces.globals added.globals
 
 -- the result of a refusal is that refusal
@@ -148,7 +148,7 @@ several_by true most n one within several = refl
 several_by false most n one within several = absurd (omega (arith, one refl))
 
 -- if there are no more tables and memories than allowed, there are several only if that is enabled
-pub taken_enabled : (config : Config) (spaces : IndexSpaces) → IsSanitized config → AreNumbersWithin config spaces → (0 < length spaces.tags → IsTrue config.exceptions_enabled) → AreCountsEnabled (features_of config) spaces
+pub taken_enabled : (config : Config) (spaces : EntitySpaces) → IsSanitized config → AreNumbersWithin config spaces → (0 < length spaces.tags → IsTrue config.exceptions_enabled) → AreCountsEnabled (features_of config) spaces
 taken_enabled config spaces sanitized within tags = record {
   tags = tags;
   several_tables = λ some. several_by config.reference_types_enabled config.max_tables (length spaces.tables) sanitized.one_table within.tables some;

@@ -1,7 +1,7 @@
 use Rattle.wasm_smith.proofs.DrawnModuleLemmas.{drawn_valid}
 use Rattle.wasm_smith.proofs.DrawnBoundLemmas.{drawn_bounds, drawn_minimums}
 use Rattle.wasm_smith.proofs.DrawnPromiseLemmas.{drawn_promises, drawn_interesting}
-use Rattle.wasm_smith.proofs.build.drawn.draw.Goals as goal
+use Rattle.wasm_smith.proofs.build.parts_so_far.draw.Goals as goal
 
 pub returns-clause-valid : goal.returns-clause-valid
 returns-clause-valid c = drawn_valid c.args.distinct c.args.config.now _ c.in_ok-draw_parts.ensures.drawn

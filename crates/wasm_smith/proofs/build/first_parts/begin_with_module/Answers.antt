@@ -1,20 +1,20 @@
 use Rattle.std.proofs.Common.{◌≡◌, ◌∙◌, ◌+◌, List, ap}
-use Rattle.smith_types.specs.Imports.{IndexSpaces, imported_spaces}
-use Rattle.smith_types.specs.IndexSpaces.{spaces_in}
-use Rattle.smith_types.specs.Space.{Space}
+use Rattle.smith_types.specs.Imports.{EntitySpaces, imported_spaces}
+use Rattle.smith_types.specs.EntitySpaces.{spaces_in}
+use Rattle.smith_types.specs.GroupedTypes.{GroupedTypes}
 use Rattle.smith_types.proofs.GroupsAddedLemmas.{valid_following}
 use Rattle.smith_config.specs.Features.{features_of}
 use Rattle.smith_config.specs.Shapes.{shape_imports, space_of}
 use Rattle.smith_draw.proofs.ConstStepLemmas.{passed_on}
 use Rattle.smith_rules.specs.ExportedItems.{Export}
 use Rattle.smith_rules.specs.ShapeImports.{count_in, kept_groups}
-use Rattle.wasm_smith.specs.Begun.{ModuleSoFar, begun_by_module_at}
+use Rattle.wasm_smith.specs.FirstParts.{ModuleSoFar, first_parts_by_module_at}
 use Rattle.smith_defined.specs.Defined.{nothing_defined}
 use Rattle.smith_rules.specs.Bounds.{items_of_exports}
 use Rattle.smith_defined.specs.declared.definitions.Definitions.{Definitions}
 use Rattle.smith_defined.specs.RequiredExports.{Required, standing_with, then_with}
-use Rattle.wasm_smith.proofs.BegunLemmas.{stands_alone, may_begin, brought_so, tables_of_shape, memories_of_shape, globals_of_shape, refused_with}
-use Rattle.wasm_smith.proofs.build.begun.begin_with_module.Goals as goal
+use Rattle.wasm_smith.proofs.FirstPartsLemmas.{stands_alone, may_begin, brought_so, tables_of_shape, memories_of_shape, globals_of_shape, refused_with}
+use Rattle.wasm_smith.proofs.build.first_parts.begin_with_module.Goals as goal
 
 pub types_of_shape-requires-clause-following : goal.types_of_shape-requires-clause-following
 types_of_shape-requires-clause-following c = valid_following (features_of c.args.config.now) (space_of c.args.shape.now.groups) c.requires.valid.consistent.types
@@ -22,14 +22,14 @@ types_of_shape-requires-clause-following c = valid_following (features_of c.args
 pub make_shape_exports-requires-clause-may : goal.make_shape_exports-requires-clause-may
 make_shape_exports-requires-clause-may c =
     let kept = c.in_ok-drawn-2.ensures.kept in
-    let nothing : c.args.drawn.now.definitions ≡ nothing_defined = ap (λ (begun : ModuleSoFar). begun.defined) c.requires.nothing.begun in
+    let nothing : c.args.drawn.now.definitions ≡ nothing_defined = ap (λ (so_far : ModuleSoFar). so_far.defined) c.requires.nothing.so_far in
     rw (c.in_ok-drawn.ensures.types, kept.spaces, nothing) (may_begin c.args.config.now c.args.shape.now c.requires.sanitized c.requires.valid kept.entities)
 
 pub returns-in_err-drawn-3-clause-exact : goal.returns-in_err-drawn-3-clause-exact
-unfolding begun_by_module_at
+unfolding first_parts_by_module_at
 returns-in_err-drawn-3-clause-exact c =
     let kept = c.in_ok-drawn-2.ensures.kept in
-    let nothing : c.args.drawn.now.definitions ≡ nothing_defined = ap (λ (begun : ModuleSoFar). begun.defined) c.requires.nothing.begun in
+    let nothing : c.args.drawn.now.definitions ≡ nothing_defined = ap (λ (so_far : ModuleSoFar). so_far.defined) c.requires.nothing.so_far in
     let given = rw (c.in_ok-drawn.ensures.types, kept.spaces, nothing) at c.in_err-drawn-3.ensures.exact in
     refused_with
     (λ (made : Required). record { types = made.types; groups = kept_groups c.args.config.now c.args.shape.now; spaces = made.spaces; defined = made.defined; exports = made.exports })
@@ -39,27 +39,27 @@ returns-in_err-drawn-3-clause-exact c =
 pub returns-in_err-drawn-3-clause-refusal : goal.returns-in_err-drawn-3-clause-refusal
 returns-in_err-drawn-3-clause-refusal c =
     let kept = c.in_ok-drawn-2.ensures.kept in
-    let nothing : c.args.drawn.now.definitions ≡ nothing_defined = ap (λ (begun : ModuleSoFar). begun.defined) c.requires.nothing.begun in
-    let types = ap (λ (space : Space). space.types) c.in_ok-drawn.ensures.types in
-    let funcs = ap (λ (spaces : IndexSpaces). spaces.funcs) kept.spaces in
+    let nothing : c.args.drawn.now.definitions ≡ nothing_defined = ap (λ (so_far : ModuleSoFar). so_far.defined) c.requires.nothing.so_far in
+    let types = ap (λ (space : GroupedTypes). space.types) c.in_ok-drawn.ensures.types in
+    let funcs = ap (λ (spaces : EntitySpaces). spaces.funcs) kept.spaces in
     let defined = ap (λ (made : Definitions). made.num_funcs) nothing in
     passed_on _ c.from_residual-in_err-drawn-3.result c.in_err-drawn-3.field-0.0 c.from_residual-in_err-drawn-3.ensures.1 (rw (types, funcs, defined) at c.in_err-drawn-3.ensures.refusal)
 
 pub returns-clause-exact : goal.returns-clause-exact
-unfolding begun_by_module_at
+unfolding first_parts_by_module_at
 returns-clause-exact c =
     let kept = c.in_ok-drawn-2.ensures.kept in
-    let nothing : c.args.drawn.now.definitions ≡ nothing_defined = ap (λ (begun : ModuleSoFar). begun.defined) c.requires.nothing.begun in
+    let nothing : c.args.drawn.now.definitions ≡ nothing_defined = ap (λ (so_far : ModuleSoFar). so_far.defined) c.requires.nothing.so_far in
     let made = rw (c.in_ok-drawn.ensures.types, kept.spaces, nothing) at c.in_ok-drawn-3.ensures.exact in
     rw kept.groups
     (ap (then_with (λ (made : Required). record { types = made.types; groups = kept_groups c.args.config.now c.args.shape.now; spaces = made.spaces; defined = made.defined; exports = made.exports })) made)
 
-pub returns-clause-begun : goal.returns-clause-begun
-returns-clause-begun c =
+pub returns-clause-parts : goal.returns-clause-parts
+returns-clause-parts c =
     let shape = c.args.shape.now in
     let kept = c.in_ok-drawn-2.ensures.kept in
     let made = c.in_ok-drawn-3.ensures in
-    let nothing : c.args.drawn.now.definitions ≡ nothing_defined = ap (λ (begun : ModuleSoFar). begun.defined) c.requires.nothing.begun in
+    let nothing : c.args.drawn.now.definitions ≡ nothing_defined = ap (λ (so_far : ModuleSoFar). so_far.defined) c.requires.nothing.so_far in
     let imported = imported_spaces (shape_imports shape) in
     record {
       types = made.types ∙ c.in_ok-drawn.ensures.types;
@@ -69,7 +69,7 @@ returns-clause-begun c =
       type_size = kept.type_size;
       valid = kept.valid;
       stands = made.stands imported (rw (c.in_ok-drawn.ensures.types, kept.spaces, nothing) (stands_alone c.args.config.now (space_of shape.groups) imported c.requires.valid.consistent.types kept.entities kept.counts));
-      counted = λ count types imports. made.counted count types ∙ (ap (λ (spaces : IndexSpaces). count_in spaces count + items_of_exports count shape) kept.spaces ∙ brought_so count shape types imports);
+      counted = λ count types imports. made.counted count types ∙ (ap (λ (spaces : EntitySpaces). count_in spaces count + items_of_exports count shape) kept.spaces ∙ brought_so count shape types imports);
       tables = tables_of_shape shape (spaces_in c.make_shape_exports.new.spaces) (rw kept.spaces at made.limits);
       memories = memories_of_shape shape (spaces_in c.make_shape_exports.new.spaces) (rw kept.spaces at made.limits);
       globals = globals_of_shape shape (spaces_in c.make_shape_exports.new.spaces) (rw kept.spaces at made.limits);

@@ -4,12 +4,12 @@ use Rattle.std.specs.declared.ops.Range.{Range}
 use Rattle.smith_types.specs.declared.composite_type.SubType.{SubType}
 use Rattle.smith_types.specs.Types.{IsAlike, IsOrderly, AreConsecutive, next_start}
 
-pub record Space : Type 0 where
+pub record GroupedTypes : Type 0 where
   pub types : List SubType
   pub groups : List (Range ℕ)
 
 -- the invariant of a type space; types after the last group belong to no group yet
-pub record IsSound (space : Space) : Type 0 where
+pub record IsSound (space : GroupedTypes) : Type 0 where
   pub orderly : IsOrderly space.types
   pub consecutive : AreConsecutive 0 space.groups
   pub within : next_start space.groups ≤ length space.types

@@ -4,7 +4,7 @@ ghost use Rattle.std.specs.Prelude.{IfErr, IfOk, OnOk};
 ghost use Rattle.smith_bytes.specs.Source.{KeepsPieces};
 ghost use Rattle.smith_config.specs.Faults.{Passes};
 ghost use Rattle.smith_config.specs.Sanitized.{IsSanitized};
-ghost use Rattle.wasm_smith.specs.Begun.{HasNothing};
+ghost use Rattle.wasm_smith.specs.FirstParts.{HasNothing};
 ghost use Rattle.smith_rules.specs.Bounds.{KeepsBounds, MeetsMinimums};
 ghost use Rattle.smith_bytes.specs.Steps.{Returns, is_lack};
 ghost use Rattle.wasm_smith.specs.Build.{parts_of, as_drawn, module_at};
@@ -29,7 +29,7 @@ use std::alloc::Global;
 
 /// Parts of a module, as they are drawn.
 #[derive(Drop)]
-pub(crate) struct Drawn {
+pub(crate) struct PartsSoFar {
     /// The types, in their recursive groups.
     pub(crate) types: TypeSpace,
     /// The imports, and the complete index spaces, in which imported items come first.
@@ -46,12 +46,12 @@ pub(crate) struct Drawn {
     pub(crate) interesting_values64: Items<u64>,
 }
 
-impl Drawn {
+impl PartsSoFar {
     /// Makes empty parts. Takes no memory.
     pub(crate) fn none(alloc: Global) -> Self
         ensures { HasNothing result }
     {
-        Drawn {
+        PartsSoFar {
             types: TypeSpace::new(alloc),
             imported: Imported::new(alloc),
             definitions: Definitions::none(alloc),
@@ -70,7 +70,7 @@ fn draw_parts(
     alloc: Global,
     config: &Config,
     distinct: bool,
-    drawn: &mut Drawn,
+    drawn: &mut PartsSoFar,
     u: &mut Unstructured<'_>,
 ) -> Result<(), Error>
     requires passes { Passes config.now }
@@ -108,7 +108,7 @@ pub(crate) fn draw(
     config: &Config,
     distinct: bool,
     u: &mut Unstructured<'_>,
-) -> Result<Box<Drawn>, Error>
+) -> Result<Box<PartsSoFar>, Error>
     requires passes { Passes config.now }
     requires sanitized { IsSanitized config.now }
     requires valid { AreShapesValid config.now }
@@ -128,7 +128,7 @@ pub(crate) fn draw(
     ensures refusal { IfErr result (MayRefuse config.now) }
     ensures left { KeepsPieces u.old u.new }
 {
-    let mut drawn = Box::new(alloc, Drawn::none(alloc))?;
+    let mut drawn = Box::new(alloc, PartsSoFar::none(alloc))?;
     draw_parts(alloc, config, distinct, drawn.as_mut(), u)?;
     Ok(drawn)
 }

@@ -4,7 +4,7 @@ ghost use Rattle.smith_bytes.specs.declared.error.Why.TheVariants.{SeveralMemori
 ghost use Rattle.smith_types.specs.declared.entity_type.ExportKind.TheVariants as kind;
 ghost use Rattle.smith_config.specs.Config.{default_config};
 ghost use Rattle.smith_config.specs.Shapes.{space_of};
-ghost use Rattle.wasm_smith.specs.Begun.{begun_at, nothing_begun};
+ghost use Rattle.wasm_smith.specs.FirstParts.{first_parts_at, nothing_so_far};
 ghost use Rattle.smith_defined.specs.Defined.{nothing_defined};
 ghost use Rattle.smith_rules.specs.Module.{module_spaces};
 ghost use Rattle.smith_rules_examples.specs.ExampleParts.{memory};
@@ -14,22 +14,22 @@ ghost use Rattle.smith_rules_examples.specs.ExampleShapes.{imported_memories, me
 ghost use Rattle.smith_rules_examples.specs.ExampleShapes.{environment};
 
 // A module shape adds its imports without the empty groups, and a memory for its export.
-#[tactic(auto, unfolding(wasm_smith::specs::Begun::begun_at, wasm_smith::specs::Begun::begun_by_module_at, smith_defined::specs::RequiredExports::required_from, smith_defined::specs::RequiredExports::entity_required_at, smith_defined::specs::RequiredExports::defined_with_at))]
+#[tactic(auto, unfolding(wasm_smith::specs::FirstParts::first_parts_at, wasm_smith::specs::FirstParts::first_parts_by_module_at, smith_defined::specs::RequiredExports::required_from, smith_defined::specs::RequiredExports::entity_required_at, smith_defined::specs::RequiredExports::defined_with_at))]
 fn of_a_module_shape()
-    ensures nothing { begun_at default_config (7 ∷ []) ≡ Ok (nothing_begun, 7 ∷ []) }
-    ensures imports { begun_at
+    ensures nothing { first_parts_at default_config (7 ∷ []) ≡ Ok (nothing_so_far, 7 ∷ []) }
+    ensures imports { first_parts_at
         (for_module imported_memories (record default_config { max_memories = 3 })) (7 ∷ [])
         ≡ Ok (
-          record nothing_begun {
+          record nothing_so_far {
             groups = three_memories.imports;
             spaces = module_spaces three_memories;
           },
           7 ∷ [],
         ) }
-    ensures an_export { begun_at
+    ensures an_export { first_parts_at
         (for_module memories_in_and_out (record default_config { max_memories = 2 })) (7 ∷ [])
         ≡ Ok (
-          record nothing_begun {
+          record nothing_so_far {
             groups = three_memories.imports;
             spaces = record (module_spaces three_memories) {
               memories = memory 1 None ∷ memory 1 None ∷ memory 1 None ∷ memory 1 None ∷ [];
@@ -39,14 +39,14 @@ fn of_a_module_shape()
           },
           7 ∷ [],
         ) }
-    ensures a_memory_too_many { begun_at
+    ensures a_memory_too_many { first_parts_at
         (for_module memories_in_and_out (record default_config { max_memories = 1 })) []
         ≡ Err (IncorrectFormat SeveralMemories) }
 {}
 
 // Available imports add the types of their shape, even if no import is picked.
-#[tactic(auto, unfolding(wasm_smith::specs::Begun::begun_at, wasm_smith::specs::Begun::begun_by_imports_at, smith_imports::specs::AvailableImports::available_at, smith_imports::specs::AvailableImports::picked_at, smith_imports::specs::AvailableImports::grouped_at, smith_bytes::specs::Draws::bool_at))]
+#[tactic(auto, unfolding(wasm_smith::specs::FirstParts::first_parts_at, wasm_smith::specs::FirstParts::first_parts_by_imports_at, smith_imports::specs::AvailableImports::available_at, smith_imports::specs::AvailableImports::picked_at, smith_imports::specs::AvailableImports::grouped_at, smith_bytes::specs::Draws::bool_at))]
 fn of_available_imports()
-    ensures none_picked { begun_at (for_imports environment default_config) (0 ∷ 0 ∷ 7 ∷ [])
-        ≡ Ok (record nothing_begun { types = space_of environment.groups }, 7 ∷ []) }
+    ensures none_picked { first_parts_at (for_imports environment default_config) (0 ∷ 0 ∷ 7 ∷ [])
+        ≡ Ok (record nothing_so_far { types = space_of environment.groups }, 7 ∷ []) }
 {}

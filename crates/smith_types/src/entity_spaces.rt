@@ -2,7 +2,8 @@ ghost use Rattle.std.specs.Prelude.{◌≡◌, ◌++◌, [], ◌∷◌, map, OnO
 ghost use Rattle.std.specs.List.{flat_map};
 ghost use Rattle.smith_types.specs.Imports.{flattened, imported_spaces};
 ghost use Rattle.smith_types.specs.declared.imports.ImportItem.{ImportItem as Item};
-ghost use Rattle.smith_types.specs.IndexSpaces.{spaces_in, with_entity, with_entities, entities_of};
+ghost use Rattle.smith_types.specs.EntitySpaces.{spaces_in, with_entity, with_entities};
+ghost use Rattle.smith_types.specs.EntitySpaces.{entities_of};
 
 use crate::entity_type::{EntityType, GlobalType, MemoryType, TableType};
 use crate::imports::{ImportItem, Imports};
@@ -13,7 +14,7 @@ use std::alloc::Global;
 /// The index spaces of a module except that of types (Structure, Indices). Tags and functions are
 /// given by the indices of their types.
 #[derive(Drop)]
-pub struct IndexSpaces {
+pub struct EntitySpaces {
     /// The index of the type of each tag.
     pub tags: Items<u32>,
     /// The index of the type of each function.
@@ -26,13 +27,13 @@ pub struct IndexSpaces {
     pub globals: Items<GlobalType>,
 }
 
-impl IndexSpaces {
+impl EntitySpaces {
     /// Creates empty index spaces. Allocates from `alloc` only once entities are added.
-    pub fn new(alloc: Global) -> IndexSpaces
+    pub fn new(alloc: Global) -> EntitySpaces
         ensures { spaces_in result
             ≡ record { tags = []; funcs = []; tables = []; memories = []; globals = [] } }
     {
-        IndexSpaces {
+        EntitySpaces {
             tags: Items::new(alloc),
             funcs: Items::new(alloc),
             tables: Items::new(alloc),
@@ -57,7 +58,7 @@ impl IndexSpaces {
 }
 
 // Appends the entities of `group`, of which there may be none.
-fn push_group(spaces: &mut IndexSpaces, group: &Imports) -> Result<(), Error>
+fn push_group(spaces: &mut EntitySpaces, group: &Imports) -> Result<(), Error>
     ensures ok { OnOk result
         (spaces_in spaces.new ≡ with_entities (spaces_in spaces.old) (entities_of group.now)) }
     ensures memory { IfErr result (λ e. e ≡ Error.Memory) }
@@ -73,7 +74,7 @@ fn push_group(spaces: &mut IndexSpaces, group: &Imports) -> Result<(), Error>
     }
 }
 
-fn push_items(spaces: &mut IndexSpaces, items: &[ImportItem]) -> Result<(), Error>
+fn push_items(spaces: &mut EntitySpaces, items: &[ImportItem]) -> Result<(), Error>
     ensures ok { OnOk result (spaces_in spaces.new ≡ with_entities (spaces_in spaces.old)
         (map (λ (item : Item). item.entity_type) items.now)) }
     ensures memory { IfErr result (λ e. e ≡ Error.Memory) }
@@ -85,7 +86,7 @@ fn push_items(spaces: &mut IndexSpaces, items: &[ImportItem]) -> Result<(), Erro
 }
 
 fn push_names(
-    spaces: &mut IndexSpaces,
+    spaces: &mut EntitySpaces,
     entity_type: EntityType,
     names: &[Name],
 ) -> Result<(), Error>
@@ -102,17 +103,17 @@ fn push_names(
 /// Creates the index spaces of the given imports. Each import in turn is appended to the index
 /// space of its kind (Validation, Modules).
 #[tactic(auto, using(crate::proofs::ImportedSpaceLemmas::imported_is_grown))]
-pub fn imported_spaces_of(alloc: Global, imports: &[Imports]) -> Result<IndexSpaces, Error>
+pub fn imported_spaces_of(alloc: Global, imports: &[Imports]) -> Result<EntitySpaces, Error>
     ensures ok { IfOk result (λ spaces.
         spaces_in spaces ≡ imported_spaces (flattened imports.now)) }
     ensures memory { IfErr result (λ e. e ≡ Error.Memory) }
 {
-    let mut spaces = IndexSpaces::new(alloc);
+    let mut spaces = EntitySpaces::new(alloc);
     push_groups(&mut spaces, imports)?;
     Ok(spaces)
 }
 
-fn push_groups(spaces: &mut IndexSpaces, imports: &[Imports]) -> Result<(), Error>
+fn push_groups(spaces: &mut EntitySpaces, imports: &[Imports]) -> Result<(), Error>
     ensures ok { OnOk result (spaces_in spaces.new
         ≡ with_entities (spaces_in spaces.old) (flat_map entities_of imports.now)) }
     ensures memory { IfErr result (λ e. e ≡ Error.Memory) }
