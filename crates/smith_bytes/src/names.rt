@@ -31,11 +31,16 @@ pub fn unique_string(
     names: &mut HashSet<String>,
     u: &mut Unstructured<'_>,
 ) -> Result<String, Error>
+    // The name.
     ensures made { IfOk result (λ name.
         IsMadeNew names.old (text_at max_size u.old).0 (string_bytes name)) }
     ensures added { IfOk result (λ name. AddsName names.old names.new (string_bytes name)) }
+
+    // Refusals.
     ensures kept { OnErr result (IsUnchanged names.old names.new) }
     ensures memory { IfErr result (λ e. e ≡ Error.Memory) }
+
+    // The source.
     ensures rest { OnOk result (u.new ≡ (text_at max_size u.old).1) }
     ensures left { KeepsPieces u.old u.new }
 {
@@ -60,12 +65,17 @@ pub fn unique_kebab_string(
     names: &mut HashSet<String>,
     u: &mut Unstructured<'_>,
 ) -> Result<String, Error>
+    // The name.
     ensures made { IfOk result (λ name.
         IsMadeNew names.old (kebab_at max_size u.old).0 (string_bytes name)) }
     ensures shape { IfOk result (λ name. IsKebab (string_bytes name)) }
     ensures added { IfOk result (λ name. AddsName names.old names.new (string_bytes name)) }
+
+    // Refusals.
     ensures kept { OnErr result (IsUnchanged names.old names.new) }
     ensures memory { IfErr result (λ e. e ≡ Error.Memory) }
+
+    // The source.
     ensures rest { OnOk result (u.new ≡ (kebab_at max_size u.old).1) }
     ensures left { KeepsPieces u.old u.new }
 {
@@ -92,6 +102,7 @@ pub fn unique_url(
     names: &mut HashSet<String>,
     u: &mut Unstructured<'_>,
 ) -> Result<String, Error>
+    // The URL and its path.
     ensures front { IfOk result (λ url.
         string_bytes url ≡ url_front ++ url_path (string_bytes url)) }
     ensures made { IfOk result (λ url.
@@ -99,8 +110,12 @@ pub fn unique_url(
     ensures shape { IfOk result (λ url. IsKebab (url_path (string_bytes url))) }
     ensures added { IfOk result (λ url.
         AddsName names.old names.new (url_path (string_bytes url))) }
+
+    // Refusals.
     ensures kept { OnErr result (IsUnchanged names.old names.new) }
     ensures memory { IfErr result (λ e. e ≡ Error.Memory) }
+
+    // The source.
     ensures rest { OnOk result (u.new ≡ (kebab_at max_size u.old).1) }
     ensures left { KeepsPieces u.old u.new }
 {

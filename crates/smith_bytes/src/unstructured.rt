@@ -188,9 +188,12 @@ impl<'a> Unstructured<'a> {
     /// assert_eq!(rt; u.len(), 1);
     /// ```
     pub fn bytes(&mut self, n: usize) -> Result<&'a [u8], Error>
+        // What is taken.
         ensures enough { IsOk result ↔ (n ≤ length self.old) }
         ensures lent { IfOk result (λ piece. piece.now ≡ take n self.old) }
         ensures rest { OnOk result (self.new ≡ drop n self.old) }
+
+        // Refusals and the source.
         ensures error { IfErr result (λ e. e ≡ Error.NotEnoughData) }
         ensures fault { OnErr result (self.new ≡ self.old) }
         ensures left { KeepsPieces self.old self.new }

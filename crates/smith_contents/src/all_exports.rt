@@ -103,13 +103,19 @@ pub(crate) fn export_everything(
 ) -> Result<Exports, Error>
     requires may { MayExport types.now.types (spaces_in spaces.now) }
     requires within { imports_size ≤ config.now.max_type_size }
+
+    // What is drawn.
     ensures exact { ReturnsWhy (λ made. (made.exports, u.new)) result
         (everything_at config.now types.now.types (spaces_in spaces.now) imports_size u.old) }
     ensures valid { IfOk result (λ made. AreExportsValid (spaces_in spaces.now) made.exports) }
     ensures everything { IfOk result (λ made. AreAllExported (spaces_in spaces.now) made.exports) }
+
+    // The type size.
     ensures type_size { IfOk result (λ made. made.type_size
         ≡ imports_size + exported_size types.now.types (spaces_in spaces.now) made.exports) }
     ensures within { IfOk result (λ made. made.type_size ≤ config.now.max_type_size) }
+
+    // Refusals and the source.
     ensures refusal { IfErr result MayRefuseAll }
     ensures left { KeepsPieces u.old u.new }
 {

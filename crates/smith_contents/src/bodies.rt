@@ -131,11 +131,17 @@ pub fn arbitrary_bodies(
     u: &mut Unstructured<'_>,
 ) -> Result<Items<Code>, Error>
     requires { IsSanitized config.now }
+
+    // What is drawn.
     ensures draws { Draws (bodies_at config.now (standing_in config.now spaces.now) count u.old)
         result u.old u.new }
     ensures each { IfOk result (λ bodies. length bodies ≡ count) }
+
+    // Validity.
     ensures valid { IfOk result (All (IsBodyValid (features_of config.now)
         (length spaces.now.types.now.types) config.now.allow_invalid_funcs)) }
+
+    // Floats, references and raw bytes.
     ensures floats { config.now.allow_floats ≡ false
         → IfOk result (λ bodies. All IsNoFloat (flat_map (λ body. body.locals) bodies)) }
     ensures granted { IfOk result (λ bodies.

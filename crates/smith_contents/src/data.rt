@@ -240,13 +240,19 @@ fn draw_data(
     requires memories { All (IsMemoryValid (features_of config.now))
         spaces.now.entities.memories.now }
     requires few { length spaces.now.entities.memories.now < 2 ^ 32 }
+
+    // What is drawn.
     ensures exact { ReturnsWhy (λ segments. (segments, u.new)) result (data_at config.now
         (seen_by config.now spaces.now true) spaces.now.entities.memories.now u.old) }
     ensures fit { IfOk result (All (IsDataFit config.now
         (seen_by config.now spaces.now true) spaces.now.entities.memories.now)) }
+
+    // Bounds.
     ensures most { IfOk result (λ segments. length segments ≤ config.now.max_data_segments) }
     ensures least { config.now.min_data_segments ≤ config.now.max_data_segments
         → IfOk result (λ segments. config.now.min_data_segments ≤ length segments) }
+
+    // Refusals and the source.
     ensures refusal { IfErr result (MayRefuseData config.now) }
     ensures left { KeepsPieces u.old u.new }
 {
@@ -283,14 +289,22 @@ pub fn arbitrary_data(
     requires memories { All (IsMemoryValid (features_of config.now))
         spaces.now.entities.memories.now }
     requires few { length spaces.now.entities.memories.now < 2 ^ 32 }
+
+    // What is drawn.
     ensures exact { ReturnsWhy (λ segments. (segments, u.new)) result (data_at config.now
         (seen_by config.now spaces.now true) spaces.now.entities.memories.now u.old) }
+
+    // Validity and traps.
     ensures valid { IfOk result
         (All (IsDataValid (seen_by config.now spaces.now true) spaces.now.entities.memories.now)) }
     ensures inside { IsTrue config.now.disallow_traps
         → IfOk result (All (IsDataInside spaces.now.entities.memories.now)) }
+
+    // Bounds.
     ensures most { IfOk result (λ segments. length segments ≤ config.now.max_data_segments) }
     ensures least { IfOk result (λ segments. config.now.min_data_segments ≤ length segments) }
+
+    // Reach, refusals and the source.
     ensures reach { config.now.min_data_segments ≡ 0 → spaces.now.entities.memories.now ≡ []
         → IfOk result (λ segments. Takes (SpellsPassive config.now) u.old segments u.new) }
     ensures refusal { IfErr result (MayRefuseData config.now) }

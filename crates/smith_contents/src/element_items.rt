@@ -222,11 +222,17 @@ fn draw_expression_item(
     requires references { IsTrue config.now.reference_types_enabled }
     requires may { MayHoldItems config.now spaces.now ty }
     requires kept { AreKeptOffers (seen_by config.now spaces.now true) kept.old }
+
+    // What is drawn.
     ensures exact { IfOk result (λ drawn.
         expression_item_at config.now (seen_by config.now spaces.now true) ty u.old
         ≡ (drawn, u.new)) }
+
+    // Validity and floats.
     ensures typed { IfOk result (IsConstExpr (seen_by config.now spaces.now true) (Ref ty)) }
     ensures floats { All HasNoFloat spaces.now.types.now.types → IfOk result (All GivesNoFloat) }
+
+    // The records, refusals and the source.
     ensures kept { OnOk result (AreKeptOffers (seen_by config.now spaces.now true) kept.new) }
     ensures refusal { IfErr result
         (MayRefuseConstExpr config.now (standing_in config.now spaces.now) (Ref ty)) }

@@ -191,23 +191,33 @@ pub fn arbitrary_elements(
     u: &mut Unstructured<'_>,
 ) -> Result<Items<ElementSegment>, Error>
     requires may { MayDrawElements config.now spaces.now }
+
+    // What is drawn.
     ensures exact { ReturnsWhy (λ segments. (segments, u.new)) result (elements_at config.now
         (seen_by config.now spaces.now true) spaces.now.entities.tables.now u.old) }
+
+    // Validity and traps.
     ensures valid { IfOk result
         (All (IsElementValid (seen_by config.now spaces.now true) spaces.now.entities.tables.now)) }
     ensures inside { IsTrue config.now.disallow_traps
         → IfOk result (All (IsElementInside spaces.now.entities.tables.now)) }
+
+    // Bounds.
     ensures most { IfOk result (λ segments. (length segments ≤ config.now.max_element_segments)
         × (items_in segments ≤ config.now.max_elements)) }
     ensures least { IfOk result (λ segments. config.now.min_element_segments ≤ length segments) }
     ensures enough { IfOk result (All (λ (segment : ElementSegment). HasItems config.now
         spaces.now.types.now.types spaces.now.entities.funcs.now segment.items)) }
+
+    // Floats and references.
     ensures floats { All HasNoFloat spaces.now.types.now.types
         → IfOk result (λ segments. All (All GivesNoFloat)
         (flat_map (λ (segment : ElementSegment). expressions_of segment.items) segments)) }
     ensures grounded { ¬ HasUngroundedElements config.now
         (standing_in config.now spaces.now) spaces.now.entities.tables.now
         → IfOk result (All (HasGroundedItems config.now (standing_in config.now spaces.now))) }
+
+    // Reach, refusals and the source.
     ensures none { config.now.min_element_segments ≡ 0 → spaces.now.entities.tables.now ≡ []
         → IfOk result (λ segments. Takes (SpellsEmpty (SpellsNone
         (if config.now.bulk_memory_enabled then config.now.max_element_segments else 0)))

@@ -39,15 +39,21 @@ fn draw_export(
 ) -> Result<(Name, ExportKind, u32), Error>
     requires may { MayOffer types.now.types (spaces_in spaces.now) most }
     requires some { 0 < length (offered_kinds types.now.types (spaces_in spaces.now) left) }
+
+    // What is drawn.
     ensures exact { (exports : List Export) → HasNames names.old exports → length exports < 2 ^ 64
         → IfOk result (λ one.
         export_at types.now.types (spaces_in spaces.now) left exports u.old ≡ (one, u.new)) }
+
+    // The name and the item.
     ensures fresh { (exports : List Export) → HasNames names.old exports
         → IfOk result (λ one. is_exported exports one.0 ≡ false) }
     ensures names { (exports : List Export) → HasNames names.old exports
         → IfOk result (λ one. HasNames names.new (exports ++ one ∷ [])) }
     ensures candidate { IfOk result (λ one.
         IsCandidate types.now.types (spaces_in spaces.now) left one.1 one.2) }
+
+    // Refusals and the source.
     ensures memory { IfErr result (λ e. e ≡ Error.Memory) }
     ensures left { KeepsPieces u.old u.new }
 {
@@ -135,14 +141,22 @@ fn draw_free_exports(
     u: &mut Unstructured<'_>,
 ) -> Result<Exports, Error>
     requires may { MayExportFreely config.now types.now.types (spaces_in spaces.now) imports_size }
+
+    // What is drawn.
     ensures exact { ReturnsWhy (λ made. (made.exports, u.new)) result
         (free_exports_at config.now types.now.types (spaces_in spaces.now) imports_size u.old) }
     ensures valid { IfOk result (λ made. AreExportsValid (spaces_in spaces.now) made.exports) }
+
+    // Bounds.
     ensures most { IfOk result (λ made. length made.exports ≤ config.now.max_exports) }
     ensures least { IfOk result (λ made. config.now.min_exports ≤ length made.exports) }
+
+    // The type size.
     ensures type_size { IfOk result (λ made. made.type_size
         ≡ imports_size + exported_size types.now.types (spaces_in spaces.now) made.exports) }
     ensures within { IfOk result (λ made. made.type_size ≤ config.now.max_type_size) }
+
+    // Refusals, reach and the source.
     ensures refusal { IfErr result (MayRefuseFree config.now) }
     ensures none { config.now.min_exports ≡ 0 → IfOk result (λ made.
         Takes (SpellsEmpty (SpellsNone config.now.max_exports)) u.old made.exports u.new) }
@@ -177,18 +191,26 @@ pub fn arbitrary_exports(
     u: &mut Unstructured<'_>,
 ) -> Result<Exports, Error>
     requires may { MayDrawExports config.now types.now.types (spaces_in spaces.now) imports_size }
+
+    // What is drawn.
     ensures exact { ReturnsWhy (λ made. (made.exports, u.new)) result
         (exports_at config.now types.now.types (spaces_in spaces.now) imports_size u.old) }
     ensures valid { IfOk result (λ made. AreExportsValid (spaces_in spaces.now) made.exports) }
+
+    // Bounds, or an export of every item.
     ensures most { config.now.export_everything ≡ false
         → IfOk result (λ made. length made.exports ≤ config.now.max_exports) }
     ensures least { config.now.export_everything ≡ false
         → IfOk result (λ made. config.now.min_exports ≤ length made.exports) }
     ensures everything { IsTrue config.now.export_everything
         → IfOk result (λ made. AreAllExported (spaces_in spaces.now) made.exports) }
+
+    // The type size.
     ensures type_size { IfOk result (λ made. made.type_size
         ≡ imports_size + exported_size types.now.types (spaces_in spaces.now) made.exports) }
     ensures within { IfOk result (λ made. made.type_size ≤ config.now.max_type_size) }
+
+    // Refusals, reach and the source.
     ensures refusal { IfErr result (MayRefuseExports config.now) }
     ensures none { config.now.export_everything ≡ false → config.now.min_exports ≡ 0
         → IfOk result (λ made.

@@ -62,12 +62,18 @@ pub(crate) fn define_funcs(
     requires valid { AreTypesValid (features_of config.now) types.now }
     requires least { config.now.min_types ≤ length types.now.types }
     requires few_types { length types.now.types < 2 ^ 32 }
+
+    // What is drawn.
     ensures exact { ReturnsWhy (λ _. (funcs.new, u.new)) result
         (funcs_at config.now types.now.types funcs.old u.old) }
+
+    // Bounds and validity.
     ensures filled { OnOk result
         (IsFilled config.now.min_funcs config.now.max_funcs funcs.old funcs.new) }
     ensures valid { All (IsFuncTypeIndex types.now.types) funcs.old
         → OnOk result (All (IsFuncTypeIndex types.now.types) funcs.new) }
+
+    // Refusals, reach and the source.
     ensures refusal { IfErr result (MayRefuse config.now) }
     ensures reach { config.now.min_funcs ≡ 0 → funcs.old ≡ []
         → OnOk result (Takes (SpellsFuncs config.now types.now.types) u.old funcs.new u.new) }

@@ -39,18 +39,26 @@ fn draw_initialised_global(
     requires spaces { AreSpacesValid config.now spaces.now }
     requires standing { standing.now ≡ standing_in config.now spaces.now }
     requires kept { AreKeptOffers (seen_by config.now spaces.now true) kept.old }
+
+    // What is drawn.
     ensures exact { IfOk result (λ drawn.
         initialised_at config.now (seen_by config.now spaces.now true) u.old ≡ (drawn, u.new)) }
+
+    // Validity.
     ensures valid { IfOk result (λ drawn.
         IsGlobalValid (features_of config.now) spaces.now.types.now.types drawn.0) }
     ensures initialised { IfOk result (λ drawn.
         IsConstExpr (seen_by config.now spaces.now true) drawn.0.val_type drawn.1.1) }
+
+    // Floats and references.
     ensures floats { config.now.allow_floats ≡ false
         → IfOk result (λ drawn. IsNoFloat drawn.0.val_type) }
     ensures grounded { IfOk result (λ drawn.
         HasGroundedValue config.now (standing_in config.now spaces.now) drawn.0) }
     ensures constants { config.now.allow_floats ≡ false → All HasNoFloat spaces.now.types.now.types
         → IfOk result (λ drawn. All GivesNoFloat drawn.1.1) }
+
+    // The records, refusals and the source.
     ensures kept { OnOk result (AreKeptOffers (seen_by config.now spaces.now true) kept.new) }
     ensures refusal { IfErr result (MayRefuseDrawn config.now (standing_in config.now spaces.now)) }
     ensures left { KeepsPieces u.old u.new }
@@ -81,9 +89,13 @@ fn push_globals<'a>(
     requires valid { All (IsGlobalValid (features_of config.now) types.now.types) globals.old }
     requires imported { imported_globals ≤ length globals.old }
     requires few { length globals.old < 2 ^ 32 }
+
+    // What is drawn.
     ensures exact { OnOk result (globals_at config.now (scope_among types.now.types funcs.now
         imported_funcs imported_globals globals.old) globals.old initials.old u.old
         ≡ ((globals.new, initials.new), u.new)) }
+
+    // Validity.
     ensures valid { OnOk result
         (All (IsGlobalValid (features_of config.now) types.now.types) globals.new) }
     ensures defined { AreGlobalsDefined config.now
@@ -92,6 +104,8 @@ fn push_globals<'a>(
         → OnOk result (AreGlobalsDefined config.now
         (scope_among types.now.types funcs.now imported_funcs imported_globals globals.old)
         globals.new initials.new) }
+
+    // Floats and references.
     ensures grounded { OnOk result (AreAdded (HasGroundedValue config.now (drawn_over config.now
         (scope_among types.now.types funcs.now imported_funcs imported_globals globals.old)))
         globals.old globals.new) }
@@ -102,6 +116,8 @@ fn push_globals<'a>(
         → All (All GivesNoFloat) (map (λ (one : ℕ × List ConstInstr). one.1) initials.old)
         → OnOk result (All (All GivesNoFloat)
         (map (λ (one : ℕ × List ConstInstr). one.1) initials.new)) }
+
+    // Refusals and the source.
     ensures refusal { IfErr result (MayRefuseDrawn config.now (drawn_over config.now
         (scope_among types.now.types funcs.now imported_funcs imported_globals globals.old))) }
     ensures left { KeepsPieces u.old u.new }
@@ -156,9 +172,13 @@ pub(crate) fn define_globals<'a>(
     requires valid { All (IsGlobalValid (features_of config.now) types.now.types) globals.old }
     requires imported { imported_globals ≤ length globals.old }
     requires few { length globals.old < 2 ^ 32 }
+
+    // What is drawn.
     ensures exact { OnOk result (globals_at config.now (scope_among types.now.types funcs.now
         imported_funcs imported_globals globals.old) globals.old initials.old u.old
         ≡ ((globals.new, initials.new), u.new)) }
+
+    // Bounds and validity.
     ensures filled { OnOk result
         (IsFilled config.now.min_globals config.now.max_globals globals.old globals.new) }
     ensures valid { OnOk result
@@ -169,6 +189,8 @@ pub(crate) fn define_globals<'a>(
         → OnOk result (AreGlobalsDefined config.now
         (scope_among types.now.types funcs.now imported_funcs imported_globals globals.old)
         globals.new initials.new) }
+
+    // Floats and references.
     ensures grounded { OnOk result (AreAdded (HasGroundedValue config.now (drawn_over config.now
         (scope_among types.now.types funcs.now imported_funcs imported_globals globals.old)))
         globals.old globals.new) }
@@ -179,6 +201,8 @@ pub(crate) fn define_globals<'a>(
         → All (All GivesNoFloat) (map (λ (one : ℕ × List ConstInstr). one.1) initials.old)
         → OnOk result (All (All GivesNoFloat)
         (map (λ (one : ℕ × List ConstInstr). one.1) initials.new)) }
+
+    // Reach, refusals and the source.
     ensures reach { config.now.min_globals ≡ 0 → globals.old ≡ [] → initials.old ≡ []
         → OnOk result (Takes (SpellsGlobals config.now) u.old
         (globals.new, map (λ (one : ℕ × List ConstInstr). one.1) initials.new) u.new) }

@@ -51,8 +51,12 @@ pub(crate) fn define_memories(
     u: &mut Unstructured<'_>,
 ) -> Result<(), Error>
     requires passes { Passes config.now }
+
+    // What is drawn.
     ensures draws { DrawsInto (memories_at config.now memories.old u.old) memories.new
         result u.old u.new }
+
+    // Bounds and validity.
     ensures filled { OnOk result
         (IsFilled config.now.min_memories config.now.max_memories memories.old memories.new) }
     ensures valid { All (IsMemoryValid (features_of config.now)) memories.old
@@ -60,6 +64,8 @@ pub(crate) fn define_memories(
     ensures within { OnOk result (AreAdded (IsMemoryWithin config.now) memories.old memories.new) }
     ensures several { (1 < length memories.old → IsTrue (features_of config.now).multi_memory)
         → OnOk result (1 < length memories.new → IsTrue (features_of config.now).multi_memory) }
+
+    // Reach.
     ensures none { config.now.min_memories ≡ 0 → memories.old ≡ [] → OnOk result (Takes
         (SpellsEmpty (SpellsNone config.now.max_memories)) u.old memories.new u.new) }
 {

@@ -156,6 +156,8 @@ pub fn make_required_exports(
     requires may { MayDefineMore config.now types.old (spaces_in spaces.old) definitions.old
         (length shape.now.exports) }
     requires room { length types.old.types + length shape.now.exports < 2 ^ 32 }
+
+    // What is made.
     ensures exact { Returns is_memory
         (λ exports. (standing_with types.new (spaces_in spaces.new) definitions.new exports, u.new))
         result (required_at true config.now shape.now types.old
@@ -163,11 +165,15 @@ pub fn make_required_exports(
     ensures kept { IfOk result (λ exports.
         AllZip (IsSameExport (IsSameType types.new.types (shape_types shape.now))
         (spaces_in spaces.new) (shape_spaces shape.now)) exports shape.now.exports) }
+
+    // Validity.
     ensures valid { IfOk result (AreExportsValid (spaces_in spaces.new)) }
     ensures stands { (imported : EntityLists)
         → StandsBehind config.now imported types.old (spaces_in spaces.old) definitions.old
         → OnOk result
         (StandsBehind config.now imported types.new (spaces_in spaces.new) definitions.new) }
+
+    // The types.
     ensures types { OnOk result (Extends types.old.types types.new.types) }
     ensures groups { OnOk result (Extends types.old.groups types.new.groups) }
     ensures types_most { OnOk result
@@ -179,12 +185,16 @@ pub fn make_required_exports(
     ensures types_of { OnOk result (AddsTypesOf shape.now types.old.types types.new.types) }
     ensures few_values { All (HasFewValues most_listed) types.old.types
         → OnOk result (All (HasFewValues most_listed) types.new.types) }
+
+    // The entities.
     ensures spaces { OnOk result (AreSpacesGrown (spaces_in spaces.old) (spaces_in spaces.new)) }
     ensures limits { OnOk result
         (AddsLimitsOf shape.now (spaces_in spaces.old) (spaces_in spaces.new)) }
     ensures counted { (count : Count) → (count ≡ Types → ⊥)
         → OnOk result (count_in (spaces_in spaces.new) count
         ≡ count_in (spaces_in spaces.old) count + items_of_exports count shape.now) }
+
+    // Refusals and the source.
     ensures refusal { IfErr result (MayRefuseRequired config.now (drawn_beside config.now
         types.old.types (spaces_in spaces.old) definitions.old) shape.now) }
     ensures memory { (MayLackIn config.now
@@ -215,6 +225,8 @@ pub fn make_shape_exports(
     requires may { MayDefineMore config.now types.old (spaces_in spaces.old) definitions.old
         (length shape.now.exports) }
     requires room { length types.old.types + length shape.now.exports < 2 ^ 32 }
+
+    // What is made.
     ensures exact { Returns is_memory
         (λ exports. (standing_with types.new (spaces_in spaces.new) definitions.new exports, u.new))
         result (required_at false config.now shape.now types.old
@@ -222,11 +234,15 @@ pub fn make_shape_exports(
     ensures kept { IfOk result (λ exports. AllZip
         (IsSameExport (λ mine yours. mine ≡ yours) (spaces_in spaces.new) (shape_spaces shape.now))
         exports shape.now.exports) }
+
+    // Validity.
     ensures valid { IfOk result (AreExportsValid (spaces_in spaces.new)) }
     ensures stands { (imported : EntityLists)
         → StandsBehind config.now imported types.old (spaces_in spaces.old) definitions.old
         → OnOk result
         (StandsBehind config.now imported types.new (spaces_in spaces.new) definitions.new) }
+
+    // The types and the entities.
     ensures types { OnOk result (types.new ≡ types.old) }
     ensures spaces { OnOk result (AreSpacesGrown (spaces_in spaces.old) (spaces_in spaces.new)) }
     ensures limits { OnOk result
@@ -234,6 +250,8 @@ pub fn make_shape_exports(
     ensures counted { (count : Count) → (count ≡ Types → ⊥)
         → OnOk result (count_in (spaces_in spaces.new) count
         ≡ count_in (spaces_in spaces.old) count + items_of_exports count shape.now) }
+
+    // Refusals and the source.
     ensures refusal { IfErr result (MayRefuseRequired config.now (drawn_beside config.now
         types.old.types (spaces_in spaces.old) definitions.old) shape.now) }
     ensures memory { (MayLackIn config.now

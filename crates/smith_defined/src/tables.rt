@@ -106,9 +106,13 @@ pub(crate) fn define_tables(
     requires standing { standing.now ≡ drawn_over config.now (scope_of_spaces spaces.now) }
     requires imported_globals { spaces.now.entities.imported_globals
         ≡ length spaces.now.entities.globals.now }
+
+    // What is drawn.
     ensures exact { OnOk result
         (tables_at config.now (scope_of_spaces spaces.now) tables.old initials.old u.old
         ≡ ((tables.new, initials.new), u.new)) }
+
+    // Bounds and validity.
     ensures filled { OnOk result
         (IsFilled config.now.min_tables config.now.max_tables tables.old tables.new) }
     ensures valid { All
@@ -118,11 +122,15 @@ pub(crate) fn define_tables(
     ensures within { OnOk result (AreAdded (IsTableWithin config.now) tables.old tables.new) }
     ensures several { (1 < length tables.old → IsTrue (features_of config.now).reference_types)
         → OnOk result (1 < length tables.new → IsTrue (features_of config.now).reference_types) }
+
+    // The initialisers.
     ensures drawn { OnOk result (AreTablesDrawn config.now
         (scope_of_spaces spaces.now) tables.old tables.new initials.old initials.new) }
     ensures floats { All HasNoFloat spaces.now.types.now.types
         → All (All GivesNoFloat) (flat_map initial_of initials.old)
         → OnOk result (All (All GivesNoFloat) (flat_map initial_of initials.new)) }
+
+    // Reach, refusals and the source.
     ensures none { config.now.min_tables ≡ 0 → tables.old ≡ [] → OnOk result (Takes
         (SpellsEmpty (SpellsNone config.now.max_tables)) u.old tables.new u.new) }
     ensures refusal { IfErr result

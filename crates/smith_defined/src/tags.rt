@@ -67,14 +67,20 @@ pub(crate) fn define_tags(
 ) -> Result<(), Error>
     requires passes { Passes config.now }
     requires few_types { length types.now.types < 2 ^ 32 }
+
+    // What is drawn.
     ensures exact { ReturnsWhy (λ _. (tags.new, u.new)) result
         (tags_at config.now types.now.types tags.old u.old) }
+
+    // Bounds and validity.
     ensures filled { OnOk result
         (IsFilled config.now.min_tags config.now.max_tags tags.old tags.new) }
     ensures valid { All (IsTagValid types.now.types) tags.old
         → OnOk result (All (IsTagValid types.now.types) tags.new) }
     ensures enabled { (0 < length tags.old → IsTrue config.now.exceptions_enabled)
         → OnOk result (0 < length tags.new → IsTrue config.now.exceptions_enabled) }
+
+    // Refusals, reach and the source.
     ensures refusal { IfErr result (MayRefuse config.now) }
     ensures none { config.now.min_tags ≡ 0 → tags.old ≡ [] → OnOk result (Takes
         (SpellsEmpty (SpellsNoTag config.now types.now.types)) u.old tags.new u.new) }

@@ -188,15 +188,21 @@ pub fn arbitrary_func_type(
 ) -> Result<FuncType, Error>
     requires sanitized { IsSanitized config.now }
     requires may_share { IsTrue must_share → IsTrue config.now.shared_everything_threads_enabled }
+
+    // What is drawn.
     ensures draws { Draws
         (func_type_at config.now (standing_in config.now spaces.now) must_share limit u.old)
         result u.old u.new }
+
+    // Validity and references.
     ensures granted { IfOk result (λ drawn.
         All (IsGranted config.now (standing_in config.now spaces.now)) (values_of (Func drawn))) }
     ensures valid { IfOk result (IsFuncTypeValid (features_of config.now) limit) }
     ensures stands { IfOk result (IsFuncInRange spaces.now.types.now.types) }
     ensures shared { IsTrue must_share → IfOk result (λ drawn.
         All (IsShareable spaces.now.types.now.types) (values_of (Func drawn))) }
+
+    // Reach.
     ensures reach { must_share ≡ false → IfOk result (λ drawn. Takes (SpellsSuch (λ function.
         All (RefersTo config.now spaces.now.types.now.types) (values_of (Func function)))
         (SpellsFuncType config.now limit)) u.old drawn u.new) }
@@ -223,9 +229,13 @@ pub fn arbitrary_struct_type(
 ) -> Result<StructType, Error>
     requires sanitized { IsSanitized config.now }
     requires may_share { IsTrue must_share → IsTrue config.now.shared_everything_threads_enabled }
+
+    // What is drawn.
     ensures draws { Draws
         (struct_type_at config.now (standing_in config.now spaces.now) must_share limit u.old)
         result u.old u.new }
+
+    // Validity, bounds and references.
     ensures granted { IfOk result (λ drawn.
         All (IsGranted config.now (standing_in config.now spaces.now)) (values_of (Struct drawn))) }
     ensures few { IfOk result (λ drawn. length drawn.fields ≤ 20) }
@@ -235,6 +245,8 @@ pub fn arbitrary_struct_type(
         All (IsFieldInRange spaces.now.types.now.types) drawn.fields) }
     ensures shared { IsTrue must_share → IfOk result (λ drawn.
         All (IsShareable spaces.now.types.now.types) (values_of (Struct drawn))) }
+
+    // Reach.
     ensures reach { must_share ≡ false → IfOk result (λ drawn. Takes (SpellsSuch (λ structure.
         All (RefersTo config.now spaces.now.types.now.types) (values_of (Struct structure)))
         (SpellsStructType config.now limit)) u.old drawn u.new) }
@@ -259,9 +271,13 @@ pub fn arbitrary_composite_type(
     u: &mut Unstructured<'_>,
 ) -> Result<CompositeType, Error>
     requires sanitized { IsSanitized config.now }
+
+    // What is drawn.
     ensures draws { Draws
         (composite_type_at config.now (standing_in config.now spaces.now) limit u.old)
         result u.old u.new }
+
+    // Validity and references.
     ensures granted { IfOk result (λ drawn.
         All (IsGranted config.now (standing_in config.now spaces.now)) (values_of drawn.inner)) }
     ensures enabled { IfOk result (λ drawn. IsInnerEnabled (features_of config.now) drawn.inner) }
@@ -272,6 +288,8 @@ pub fn arbitrary_composite_type(
     ensures stands { IfOk result (λ drawn. IsInnerInRange spaces.now.types.now.types drawn.inner) }
     ensures shared { IfOk result (λ drawn. IsTrue drawn.shared
         → All (IsShareable spaces.now.types.now.types) (values_of drawn.inner)) }
+
+    // Reach.
     ensures reach { IfOk result (λ drawn. Takes (SpellsSuch (λ composite.
         All (RefersTo config.now spaces.now.types.now.types) (values_of composite.inner))
         (SpellsCompositeType config.now limit)) u.old drawn u.new) }

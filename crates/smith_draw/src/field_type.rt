@@ -74,10 +74,14 @@ pub fn arbitrary_storage_type(
 ) -> Result<StorageType, Error>
     requires sanitized { IsSanitized config.now }
     requires may_share { IsTrue must_share → IsTrue config.now.shared_everything_threads_enabled }
+
+    // What is drawn.
     ensures ok { IsOk result }
     ensures draws { Draws
         (storage_type_at config.now (standing_in config.now spaces.now) must_share limit u.old)
         result u.old u.new }
+
+    // Validity and references.
     ensures granted { IfOk result (λ drawn.
         All (IsGranted config.now (standing_in config.now spaces.now)) (values_of_storage drawn)) }
     ensures valid { IfOk result (λ drawn.
@@ -85,6 +89,8 @@ pub fn arbitrary_storage_type(
     ensures stands { IfOk result (IsStorageInRange spaces.now.types.now.types) }
     ensures shared { IsTrue must_share → IfOk result (λ drawn.
         All (IsShareable spaces.now.types.now.types) (values_of_storage drawn)) }
+
+    // Reach.
     ensures reach { must_share ≡ false → IfOk result (λ drawn. Takes (SpellsSuch (λ storage.
         All (RefersTo config.now spaces.now.types.now.types) (values_of_storage storage))
         (SpellsStorage config.now limit)) u.old drawn u.new) }
@@ -113,10 +119,14 @@ pub fn arbitrary_field_type(
 ) -> Result<FieldType, Error>
     requires sanitized { IsSanitized config.now }
     requires may_share { IsTrue must_share → IsTrue config.now.shared_everything_threads_enabled }
+
+    // What is drawn.
     ensures ok { IsOk result }
     ensures draws { Draws
         (field_type_at config.now (standing_in config.now spaces.now) must_share limit u.old)
         result u.old u.new }
+
+    // Validity and references.
     ensures granted { IfOk result (λ drawn.
         All (IsGranted config.now (standing_in config.now spaces.now))
         (values_of_storage drawn.element_type)) }
@@ -125,6 +135,8 @@ pub fn arbitrary_field_type(
     ensures stands { IfOk result (IsFieldInRange spaces.now.types.now.types) }
     ensures shared { IsTrue must_share → IfOk result (λ drawn.
         All (IsShareable spaces.now.types.now.types) (values_of_storage drawn.element_type)) }
+
+    // Reach.
     ensures reach { must_share ≡ false → IfOk result (λ drawn. Takes (SpellsSuch (λ field.
         All (RefersTo config.now spaces.now.types.now.types) (values_of_storage field.element_type))
         (SpellsField config.now limit)) u.old drawn u.new) }

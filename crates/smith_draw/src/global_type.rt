@@ -60,13 +60,19 @@ pub fn draw_global_type(
     u: &mut Unstructured<'_>,
 ) -> GlobalType
     requires { IsSanitized config.now }
+
+    // What is drawn.
     ensures draws { AlwaysDraws (global_type_at config.now standing.now u.old) result u.old u.new }
+
+    // Validity, floats and references.
     ensures valid { (space : GroupedTypes) → space.types ≡ standing.now.types
         → AreTypesValid (features_of config.now) space
         → IsGlobalValid (features_of config.now) space.types result }
     ensures floats { config.now.allow_floats ≡ false → IsNoFloat result.val_type }
     ensures nullable { config.now.non_nullable_enabled ≡ false → ¬ IsNonNullable result.val_type }
     ensures grounded { ¬ IsUngrounded config.now standing.now result.val_type }
+
+    // Reach.
     ensures reach { Takes
         (SpellsSuch (λ global. global ≡ mutable_i32) (λ _. SpellsMutableI32 config.now))
         u.old result u.new }
@@ -91,9 +97,13 @@ pub fn arbitrary_global_type(
     u: &mut Unstructured<'_>,
 ) -> Result<GlobalType, Error>
     requires { IsSanitized config.now }
+
+    // What is drawn.
     ensures ok { IsOk result }
     ensures draws { Draws (global_type_at config.now (standing_in config.now spaces.now) u.old)
         result u.old u.new }
+
+    // Validity, floats and references.
     ensures valid { AreTypesValid (features_of config.now) spaces.now.types.now
         → IfOk result (IsGlobalValid (features_of config.now) spaces.now.types.now.types) }
     ensures floats { config.now.allow_floats ≡ false
@@ -102,6 +112,8 @@ pub fn arbitrary_global_type(
         → IfOk result (λ drawn. ¬ IsNonNullable drawn.val_type) }
     ensures grounded { IfOk result (λ drawn.
         ¬ IsUngrounded config.now (standing_in config.now spaces.now) drawn.val_type) }
+
+    // Reach.
     ensures reach { IfOk result (λ drawn.
         Takes (SpellsSuch (λ global. global ≡ mutable_i32) (λ _. SpellsMutableI32 config.now))
         u.old drawn u.new) }

@@ -41,9 +41,15 @@ pub fn arbitrary_locals(
     u: &mut Unstructured<'_>,
 ) -> Result<Items<ValType>, Error>
     requires { IsSanitized config.now }
+
+    // What is drawn.
     ensures draws { Draws (locals_at config.now (standing_in config.now spaces.now) u.old)
         result u.old u.new }
+
+    // Bounds.
     ensures most { IfOk result (λ locals. length locals ≤ 100) }
+
+    // Validity, floats and references.
     ensures granted { IfOk result (All (IsGranted config.now (standing_in config.now spaces.now))) }
     ensures valid { IfOk result
         (All (IsValTypeValid (features_of config.now) (length spaces.now.types.now.types))) }

@@ -350,14 +350,19 @@ pub fn arbitrary_matching_heap_type(
     ty: HeapType,
     u: &mut Unstructured<'_>,
 ) -> Result<HeapType, Error>
+    // What is drawn.
     ensures draws { Draws (matching_heap_type_at config.now spaces.now.types.now.types ty u.old)
         result u.old u.new }
     ensures offered { IfOk result (λ drawn.
         choose_at (subtypes_offered config.now spaces.now.types.now.types ty) u.old
         ≡ (Some drawn, u.new)) }
+
+    // Subtyping and sharing.
     ensures below { IfOk result (λ drawn. IsBelow spaces.now.types.now.types drawn ty) }
     ensures shared { IfOk result (λ drawn. IsHeapTypeShared spaces.now.types.now.types drawn
         ↔ IsHeapTypeShared spaces.now.types.now.types ty) }
+
+    // Validity.
     ensures valid { IfOk result (StaysValid (IsHeapTypeValid (features_of config.now))
         (features_of config.now) spaces.now.types.now.types ty) }
     ensures stands { IfOk result (λ drawn.
@@ -381,9 +386,12 @@ pub fn arbitrary_matching_ref_type(
     ty: RefType,
     u: &mut Unstructured<'_>,
 ) -> Result<RefType, Error>
+    // What is drawn.
     ensures draws { Draws
         (matching_ref_type_at config.now (standing_in config.now spaces.now) ty u.old)
         result u.old u.new }
+
+    // Subtyping, references and sharing.
     ensures below { IfOk result (λ drawn. IsRefBelow spaces.now.types.now.types drawn ty) }
     ensures nullable { IfOk result (λ drawn. drawn.nullable ≡ ty.nullable) }
     ensures granted { IsTrue config.now.non_nullable_enabled → ty.nullable ≡ false
@@ -392,6 +400,8 @@ pub fn arbitrary_matching_ref_type(
     ensures shared { IfOk result (λ drawn.
         IsHeapTypeShared spaces.now.types.now.types drawn.heap_type
         ↔ IsHeapTypeShared spaces.now.types.now.types ty.heap_type) }
+
+    // Validity.
     ensures valid { IfOk result (StaysValid (IsRefTypeValid (features_of config.now))
         (features_of config.now) spaces.now.types.now.types ty) }
     ensures stands { IfOk result (λ drawn. IsInRange spaces.now.types.now.types ty.heap_type
@@ -412,14 +422,19 @@ pub fn arbitrary_matching_val_type(
     ty: ValType,
     u: &mut Unstructured<'_>,
 ) -> Result<ValType, Error>
+    // What is drawn.
     ensures draws { Draws
         (matching_val_type_at config.now (standing_in config.now spaces.now) ty u.old)
         result u.old u.new }
+
+    // Subtyping, references and sharing.
     ensures below { IfOk result (λ drawn. IsValBelow spaces.now.types.now.types drawn ty) }
     ensures granted { IsGranted config.now (standing_in config.now spaces.now) ty
         → IfOk result (IsGranted config.now (standing_in config.now spaces.now)) }
     ensures shared { IfOk result (λ drawn.
         IsShareable spaces.now.types.now.types drawn ↔ IsShareable spaces.now.types.now.types ty) }
+
+    // Validity.
     ensures valid { IfOk result (StaysValid (IsValTypeValid (features_of config.now))
         (features_of config.now) spaces.now.types.now.types ty) }
     ensures stands { IfOk result (λ drawn. IsValInRange spaces.now.types.now.types ty
@@ -440,9 +455,12 @@ pub fn arbitrary_matching_storage_type(
     ty: StorageType,
     u: &mut Unstructured<'_>,
 ) -> Result<StorageType, Error>
+    // What is drawn.
     ensures draws { Draws
         (matching_storage_type_at config.now (standing_in config.now spaces.now) ty u.old)
         result u.old u.new }
+
+    // Subtyping, references and sharing.
     ensures below { IfOk result (λ drawn. IsStorageMatch spaces.now.types.now.types drawn ty) }
     ensures granted { All (IsGranted config.now (standing_in config.now spaces.now))
         (values_of_storage ty)
@@ -450,6 +468,8 @@ pub fn arbitrary_matching_storage_type(
         All (IsGranted config.now (standing_in config.now spaces.now)) (values_of_storage drawn)) }
     ensures shared { IfOk result (λ drawn. IsStorageShareable spaces.now.types.now.types drawn
         ↔ IsStorageShareable spaces.now.types.now.types ty) }
+
+    // Validity.
     ensures valid { IfOk result (StaysValid (IsStorageValid (features_of config.now))
         (features_of config.now) spaces.now.types.now.types ty) }
     ensures stands { IfOk result (λ drawn. IsStorageInRange spaces.now.types.now.types ty
@@ -470,9 +490,12 @@ pub fn arbitrary_matching_field_type(
     field: FieldType,
     u: &mut Unstructured<'_>,
 ) -> Result<FieldType, Error>
+    // What is drawn.
     ensures draws { Draws
         (matching_field_type_at config.now (standing_in config.now spaces.now) field u.old)
         result u.old u.new }
+
+    // Subtyping, references and sharing.
     ensures below { IfOk result (λ drawn. IsFieldMatch spaces.now.types.now.types drawn field) }
     ensures granted { All (IsGranted config.now (standing_in config.now spaces.now))
         (values_of_storage field.element_type)
@@ -481,6 +504,8 @@ pub fn arbitrary_matching_field_type(
     ensures shared { IfOk result (λ drawn.
         IsStorageShareable spaces.now.types.now.types drawn.element_type
         ↔ IsStorageShareable spaces.now.types.now.types field.element_type) }
+
+    // Validity.
     ensures valid { IfOk result (StaysValid (IsFieldValid (features_of config.now))
         (features_of config.now) spaces.now.types.now.types field) }
     ensures stands { IfOk result (λ drawn. IsFieldInRange spaces.now.types.now.types field
@@ -501,9 +526,12 @@ pub fn arbitrary_matching_func_type(
     function: &FuncType,
     u: &mut Unstructured<'_>,
 ) -> Result<FuncType, Error>
+    // What is drawn.
     ensures draws { Draws
         (matching_func_type_at config.now (standing_in config.now spaces.now) function.now u.old)
         result u.old u.new }
+
+    // Subtyping, references and sharing.
     ensures below { IfOk result (λ drawn.
         IsFuncMatch spaces.now.types.now.types drawn function.now) }
     ensures granted { All (IsGranted config.now (standing_in config.now spaces.now))
@@ -512,6 +540,8 @@ pub fn arbitrary_matching_func_type(
         All (IsGranted config.now (standing_in config.now spaces.now)) (values_of (Func drawn))) }
     ensures shared { IfOk result (λ drawn. IsFuncShareable spaces.now.types.now.types drawn
         ↔ IsFuncShareable spaces.now.types.now.types function.now) }
+
+    // Validity.
     ensures valid { IfOk result (StaysValid (IsFuncTypeValid (features_of config.now))
         (features_of config.now) spaces.now.types.now.types function.now) }
     ensures stands { IfOk result (λ drawn. IsFuncInRange spaces.now.types.now.types function.now

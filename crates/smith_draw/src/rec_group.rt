@@ -308,8 +308,12 @@ pub fn clone_rec_group(
     requires passes { PassesButImports config.now }
     requires room { length types.old.types < config.now.max_types }
     requires some { 0 < length types.old.groups }
+
+    // What is drawn.
     ensures exact { IfOk result (λ added.
         clone_rec_group_at config.now allow_empty types.old u.old ≡ (added, (types.new, u.new))) }
+
+    // The types afterwards.
     ensures valid { AreTypesValid (features_of config.now) types.old
         → OnOk result (AreTypesValid (features_of config.now) types.new) }
     ensures most { OnOk result (length types.new.types ≤ config.now.max_types) }
@@ -317,6 +321,8 @@ pub fn clone_rec_group(
     ensures granted { (context : Context)
         → AreTypesGranted config.now (over context types.old.types)
         → OnOk result (AreTypesGranted config.now (over context types.new.types)) }
+
+    // Refusals and the source.
     ensures memory { IfErr result (λ e. e ≡ Error.Memory) }
     ensures left { KeepsPieces u.old u.new }
 {
@@ -344,9 +350,13 @@ pub fn arbitrary_rec_group(
     requires passes { PassesButImports config.now }
     requires sanitized { IsSanitized config.now }
     requires room { length types.old.types < config.now.max_types }
+
+    // What is drawn.
     ensures draws { DrawsInto
         (rec_group_at config.now (functions_in config.now entities.now) allow_empty types.old u.old)
         types.new result u.old u.new }
+
+    // The types afterwards.
     ensures valid { AreTypesValid (features_of config.now) types.old
         → OnOk result (AreTypesValid (features_of config.now) types.new) }
     ensures most { OnOk result (length types.new.types ≤ config.now.max_types) }
@@ -356,6 +366,8 @@ pub fn arbitrary_rec_group(
         (over (functions_in config.now entities.now) types.old.types)
         → OnOk result
         (AreTypesGranted config.now (over (functions_in config.now entities.now) types.new.types)) }
+
+    // Reach.
     ensures reach { allow_empty ≡ true → All IsRoot types.old.types
         → OnOk result (Takes (SpellsAdded config.now types.old) u.old types.new u.new) }
 {
@@ -380,9 +392,13 @@ pub fn arbitrary_types(
 ) -> Result<(), Error>
     requires passes { PassesButImports config.now }
     requires sanitized { IsSanitized config.now }
+
+    // What is drawn.
     ensures draws { DrawsInto
         (types_at config.now (functions_in config.now entities.now) types.old u.old) types.new
         result u.old u.new }
+
+    // Validity and bounds.
     ensures valid { AreTypesValid (features_of config.now) types.old
         → OnOk result (AreTypesValid (features_of config.now) types.new) }
     ensures most { AreTypesValid (features_of config.now) types.old
@@ -390,6 +406,8 @@ pub fn arbitrary_types(
         → OnOk result (length types.new.types ≤ config.now.max_types) }
     ensures least { AreTypesValid (features_of config.now) types.old
         → OnOk result (config.now.min_types ≤ length types.new.types) }
+
+    // Floats, numbers of values, and references.
     ensures floats { config.now.allow_floats ≡ false → All HasNoFloat types.old.types
         → OnOk result (All HasNoFloat types.new.types) }
     ensures few_values { (most : ℕ) → 20 ≤ most → All (HasFewValues most) types.old.types
@@ -405,6 +423,8 @@ pub fn arbitrary_types(
         (over (functions_in config.now entities.now) types.old.types)
         → OnOk result
         (AreTypesGranted config.now (over (functions_in config.now entities.now) types.new.types)) }
+
+    // Reach.
     ensures reach { config.now.min_types ≡ 0 → types.old ≡ space_of []
         → OnOk result (Takes (SpellsSpace config.now) u.old types.new u.new) }
 {

@@ -25,11 +25,14 @@ pub struct Entities<'a> {
 impl<'a> Entities<'a> {
     /// Returns empty index spaces.
     pub fn none() -> Entities<'a>
+        // The index spaces.
         ensures tags { result.tags.now ≡ [] }
         ensures funcs { result.funcs.now ≡ [] }
         ensures tables { result.tables.now ≡ [] }
         ensures memories { result.memories.now ≡ [] }
         ensures globals { result.globals.now ≡ [] }
+
+        // The numbers of imports.
         ensures imported_funcs { result.imported_funcs ≡ 0 }
         ensures imported_globals { result.imported_globals ≡ 0 }
     {

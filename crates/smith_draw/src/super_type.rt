@@ -98,14 +98,19 @@ pub fn arbitrary_super_type_of_heap_type(
     ty: HeapType,
     u: &mut Unstructured<'_>,
 ) -> Result<HeapType, Error>
+    // What is drawn.
     ensures draws { Draws (super_heap_type_at config.now spaces.now.types.now.types ty u.old)
         result u.old u.new }
     ensures offered { IfOk result (λ drawn.
         choose_at (supertypes_offered config.now spaces.now.types.now.types ty) u.old
         ≡ (Some drawn, u.new)) }
+
+    // Subtyping and sharing.
     ensures above { IfOk result (λ drawn. IsBelow spaces.now.types.now.types ty drawn) }
     ensures shared { IfOk result (λ drawn. IsHeapTypeShared spaces.now.types.now.types drawn
         ↔ IsHeapTypeShared spaces.now.types.now.types ty) }
+
+    // Validity.
     ensures valid { IfOk result (StaysValid (IsHeapTypeValid (features_of config.now))
         (features_of config.now) spaces.now.types.now.types ty) }
     ensures stands { IfOk result (λ drawn.
@@ -125,13 +130,18 @@ pub fn arbitrary_super_type_of_ref_type(
     ty: RefType,
     u: &mut Unstructured<'_>,
 ) -> Result<RefType, Error>
+    // What is drawn.
     ensures draws { Draws (super_ref_type_at config.now spaces.now.types.now.types ty u.old)
         result u.old u.new }
+
+    // Subtyping, references and sharing.
     ensures above { IfOk result (λ drawn. IsRefBelow spaces.now.types.now.types ty drawn) }
     ensures nullable { IfOk result (λ drawn. drawn.nullable ≡ true) }
     ensures shared { IfOk result (λ drawn.
         IsHeapTypeShared spaces.now.types.now.types drawn.heap_type
         ↔ IsHeapTypeShared spaces.now.types.now.types ty.heap_type) }
+
+    // Validity.
     ensures valid { IfOk result (StaysValid (IsRefTypeValid (features_of config.now))
         (features_of config.now) spaces.now.types.now.types ty) }
     ensures stands { IfOk result (λ drawn. IsInRange spaces.now.types.now.types ty.heap_type

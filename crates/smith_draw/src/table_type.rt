@@ -87,9 +87,13 @@ pub fn arbitrary_table_type(
     u: &mut Unstructured<'_>,
 ) -> Result<TableType, Error>
     requires { IsSanitized config.now }
+
+    // What is drawn.
     ensures ok { IsOk result }
     ensures draws { Draws (table_type_at config.now (standing_in config.now spaces.now) u.old)
         result u.old u.new }
+
+    // Validity, bounds and references.
     ensures valid { AreTypesValid (features_of config.now) spaces.now.types.now
         → IfOk result (IsTableValid (features_of config.now) spaces.now.types.now.types) }
     ensures within { IfOk result (IsTableWithin config.now) }

@@ -30,12 +30,18 @@ pub fn take_available_imports(
     u: &mut Unstructured<'_>,
 ) -> Result<(TypeSpace, Imported), Error>
     requires valid { IsShapeValid AvailableImports config.now shape.now }
+
+    // What is drawn.
     ensures exact { IfOk result (λ given.
         available_at config.now shape.now u.old ≡ (given.1.groups, u.new)) }
     ensures types { IfOk result (λ given. given.0 ≡ space_of shape.now.groups) }
+
+    // The imports taken.
     ensures kept { IfOk result (λ given. flattened given.1.groups
         ≡ taken_from config.now (shape_types shape.now) u.old 0 [] (shape_imports shape.now)) }
     ensures taken { IfOk result (λ given. IsTaken config.now shape.now given.1) }
+
+    // Refusals and the source.
     ensures memory { IfErr result (λ e. e ≡ Error.Memory) }
     ensures left { KeepsPieces u.old u.new }
 {

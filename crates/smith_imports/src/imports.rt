@@ -104,11 +104,15 @@ fn fill(
         (flattened imported.old.groups ++ imports_of group.old) }
     requires fit { AreImportsFit config.now types.now.types distinct
         (flattened imported.old.groups ++ imports_of group.old) }
+
+    // What is drawn.
     ensures exact { IfOk result (λ goes_on.
         fill_at config.now types.now.types distinct (flattened imported.old.groups)
         (config.now.max_imports - imported.old.count) group.old u.old
         ≡ (goes_on, (group.new, u.new))) }
     ensures groups { OnOk result (imported.new.groups ≡ imported.old.groups) }
+
+    // The imports so far and the records.
     ensures kept { OnOk result (AreKeptGrounds
         (import_scope config.now types.now.types (spaces_of imported.new)) grounds.new) }
     ensures ready { OnOk result
@@ -117,9 +121,13 @@ fn fill(
         (flattened imported.old.groups ++ imports_of group.new)) }
     ensures fit { OnOk result (AreImportsFit config.now types.now.types distinct
         (flattened imported.old.groups ++ imports_of group.new)) }
+
+    // Progress and the end.
     ensures ended { IfOk result (λ goes_on.
         goes_on ≡ false → MayEndAt config.now (spaces_of imported.new) imported.new.type_size) }
     ensures more { OnOk result (imported.old.count ≤ imported.new.count) }
+
+    // Refusals and the source.
     ensures memory { IfErr result (λ e. e ≡ Error.Memory) }
     ensures left { KeepsPieces u.old u.new }
 {
@@ -157,15 +165,23 @@ fn add_filled(
     requires so_far { IsImported config.now types.now.types distinct imported.old }
     requires ready { IsOpen config.now types.now.types (spaces_of imported.old) group }
     requires empty { imports_of group ≡ [] }
+
+    // What is drawn.
     ensures exact { IfOk result (λ goes_on.
         filled_at config.now types.now.types distinct imported.old.groups group u.old
         ≡ (goes_on, (imported.new.groups, u.new))) }
+
+    // The imports so far and the records.
     ensures so_far { OnOk result (IsImported config.now types.now.types distinct imported.new) }
     ensures kept { OnOk result (AreKeptGrounds
         (import_scope config.now types.now.types (spaces_of imported.new)) grounds.new) }
+
+    // Progress and the end.
     ensures ended { IfOk result (λ goes_on.
         goes_on ≡ false → MayEnd config.now imported.new.count) }
     ensures more { IfOk result (λ _. imported.old.count ≤ imported.new.count) }
+
+    // Refusals and the source.
     ensures memory { IfErr result (λ e. e ≡ Error.Memory) }
     ensures left { KeepsPieces u.old u.new }
 {
@@ -195,16 +211,24 @@ fn add_single(
         (import_scope config.now types.now.types (spaces_of imported.old)) grounds.old }
     requires so_far { IsImported config.now types.now.types distinct imported.old }
     requires room { imported.old.count < config.now.max_imports }
+
+    // What is drawn.
     ensures exact { IfOk result (λ goes_on. group_of_kind_at config.now types.now.types distinct
         imported.old.groups «module» GroupKind.Single u.old
         ≡ (goes_on, (imported.new.groups, u.new))) }
+
+    // The imports so far and the records.
     ensures so_far { OnOk result (IsImported config.now types.now.types distinct imported.new) }
     ensures kept { OnOk result (AreKeptGrounds
         (import_scope config.now types.now.types (spaces_of imported.new)) grounds.new) }
+
+    // Progress and the end.
     ensures ended { IfOk result (λ goes_on.
         goes_on ≡ false → MayEnd config.now imported.new.count) }
     ensures advances { IfOk result (λ goes_on.
         goes_on ≡ true → imported.old.count + length u.new < imported.new.count + length u.old) }
+
+    // Refusals and the source.
     ensures memory { IfErr result (λ e. e ≡ Error.Memory) }
     ensures left { KeepsPieces u.old u.new }
 {
@@ -240,15 +264,23 @@ fn add_of_one_type(
         (import_scope config.now types.now.types (spaces_of imported.old)) grounds.old }
     requires so_far { IsImported config.now types.now.types distinct imported.old }
     requires enabled { IsTrue config.now.compact_imports_enabled }
+
+    // What is drawn.
     ensures exact { IfOk result (λ goes_on. group_of_kind_at config.now types.now.types distinct
         imported.old.groups «module» GroupKind.OfOneType u.old
         ≡ (goes_on, (imported.new.groups, u.new))) }
+
+    // The imports so far and the records.
     ensures so_far { OnOk result (IsImported config.now types.now.types distinct imported.new) }
     ensures kept { OnOk result (AreKeptGrounds
         (import_scope config.now types.now.types (spaces_of imported.new)) grounds.new) }
+
+    // Progress and the end.
     ensures ended { IfOk result (λ goes_on.
         goes_on ≡ false → MayEnd config.now imported.new.count) }
     ensures more { IfOk result (λ _. imported.old.count ≤ imported.new.count) }
+
+    // Refusals and the source.
     ensures memory { IfErr result (λ e. e ≡ Error.Memory) }
     ensures left { KeepsPieces u.old u.new }
 {
@@ -279,16 +311,24 @@ fn add_group(
         (import_scope config.now types.now.types (spaces_of imported.old)) grounds.old }
     requires so_far { IsImported config.now types.now.types distinct imported.old }
     requires room { imported.old.count < config.now.max_imports }
+
+    // What is drawn.
     ensures exact { IfOk result (λ goes_on.
         group_at config.now types.now.types distinct imported.old.groups u.old
         ≡ (goes_on, (imported.new.groups, u.new))) }
+
+    // The imports so far and the records.
     ensures so_far { OnOk result (IsImported config.now types.now.types distinct imported.new) }
     ensures kept { OnOk result (AreKeptGrounds
         (import_scope config.now types.now.types (spaces_of imported.new)) grounds.new) }
+
+    // Progress and the end.
     ensures ended { IfOk result (λ goes_on.
         goes_on ≡ false → MayEnd config.now imported.new.count) }
     ensures advances { IfOk result (λ goes_on.
         goes_on ≡ true → imported.old.count + length u.new < imported.new.count + length u.old) }
+
+    // Refusals and the source.
     ensures memory { IfErr result (λ e. e ≡ Error.Memory) }
     ensures left { KeepsPieces u.old u.new }
 {
@@ -324,12 +364,18 @@ fn add_groups(
     requires kept { AreKeptGrounds
         (import_scope config.now types.now.types (spaces_of imported.old)) grounds.old }
     requires so_far { IsImported config.now types.now.types distinct imported.old }
+
+    // What is drawn.
     ensures exact { OnOk result (groups_at config.now types.now.types distinct
         (config.now.max_imports + length u.old + 1) imported.old.groups u.old
         ≡ (imported.new.groups, u.new)) }
+
+    // The imports so far and the records.
     ensures so_far { OnOk result (IsImported config.now types.now.types distinct imported.new) }
     ensures kept { OnOk result (AreKeptGrounds
         (import_scope config.now types.now.types (spaces_of imported.new)) grounds.new) }
+
+    // Bounds, refusals and the source.
     ensures least { OnOk result
         (imported.new.count < config.now.min_imports → MayEnd config.now imported.new.count) }
     ensures memory { IfErr result (λ e. e ≡ Error.Memory) }
@@ -426,10 +472,16 @@ pub fn arbitrary_imports(
 ) -> Result<(), Error>
     requires may { MayImport config.now types.now }
     requires none { HasNoImports imported.old }
+
+    // What is drawn.
     ensures exact { ReturnsWhy (λ _. (imported.new.groups, u.new)) result
         (imports_at config.now types.now.types distinct u.old) }
+
+    // Validity and bounds.
     ensures so_far { OnOk result (IsImported config.now types.now.types distinct imported.new) }
     ensures least { OnOk result (config.now.min_imports ≤ imported.new.count) }
+
+    // Refusals, reach and the source.
     ensures refusal { IfErr result (MayRefuseImports config.now) }
     ensures none { config.now.min_imports ≡ 0
         → OnOk result (Takes (SpellsNoImport config.now) u.old imported.new.groups u.new) }

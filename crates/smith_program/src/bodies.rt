@@ -147,6 +147,8 @@ fn draw_instructions(
     requires locals { All
         (IsValTypeValid (module_features «module».now) (length «module».now.types))
         code.now.locals }
+
+    // Validity, traps and bounds.
     ensures typed { IfOk result
         (IsBodyTyped (function_context «module».now function.now code.now.locals)) }
     ensures enabled { IfOk result
@@ -154,9 +156,13 @@ fn draw_instructions(
     ensures trapless { IsTrue «module».now.config.disallow_traps → IfOk result (All IsTrapless) }
     ensures short { IfOk result (λ body. length body ≤ 1 + length function.now.results
         + most «module».now.types * «module».now.config.max_instructions) }
+
+    // What is drawn.
     ensures exact { IfOk result (λ body.
         body_at «module».now.config (function_context «module».now function.now code.now.locals)
         «module».now.config.max_instructions u.old ≡ (body, u.new)) }
+
+    // Refusals and the source.
     ensures refusal { IfErr result (λ e. e ≡ Error.Memory) }
     ensures left { KeepsPieces u.old u.new }
 {

@@ -37,13 +37,18 @@ pub fn run_words<R: Source, W: Sink>(
 ) -> Result<Outcome, ProgramFault>
     requires source { R.failed r.old ≡ false }
     requires sink { W.failed w.old ≡ false }
+
+    // Words that are not accepted.
     ensures usage { IsErrOf result ProgramFault.Usage
         ↔ (drawn_by (map string_bytes asked.now) ≡ None) }
     ensures untouched { IsErrOf result ProgramFault.Usage → (r.new ≡ r.old) × (w.new ≡ w.old) }
 
+    // The line written.
     ensures line { IfOk result (λ outcome. IfSome (drawn_by (map string_bytes asked.now)) (λ drawn.
         IsAnswered drawn (R.left r.old) (W.written w.old) (W.written w.new) outcome
         ⊎ IsUnread (W.written w.old) (W.written w.new) outcome)) }
+
+    // Failures to read and to write.
     ensures read { IsErrOf result (ProgramFault.Run RunFault.Read) ↔ (R.failed r.new ≡ true) }
     ensures write { IsErrOf result (ProgramFault.Run RunFault.Write) ↔ (W.failed w.new ≡ true) }
     ensures unwritten { IsErrOf result (ProgramFault.Run RunFault.Read) → w.new ≡ w.old }

@@ -549,14 +549,20 @@ fn make_place(
     requires extensible { extensible.old.items
         ≡ extensible_from 0 types.now (depths_in places.now) }
     requires families { AreFamilies types.now families.old.items }
+
+    // The place.
     ensures place { IfOk result (λ place.
         IsPlace (types.now ++ added.now ∷ []) rows.new.items (length types.now) place) }
+
+    // The lists afterwards.
     ensures extensible { IfOk result (λ place. extensible.new.items
         ≡ extensible_from 0 (types.now ++ added.now ∷ []) (depths_in (places.now ++ place ∷ []))) }
     ensures families { AreFamilies types.now families.new.items }
     ensures family_room { OnOk result ((supertype : ℕ) → added.now.supertype ≡ Some supertype
         → length types.now < length families.new.items) }
     ensures rows { IsLonger rows.old.items rows.new.items }
+
+    // Refusals.
     ensures err { OnErr result (extensible.new.items ≡ extensible.old.items) }
     ensures memory { IfErr result (λ e. e ≡ Error.Memory) }
 {

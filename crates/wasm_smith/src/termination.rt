@@ -57,11 +57,15 @@ fn push_counter(
     fuel_globals: &mut Items<u32>,
 ) -> Result<u32, Error>
     requires room { length globals.old < 2 ^ 32 - 1 }
+
+    // What is added.
     ensures index { IfOk result (λ index. index ≡ length globals.old) }
     ensures globals { OnOk result (globals.new ≡ globals.old ++ counter ∷ []) }
     ensures definitions { IfOk result (λ index. defined_globals.new
         ≡ defined_globals.old ++ (index, NumberConst (cast_signed w32 fuel) ∷ []) ∷ []) }
     ensures fuel { IfOk result (λ index. fuel_globals.new ≡ fuel_globals.old ++ index ∷ []) }
+
+    // Refusals.
     ensures globals_kept { OnErr result (globals.new ≡ globals.old) }
     ensures definitions_kept { OnErr result (defined_globals.new ≡ defined_globals.old) }
     ensures fuel_kept { OnErr result (fuel_globals.new ≡ fuel_globals.old) }

@@ -44,6 +44,8 @@ pub(super) fn choose_offer(
     requires wanted { IsValTypeValid (context_of scope.now).features
         (length (context_of scope.now).types) wanted }
     requires kept { AreKeptOffers (context_of scope.now) kept.old }
+
+    // What is drawn.
     ensures exact { IfOk result (λ choice.
         choose_at (offers scope.now.config.now (context_of scope.now) wanted fuel) u.old
         ≡ (Some choice, u.new)) }
@@ -51,6 +53,8 @@ pub(super) fn choose_offer(
         → (choose_at (offers scope.now.config.now (context_of scope.now) wanted fuel) u.old).0
         ≡ None) }
     ensures fits { IfOk result (IsFit scope.now.config.now (context_of scope.now) wanted fuel) }
+
+    // The records, refusals and the source.
     ensures kept { OnOk result (AreKeptOffers (context_of scope.now) kept.new) }
     ensures refusal { IfErr result
         (MayRefuseConstExpr scope.now.config.now (context_of scope.now) wanted) }

@@ -68,17 +68,23 @@ pub fn arbitrary_const_expr(
     requires standing { AreSpacesValid config.now spaces.now }
     requires wanted { IsValTypeValid (features_of config.now)
         (length spaces.now.types.now.types) wanted }
+
+    // What is drawn.
     ensures exact { IfOk result (λ drawn.
         const_expr_at config.now (seen_by config.now spaces.now allow_defined) wanted u.old
         ≡ Some (drawn, u.new)) }
     ensures none { IfErr result (λ e. e ≡ Error.EmptyChoose
         → const_expr_at config.now (seen_by config.now spaces.now allow_defined) wanted u.old
         ≡ None) }
+
+    // Validity, bounds and floats.
     ensures typed { IfOk result (IsConstExpr (seen_by config.now spaces.now allow_defined) wanted) }
     ensures short { IfOk result (λ drawn.
         length drawn ≤ most_instructions config.now spaces.now.types.now.types) }
     ensures floats { All HasNoFloat spaces.now.types.now.types → IsNoFloat wanted
         → IfOk result (All GivesNoFloat) }
+
+    // Refusals, reach and the source.
     ensures refusal { IfErr result
         (MayRefuseConstExpr config.now (standing_in config.now spaces.now) wanted) }
     ensures reach { wanted ≡ I32
@@ -105,17 +111,23 @@ pub fn draw_const_expr(
     requires wanted { IsValTypeValid (features_of config.now)
         (length spaces.now.types.now.types) wanted }
     requires kept { AreKeptOffers (seen_by config.now spaces.now allow_defined) kept.old }
+
+    // What is drawn.
     ensures exact { IfOk result (λ drawn.
         const_expr_at config.now (seen_by config.now spaces.now allow_defined) wanted u.old
         ≡ Some (drawn, u.new)) }
     ensures none { IfErr result (λ e. e ≡ Error.EmptyChoose
         → const_expr_at config.now (seen_by config.now spaces.now allow_defined) wanted u.old
         ≡ None) }
+
+    // Validity, bounds and floats.
     ensures typed { IfOk result (IsConstExpr (seen_by config.now spaces.now allow_defined) wanted) }
     ensures short { IfOk result (λ drawn.
         length drawn ≤ most_instructions config.now spaces.now.types.now.types) }
     ensures floats { All HasNoFloat spaces.now.types.now.types → IsNoFloat wanted
         → IfOk result (All GivesNoFloat) }
+
+    // The records, refusals, reach and the source.
     ensures kept { OnOk result
         (AreKeptOffers (seen_by config.now spaces.now allow_defined) kept.new) }
     ensures refusal { IfErr result
@@ -161,20 +173,28 @@ pub fn arbitrary_table_init(
         (length spaces.now.types.now.types) element }
     requires created { element.nullable ≡ false → IsTrue config.now.gc_enabled }
     requires references { IsTrue config.now.gc_enabled → IsTrue config.now.reference_types_enabled }
+
+    // What is drawn.
     ensures exact { IfOk result (λ initial.
         table_init_at config.now (seen_by config.now spaces.now false) element u.old
         ≡ Some (initial, u.new)) }
     ensures none { IfErr result (λ e. e ≡ Error.EmptyChoose
         → table_init_at config.now (seen_by config.now spaces.now false) element u.old ≡ None) }
+
+    // Validity, bounds and floats.
     ensures typed { IfOk result (λ initial.
         IfSome initial (IsConstExpr (seen_by config.now spaces.now false) (Ref element))) }
     ensures short { IfOk result (λ initial. IfSome initial (λ drawn.
         length drawn ≤ most_instructions config.now spaces.now.types.now.types)) }
     ensures floats { All HasNoFloat spaces.now.types.now.types
         → IfOk result (λ initial. IfSome initial (All GivesNoFloat)) }
+
+    // Whether there is an initialiser.
     ensures gc { IfOk result (λ initial. IsSome initial → IsTrue config.now.gc_enabled) }
     ensures without_gc { config.now.gc_enabled ≡ false → result ≡ Ok None }
     ensures needed { element.nullable ≡ false → IfOk result IsSome }
+
+    // Refusals and the source.
     ensures refusal { IfErr result
         (MayRefuseConstExpr config.now (standing_in config.now spaces.now) (Ref element)) }
     ensures left { KeepsPieces u.old u.new }
@@ -200,20 +220,28 @@ pub fn draw_table_init(
     requires created { element.nullable ≡ false → IsTrue config.now.gc_enabled }
     requires references { IsTrue config.now.gc_enabled → IsTrue config.now.reference_types_enabled }
     requires kept { AreKeptOffers (seen_by config.now spaces.now false) kept.old }
+
+    // What is drawn.
     ensures exact { IfOk result (λ initial.
         table_init_at config.now (seen_by config.now spaces.now false) element u.old
         ≡ Some (initial, u.new)) }
     ensures none { IfErr result (λ e. e ≡ Error.EmptyChoose
         → table_init_at config.now (seen_by config.now spaces.now false) element u.old ≡ None) }
+
+    // Validity, bounds and floats.
     ensures typed { IfOk result (λ initial.
         IfSome initial (IsConstExpr (seen_by config.now spaces.now false) (Ref element))) }
     ensures short { IfOk result (λ initial. IfSome initial (λ drawn.
         length drawn ≤ most_instructions config.now spaces.now.types.now.types)) }
     ensures floats { All HasNoFloat spaces.now.types.now.types
         → IfOk result (λ initial. IfSome initial (All GivesNoFloat)) }
+
+    // Whether there is an initialiser.
     ensures gc { IfOk result (λ initial. IsSome initial → IsTrue config.now.gc_enabled) }
     ensures without_gc { config.now.gc_enabled ≡ false → result ≡ Ok None }
     ensures needed { element.nullable ≡ false → IfOk result IsSome }
+
+    // The records, refusals and the source.
     ensures kept { OnOk result (AreKeptOffers (seen_by config.now spaces.now false) kept.new) }
     ensures refusal { IfErr result
         (MayRefuseConstExpr config.now (standing_in config.now spaces.now) (Ref element)) }

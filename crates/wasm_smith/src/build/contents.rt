@@ -87,16 +87,22 @@ pub(crate) fn draw_behind_exports(
         (spaces_of imported.now) definitions.now }
     requires made { AreExportsMade config.now types.now.types
         (spaces_of imported.now) imported.now.type_size made }
+
+    // What is drawn.
     ensures exact { ReturnsWhy (λ contents. (contents, u.new)) result (behind_exports_at config.now
         types.now.types (imported_in imported.now) (spaces_of imported.now) made u.old) }
     ensures kept { IfOk result (AreContents config.now types.now.types (imported_in imported.now)
         (spaces_of imported.now) imported.now.type_size) }
     ensures exports { IfOk result (λ contents. contents.exports ≡ made.exports) }
+
+    // Floats and references.
     ensures floats { config.now.allow_floats ≡ false → All HasNoFloat types.now.types
         → IfOk result HasNoFloatContents }
     ensures granted { IfOk result (HasGrantedContents config.now
         (drawn_beside config.now types.now.types (spaces_of imported.now) definitions.now)
         (spaces_of imported.now).tables) }
+
+    // Refusals and the source.
     ensures refusal { IfErr result (MayRefuseContents config.now
         (drawn_beside config.now types.now.types (spaces_of imported.now) definitions.now)
         (spaces_of imported.now).tables) }
@@ -134,6 +140,8 @@ pub(crate) fn draw_contents(
     requires drawn { AreExportsDrawn config.now drawn.now }
     requires made { AreExportsMade config.now drawn.now.types.types
         (spaces_in drawn.now.imported.spaces) drawn.now.imported.type_size made }
+
+    // What is drawn.
     ensures exact { Returns is_lack (λ contents. (contents, u.new)) result
         (in_full (behind_exports_at config.now drawn.now.types.types
         (imported_in drawn.now.imported) (spaces_in drawn.now.imported.spaces) made u.old)) }
@@ -141,10 +149,14 @@ pub(crate) fn draw_contents(
         (AreContents config.now drawn.now.types.types (imported_in drawn.now.imported)
         (spaces_in drawn.now.imported.spaces) drawn.now.imported.type_size) }
     ensures exports { IfOk result (λ contents. contents.exports ≡ made.exports) }
+
+    // Floats and references.
     ensures floats { config.now.allow_floats ≡ false → All HasNoFloat drawn.now.types.types
         → IfOk result HasNoFloatContents }
     ensures granted { IfOk result (HasGrantedContents config.now
         (drawn_next config.now drawn.now) drawn.now.imported.spaces.tables) }
+
+    // Refusals and the source.
     ensures refusal { IfErr result (MayRefuse config.now) }
     ensures left { KeepsPieces u.old u.new }
 {

@@ -39,11 +39,15 @@ pub(crate) fn make_exports(
     requires sanitized { IsSanitized config.now }
     requires valid { AreShapesValid config.now }
     requires entities { AreEntitiesDrawn config.now drawn.old }
+
+    // What is made.
     ensures exact { Returns is_lack
         (λ made. (record (module_so_far drawn.new) { exports = made.exports }, u.new)) result
         (exported_at config.now (module_so_far drawn.old) u.old) }
-    ensures size { IfOk result (λ made. made
-        ≡ exports_of config.now (record (module_so_far drawn.new) { exports = made.exports })) }
+    ensures size { IfOk result (λ made.
+        made ≡ exports_of config.now (record (module_so_far drawn.new) { exports = made.exports })) }
+
+    // The parts so far and the exports.
     ensures drawn { OnOk result (AreExportsDrawn config.now drawn.new) }
     ensures made { IfOk result (AreExportsMade config.now drawn.new.types.types
         (spaces_in drawn.new.imported.spaces) drawn.new.imported.type_size) }
@@ -53,6 +57,8 @@ pub(crate) fn make_exports(
     ensures imports { OnOk result (HasSameImports drawn.old.imported drawn.new.imported) }
     ensures beyond { IfOk result (λ made. IsBeyond config.now (module_so_far drawn.old)
         (record (module_so_far drawn.new) { exports = made.exports })) }
+
+    // Refusals and the source.
     ensures refusal { IfErr result (MayRefuse config.now) }
     ensures left { KeepsPieces u.old u.new }
 {

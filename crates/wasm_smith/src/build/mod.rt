@@ -45,15 +45,23 @@ pub(crate) fn build(
     requires passes { Passes config }
     requires sanitized { IsSanitized config }
     requires valid { AreShapesValid config }
+
+    // What is drawn.
     ensures exact { Returns is_lack (λ m. (as_drawn m, u.new)) result
         (module_at distinct config u.old) }
     ensures config { IfOk result (λ m. m.config ≡ record config { available_imports = None }) }
+
+    // Validity and bounds.
     ensures valid { IfOk result IsValid }
     ensures bounds { IfOk result (KeepsBounds config) }
     ensures minimums { IfOk result (MeetsMinimums config) }
+
+    // Shapes, promises and interesting values.
     ensures shapes { IfOk result (KeepsShapes config u.old) }
     ensures promises { IfOk result (KeepsPromises distinct config) }
     ensures interesting { IfOk result HasInterestingValues }
+
+    // Refusals and the source.
     ensures refusal { IfErr result (MayRefuse config) }
     ensures left { KeepsPieces u.old u.new }
 {

@@ -112,19 +112,27 @@ pub(crate) fn draw(
     requires passes { Passes config.now }
     requires sanitized { IsSanitized config.now }
     requires valid { AreShapesValid config.now }
+
+    // What is drawn.
     ensures exact { Returns is_lack (λ drawn. (as_drawn (parts_of config.now drawn.value), u.new))
         result (module_at distinct config.now u.old) }
+
+    // Validity and bounds.
     ensures valid { IfOk result (λ drawn. IsValid (parts_of config.now drawn.value)) }
     ensures bounds { IfOk result (λ drawn.
         KeepsBounds config.now (parts_of config.now drawn.value)) }
     ensures minimums { IfOk result (λ drawn.
         MeetsMinimums config.now (parts_of config.now drawn.value)) }
+
+    // Shapes, promises and interesting values.
     ensures shapes { IfOk result (λ drawn.
         KeepsShapes config.now u.old (parts_of config.now drawn.value)) }
     ensures promises { IfOk result (λ drawn.
         KeepsPromises distinct config.now (parts_of config.now drawn.value)) }
     ensures interesting { IfOk result (λ drawn.
         HasInterestingValues (parts_of config.now drawn.value)) }
+
+    // Refusals and the source.
     ensures refusal { IfErr result (MayRefuse config.now) }
     ensures left { KeepsPieces u.old u.new }
 {

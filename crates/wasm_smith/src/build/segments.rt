@@ -53,10 +53,14 @@ pub(crate) fn draw_segments(
         (spaces_of imported.now) imported.now.type_size }
     requires told { TellsImported (imported_in imported.now)
         (spaces_of imported.now) definitions.now }
+
+    // What is drawn.
     ensures exact { ReturnsWhy (λ segments. (segments, u.new)) result (all_segments_at config.now
         types.now.types (imported_in imported.now) (spaces_of imported.now) u.old) }
     ensures fit { IfOk result (AreSegmentsFit config.now types.now.types (imported_in imported.now)
         (spaces_of imported.now)) }
+
+    // Floats and references.
     ensures floats { All HasNoFloat types.now.types
         → IfOk result (λ segments. HaveNoFloatItems segments.elements) }
     ensures grounded { All (HasGroundedElements config.now
@@ -65,6 +69,8 @@ pub(crate) fn draw_segments(
         → IfOk result (λ segments. All (HasGroundedItems config.now
         (drawn_beside config.now types.now.types (spaces_of imported.now) definitions.now))
         segments.elements) }
+
+    // Refusals and the source.
     ensures refusal { IfErr result (MayRefuseContents config.now
         (drawn_beside config.now types.now.types (spaces_of imported.now) definitions.now)
         (spaces_of imported.now).tables) }

@@ -61,13 +61,18 @@ pub(crate) fn add_imports(
     requires passes { Passes config.now }
     requires sanitized { IsSanitized config.now }
     requires types { AreTypesDrawn config.now drawn.old }
+
+    // What is drawn.
     ensures exact { Returns is_lack (λ _. (module_so_far drawn.new, u.new)) result
         (imported_at distinct config.now (module_so_far drawn.old) u.old) }
+
+    // The parts so far.
     ensures drawn { OnOk result (AreImportsDrawn config.now drawn.new) }
     ensures free { (FixesImports config.now → ⊥)
         → OnOk result (AreFreeImports distinct config.now drawn.new.imported) }
-    ensures beyond { OnOk result
-        (IsBeyond config.now (module_so_far drawn.old) (module_so_far drawn.new)) }
+    ensures beyond { OnOk result (IsBeyond config.now (module_so_far drawn.old) (module_so_far drawn.new)) }
+
+    // Refusals and the source.
     ensures refusal { IfErr result (MayRefuse config.now) }
     ensures left { KeepsPieces u.old u.new }
 {
@@ -90,12 +95,17 @@ pub(crate) fn add_definitions(
     requires sanitized { IsSanitized config.now }
     requires valid { AreShapesValid config.now }
     requires imports { AreImportsDrawn config.now drawn.old }
+
+    // What is drawn.
     ensures exact { Returns is_lack (λ _. (module_so_far drawn.new, u.new)) result
         (defined_at config.now (module_so_far drawn.old) u.old) }
+
+    // The parts so far.
     ensures drawn { OnOk result (AreEntitiesDrawn config.now drawn.new) }
     ensures imports { OnOk result (HasSameImports drawn.old.imported drawn.new.imported) }
-    ensures beyond { OnOk result
-        (IsBeyond config.now (module_so_far drawn.old) (module_so_far drawn.new)) }
+    ensures beyond { OnOk result (IsBeyond config.now (module_so_far drawn.old) (module_so_far drawn.new)) }
+
+    // Refusals and the source.
     ensures refusal { IfErr result (MayRefuse config.now) }
     ensures left { KeepsPieces u.old u.new }
 {

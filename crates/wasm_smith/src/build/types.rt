@@ -33,17 +33,25 @@ pub(crate) fn add_more_types(
     requires passes { Passes config.now }
     requires sanitized { IsSanitized config.now }
     requires valid { AreTypesValid (features_of config.now) types.old }
+
+    // What is drawn.
     ensures draws { DrawsInto
         (types_at config.now (functions_over config.now funcs.now imported_funcs) types.old u.old)
         types.new result u.old u.new }
+
+    // Validity, and the types that stay.
     ensures valid { OnOk result (AreTypesValid (features_of config.now) types.new) }
     ensures types { OnOk result (Extends types.old.types types.new.types) }
     ensures groups { OnOk result (Extends types.old.groups types.new.groups) }
+
+    // Bounds.
     ensures most { length types.old.types ≤ config.now.max_types
         → OnOk result (length types.new.types ≤ config.now.max_types) }
     ensures full { config.now.max_types ≤ length types.old.types
         → OnOk result (types.new ≡ types.old) }
     ensures least { OnOk result (config.now.min_types ≤ length types.new.types) }
+
+    // Floats, numbers of values, and references.
     ensures floats { config.now.allow_floats ≡ false → All HasNoFloat types.old.types
         → OnOk result (All HasNoFloat types.new.types) }
     ensures few_values { (most : ℕ) → 20 ≤ most → All (HasFewValues most) types.old.types
