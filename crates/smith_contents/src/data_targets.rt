@@ -69,7 +69,7 @@ impl<'a> Targets<'a> {
         }
     }
 
-    /// Whether there is no memory that segments may be copied into.
+    /// Returns whether there is no memory that segments may be copied into.
     pub(crate) fn is_empty(&self) -> bool
         ensures { IsTrue result ↔ (length self.now.memories ≡ 0) }
     {

@@ -86,7 +86,7 @@ pub(crate) fn draw_item_type(
     draw_type_for(alloc, config, standing, choice, u)
 }
 
-/// Whether the type at `index` exists and is not shared.
+/// Returns whether the type at `index` exists and is not shared.
 fn is_unshared_type(types: &[SubType], index: u32) -> bool
     ensures { result ≡ is_unshared_type types.now index }
 {

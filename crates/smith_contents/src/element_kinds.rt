@@ -26,7 +26,7 @@ pub(crate) enum KindChoice {
     Active(Option<u32>, TableType),
 }
 
-/// Whether `heap_type` is `func`, unshared.
+/// Returns whether `heap_type` is `func`, unshared.
 fn is_plain_func(heap_type: HeapType) -> bool
     ensures { result ≡ is_plain_func heap_type }
 {
@@ -39,7 +39,7 @@ fn is_plain_func(heap_type: HeapType) -> bool
     }
 }
 
-/// Whether `reference` is nullable and has the unshared heap type `func`.
+/// Returns whether `reference` is nullable and has the unshared heap type `func`.
 pub(crate) fn is_funcref(reference: RefType) -> bool
     ensures { result ≡ is_funcref reference }
 {

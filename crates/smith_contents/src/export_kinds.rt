@@ -27,7 +27,7 @@ fn func_size(types: &TypeSpace, func: u32) -> u32
     types.size_of(&EntityType::Func(func)) + 1
 }
 
-/// Whether the size of a function of the type `func`, plus 1, is below `left`.
+/// Returns whether the size of a function of the type `func`, plus 1, is below `left`.
 fn is_func_below(types: &TypeSpace, left: u32, func: u32) -> bool
     requires sized { All HasSizeIn32Bits types.now.types }
     requires valid { IsFuncTypeIndex types.now.types func }
@@ -220,7 +220,7 @@ fn candidate_rows(
     ]
 }
 
-/// Whether an item may be exported if `left` of the type size is left.
+/// Returns whether an item may be exported if `left` of the type size is left.
 pub(crate) fn has_candidates(types: &TypeSpace, spaces: &EntitySpaces, most: u32, left: u32) -> bool
     requires { MayOffer types.now.types (spaces_in spaces.now) most }
     ensures { result

@@ -68,7 +68,7 @@ impl OfferedIndices {
         self.count as usize
     }
 
-    /// Whether no index is offered.
+    /// Returns whether no index is offered.
     pub(crate) fn is_empty(&self) -> bool
         ensures { IsTrue result ↔ (length self.now.offered ≡ 0) }
     {

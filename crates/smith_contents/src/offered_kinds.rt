@@ -62,7 +62,7 @@ impl<'a> OfferedKinds<'a> {
         kept + unnamed
     }
 
-    /// Whether no kind is offered.
+    /// Returns whether no kind is offered.
     pub(crate) fn is_empty(&self) -> bool
         ensures { IsTrue result ↔ (length self.now ≡ 0) }
     {

@@ -114,8 +114,8 @@ fn read_globals<'a>(config: &Config, spaces: &'a Spaces<'_>) -> &'a [GlobalType]
     &globals[..visible]
 }
 
-/// Whether an offset may be read from `global` if it is visible: of 64 bits if `wide` is set, else
-/// of 32 bits.
+/// Returns whether an offset may be read from `global` if it is visible: of 64 bits if `wide` is
+/// set, else of 32 bits.
 fn tells_offset(global: GlobalType, wide: bool) -> bool
     ensures { result ≡ tells_offset wide global }
 {

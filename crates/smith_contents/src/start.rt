@@ -21,7 +21,7 @@ fn takes_and_gives_nothing(inner: &CompositeInnerType) -> bool
     }
 }
 
-/// Whether functions of the type at `index` may start a module.
+/// Returns whether functions of the type at `index` may start a module.
 fn is_start_type(types: &[SubType], index: u32) -> bool
     ensures { result ≡ is_start_type types.now index }
 {

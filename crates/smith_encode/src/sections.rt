@@ -25,7 +25,7 @@ use smith_sections::{
 };
 use wasm_smith::Module;
 
-// Whether there is an item.
+// Returns whether there is an item.
 fn is_filled<T>(items: &[T]) -> bool
     ensures { result ≡ is_filled items.now }
 {
@@ -40,21 +40,21 @@ fn defined<T>(space: &[T], count: usize) -> &[T]
     defined
 }
 
-// Whether the type section is written.
+// Returns whether the type section is written.
 fn writes_types(module: &Module) -> bool
     ensures { result ≡ writes_types «module».now }
 {
     module.should_encode_types() || is_filled(module.rec_groups())
 }
 
-// Whether the import section is written.
+// Returns whether the import section is written.
 fn writes_imports(module: &Module) -> bool
     ensures { result ≡ writes_imports «module».now }
 {
     module.should_encode_imports() || is_filled(module.imports())
 }
 
-// Whether the data count section is written.
+// Returns whether the data count section is written.
 fn writes_data_count(module: &Module) -> bool
     ensures { result ≡ writes_data_count «module».now }
 {

@@ -14,7 +14,7 @@ use smith_config::Config;
 use smith_types::{Import, ImportItem, Imports, Items};
 use std::alloc::Global;
 
-/// Whether the import `next` may be added to the end of `group`.
+/// Returns whether the import `next` may be added to the end of `group`.
 fn may_join(group: &Imports, next: &Import) -> bool
     ensures { result ≡ may_join group.now next.now }
 {

@@ -85,8 +85,8 @@ fn draw_entity_of_kind(
     }
 }
 
-/// Whether an import of the entity `added` fits into the maximum type size after the type size
-/// `size`.
+/// Returns whether an import of the entity `added` fits into the maximum type size after the type
+/// size `size`.
 fn fits(config: &Config, types: &TypeSpace, size: u32, added: &EntityType) -> bool
     requires fit { IsEntityFit config.now types.now.types added.now }
     ensures exact { result ≡ fits config.now types.now.types size added.now }

@@ -52,7 +52,7 @@ pub(crate) fn module_name(group: &Imports) -> &Name
     }
 }
 
-/// Whether `group` has an import.
+/// Returns whether `group` has an import.
 pub(crate) fn has_imports(group: &Imports) -> bool
     ensures { IsTrue result ↔ (0 < length (imports_of group.now)) }
 {

@@ -10,7 +10,7 @@ use smith_config::Config;
 use smith_draw::{choose_enabled, count_enabled};
 use smith_types::ExportKind;
 
-/// Whether `config` allows another entity of the kind `kind` after `imported`.
+/// Returns whether `config` allows another entity of the kind `kind` after `imported`.
 pub(crate) fn has_room(config: &Config, imported: &Imported, kind: ExportKind) -> bool
     ensures { result ≡ has_room config.now (spaces_of imported.now) kind }
 {

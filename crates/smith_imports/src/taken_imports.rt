@@ -23,7 +23,7 @@ fn is_allowed(config: &Config, added: &EntityType) -> bool
     }
 }
 
-/// Whether an import of the entity `added` fits after `imported`.
+/// Returns whether an import of the entity `added` fits after `imported`.
 fn fits(config: &Config, types: &TypeSpace, imported: &Imported, added: &EntityType) -> bool
     requires typed { IsTyped types.now.types added.now }
     requires few { size_in types.now.types added.now < 2 ^ 32 }

@@ -107,7 +107,7 @@ fn read_members<'a>(
     }
 }
 
-/// Whether an earlier member has the name `name`.
+/// Returns whether an earlier member has the name `name`.
 fn is_given(given: &[&str], name: &str) -> bool
     ensures { result ≡ list_any (λ other. bytes_eq other.now name.now) given.now }
 {

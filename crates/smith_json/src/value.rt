@@ -52,14 +52,14 @@ fn unwanted(token: Token<'_>) -> Fault
     }
 }
 
-/// Whether a text has a digit, and only digits.
+/// Returns whether a text has a digit, and only digits.
 fn are_digits(text: &str) -> bool
     ensures { result ≡ are_digits text.now }
 {
     !text.is_empty() && all_digits(text.as_bytes())
 }
 
-/// Whether each byte is a digit.
+/// Returns whether each byte is a digit.
 fn all_digits(text: &[u8]) -> bool
     ensures { result ≡ list_all is_ascii_digit text.now }
 {

@@ -22,7 +22,7 @@ pub trait Sink {
         ensures bytes { WriteAppends (written self.old) (written self.new) result piece.now }
         ensures fault { failed self.new ≡ (failed self.old || is_err result) };
 
-    /// Whether a write has failed. A failed sink stays failed.
+    /// Returns whether a write has failed. A failed sink stays failed.
     fn has_failed(&self) -> bool
         ensures { result ≡ failed self.now };
 }

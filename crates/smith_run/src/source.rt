@@ -27,7 +27,7 @@ pub trait Source {
         ensures bytes { ReadConsumes (left self.old) (left self.new) result buffer.new }
         ensures fault { failed self.new ≡ (failed self.old || is_err result) };
 
-    /// Whether a read has failed. A failed source stays failed.
+    /// Returns whether a read has failed. A failed source stays failed.
     fn has_failed(&self) -> bool
         ensures { result ≡ failed self.now };
 }

@@ -84,7 +84,7 @@ fn write_funcs(kind: ElementKind, funcs: &[u32], sink: &mut Sink) -> Result<(), 
     }
 }
 
-// Whether `heap_type` is `func`.
+// Returns whether `heap_type` is `func`.
 fn is_func(heap_type: HeapType) -> bool
     ensures { result ≡ is_func heap_type }
 {
@@ -97,8 +97,8 @@ fn is_func(heap_type: HeapType) -> bool
     }
 }
 
-// Whether a segment of the type `ty` that is copied into the table `table` has the form without a
-// table and a type.
+// Returns whether a segment of the type `ty` that is copied into the table `table` has the form
+// without a table and a type.
 fn is_short(table: u32, ty: RefType) -> bool
     ensures { result ≡ ((table == 0) && is_func_ref ty) }
 {

@@ -96,8 +96,8 @@ impl<'a> Earlier<'a> {
         self.known.count
     }
 
-    /// Whether one of the types is a struct type that grounds `ty`, a heap type that a later type
-    /// may name.
+    /// Returns whether one of the types is a struct type that grounds `ty`, a heap type that a
+    /// later type may name.
     pub(crate) fn is_grounded(&self, config: &Config, ty: HeapType) -> bool
         requires { IsMemberHeapType config.now self.now ty }
         ensures { IsTrue result
@@ -110,7 +110,8 @@ impl<'a> Earlier<'a> {
         }
     }
 
-    /// Whether the type with the index `index` is a struct type whose fields all have defaults.
+    /// Returns whether the type with the index `index` is a struct type whose fields all have
+    /// defaults.
     fn is_ground_at(&self, index: usize) -> bool
         requires { index < length self.now }
         ensures { (t : Sub) → slice_get self.now index ≡ Some t → result ≡ is_ground t }
@@ -126,7 +127,7 @@ impl<'a> Earlier<'a> {
     }
 }
 
-/// Whether `ty` is above struct types.
+/// Returns whether `ty` is above struct types.
 fn is_above_structs(ty: AbstractHeapType) -> bool
     ensures { result ≡ is_abstract_below Struct ty }
 {
@@ -136,7 +137,7 @@ fn is_above_structs(ty: AbstractHeapType) -> bool
     }
 }
 
-/// Whether `t` is a struct type whose fields all have defaults.
+/// Returns whether `t` is a struct type whose fields all have defaults.
 fn is_ground(t: &SubType) -> bool
     ensures { result ≡ is_ground t.now }
 {

@@ -44,7 +44,7 @@ pub(crate) fn member_space(
     Ok(Some(space))
 }
 
-/// Whether the groups of a member of the family may be `groups`. Takes no memory.
+/// Returns whether the groups of a member of the family may be `groups`. Takes no memory.
 fn are_groups_in_family(config: &Config, groups: &[Items<SubType>]) -> bool
     ensures { IsTrue result ↔ AreGroupsInFamily config.now groups.now }
 {
@@ -60,7 +60,7 @@ fn are_filled(groups: &[Items<SubType>]) -> bool
     groups.iter().all(|group| !group.is_empty())
 }
 
-// Whether each of `groups` has one type, as required without garbage collection.
+// Returns whether each of `groups` has one type, as required without garbage collection.
 fn are_sizes_enabled(config: &Config, groups: &[Items<SubType>]) -> bool
     ensures { IsTrue result ↔ (config.now.gc_enabled ≡ false
         → All (λ (group : List Sub). length group ≡ 1) groups.now) }

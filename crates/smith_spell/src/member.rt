@@ -28,7 +28,7 @@ fn write_no_imports(config: &Config, bytes: &mut Items<u8>) -> Result<(), Error>
     write_flag(bytes)
 }
 
-/// Whether a module with the types `types` may have a tag.
+/// Returns whether a module with the types `types` may have a tag.
 fn may_have_tags(config: &Config, types: &[SubType]) -> bool
     ensures { result ≡ (config.now.exceptions_enabled && nat_lt 0 config.now.max_tags
         && list_any is_tag_type types.now) }

@@ -26,7 +26,7 @@ use smith_types::{
 /// Maximum number of parameters, of results and of fields.
 const MOST: usize = 20;
 
-/// Whether `ty` may follow `earlier` in lists of the family of `config`.
+/// Returns whether `ty` may follow `earlier` in lists of the family of `config`.
 pub(crate) fn is_member_type(config: &Config, earlier: &Earlier<'_>, ty: &SubType) -> bool
     ensures { IsTrue result ↔ IsMemberType config.now earlier.now ty.now }
 {
@@ -117,7 +117,7 @@ fn is_member_reference(config: &Config, earlier: &Earlier<'_>, reference: RefTyp
         && is_member_nullability(config, earlier, reference)
 }
 
-// Whether `reference` is nullable, or `config` and `earlier` allow a non-nullable one.
+// Returns whether `reference` is nullable, or `config` and `earlier` allow a non-nullable one.
 fn is_member_nullability(config: &Config, earlier: &Earlier<'_>, reference: RefType) -> bool
     requires { IsMemberHeapType config.now earlier.now reference.heap_type }
     ensures { IsTrue result ↔ IsMemberNullability config.now earlier.now reference }
@@ -138,7 +138,7 @@ fn is_member_heap_type(config: &Config, earlier: &Earlier<'_>, heap_type: HeapTy
     }
 }
 
-// Whether the abstract heap type `ty` is one of those that are drawn.
+// Returns whether the abstract heap type `ty` is one of those that are drawn.
 fn is_listed(config: &Config, ty: AbstractHeapType) -> bool
     ensures { IsTrue result ↔ Contains (enabled (abstract_heap_types config.now)) ty }
 {

@@ -95,8 +95,8 @@ fn is_set(
     }
 }
 
-/// Whether `value` is a whole number or a truth value as JSON writes them, or a word that JSON
-/// doesn't know.
+/// Returns whether `value` is a whole number or a truth value as JSON writes them, or a word that
+/// JSON doesn't know.
 fn is_plain(value: &str) -> bool {
     value != "null" && value.bytes().all(|byte| byte.is_ascii_alphanumeric())
 }

@@ -57,7 +57,7 @@ fn put(rt: &HostRuntime, bytes: &[u8]) -> io::Result<()> {
     output.flush()
 }
 
-/// Whether standard output is a terminal.
+/// Returns whether standard output is a terminal.
 pub(crate) fn shows_output(rt: &HostRuntime) -> bool {
     rt.stdout().is_terminal()
 }

@@ -17,7 +17,7 @@ const WITHOUT_EFFECT: [&str; 11] = [
     "max-values",
 ];
 
-/// Whether the field `name` has no effect.
+/// Returns whether the field `name` has no effect.
 pub(crate) fn has_no_effect(name: &str) -> bool {
     WITHOUT_EFFECT.iter().any(|other| *other == name)
 }
@@ -32,7 +32,7 @@ pub(crate) fn warn(rt: &HostRuntime, asked: &Asked<'_, '_>) -> Result<(), Failur
     Ok(())
 }
 
-/// Whether a word, or a text in the configuration file, names the field `name`.
+/// Returns whether a word, or a text in the configuration file, names the field `name`.
 fn is_given(asked: &Asked<'_, '_>, name: &str) -> bool {
     asked.matches.get_str(name).is_some()
         || asked

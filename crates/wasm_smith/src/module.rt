@@ -91,7 +91,7 @@ pub enum DuplicateImportsBehavior {
 }
 
 impl DuplicateImportsBehavior {
-    /// Whether no two imports may have the same pair of names.
+    /// Returns whether no two imports may have the same pair of names.
     fn is_distinct(self) -> bool
         ensures { result ≡ is_distinct self }
     {
