@@ -304,7 +304,7 @@ pub fn arbitrary_data(
     ensures most { IfOk result (λ segments. length segments ≤ config.now.max_data_segments) }
     ensures least { IfOk result (λ segments. config.now.min_data_segments ≤ length segments) }
 
-    // Reach, refusals and the source.
+    // Refusals, reach and the source.
     ensures reach { config.now.min_data_segments ≡ 0 → spaces.now.entities.memories.now ≡ []
         → IfOk result (λ segments. Takes (SpellsPassive config.now) u.old segments u.new) }
     ensures refusal { IfErr result (MayRefuseData config.now) }

@@ -217,7 +217,7 @@ pub fn arbitrary_elements(
         (standing_in config.now spaces.now) spaces.now.entities.tables.now
         → IfOk result (All (HasGroundedItems config.now (standing_in config.now spaces.now))) }
 
-    // Reach, refusals and the source.
+    // Refusals, reach and the source.
     ensures none { config.now.min_element_segments ≡ 0 → spaces.now.entities.tables.now ≡ []
         → IfOk result (λ segments. Takes (SpellsEmpty (SpellsNone
         (if config.now.bulk_memory_enabled then config.now.max_element_segments else 0)))

@@ -67,7 +67,7 @@ pub(crate) fn define_funcs(
     ensures exact { ReturnsWhy (λ _. (funcs.new, u.new)) result
         (funcs_at config.now types.now.types funcs.old u.old) }
 
-    // Bounds and validity.
+    // Validity and bounds.
     ensures filled { OnOk result
         (IsFilled config.now.min_funcs config.now.max_funcs funcs.old funcs.new) }
     ensures valid { All (IsFuncTypeIndex types.now.types) funcs.old

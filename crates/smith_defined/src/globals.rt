@@ -178,7 +178,7 @@ pub(crate) fn define_globals<'a>(
         imported_funcs imported_globals globals.old) globals.old initials.old u.old
         ≡ ((globals.new, initials.new), u.new)) }
 
-    // Bounds and validity.
+    // Validity and bounds.
     ensures filled { OnOk result
         (IsFilled config.now.min_globals config.now.max_globals globals.old globals.new) }
     ensures valid { OnOk result
@@ -202,7 +202,7 @@ pub(crate) fn define_globals<'a>(
         → OnOk result (All (All GivesNoFloat)
         (map (λ (one : ℕ × List ConstInstr). one.1) initials.new)) }
 
-    // Reach, refusals and the source.
+    // Refusals, reach and the source.
     ensures reach { config.now.min_globals ≡ 0 → globals.old ≡ [] → initials.old ≡ []
         → OnOk result (Takes (SpellsGlobals config.now) u.old
         (globals.new, map (λ (one : ℕ × List ConstInstr). one.1) initials.new) u.new) }

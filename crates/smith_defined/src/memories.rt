@@ -56,7 +56,7 @@ pub(crate) fn define_memories(
     ensures draws { DrawsInto (memories_at config.now memories.old u.old) memories.new
         result u.old u.new }
 
-    // Bounds and validity.
+    // Validity and bounds.
     ensures filled { OnOk result
         (IsFilled config.now.min_memories config.now.max_memories memories.old memories.new) }
     ensures valid { All (IsMemoryValid (features_of config.now)) memories.old

@@ -112,7 +112,7 @@ pub(crate) fn define_tables(
         (tables_at config.now (scope_of_spaces spaces.now) tables.old initials.old u.old
         ≡ ((tables.new, initials.new), u.new)) }
 
-    // Bounds and validity.
+    // Validity and bounds.
     ensures filled { OnOk result
         (IsFilled config.now.min_tables config.now.max_tables tables.old tables.new) }
     ensures valid { All
@@ -130,7 +130,7 @@ pub(crate) fn define_tables(
         → All (All GivesNoFloat) (flat_map initial_of initials.old)
         → OnOk result (All (All GivesNoFloat) (flat_map initial_of initials.new)) }
 
-    // Reach, refusals and the source.
+    // Refusals, reach and the source.
     ensures none { config.now.min_tables ≡ 0 → tables.old ≡ [] → OnOk result (Takes
         (SpellsEmpty (SpellsNone config.now.max_tables)) u.old tables.new u.new) }
     ensures refusal { IfErr result

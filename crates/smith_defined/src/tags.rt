@@ -72,7 +72,7 @@ pub(crate) fn define_tags(
     ensures exact { ReturnsWhy (λ _. (tags.new, u.new)) result
         (tags_at config.now types.now.types tags.old u.old) }
 
-    // Bounds and validity.
+    // Validity and bounds.
     ensures filled { OnOk result
         (IsFilled config.now.min_tags config.now.max_tags tags.old tags.new) }
     ensures valid { All (IsTagValid types.now.types) tags.old
