@@ -13,7 +13,7 @@ use Rattle.smith_types.specs.Subtyping.{IsRefBelow}
 use Rattle.smith_types.specs.declared.const_instr.ConstInstr.{ConstInstr}
 use Rattle.smith_types.specs.declared.entity_type.TableType.{TableType}
 use Rattle.smith_types.specs.declared.segments.ElementKind.{ElementKind}
-use Rattle.smith_types.specs.declared.segments.ElementKind.TheVariants as element
+use Rattle.smith_types.specs.declared.segments.ElementKind.TheVariants as element_kind
 use Rattle.smith_types.specs.declared.segments.Elements.{Elements}
 use Rattle.smith_types.specs.declared.segments.Elements.TheVariants.{Expressions}
 use Rattle.smith_types.specs.declared.segments.ElementSegment.{ElementSegment}
@@ -62,7 +62,7 @@ module _ (config : Config) (spaces : Spaces) where
   tables = spaces.entities.tables.now
 
   active_valid : (index : Option ℕ) (table : TableType) (offset : Offset) (hint : Option ℕ) (ty : RefType) → IsTarget config spaces.types.now.types tables index table → IsPlaced config context table offset hint → IsRefBelow spaces.types.now.types ty table.element_type
-      → IsElementKindValid context tables ty (element.Active index offset)
+      → IsElementKindValid context tables ty (element_kind.Active index offset)
   active_valid None table offset hint ty target placed below = record { table = table; stands = target.stands; below = below; offset_valid = placed.valid }
   active_valid (Some index) table offset hint ty target placed below = (target.named refl, record { table = table; stands = target.stands; below = below; offset_valid = placed.valid })
 

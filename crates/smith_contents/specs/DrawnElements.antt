@@ -15,7 +15,7 @@ use Rattle.smith_types.specs.ValidTypes.{IsRefTypeValid}
 use Rattle.smith_types.specs.declared.composite_type.SubType.{SubType}
 use Rattle.smith_types.specs.declared.entity_type.TableType.{TableType}
 use Rattle.smith_types.specs.declared.segments.ElementKind.{ElementKind}
-use Rattle.smith_types.specs.declared.segments.ElementKind.TheVariants as element
+use Rattle.smith_types.specs.declared.segments.ElementKind.TheVariants as element_kind
 use Rattle.smith_types.specs.declared.segments.Elements.{Elements}
 use Rattle.smith_types.specs.declared.segments.ElementSegment.{ElementSegment}
 use Rattle.smith_types.specs.declared.segments.Offset.{Offset}
@@ -67,9 +67,9 @@ pub record IsPlaced (config : Config) (context : Context) (table : TableType) (o
 
 -- the kind of a segment is the one that was chosen, with an offset if it is copied into a table
 abbrev pub IsKindDrawn : Config → Context → KindChoice → ElementKind × Option ℕ → Type 0
-IsKindDrawn config context choice.Passive drawn = drawn.0 ≡ element.Passive
-IsKindDrawn config context choice.Declared drawn = drawn.0 ≡ element.Declared
-IsKindDrawn config context (choice.Active index table) drawn = (offset : Offset) × (drawn.0 ≡ element.Active index offset) × IsPlaced config context table offset drawn.1
+IsKindDrawn config context choice.Passive drawn = drawn.0 ≡ element_kind.Passive
+IsKindDrawn config context choice.Declared drawn = drawn.0 ≡ element_kind.Declared
+IsKindDrawn config context (choice.Active index table) drawn = (offset : Offset) × (drawn.0 ≡ element_kind.Active index offset) × IsPlaced config context table offset drawn.1
 
 -- items of a type fit the table, if they are copied into one
 abbrev pub FitsTable : List SubType → KindChoice → RefType → Type 0

@@ -14,7 +14,7 @@ use Rattle.smith_types.specs.declared.composite_type.SubType.{SubType}
 use Rattle.smith_types.specs.declared.const_instr.ConstInstr.{ConstInstr}
 use Rattle.smith_types.specs.declared.entity_type.TableType.{TableType}
 use Rattle.smith_types.specs.declared.segments.ElementKind.{ElementKind}
-use Rattle.smith_types.specs.declared.segments.ElementKind.TheVariants as element
+use Rattle.smith_types.specs.declared.segments.ElementKind.TheVariants as element_kind
 use Rattle.smith_types.specs.declared.segments.Elements.{Elements}
 use Rattle.smith_types.specs.declared.segments.Elements.TheVariants.{Functions, Expressions}
 use Rattle.smith_types.specs.declared.segments.ElementSegment.{ElementSegment}
@@ -119,11 +119,11 @@ table_offset_at config context table bytes =
 
 -- a segment of a kind, with the number of elements that must fit, if that is limited
 unfoldable pub element_kind_at : Config → Context → KindChoice → List ℕ → (ElementKind × Option ℕ) × List ℕ
-element_kind_at config context choice.Passive bytes = ((element.Passive, None), bytes)
-element_kind_at config context choice.Declared bytes = ((element.Declared, None), bytes)
+element_kind_at config context choice.Passive bytes = ((element_kind.Passive, None), bytes)
+element_kind_at config context choice.Declared bytes = ((element_kind.Declared, None), bytes)
 element_kind_at config context (choice.Active index table) bytes =
     let offset = table_offset_at config context table bytes in
-    ((element.Active index offset.0.0, offset.0.1), offset.1)
+    ((element_kind.Active index offset.0.0, offset.0.1), offset.1)
 
 -- the type of the items: a subtype of that of the table's elements, or any type if there is no
 -- table

@@ -9,10 +9,10 @@ use Rattle.smith_sections.specs.Entities.{IsMemoryType, IsTagType}
 use Rattle.smith_sections.specs.Imports.{IsImportGroup}
 use Rattle.smith_sections.specs.Definitions.{IsTable, IsGlobal}
 use Rattle.smith_sections.specs.Exports.{IsExport}
-use Rattle.smith_sections.specs.Elements.{IsElement}
+use Rattle.smith_sections.specs.Elements.{IsElem}
 use Rattle.smith_sections.specs.Codes.{IsBodyWritten, IsRun}
 use Rattle.smith_sections.specs.Data.{IsData}
-use Rattle.smith_sections.specs.Long.{IsNeverLong, IsLongBody, IsLongData, IsLongElement, IsLongExport, IsLongGroup, IsLongImportGroup, IsLongSubType}
+use Rattle.smith_sections.specs.Long.{IsNeverLong, IsLongBody, IsLongData, IsLongElem, IsLongExport, IsLongGroup, IsLongImportGroup, IsLongSubType}
 use Rattle.smith_sections.proofs.SizeLemmas.{AtMost, bytes_within, joined_within, none_within, not_long, no_long_items, no_long_section, number_within, one_long_item, one_long_section, one_within, sized_within}
 use Rattle.smith_encode.specs.ExampleModules.{one_function}
 use Rattle.smith_encode.specs.TooLong.{IsTooLong}
@@ -56,6 +56,6 @@ one_function_short (IsTooLong.memories long) = no_long_section IsMemoryType IsNe
 one_function_short (IsTooLong.tags long) = no_long_section IsTagType IsNeverLong long
 one_function_short (IsTooLong.globals long) = no_long_section IsGlobal IsNeverLong long
 one_function_short (IsTooLong.exports long) = no_long_section IsExport IsLongExport long
-one_function_short (IsTooLong.elements long) = no_long_section IsElement IsLongElement long
+one_function_short (IsTooLong.elems long) = no_long_section IsElem IsLongElem long
 one_function_short (IsTooLong.bodies long) = one_long_section IsBodyWritten IsLongBody ([], 0x00 ∷ 0x0B ∷ []) 12 (omega arith) body_within body_short long
 one_function_short (IsTooLong.datas long) = no_long_section IsData IsLongData long

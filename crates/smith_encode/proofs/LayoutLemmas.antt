@@ -15,12 +15,12 @@ use Rattle.smith_sections.specs.Entities.{IsMemoryType, IsTagType}
 use Rattle.smith_sections.specs.Imports.{IsImportGroup, IsImports}
 use Rattle.smith_sections.specs.Definitions.{IsTable, IsTableWritten, IsGlobal, initialised_table, initialised_global}
 use Rattle.smith_sections.specs.Exports.{IsExport}
-use Rattle.smith_sections.specs.Elements.{IsElement, IsElementWritten, element_of}
+use Rattle.smith_sections.specs.Elements.{IsElem, IsElemWritten, elem_of}
 use Rattle.smith_sections.specs.Data.{IsData, IsDataWritten, data_of}
 use Rattle.smith_sections.specs.Sections.{IsOptionalSection, IsListSection, IsSectionIf}
 use Rattle.smith_sections.specs.Modules.{Contents, IsPreamble, IsStartSection, IsDataCount}
 use Rattle.smith_sections.proofs.ListLemmas.{list_as, list_mapped}
-use Rattle.smith_sections.proofs.SpelledFormLemmas.{element_spelled, data_spelled, table_spelled}
+use Rattle.smith_sections.proofs.SpelledFormLemmas.{elem_spelled, data_spelled, table_spelled}
 use Rattle.smith_encode.specs.Around.{IsModuleAround}
 use Rattle.smith_encode.specs.Contents.{defined, contents_of}
 use Rattle.smith_encode.specs.Layout.{is_filled, id_if, writes_types, writes_imports, writes_data_count, section_ids, IsAnySection, HasSections}
@@ -111,11 +111,11 @@ middle_is m more piece h =
 
 back_is : (m : ModuleParts) (Bodies : List ℕ → Type 0) (piece : List ℕ) → IsBack m Bodies piece
     → Joined (IsStartSection m.start)
-    (Joined (IsListSection 9 IsElement (contents_of m).elements)
+    (Joined (IsListSection 9 IsElem (contents_of m).elems)
     (Joined (IsDataCount (contents_of m).datas) (Joined (IsSectionIf (is_filled m.code) 10 Bodies) (IsListSection 11 IsData (contents_of m).datas)))) piece
 back_is m Bodies piece h =
     both_as piece (λ p start. start)
-    (λ p rest. both_as p (mapped_optional (is_filled m.elems) 9 IsElementWritten IsElement element_of element_spelled m.elems (none_mapped element_of m.elems))
+    (λ p rest. both_as p (mapped_optional (is_filled m.elems) 9 IsElemWritten IsElem elem_of elem_spelled m.elems (none_mapped elem_of m.elems))
     (λ q later. both_as q
     (optional (writes_data_count m) 12 (Unit {0}) (IsUnsigned 32 (length m.datas)) (IsUnsigned 32 (length (contents_of m).datas)) (λ e. tt) (λ c count. subst (λ (n : ℕ). IsUnsigned 32 n c) (sym (length-map m.datas data_of)) count))
     (λ r last. both_as r (λ s code. code) (mapped_optional (is_filled m.datas) 11 IsDataWritten IsData data_of data_spelled m.datas (none_mapped data_of m.datas)) last)
@@ -194,7 +194,7 @@ back_ids : (m : ModuleParts) (Bodies : List ℕ → Type 0) (piece : List ℕ) �
 back_ids m Bodies piece h =
     ids_joined (id_if (is_some m.start) 8) _
     (both_as piece (start_id m.start)
-    (one_id (is_filled m.elems) 9 (IsList IsElementWritten m.elems) _
+    (one_id (is_filled m.elems) 9 (IsList IsElemWritten m.elems) _
     (one_id (writes_data_count m) 12 (IsUnsigned 32 (length m.datas)) _ (one_id (is_filled m.code) 10 Bodies _ (section_id (is_filled m.datas) 11 (IsList IsDataWritten m.datas)))))
     h)
 

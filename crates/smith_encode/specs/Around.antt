@@ -8,7 +8,7 @@ use Rattle.smith_sections.specs.Entities.{IsMemoryType, IsTagType}
 use Rattle.smith_sections.specs.Imports.{IsImports}
 use Rattle.smith_sections.specs.Definitions.{IsTable, IsGlobal}
 use Rattle.smith_sections.specs.Exports.{IsExport}
-use Rattle.smith_sections.specs.Elements.{IsElement}
+use Rattle.smith_sections.specs.Elements.{IsElem}
 use Rattle.smith_sections.specs.Data.{IsData}
 use Rattle.smith_sections.specs.Sections.{IsOptionalSection, IsListSection}
 use Rattle.smith_sections.specs.Modules.{Contents, IsPreamble, IsStartSection, IsDataCount}
@@ -26,5 +26,5 @@ IsModuleAround m Code =
     (Joined (IsListSection 6 IsGlobal m.globals)
     (Joined (IsListSection 7 IsExport m.exports)
     (Joined (IsStartSection m.start)
-    (Joined (IsListSection 9 IsElement m.elements)
+    (Joined (IsListSection 9 IsElem m.elems)
     (Joined (IsDataCount m.datas) (Joined Code (IsListSection 11 IsData m.datas)))))))))))))

@@ -6,7 +6,7 @@ use Rattle.smith_types.specs.Imports.{flattened}
 use Rattle.smith_rules.specs.Module.{ModuleParts}
 use Rattle.smith_sections.specs.Types.{group_at}
 use Rattle.smith_sections.specs.Definitions.{initialised_table, initialised_global}
-use Rattle.smith_sections.specs.Elements.{element_of}
+use Rattle.smith_sections.specs.Elements.{elem_of}
 use Rattle.smith_sections.specs.Codes.{body_of}
 use Rattle.smith_sections.specs.Data.{data_of}
 use Rattle.smith_sections.specs.Modules.{Contents}
@@ -27,7 +27,7 @@ contents_of m = record {
   globals = map initialised_global (zip (defined (length m.defined_globals) m.globals) m.defined_globals);
   exports = m.exports;
   start = m.start;
-  elements = map element_of m.elems;
+  elems = map elem_of m.elems;
   bodies = map (body_of m.fuel_globals) m.code;
   datas = map data_of m.datas;
 }

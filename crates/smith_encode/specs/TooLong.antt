@@ -6,10 +6,10 @@ use Rattle.smith_sections.specs.Entities.{IsMemoryType, IsTagType}
 use Rattle.smith_sections.specs.Imports.{IsImportGroup}
 use Rattle.smith_sections.specs.Definitions.{IsTable, IsGlobal}
 use Rattle.smith_sections.specs.Exports.{IsExport}
-use Rattle.smith_sections.specs.Elements.{IsElement}
+use Rattle.smith_sections.specs.Elements.{IsElem}
 use Rattle.smith_sections.specs.Codes.{IsBodyWritten}
 use Rattle.smith_sections.specs.Data.{IsData}
-use Rattle.smith_sections.specs.Long.{IsLongSection, IsNeverLong, IsLongGroup, IsLongImportGroup, IsLongExport, IsLongElement, IsLongBody, IsLongData}
+use Rattle.smith_sections.specs.Long.{IsLongSection, IsNeverLong, IsLongGroup, IsLongImportGroup, IsLongExport, IsLongElem, IsLongBody, IsLongData}
 use Rattle.smith_encode.specs.Contents.{contents_of}
 
 -- a section is too long: a list in it has 2^32 items or more, or it or a body of it has a spelling
@@ -24,6 +24,6 @@ pub data IsTooLong (m : ModuleParts) : Type 0 where
   tags : IsLongSection IsTagType IsNeverLong (contents_of m).tags → IsTooLong m
   globals : IsLongSection IsGlobal IsNeverLong (contents_of m).globals → IsTooLong m
   exports : IsLongSection IsExport IsLongExport m.exports → IsTooLong m
-  elements : IsLongSection IsElement IsLongElement (contents_of m).elements → IsTooLong m
+  elems : IsLongSection IsElem IsLongElem (contents_of m).elems → IsTooLong m
   bodies : IsLongSection IsBodyWritten IsLongBody (contents_of m).bodies → IsTooLong m
   datas : IsLongSection IsData IsLongData (contents_of m).datas → IsTooLong m

@@ -12,7 +12,7 @@ use Rattle.smith_sections.specs.Entities.{IsMemoryType, IsTagType}
 use Rattle.smith_sections.specs.Imports.{IsImportGroup}
 use Rattle.smith_sections.specs.Definitions.{IsTableWritten, IsGlobal}
 use Rattle.smith_sections.specs.Exports.{IsExport}
-use Rattle.smith_sections.specs.Elements.{IsElementWritten}
+use Rattle.smith_sections.specs.Elements.{IsElemWritten}
 use Rattle.smith_sections.specs.Codes.{IsBodyWritten, body_of}
 use Rattle.smith_sections.specs.Data.{IsDataWritten}
 use Rattle.smith_sections.specs.Sections.{IsSectionIf}
@@ -39,7 +39,7 @@ IsMiddle m =
 abbrev pub IsBack : ModuleParts → (List ℕ → Type 0) → List ℕ → Type 0
 IsBack m Bodies =
     Joined (IsStartSection m.start)
-    (Joined (IsSectionIf (is_filled m.elems) 9 (IsList IsElementWritten m.elems))
+    (Joined (IsSectionIf (is_filled m.elems) 9 (IsList IsElemWritten m.elems))
     (Joined (IsSectionIf (writes_data_count m) 12 (IsUnsigned 32 (length m.datas)))
     (Joined (IsSectionIf (is_filled m.code) 10 Bodies) (IsSectionIf (is_filled m.datas) 11 (IsList IsDataWritten m.datas)))))
 

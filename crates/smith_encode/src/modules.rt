@@ -11,8 +11,8 @@ ghost use Rattle.smith_encode.specs.Written.{IsFront, IsMiddle, IsBack, IsWritte
 ghost use Rattle.smith_encode.specs.TooLong.{IsTooLong};
 
 use crate::sections::{
-    write_bodies, write_data_count, write_elements, write_exports, write_functions, write_globals,
-    write_imports, write_memories, write_segments, write_start, write_tables, write_tags,
+    write_bodies, write_data_count, write_datas, write_elems, write_exports, write_functions,
+    write_globals, write_imports, write_memories, write_start, write_tables, write_tags,
     write_types,
 };
 use smith_binary::{EncodeError, Sink};
@@ -50,10 +50,10 @@ fn write_back<B: Encode>(module: &Module, bodies: &B, sink: &mut Sink) -> Result
         (IsTooLong «module».now ⊎ (B.is_long bodies.now ⊎ IsLongContent (B.spells bodies.now)))) }
 {
     write_start(module, sink)?;
-    write_elements(module, sink)?;
+    write_elems(module, sink)?;
     write_data_count(module, sink)?;
     write_bodies(module, bodies, sink)?;
-    write_segments(module, sink)
+    write_datas(module, sink)
 }
 
 /// Encodes `module` in the binary format of the WebAssembly Core Specification 3.0 (chapter Binary

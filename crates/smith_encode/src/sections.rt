@@ -9,7 +9,7 @@ ghost use Rattle.smith_sections.specs.Entities.{IsMemoryType, IsTagType};
 ghost use Rattle.smith_sections.specs.Imports.{IsImportGroup};
 ghost use Rattle.smith_sections.specs.Definitions.{IsTableWritten, IsGlobal};
 ghost use Rattle.smith_sections.specs.Exports.{IsExport};
-ghost use Rattle.smith_sections.specs.Elements.{IsElementWritten};
+ghost use Rattle.smith_sections.specs.Elements.{IsElemWritten};
 ghost use Rattle.smith_sections.specs.Data.{IsDataWritten};
 ghost use Rattle.smith_sections.specs.Long.{IsLongContent};
 ghost use Rattle.smith_sections.specs.Sections.{IsSectionIf};
@@ -188,16 +188,16 @@ pub(crate) fn write_start(module: &Module, sink: &mut Sink) -> Result<(), Encode
 }
 
 /// Writes the element section.
-pub(crate) fn write_elements(module: &Module, sink: &mut Sink) -> Result<(), EncodeError>
+pub(crate) fn write_elems(module: &Module, sink: &mut Sink) -> Result<(), EncodeError>
     ensures writes { OnOk result (Writes (IsSectionIf (is_filled «module».now.elems) 9
-        (IsList IsElementWritten «module».now.elems)) sink.old sink.new) }
+        (IsList IsElemWritten «module».now.elems)) sink.old sink.new) }
     ensures fault { IfErr result (IsFault (IsTooLong «module».now)) }
 {
-    let elements = Listed {
+    let elems = Listed {
         writer: Plain,
         items: module.elems(),
     };
-    write_section_if(is_filled(elements.items), 9, &elements, sink)
+    write_section_if(is_filled(elems.items), 9, &elems, sink)
 }
 
 /// Writes the data count section.
@@ -225,14 +225,14 @@ pub(crate) fn write_bodies<B: Encode>(
 }
 
 /// Writes the data section.
-pub(crate) fn write_segments(module: &Module, sink: &mut Sink) -> Result<(), EncodeError>
+pub(crate) fn write_datas(module: &Module, sink: &mut Sink) -> Result<(), EncodeError>
     ensures writes { OnOk result (Writes (IsSectionIf (is_filled «module».now.datas) 11
         (IsList IsDataWritten «module».now.datas)) sink.old sink.new) }
     ensures fault { IfErr result (IsFault (IsTooLong «module».now)) }
 {
-    let segments = Listed {
+    let datas = Listed {
         writer: Plain,
         items: module.data(),
     };
-    write_section_if(is_filled(segments.items), 11, &segments, sink)
+    write_section_if(is_filled(datas.items), 11, &datas, sink)
 }

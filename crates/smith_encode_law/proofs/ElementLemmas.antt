@@ -5,7 +5,7 @@ use Rattle.smith_binary.specs.Unambiguous.{Same, IsUnambiguous}
 use Rattle.smith_binary.proofs.UnambiguousLemmas.{unsigned_is_unambiguous, byte_is_unambiguous, list_is_unambiguous, first_same, joined_same}
 use Rattle.smith_types.specs.declared.value_type.RefType.{RefType}
 use Rattle.smith_types.specs.declared.const_instr.ConstInstr.{ConstInstr}
-use Rattle.smith_sections.specs.Elements.{passive, declared, active, Element, func_ref, func_items, Form, first_funcs, passive_funcs, table_funcs, declared_funcs, first_items, passive_items, table_items, declared_items, form_number, IsItems, IsKindFuncs, IsInForm, IsElement}
+use Rattle.smith_sections.specs.Elements.{passive, declared, active, Elem, func_ref, func_items, Form, first_funcs, passive_funcs, table_funcs, declared_funcs, first_items, passive_items, table_items, declared_items, form_number, IsItems, IsKindFuncs, IsInForm, IsElem}
 use Rattle.smith_encode_law.proofs.TypeLemmas.{ref_is_unambiguous}
 use Rattle.smith_encode_law.proofs.InstructionLemmas.{expression_is_unambiguous}
 
@@ -34,49 +34,49 @@ kind_funcs_is_unambiguous = record {
 items_is_unambiguous : IsUnambiguous IsItems
 items_is_unambiguous = list_is_unambiguous expression_is_unambiguous
 
-same_element : (x y v w : Element) (rest other : List ℕ) → x ≡ v → y ≡ w → v ≡ w → rest ≡ other → Same x y rest other
-same_element x y v w rest other a b c d = record { item = a ∙ c ∙ sym b; after = d }
+same_elem : (x y v w : Elem) (rest other : List ℕ) → x ≡ v → y ≡ w → v ≡ w → rest ≡ other → Same x y rest other
+same_elem x y v w rest other a b c d = record { item = a ∙ c ∙ sym b; after = d }
 
 -- in one form
-form_same : (form : Form) (x y : Element) (piece more rest other : List ℕ) → IsInForm form x piece → IsInForm form y more → piece ++ rest ≡ more ++ other → Same x y rest other
+form_same : (form : Form) (x y : Elem) (piece more rest other : List ℕ) → IsInForm form x piece → IsInForm form y more → piece ++ rest ≡ more ++ other → Same x y rest other
 form_same first_funcs x y piece more rest other h k e =
     let one = joined_same expression_is_unambiguous (list_is_unambiguous (unsigned_is_unambiguous 32)) h.3 k.3 e in
-    same_element x y _ _ rest other h.2 k.2 (ap (λ (o : List ConstInstr). record { ty = func_ref false; items = func_items h.1; mode = active 0 o }) one.first ∙ ap (λ (fs : List ℕ). record { ty = func_ref false; items = func_items fs; mode = active 0 k.0 }) one.second) one.after
+    same_elem x y _ _ rest other h.2 k.2 (ap (λ (o : List ConstInstr). record { ty = func_ref false; items = func_items h.1; mode = active 0 o }) one.first ∙ ap (λ (fs : List ℕ). record { ty = func_ref false; items = func_items fs; mode = active 0 k.0 }) one.second) one.after
 form_same passive_funcs x y piece more rest other h k e =
     let one = kind_funcs_is_unambiguous.one h.0 k.0 piece more rest other h.2 k.2 e in
-    same_element x y _ _ rest other h.1 k.1 (ap (λ (fs : List ℕ). record { ty = func_ref false; items = func_items fs; mode = passive }) one.item) one.after
+    same_elem x y _ _ rest other h.1 k.1 (ap (λ (fs : List ℕ). record { ty = func_ref false; items = func_items fs; mode = passive }) one.item) one.after
 form_same table_funcs x y piece more rest other h k e =
     let one = first_same rest other (unsigned_is_unambiguous 32) h.4 k.4 e in
     let two = joined_same expression_is_unambiguous kind_funcs_is_unambiguous h.4.is_second k.4.is_second one.after in
-    same_element x y _ _ rest other h.3 k.3
+    same_elem x y _ _ rest other h.3 k.3
     (ap (λ (t : ℕ). record { ty = func_ref false; items = func_items h.2; mode = active t h.1 }) one.item
     ∙ ap (λ (o : List ConstInstr). record { ty = func_ref false; items = func_items h.2; mode = active k.0 o }) two.first
     ∙ ap (λ (fs : List ℕ). record { ty = func_ref false; items = func_items fs; mode = active k.0 k.1 }) two.second) two.after
 form_same declared_funcs x y piece more rest other h k e =
     let one = kind_funcs_is_unambiguous.one h.0 k.0 piece more rest other h.2 k.2 e in
-    same_element x y _ _ rest other h.1 k.1 (ap (λ (fs : List ℕ). record { ty = func_ref false; items = func_items fs; mode = declared }) one.item) one.after
+    same_elem x y _ _ rest other h.1 k.1 (ap (λ (fs : List ℕ). record { ty = func_ref false; items = func_items fs; mode = declared }) one.item) one.after
 form_same first_items x y piece more rest other h k e =
     let one = joined_same expression_is_unambiguous items_is_unambiguous h.3 k.3 e in
-    same_element x y _ _ rest other h.2 k.2 (ap (λ (o : List ConstInstr). record { ty = func_ref true; items = h.1; mode = active 0 o }) one.first ∙ ap (λ (es : List (List ConstInstr)). record { ty = func_ref true; items = es; mode = active 0 k.0 }) one.second) one.after
+    same_elem x y _ _ rest other h.2 k.2 (ap (λ (o : List ConstInstr). record { ty = func_ref true; items = h.1; mode = active 0 o }) one.first ∙ ap (λ (es : List (List ConstInstr)). record { ty = func_ref true; items = es; mode = active 0 k.0 }) one.second) one.after
 form_same passive_items x y piece more rest other h k e =
     let one = joined_same ref_is_unambiguous items_is_unambiguous h.3 k.3 e in
-    same_element x y _ _ rest other h.2 k.2 (ap (λ (t : RefType). record { ty = t; items = h.1; mode = passive }) one.first ∙ ap (λ (es : List (List ConstInstr)). record { ty = k.0; items = es; mode = passive }) one.second) one.after
+    same_elem x y _ _ rest other h.2 k.2 (ap (λ (t : RefType). record { ty = t; items = h.1; mode = passive }) one.first ∙ ap (λ (es : List (List ConstInstr)). record { ty = k.0; items = es; mode = passive }) one.second) one.after
 form_same table_items x y piece more rest other h k e =
     let one = first_same rest other (unsigned_is_unambiguous 32) h.5 k.5 e in
     let two = first_same rest other expression_is_unambiguous h.5.is_second k.5.is_second one.after in
     let three = joined_same ref_is_unambiguous items_is_unambiguous h.5.is_second.is_second k.5.is_second.is_second two.after in
-    same_element x y _ _ rest other h.4 k.4
+    same_elem x y _ _ rest other h.4 k.4
     (ap (λ (t : ℕ). record { ty = h.2; items = h.3; mode = active t h.1 }) one.item
     ∙ ap (λ (o : List ConstInstr). record { ty = h.2; items = h.3; mode = active k.0 o }) two.item
     ∙ ap (λ (t : RefType). record { ty = t; items = h.3; mode = active k.0 k.1 }) three.first
     ∙ ap (λ (es : List (List ConstInstr)). record { ty = k.2; items = es; mode = active k.0 k.1 }) three.second) three.after
 form_same declared_items x y piece more rest other h k e =
     let one = joined_same ref_is_unambiguous items_is_unambiguous h.3 k.3 e in
-    same_element x y _ _ rest other h.2 k.2 (ap (λ (t : RefType). record { ty = t; items = h.1; mode = declared }) one.first ∙ ap (λ (es : List (List ConstInstr)). record { ty = k.0; items = es; mode = declared }) one.second) one.after
+    same_elem x y _ _ rest other h.2 k.2 (ap (λ (t : RefType). record { ty = t; items = h.1; mode = declared }) one.first ∙ ap (λ (es : List (List ConstInstr)). record { ty = k.0; items = es; mode = declared }) one.second) one.after
 
 -- all forms
-pub element_is_unambiguous : IsUnambiguous IsElement
-element_is_unambiguous = record {
+pub elem_is_unambiguous : IsUnambiguous IsElem
+elem_is_unambiguous = record {
   one = λ x y piece more rest other h k e.
       let number = first_same rest other (unsigned_is_unambiguous 32) h.spelled k.spelled e in
       let same : h.form ≡ k.form = sym (form_back h.form) ∙ ap form_of number.item ∙ form_back k.form in

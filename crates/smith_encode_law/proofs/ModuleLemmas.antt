@@ -17,7 +17,7 @@ use Rattle.smith_sections.specs.Entities.{IsMemoryType, IsTagType}
 use Rattle.smith_sections.specs.Imports.{IsImports}
 use Rattle.smith_sections.specs.Definitions.{IsTable, IsGlobal}
 use Rattle.smith_sections.specs.Exports.{IsExport}
-use Rattle.smith_sections.specs.Elements.{Element, IsElement}
+use Rattle.smith_sections.specs.Elements.{Elem, IsElem}
 use Rattle.smith_sections.specs.Codes.{IsRun, locals_of, IsLocals, IsBody}
 use Rattle.smith_sections.specs.Data.{Data, IsData}
 use Rattle.smith_sections.specs.Sections.{IsOptionalSection, IsListSection}
@@ -25,7 +25,7 @@ use Rattle.smith_sections.specs.Modules.{Contents, IsPreamble, IsStartSection, I
 use Rattle.smith_encode_law.proofs.TypeLemmas.{group_is_unambiguous, val_is_unambiguous}
 use Rattle.smith_encode_law.proofs.EntityLemmas.{export_is_unambiguous, global_is_unambiguous, table_is_unambiguous, memory_is_unambiguous, tag_is_unambiguous}
 use Rattle.smith_encode_law.proofs.ImportLemmas.{imports_are_unambiguous}
-use Rattle.smith_encode_law.proofs.ElementLemmas.{element_is_unambiguous}
+use Rattle.smith_encode_law.proofs.ElementLemmas.{elem_is_unambiguous}
 use Rattle.smith_encode_law.proofs.DataLemmas.{data_is_unambiguous}
 use Rattle.smith_encode_law.proofs.PartLemmas.{Tail, IsCount, optional_part, list_part, start_part, count_part, last_tail, more_tail}
 
@@ -55,7 +55,7 @@ body_is_unambiguous = sized_is_unambiguous inside_is_unambiguous
 
 -- the parts of a module in the order of their sections
 abbrev AfterGlobals : Type 0
-AfterGlobals = List (List ℕ × ExportKind × ℕ) × (Option ℕ × (List Element × (Unit {0} × (List (List ValType × List ℕ) × List Data))))
+AfterGlobals = List (List ℕ × ExportKind × ℕ) × (Option ℕ × (List Elem × (Unit {0} × (List (List ValType × List ℕ) × List Data))))
 
 abbrev AfterFunctions : Type 0
 AfterFunctions = List (TableType × List ConstInstr) × (List MemoryType × (List ℕ × (List (GlobalType × List ConstInstr) × AfterGlobals)))
@@ -66,7 +66,7 @@ Parts = List (List SubType) × (List Import × (List ℕ × AfterFunctions))
 abbrev IsBack : AfterGlobals → List ℕ → Type 0
 IsBack x =
     Joined (IsListSection 7 IsExport x.0)
-    (Joined (IsStartSection x.1.0) (Joined (IsListSection 9 IsElement x.1.1.0) (Joined (IsCount x.1.1.1.0) (Joined (IsListSection 10 IsBody x.1.1.1.1.0) (IsListSection 11 IsData x.1.1.1.1.1)))))
+    (Joined (IsStartSection x.1.0) (Joined (IsListSection 9 IsElem x.1.1.0) (Joined (IsCount x.1.1.1.0) (Joined (IsListSection 10 IsBody x.1.1.1.1.0) (IsListSection 11 IsData x.1.1.1.1.1)))))
 
 abbrev IsMiddle : AfterFunctions → List ℕ → Type 0
 IsMiddle x =
@@ -82,7 +82,7 @@ back_tail : Tail (7 ∷ 8 ∷ 9 ∷ 12 ∷ 10 ∷ 11 ∷ []) IsBack
 back_tail =
     more_tail 7 (8 ∷ 9 ∷ 12 ∷ 10 ∷ 11 ∷ []) (list_part 7 IsExport export_is_unambiguous) refl
     (more_tail 8 (9 ∷ 12 ∷ 10 ∷ 11 ∷ []) start_part refl
-    (more_tail 9 (12 ∷ 10 ∷ 11 ∷ []) (list_part 9 IsElement element_is_unambiguous) refl
+    (more_tail 9 (12 ∷ 10 ∷ 11 ∷ []) (list_part 9 IsElem elem_is_unambiguous) refl
     (more_tail 12 (10 ∷ 11 ∷ []) count_part refl
     (more_tail 10 (11 ∷ []) (list_part 10 IsBody body_is_unambiguous) refl (last_tail 11 (list_part 11 IsData data_is_unambiguous))))))
 
@@ -101,7 +101,7 @@ all_tail =
 
 -- the parts of a module, and a module of parts
 abbrev parts_of : Contents → Parts
-parts_of m = (m.types, (m.imports, (m.functions, (m.tables, (m.memories, (m.tags, (m.globals, (m.exports, (m.start, (m.elements, (tt, (m.bodies, m.datas))))))))))))
+parts_of m = (m.types, (m.imports, (m.functions, (m.tables, (m.memories, (m.tags, (m.globals, (m.exports, (m.start, (m.elems, (tt, (m.bodies, m.datas))))))))))))
 
 abbrev made_of : Parts → Contents
 made_of x = record {
@@ -114,7 +114,7 @@ made_of x = record {
   globals = x.1.1.1.1.1.1.0;
   exports = x.1.1.1.1.1.1.1.0;
   start = x.1.1.1.1.1.1.1.1.0;
-  elements = x.1.1.1.1.1.1.1.1.1.0;
+  elems = x.1.1.1.1.1.1.1.1.1.0;
   bodies = x.1.1.1.1.1.1.1.1.1.1.1.0;
   datas = x.1.1.1.1.1.1.1.1.1.1.1.1;
 }

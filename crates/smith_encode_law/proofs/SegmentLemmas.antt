@@ -30,10 +30,10 @@ use Rattle.smith_types.specs.declared.value_type.ValType.{ValType}
 use Rattle.smith_types.specs.declared.value_type.ValType.TheVariants.{I32, I64, Ref}
 use Rattle.smith_types.proofs.ConstStepLemmas.{one_step}
 use Rattle.smith_types.proofs.GrowthLemmas.{IsRefBelow-trans}
-use Rattle.smith_sections.specs.Elements.{func_ref, element_type, element_items, element_mode, element_of}
+use Rattle.smith_sections.specs.Elements.{func_ref, elem_type, elem_items, elem_mode, elem_of}
 use Rattle.smith_sections.specs.Data.{data_mode, data_of}
 use Rattle.smith_sections.specs.Instructions.{offset_of}
-use Rattle.smith_encode_law.specs.Segments.{IsTyped, IsTaken, IsModeTyped, IsElementTyped, IsDataModeTyped, IsDataTyped, AreListedAsFuncref}
+use Rattle.smith_encode_law.specs.Segments.{IsTyped, IsTaken, IsModeTyped, IsElemTyped, IsDataModeTyped, IsDataTyped, AreListedAsFuncref}
 
 in_range : (features : Features) (types : List SubType) (heap_type : HeapType) → IsHeapTypeValid features (length types) heap_type → IsInRange types heap_type
 in_range features types (Abstract is_shared ty) valid = tt
@@ -77,7 +77,7 @@ function_typed context function (index, stands, below) =
 without_features : (context : Context) (wanted : ValType) (expression : List ConstInstr) → IsConstExpr context wanted expression → IsTyped context wanted expression
 without_features context wanted expression valid = record { value = valid.value; steps = valid.steps; below = valid.below }
 
-items_typed : (context : Context) (ty : RefType) (items : Elements) → AreItemsValid context ty items → AreListedAsFuncref items ty → All (IsTyped context (Ref (element_type items ty))) (element_items items)
+items_typed : (context : Context) (ty : RefType) (items : Elements) → AreItemsValid context ty items → AreListedAsFuncref items ty → All (IsTyped context (Ref (elem_type items ty))) (elem_items items)
 items_typed context ty (Functions functions) valid listed =
     All-map (IsTyped context (Ref (func_ref false))) (λ (index : ℕ). RefFunc index ∷ []) functions
     (All-weaker (IsItem context funcref) (λ (function : ℕ). IsTyped context (Ref (func_ref false)) (RefFunc function ∷ [])) (function_typed context) functions
@@ -86,11 +86,11 @@ items_typed context ty (Expressions expressions) valid listed =
     All-weaker (IsConstExpr context (Ref ty)) (IsTyped context (Ref ty)) (without_features context (Ref ty)) expressions valid.1
 
 -- the type of an element segment in the abstract syntax matches its own
-pub element_type_below : (types : List SubType) (items : Elements) (ty : RefType) → AreListedAsFuncref items ty → IsRefBelow types (element_type items ty) ty
-element_type_below types (Functions functions) ty listed = rw listed (record { heap = itself; nullable = λ is. refl })
-element_type_below types (Expressions expressions) ty listed = record { heap = itself; nullable = λ is. is }
+pub elem_type_below : (types : List SubType) (items : Elements) (ty : RefType) → AreListedAsFuncref items ty → IsRefBelow types (elem_type items ty) ty
+elem_type_below types (Functions functions) ty listed = rw listed (record { heap = itself; nullable = λ is. refl })
+elem_type_below types (Expressions expressions) ty listed = record { heap = itself; nullable = λ is. is }
 
-type_in_range : (features : Features) (types : List SubType) (items : Elements) (ty : RefType) → IsHeapTypeValid features (length types) ty.heap_type → IsInRange types (element_type items ty).heap_type
+type_in_range : (features : Features) (types : List SubType) (items : Elements) (ty : RefType) → IsHeapTypeValid features (length types) ty.heap_type → IsInRange types (elem_type items ty).heap_type
 type_in_range features types (Functions functions) ty valid = tt
 type_in_range features types (Expressions expressions) ty valid = in_range features types ty.heap_type valid
 
@@ -102,17 +102,17 @@ taken context tables ty given index offset below valid = record {
   offset_typed = offset_typed context valid.table.table64 offset valid.offset_valid;
 }
 
-mode_typed : (context : Context) (tables : List TableType) (ty given : RefType) (mode : ElementKind) → IsRefBelow context.types given ty → IsElementKindValid context tables ty mode → IsModeTyped context tables given (element_mode mode)
+mode_typed : (context : Context) (tables : List TableType) (ty given : RefType) (mode : ElementKind) → IsRefBelow context.types given ty → IsElementKindValid context tables ty mode → IsModeTyped context tables given (elem_mode mode)
 mode_typed context tables ty given kind.Passive below valid = tt
 mode_typed context tables ty given kind.Declared below valid = tt
 mode_typed context tables ty given (kind.Active None offset) below valid = taken context tables ty given 0 offset below valid
 mode_typed context tables ty given (kind.Active (Some index) offset) below valid = taken context tables ty given index offset below valid.1
 
-pub element_typed : (context : Context) (tables : List TableType) (segment : ElementSegment) → IsElementValid context tables segment → AreListedAsFuncref segment.items segment.ty → IsElementTyped context tables (element_of segment)
-element_typed context tables segment valid listed = record {
+pub elem_typed : (context : Context) (tables : List TableType) (segment : ElementSegment) → IsElementValid context tables segment → AreListedAsFuncref segment.items segment.ty → IsElemTyped context tables (elem_of segment)
+elem_typed context tables segment valid listed = record {
   ty = type_in_range context.features context.types segment.items segment.ty valid.ty.heap_type;
   items = items_typed context segment.ty segment.items valid.items listed;
-  mode = mode_typed context tables segment.ty (element_type segment.items segment.ty) segment.kind (element_type_below context.types segment.items segment.ty listed) valid.kind;
+  mode = mode_typed context tables segment.ty (elem_type segment.items segment.ty) segment.kind (elem_type_below context.types segment.items segment.ty listed) valid.kind;
 }
 
 pub data_typed : (context : Context) (memories : List MemoryType) (segment : DataSegment) → IsDataValid context memories segment → IsDataTyped context memories (data_of segment)

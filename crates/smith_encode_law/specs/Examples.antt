@@ -14,7 +14,7 @@ empty_module = record {
   globals = [];
   exports = [];
   start = None;
-  elements = [];
+  elems = [];
   bodies = [];
   datas = [];
 }

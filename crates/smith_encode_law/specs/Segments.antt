@@ -14,7 +14,7 @@ use Rattle.smith_types.specs.declared.segments.Elements.TheVariants.{Functions, 
 use Rattle.smith_types.specs.declared.value_type.RefType.{RefType}
 use Rattle.smith_types.specs.declared.value_type.ValType.{ValType}
 use Rattle.smith_types.specs.declared.value_type.ValType.TheVariants.{Ref}
-use Rattle.smith_sections.specs.Elements.{Element, Mode, passive, declared, active}
+use Rattle.smith_sections.specs.Elements.{Elem, Mode, passive, declared, active}
 use Rattle.smith_sections.specs.Data.{Data, DataMode}
 use Rattle.smith_sections.specs.Data as data_segment
 
@@ -38,7 +38,7 @@ IsModeTyped context tables ty (active index offset) = IsTaken context tables ty 
 
 -- an element segment: its type exists, each item produces a reference of it, and a table takes it
 -- (Element Segments)
-pub record IsElementTyped (context : Context) (tables : List TableType) (e : Element) : Type 0 where
+pub record IsElemTyped (context : Context) (tables : List TableType) (e : Elem) : Type 0 where
   pub ty : IsInRange context.types e.ty.heap_type
   pub items : All (IsTyped context (Ref e.ty)) e.items
   pub mode : IsModeTyped context tables e.ty e.mode

@@ -17,12 +17,12 @@ ghost use Rattle.smith_types.specs.declared.value_type.ValType.{ValType};
 ghost use Rattle.smith_types.specs.declared.value_type.ValType.TheVariants.{I32};
 ghost use Rattle.smith_sections.specs.Codes.{IsLocals, IsLocalsWritten};
 ghost use Rattle.smith_sections.specs.Data.DataMode.{passive as kept, active as in_memory};
-ghost use Rattle.smith_sections.specs.Elements.{element_of, func_ref, func_items};
+ghost use Rattle.smith_sections.specs.Elements.{elem_of, func_ref, func_items};
 ghost use Rattle.smith_sections.specs.Elements.Mode.{passive, active};
 ghost use Rattle.smith_sections.specs.Long.{IsLongBody};
 ghost use Rattle.smith_sections.specs.Modules.{IsModule};
 ghost use Rattle.smith_encode_law.specs.Examples.{empty_module};
-ghost use Rattle.smith_encode_law.specs.Segments.{IsElementTyped, IsDataTyped, AreListedAsFuncref};
+ghost use Rattle.smith_encode_law.specs.Segments.{IsElemTyped, IsDataTyped, AreListedAsFuncref};
 
 // 3 has two spellings as an integer of 8 bits.
 fn three_has_two_spellings()
@@ -51,25 +51,25 @@ fn the_preamble_is_a_module()
 
 // Element segments in the abstract syntax.
 fn element_segments()
-    ensures of_functions { IsElementTyped (context_with usual_features 3)
+    ensures of_functions { IsElemTyped (context_with usual_features 3)
         (table funcref 2 None ∷ []) (record {
           ty = func_ref false;
           items = func_items (0 ∷ 1 ∷ []);
           mode = active 0 (I32Const (pos 0) ∷ []);
         }) }
-    ensures of_a_function_that_is_not_there { ¬ IsElementTyped (context_with usual_features 3) []
+    ensures of_a_function_that_is_not_there { ¬ IsElemTyped (context_with usual_features 3) []
         (record { ty = func_ref false; items = func_items (2 ∷ []); mode = passive }) }
-    ensures null_among_those_that_are_not_null { ¬ IsElementTyped (context_with usual_features 3) []
+    ensures null_among_those_that_are_not_null { ¬ IsElemTyped (context_with usual_features 3) []
         (record {
           ty = func_ref false;
           items = (RefNull (plain heap.Func) ∷ []) ∷ [];
           mode = passive;
         }) }
-    ensures of_an_unknown_type { ¬ IsElementTyped (context_with usual_features 3) []
+    ensures of_an_unknown_type { ¬ IsElemTyped (context_with usual_features 3) []
         (record { ty = nullable (Concrete 6); items = []; mode = passive }) }
-    ensures into_no_table { ¬ IsElementTyped (context_with usual_features 3) []
+    ensures into_no_table { ¬ IsElemTyped (context_with usual_features 3) []
         (record { ty = func_ref false; items = []; mode = active 0 (I32Const (pos 0) ∷ []) }) }
-    ensures with_a_wide_offset { ¬ IsElementTyped (context_with usual_features 3)
+    ensures with_a_wide_offset { ¬ IsElemTyped (context_with usual_features 3)
         (table funcref 2 None ∷ [])
         (record { ty = func_ref false; items = []; mode = active 0 (I64Const (pos 0) ∷ []) }) }
 {}
@@ -85,8 +85,8 @@ fn lists_of_functions_of_one_type()
     ensures listed { ¬ AreListedAsFuncref (Functions (0 ∷ [])) (nullable (Concrete 0)) }
     ensures of_funcref { AreListedAsFuncref (Functions (0 ∷ [])) funcref }
     ensures of_expressions { AreListedAsFuncref (Expressions []) (nullable (Concrete 0)) }
-    ensures in_the_abstract_syntax { ¬ IsElementTyped (context_with usual_features 3)
-        (table (nullable (Concrete 0)) 1 None ∷ []) (element_of (record {
+    ensures in_the_abstract_syntax { ¬ IsElemTyped (context_with usual_features 3)
+        (table (nullable (Concrete 0)) 1 None ∷ []) (elem_of (record {
           kind = kind.Active None (Const32 (pos 0));
           ty = nullable (Concrete 0);
           items = Functions (0 ∷ []);

@@ -10,10 +10,10 @@ ghost use Rattle.smith_types.specs.declared.segments.DataSegment.{DataSegment};
 ghost use Rattle.smith_types.specs.declared.segments.ElementSegment.{ElementSegment};
 ghost use Rattle.smith_sections.specs.Codes.{body_bytes};
 ghost use Rattle.smith_sections.specs.Data.{data_of};
-ghost use Rattle.smith_sections.specs.Elements.{element_of};
+ghost use Rattle.smith_sections.specs.Elements.{elem_of};
 ghost use Rattle.smith_sections.specs.Modules.{Contents, IsModule};
 ghost use Rattle.smith_encode_law.specs.Checks.{IsChecked};
-ghost use Rattle.smith_encode_law.specs.Segments.{IsElementTyped, IsDataTyped, AreListedAsFuncref};
+ghost use Rattle.smith_encode_law.specs.Segments.{IsElemTyped, IsDataTyped, AreListedAsFuncref};
 
 /// Proves that bytes are a module in the binary format for at most one module in the abstract
 /// syntax. So a decoder that follows the grammar reads back the module that was written, with
@@ -34,10 +34,10 @@ pub fn bodies_are_checked()
 pub fn valid_elements_stay_valid()
     ensures typed { (context : Context) (tables : List TableType) (segment : ElementSegment)
         → IsElementValid context tables segment → AreListedAsFuncref segment.items segment.ty
-        → IsElementTyped context tables (element_of segment) }
+        → IsElemTyped context tables (elem_of segment) }
     ensures below { (types : List SubType) (segment : ElementSegment)
         → AreListedAsFuncref segment.items segment.ty
-        → IsRefBelow types (element_of segment).ty segment.ty }
+        → IsRefBelow types (elem_of segment).ty segment.ty }
 {}
 
 /// Proves that a valid data segment is valid in the abstract syntax.

@@ -26,9 +26,9 @@ abbrev pub exported_by : ExportKind → ℕ → List ℕ
 exported_by kind.Func index = index ∷ []
 exported_by _ index = []
 
-abbrev pub named_by_elements : Elements → List ℕ
-named_by_elements (elements.Functions functions) = functions
-named_by_elements (elements.Expressions expressions) = flat_map named_in expressions
+abbrev pub named_by_items : Elements → List ℕ
+named_by_items (elements.Functions functions) = functions
+named_by_items (elements.Expressions expressions) = flat_map named_in expressions
 
 abbrev pub named_by_table : Option (List ConstInstr) → List ℕ
 named_by_table (Some expression) = named_in expression
@@ -39,6 +39,6 @@ named_by_table None = []
 abbrev pub references_of : ModuleParts → List ℕ
 references_of m =
     flat_map (λ (export : List ℕ × ExportKind × ℕ). exported_by export.1 export.2) m.exports
-    ++ (flat_map (λ (segment : ElementSegment). named_by_elements segment.items) m.elems
+    ++ (flat_map (λ (segment : ElementSegment). named_by_items segment.items) m.elems
     ++ (flat_map (λ (global : ℕ × List ConstInstr). named_in global.1) m.defined_globals
     ++ flat_map named_by_table m.defined_tables))

@@ -16,7 +16,7 @@ ghost use Rattle.smith_code_nodes.specs.Scopes.{most};
 ghost use Rattle.smith_code_nodes.specs.Traps.{IsTrapless};
 
 use crate::program::Body;
-use crate::references::{element_types, references_of};
+use crate::references::{references_of, segment_types};
 use smith_bytes::{Error, Unstructured};
 use smith_code::{Scope, draw_body};
 use smith_instr::Instr;
@@ -46,7 +46,7 @@ pub fn draw_bodies(
     ensures left { KeepsPieces u.old u.new }
 {
     let named = Named {
-        elements: element_types(alloc, module)?,
+        elements: segment_types(alloc, module)?,
         references: references_of(alloc, module)?,
     };
     draw_each(alloc, module, &named, u)

@@ -6,7 +6,7 @@ ghost use Rattle.smith_types.specs.declared.entity_type.ExportKind.{ExportKind a
 ghost use Rattle.smith_program.specs.References.{
   exported_by,
   named_by,
-  named_by_elements,
+  named_by_items,
   named_by_table,
   named_in,
   references_of,
@@ -18,7 +18,7 @@ use std::alloc::Global;
 use wasm_smith::Module;
 
 /// Lists the type of each element segment of `module`.
-pub(crate) fn element_types(alloc: Global, module: &Module) -> Result<Items<RefType>, Error>
+pub(crate) fn segment_types(alloc: Global, module: &Module) -> Result<Items<RefType>, Error>
     ensures types { IfOk result (λ types.
         types ≡ map (λ (segment : Segment). segment.ty) «module».now.elems) }
     ensures memory { IfErr result (λ e. e ≡ Error.Memory) }
@@ -67,20 +67,20 @@ fn push_export(kind: ExportKind, index: u32, named: &mut Items<u32>) -> Result<(
 
 fn push_of_segments(segments: &[ElementSegment], named: &mut Items<u32>) -> Result<(), Error>
     ensures named { OnOk result (named.new ≡ named.old
-        ++ flat_map (λ (segment : Segment). named_by_elements segment.items) segments.now) }
+        ++ flat_map (λ (segment : Segment). named_by_items segment.items) segments.now) }
     ensures memory { IfErr result (λ e. e ≡ Error.Memory) }
 {
     for segment in segments {
-        push_of_elements(&segment.items, named)?;
+        push_of_items(&segment.items, named)?;
     }
     Ok(())
 }
 
-fn push_of_elements(elements: &Elements, named: &mut Items<u32>) -> Result<(), Error>
-    ensures named { OnOk result (named.new ≡ named.old ++ named_by_elements elements.now) }
+fn push_of_items(items: &Elements, named: &mut Items<u32>) -> Result<(), Error>
+    ensures named { OnOk result (named.new ≡ named.old ++ named_by_items items.now) }
     ensures memory { IfErr result (λ e. e ≡ Error.Memory) }
 {
-    match elements {
+    match items {
         Elements::Functions(functions) => push_all(functions.as_slice(), named),
         Elements::Expressions(expressions) => push_of_expressions(expressions.as_slice(), named),
     }

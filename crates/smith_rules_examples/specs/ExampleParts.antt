@@ -14,7 +14,7 @@ use Rattle.smith_types.specs.declared.const_instr.ConstInstr.{ConstInstr}
 use Rattle.smith_types.specs.declared.const_instr.ConstInstr.TheVariants.{RefNull}
 use Rattle.smith_types.specs.declared.segments.Elements.{Elements}
 use Rattle.smith_types.specs.declared.segments.Elements.TheVariants.{Functions}
-use Rattle.smith_types.specs.declared.segments.ElementKind.TheVariants as element
+use Rattle.smith_types.specs.declared.segments.ElementKind.TheVariants as element_kind
 use Rattle.smith_types.specs.declared.segments.ElementSegment.{ElementSegment}
 use Rattle.smith_types.specs.declared.segments.DataSegmentKind.TheVariants as data_kind
 use Rattle.smith_types.specs.declared.segments.DataSegment.{DataSegment}
@@ -45,11 +45,11 @@ no_function = RefNull (plain heap.Func) ∷ []
 
 -- a passive segment of references to functions
 abbrev pub passive_elements : Elements → ElementSegment
-passive_elements items = record { kind = element.Passive; ty = funcref; items = items }
+passive_elements items = record { kind = element_kind.Passive; ty = funcref; items = items }
 
 -- a segment that copies the first function into the first table at this offset
 abbrev pub into_a_table : Offset → ElementSegment
-into_a_table offset = record { kind = element.Active None offset; ty = funcref; items = Functions (0 ∷ []) }
+into_a_table offset = record { kind = element_kind.Active None offset; ty = funcref; items = Functions (0 ∷ []) }
 
 -- a segment that copies bytes into the first memory at this offset
 abbrev pub active_data : ℤ → List ℕ → DataSegment

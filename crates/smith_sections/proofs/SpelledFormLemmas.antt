@@ -6,10 +6,10 @@ use Rattle.smith_types.specs.declared.segments.DataSegment.{DataSegment}
 use Rattle.smith_types.specs.declared.segments.ElementSegment.{ElementSegment}
 use Rattle.smith_sections.specs.Data.{IsData, IsDataWritten, data_form, data_of}
 use Rattle.smith_sections.specs.Definitions.{IsTable, IsTableAs, IsTableWritten, initialised_table}
-use Rattle.smith_sections.specs.Elements.{IsElement, IsElementWritten, element_form, element_of}
+use Rattle.smith_sections.specs.Elements.{IsElem, IsElemWritten, elem_form, elem_of}
 
-pub element_spelled : (segment : ElementSegment) (piece : List ℕ) → IsElementWritten segment piece → IsElement (element_of segment) piece
-element_spelled segment piece h = record { form = element_form segment.items segment.ty segment.kind; spelled = h }
+pub elem_spelled : (segment : ElementSegment) (piece : List ℕ) → IsElemWritten segment piece → IsElem (elem_of segment) piece
+elem_spelled segment piece h = record { form = elem_form segment.items segment.ty segment.kind; spelled = h }
 
 pub data_spelled : (segment : DataSegment) (piece : List ℕ) → IsDataWritten segment piece → IsData (data_of segment) piece
 data_spelled segment piece h = record { form = data_form segment.kind; spelled = h }

@@ -25,7 +25,7 @@ pub data Mode : Type 0 where
 
 -- a segment in the abstract syntax, in which functions are expressions too (Structure, Element
 -- Segments)
-pub record Element : Type 0 where
+pub record Elem : Type 0 where
   pub ty : RefType
   pub items : List (List ConstInstr)
   pub mode : Mode
@@ -71,7 +71,7 @@ abbrev pub IsKindFuncs : List ℕ → List ℕ → Type 0
 IsKindFuncs funcs = Joined (IsByte 0x00) (IsFuncs funcs)
 
 -- a segment in a form, after the number of the form
-abbrev pub IsInForm : Form → Element → List ℕ → Type 0
+abbrev pub IsInForm : Form → Elem → List ℕ → Type 0
 IsInForm first_funcs e piece = (offset : List ConstInstr) × (funcs : List ℕ) × (e ≡ record { ty = func_ref false; items = func_items funcs; mode = active 0 offset }) × Joined (IsExpression offset) (IsFuncs funcs) piece
 IsInForm passive_funcs e piece = (funcs : List ℕ) × (e ≡ record { ty = func_ref false; items = func_items funcs; mode = passive }) × IsKindFuncs funcs piece
 IsInForm table_funcs e piece = (table : ℕ) × (offset : List ConstInstr) × (funcs : List ℕ) × (e ≡ record { ty = func_ref false; items = func_items funcs; mode = active table offset }) × Joined (IsIndex table) (Joined (IsExpression offset) (IsKindFuncs funcs)) piece
@@ -82,35 +82,35 @@ IsInForm table_items e piece = (table : ℕ) × (offset : List ConstInstr) × (t
 IsInForm declared_items e piece = (ty : RefType) × (items : List (List ConstInstr)) × (e ≡ record { ty = ty; items = items; mode = declared }) × Joined (IsRefType ty) (IsItems items) piece
 
 -- the number of a form, then a segment in it
-abbrev pub IsElementIn : Form → Element → List ℕ → Type 0
-IsElementIn form e = Joined (IsUnsigned 32 (form_number form)) (IsInForm form e)
+abbrev pub IsElemIn : Form → Elem → List ℕ → Type 0
+IsElemIn form e = Joined (IsUnsigned 32 (form_number form)) (IsInForm form e)
 
 -- an element segment: the number of a form, then the segment in it
-pub record IsElement (e : Element) (piece : List ℕ) : Type 0 where
+pub record IsElem (e : Elem) (piece : List ℕ) : Type 0 where
   pub form : Form
-  pub spelled : IsElementIn form e piece
+  pub spelled : IsElemIn form e piece
 
 -- the parts of an element segment in the abstract syntax: functions are of the type `(ref func)`,
 -- and a segment that names no table is over table 0
-abbrev pub element_type : Elements → RefType → RefType
-element_type (Functions funcs) ty = func_ref false
-element_type (Expressions items) ty = ty
+abbrev pub elem_type : Elements → RefType → RefType
+elem_type (Functions funcs) ty = func_ref false
+elem_type (Expressions items) ty = ty
 
-abbrev pub element_items : Elements → List (List ConstInstr)
-element_items (Functions funcs) = func_items funcs
-element_items (Expressions items) = items
+abbrev pub elem_items : Elements → List (List ConstInstr)
+elem_items (Functions funcs) = func_items funcs
+elem_items (Expressions items) = items
 
-abbrev pub element_mode : ElementKind → Mode
-element_mode Passive = passive
-element_mode Declared = declared
-element_mode (Active table offset) = active (unwrap_or table 0) (offset_of offset)
+abbrev pub elem_mode : ElementKind → Mode
+elem_mode Passive = passive
+elem_mode Declared = declared
+elem_mode (Active table offset) = active (unwrap_or table 0) (offset_of offset)
 
 -- an element segment in the abstract syntax
-abbrev pub element_of : ElementSegment → Element
-element_of segment = record {
-  ty = element_type segment.items segment.ty;
-  items = element_items segment.items;
-  mode = element_mode segment.kind;
+abbrev pub elem_of : ElementSegment → Elem
+elem_of segment = record {
+  ty = elem_type segment.items segment.ty;
+  items = elem_items segment.items;
+  mode = elem_mode segment.kind;
 }
 
 -- whether a type is that of nullable references to functions
@@ -140,10 +140,10 @@ items_form ty Passive = passive_items
 items_form ty Declared = declared_items
 items_form ty (Active table offset) = active_items_form (unwrap_or table 0) ty
 
-abbrev pub element_form : Elements → RefType → ElementKind → Form
-element_form (Functions funcs) ty kind = funcs_form kind
-element_form (Expressions items) ty kind = items_form ty kind
+abbrev pub elem_form : Elements → RefType → ElementKind → Form
+elem_form (Functions funcs) ty kind = funcs_form kind
+elem_form (Expressions items) ty kind = items_form ty kind
 
 -- an element segment as it is written
-abbrev pub IsElementWritten : ElementSegment → List ℕ → Type 0
-IsElementWritten segment = IsElementIn (element_form segment.items segment.ty segment.kind) (element_of segment)
+abbrev pub IsElemWritten : ElementSegment → List ℕ → Type 0
+IsElemWritten segment = IsElemIn (elem_form segment.items segment.ty segment.kind) (elem_of segment)

@@ -13,7 +13,7 @@ use Rattle.smith_types.specs.declared.imports.Import.{Import}
 use Rattle.smith_types.specs.declared.imports.ImportItem.{ImportItem}
 use Rattle.smith_types.specs.declared.imports.Imports.{Imports}
 use Rattle.smith_types.specs.declared.imports.Imports.TheVariants.{Single, Compact1, Compact2}
-use Rattle.smith_sections.specs.Elements.{Element}
+use Rattle.smith_sections.specs.Elements.{Elem}
 use Rattle.smith_sections.specs.Codes.{IsLocalsWritten}
 use Rattle.smith_sections.specs.Data.{Data}
 
@@ -66,8 +66,8 @@ IsLongImportGroup (Compact2 from ty names) = IsLongText from ⊎ IsLongList IsLo
 abbrev pub IsLongExport : List ℕ × ExportKind × ℕ → Type 0
 IsLongExport item = IsLongText item.0
 
-abbrev pub IsLongElement : Element → Type 0
-IsLongElement e = IsLongList IsNeverLong e.items
+abbrev pub IsLongElem : Elem → Type 0
+IsLongElem e = IsLongList IsNeverLong e.items
 
 -- a body has too many locals, or too many bytes where each local is a run of its own: runs of no
 -- locals would make any body long

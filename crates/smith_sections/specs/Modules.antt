@@ -17,7 +17,7 @@ use Rattle.smith_sections.specs.Entities.{IsMemoryType, IsTagType}
 use Rattle.smith_sections.specs.Imports.{IsImports}
 use Rattle.smith_sections.specs.Definitions.{IsTable, IsGlobal}
 use Rattle.smith_sections.specs.Exports.{IsExport}
-use Rattle.smith_sections.specs.Elements.{Element, IsElement}
+use Rattle.smith_sections.specs.Elements.{Elem, IsElem}
 use Rattle.smith_sections.specs.Codes.{IsBody}
 use Rattle.smith_sections.specs.Data.{Data, IsData}
 use Rattle.smith_sections.specs.Sections.{IsOptionalSection, IsListSection}
@@ -35,7 +35,7 @@ pub record Contents : Type 0 where
   pub globals : List (GlobalType × List ConstInstr)
   pub exports : List (List ℕ × ExportKind × ℕ)
   pub start : Option ℕ
-  pub elements : List Element
+  pub elems : List Elem
   pub bodies : List (List ValType × List ℕ)
   pub datas : List Data
 
@@ -67,5 +67,5 @@ IsModule m =
     (Joined (IsListSection 6 IsGlobal m.globals)
     (Joined (IsListSection 7 IsExport m.exports)
     (Joined (IsStartSection m.start)
-    (Joined (IsListSection 9 IsElement m.elements)
+    (Joined (IsListSection 9 IsElem m.elems)
     (Joined (IsDataCount m.datas) (Joined (IsListSection 10 IsBody m.bodies) (IsListSection 11 IsData m.datas)))))))))))))

@@ -3,8 +3,8 @@ ghost use Rattle.smith_binary.specs.Faults.{IsFault};
 ghost use Rattle.smith_binary.specs.Pieces.{Writes};
 ghost use Rattle.smith_sections.specs.Instructions.{offset_of};
 ghost use Rattle.smith_sections.specs.Elements.{
-  IsElementIn,
-  IsElementWritten,
+  IsElemIn,
+  IsElemWritten,
   IsKindFuncs,
   active_funcs_form,
   active_items_form,
@@ -12,13 +12,13 @@ ghost use Rattle.smith_sections.specs.Elements.{
   items_form,
   is_func,
   is_func_ref,
-  element_of,
-  element_mode,
+  elem_of,
+  elem_mode,
   func_ref,
   func_items,
 };
 ghost use Rattle.smith_sections.specs.Elements.Mode.{active as at_table};
-ghost use Rattle.smith_sections.specs.Long.{IsLongList, IsNeverLong, IsLongElement};
+ghost use Rattle.smith_sections.specs.Long.{IsLongList, IsNeverLong, IsLongElem};
 
 use crate::lists::{Encode, write_list};
 use smith_binary::{EncodeError, Sink};
@@ -44,7 +44,7 @@ fn write_active_funcs(
     funcs: &[u32],
     sink: &mut Sink,
 ) -> Result<(), EncodeError>
-    ensures writes { OnOk result (Writes (IsElementIn (active_funcs_form table) (record {
+    ensures writes { OnOk result (Writes (IsElemIn (active_funcs_form table) (record {
       ty = func_ref false;
       items = func_items funcs.now;
       mode = at_table table (offset_of offset);
@@ -64,8 +64,8 @@ fn write_active_funcs(
 
 // Writes a segment of the functions `funcs`.
 fn write_funcs(kind: ElementKind, funcs: &[u32], sink: &mut Sink) -> Result<(), EncodeError>
-    ensures writes { OnOk result (Writes (IsElementIn (funcs_form kind)
-        (record { ty = func_ref false; items = func_items funcs.now; mode = element_mode kind }))
+    ensures writes { OnOk result (Writes (IsElemIn (funcs_form kind)
+        (record { ty = func_ref false; items = func_items funcs.now; mode = elem_mode kind }))
         sink.old sink.new) }
     ensures fault { IfErr result (IsFault (IsLongList IsNeverLong funcs.now)) }
 {
@@ -114,7 +114,7 @@ fn write_active_items(
     items: &[Items<ConstInstr>],
     sink: &mut Sink,
 ) -> Result<(), EncodeError>
-    ensures writes { OnOk result (Writes (IsElementIn (active_items_form table ty)
+    ensures writes { OnOk result (Writes (IsElemIn (active_items_form table ty)
         (record { ty = ty; items = items.now; mode = at_table table (offset_of offset) }))
         sink.old sink.new) }
     ensures fault { IfErr result (IsFault (IsLongList IsNeverLong items.now)) }
@@ -138,8 +138,8 @@ fn write_items(
     items: &[Items<ConstInstr>],
     sink: &mut Sink,
 ) -> Result<(), EncodeError>
-    ensures writes { OnOk result (Writes (IsElementIn (items_form ty kind)
-        (record { ty = ty; items = items.now; mode = element_mode kind })) sink.old sink.new) }
+    ensures writes { OnOk result (Writes (IsElemIn (items_form ty kind)
+        (record { ty = ty; items = items.now; mode = elem_mode kind })) sink.old sink.new) }
     ensures fault { IfErr result (IsFault (IsLongList IsNeverLong items.now)) }
 {
     match kind {
@@ -160,9 +160,9 @@ fn write_items(
 }
 
 impl Encode for ElementSegment {
-    ghost spells = { IsElementWritten };
+    ghost spells = { IsElemWritten };
 
-    ghost is_long = { λ segment. IsLongElement (element_of segment) };
+    ghost is_long = { λ segment. IsLongElem (elem_of segment) };
 
     fn encode(&self, sink: &mut Sink) -> Result<(), EncodeError> {
         match &self.items {

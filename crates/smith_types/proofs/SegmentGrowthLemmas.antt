@@ -10,7 +10,7 @@ use Rattle.smith_types.specs.declared.entity_type.TableType.{TableType}
 use Rattle.smith_types.specs.declared.segments.Elements.{Elements}
 use Rattle.smith_types.specs.declared.segments.Elements.TheVariants.{Functions, Expressions}
 use Rattle.smith_types.specs.declared.segments.ElementKind.{ElementKind}
-use Rattle.smith_types.specs.declared.segments.ElementKind.TheVariants as element
+use Rattle.smith_types.specs.declared.segments.ElementKind.TheVariants as element_kind
 use Rattle.smith_types.specs.declared.segments.ElementSegment.{ElementSegment}
 use Rattle.smith_types.specs.declared.segments.DataSegmentKind.{DataSegmentKind}
 use Rattle.smith_types.specs.declared.segments.DataSegmentKind.TheVariants as data_kind
@@ -48,10 +48,10 @@ module _ (context : Context) (types : List SubType) (funcs : List ℕ) (globals 
   }
 
   IsElementKindValid-more : (tables more : List TableType) (ty : RefType) (kind : ElementKind) → IsElementKindValid context tables ty kind → IsElementKindValid (grown context types funcs globals visible) (tables ++ more) ty kind
-  IsElementKindValid-more tables more ty element.Passive h = h
-  IsElementKindValid-more tables more ty element.Declared h = h
-  IsElementKindValid-more tables more ty (element.Active None offset) h = IsActiveElement-more tables more ty 0 offset h
-  IsElementKindValid-more tables more ty (element.Active (Some table) offset) (on, h) = (on, IsActiveElement-more tables more ty table offset h)
+  IsElementKindValid-more tables more ty element_kind.Passive h = h
+  IsElementKindValid-more tables more ty element_kind.Declared h = h
+  IsElementKindValid-more tables more ty (element_kind.Active None offset) h = IsActiveElement-more tables more ty 0 offset h
+  IsElementKindValid-more tables more ty (element_kind.Active (Some table) offset) (on, h) = (on, IsActiveElement-more tables more ty table offset h)
 
   IsElementValid-more : (tables more : List TableType) (segment : ElementSegment) → IsElementValid context tables segment → IsElementValid (grown context types funcs globals visible) (tables ++ more) segment
   IsElementValid-more tables more segment h = record {

@@ -15,7 +15,7 @@ use Rattle.smith_types.specs.declared.entity_type.TableType.{TableType}
 use Rattle.smith_types.specs.declared.segments.Elements.{Elements}
 use Rattle.smith_types.specs.declared.segments.Elements.TheVariants.{Functions, Expressions}
 use Rattle.smith_types.specs.declared.segments.ElementKind.{ElementKind}
-use Rattle.smith_types.specs.declared.segments.ElementKind.TheVariants as element
+use Rattle.smith_types.specs.declared.segments.ElementKind.TheVariants as element_kind
 use Rattle.smith_types.specs.declared.segments.ElementSegment.{ElementSegment}
 use Rattle.smith_types.specs.declared.segments.DataSegmentKind.{DataSegmentKind}
 use Rattle.smith_types.specs.declared.segments.DataSegmentKind.TheVariants as data_kind
@@ -60,10 +60,10 @@ pub record IsActiveElement (context : Context) (tables : List TableType) (ty : R
 -- an active segment is copied into a table that accepts it, the first if none is given; the other
 -- forms require bulk memory (own rule)
 abbrev pub IsElementKindValid : Context → List TableType → RefType → ElementKind → Type 0
-IsElementKindValid context tables ty element.Passive = IsTrue context.features.bulk_memory
-IsElementKindValid context tables ty element.Declared = IsTrue context.features.bulk_memory
-IsElementKindValid context tables ty (element.Active None offset) = IsActiveElement context tables ty 0 offset
-IsElementKindValid context tables ty (element.Active (Some table) offset) = IsTrue context.features.bulk_memory × IsActiveElement context tables ty table offset
+IsElementKindValid context tables ty element_kind.Passive = IsTrue context.features.bulk_memory
+IsElementKindValid context tables ty element_kind.Declared = IsTrue context.features.bulk_memory
+IsElementKindValid context tables ty (element_kind.Active None offset) = IsActiveElement context tables ty 0 offset
+IsElementKindValid context tables ty (element_kind.Active (Some table) offset) = IsTrue context.features.bulk_memory × IsActiveElement context tables ty table offset
 
 -- an element segment (Validation, Element Segments)
 pub record IsElementValid (context : Context) (tables : List TableType) (segment : ElementSegment) : Type 0 where
@@ -98,9 +98,9 @@ IsOffsetInside (Global index) count most = ⊥
 -- the copied items end within the minimum number of elements of their table (Execution,
 -- Instantiation)
 abbrev pub AreElementsInside : List TableType → ElementKind → ℕ → Type 0
-AreElementsInside tables element.Passive count = Unit {0}
-AreElementsInside tables element.Declared count = Unit {0}
-AreElementsInside tables (element.Active index offset) count =
+AreElementsInside tables element_kind.Passive count = Unit {0}
+AreElementsInside tables element_kind.Declared count = Unit {0}
+AreElementsInside tables (element_kind.Active index offset) count =
     (table : TableType) × (slice_get tables (table_index index) ≡ Some table) × IsOffsetInside offset count table.minimum
 
 -- the copied bytes end within the minimum number of bytes of their memory (Execution,

@@ -5,7 +5,7 @@ ghost use Rattle.smith_types.specs.declared.value_type.HeapType.TheVariants.{Exa
 ghost use Rattle.smith_types.specs.declared.value_type.ValType.TheVariants.{I64};
 ghost use Rattle.smith_types.specs.declared.const_instr.ConstInstr.TheVariants.{RefNull};
 ghost use Rattle.smith_types.specs.declared.segments.Elements.TheVariants.{Functions, Expressions};
-ghost use Rattle.smith_types.specs.declared.segments.ElementKind.TheVariants as element;
+ghost use Rattle.smith_types.specs.declared.segments.ElementKind.TheVariants as element_kind;
 ghost use Rattle.smith_types.specs.declared.segments.DataSegmentKind.TheVariants as data_kind;
 ghost use Rattle.smith_types.specs.declared.segments.Offset.TheVariants.{Const32, Const64, Global};
 ghost use Rattle.smith_types.specs.Flags.{funcref};
@@ -95,56 +95,56 @@ fn active_elements()
 
 fn element_kinds()
     ensures passive { IsElementKindValid (context_with usual_features 3) [] funcref
-        element.Passive }
+        element_kind.Passive }
     ensures passive_without_bulk_memory { ¬ IsElementKindValid
         (context_with (record usual_features { bulk_memory = false }) 3) [] funcref
-        element.Passive }
+        element_kind.Passive }
     ensures declared { IsElementKindValid (context_with usual_features 3) [] funcref
-        element.Declared }
+        element_kind.Declared }
     ensures declared_without_bulk_memory { ¬ IsElementKindValid
         (context_with (record usual_features { bulk_memory = false }) 3) [] funcref
-        element.Declared }
+        element_kind.Declared }
     ensures into_the_first_table { IsElementKindValid
         (context_with (record usual_features { bulk_memory = false }) 3)
-        (table funcref 1 None ∷ []) funcref (element.Active None (Const32 (pos 0))) }
+        (table funcref 1 None ∷ []) funcref (element_kind.Active None (Const32 (pos 0))) }
     ensures first_is_named_by_none { table_index None ≡ 0 }
     ensures named { table_index (Some 2) ≡ 2 }
     ensures into_a_first_table_that_is_not_there { ¬ IsElementKindValid
-        (context_with usual_features 3) [] funcref (element.Active None (Const32 (pos 0))) }
+        (context_with usual_features 3) [] funcref (element_kind.Active None (Const32 (pos 0))) }
     ensures into_a_second_table { IsElementKindValid (context_with usual_features 3)
         (table (nullable (plain heap.Extern)) 1 None ∷ table funcref 1 None ∷ []) funcref
-        (element.Active (Some 1) (Const32 (pos 0))) }
+        (element_kind.Active (Some 1) (Const32 (pos 0))) }
     ensures into_a_first_table_of_others { ¬ IsElementKindValid (context_with usual_features 3)
         (table (nullable (plain heap.Extern)) 1 None ∷ table funcref 1 None ∷ []) funcref
-        (element.Active None (Const32 (pos 0))) }
+        (element_kind.Active None (Const32 (pos 0))) }
     ensures into_a_named_table_that_is_not_there { ¬ IsElementKindValid
         (context_with usual_features 3) (table funcref 1 None ∷ []) funcref
-        (element.Active (Some 1) (Const32 (pos 0))) }
+        (element_kind.Active (Some 1) (Const32 (pos 0))) }
     ensures into_a_named_table_without_bulk_memory { ¬ IsElementKindValid
         (context_with (record usual_features { bulk_memory = false }) 3)
-        (table funcref 1 None ∷ []) funcref (element.Active (Some 0) (Const32 (pos 0))) }
+        (table funcref 1 None ∷ []) funcref (element_kind.Active (Some 0) (Const32 (pos 0))) }
 {}
 
 fn element_segments()
     ensures passive { IsElementValid (context_with usual_features 3) []
-        (record { kind = element.Passive; ty = funcref; items = Functions [] }) }
+        (record { kind = element_kind.Passive; ty = funcref; items = Functions [] }) }
     ensures of_an_unknown_type { ¬ IsElementValid (context_with usual_features 3) []
-        (record { kind = element.Passive; ty = nullable (Concrete 6); items = Functions [] }) }
+        (record { kind = element_kind.Passive; ty = nullable (Concrete 6); items = Functions [] }) }
     ensures of_a_known_type { IsElementValid (context_with usual_features 3) []
-        (record { kind = element.Passive; ty = nullable (Concrete 5); items = Functions [] }) }
+        (record { kind = element_kind.Passive; ty = nullable (Concrete 5); items = Functions [] }) }
     ensures of_an_unknown_function { ¬ IsElementValid (context_with usual_features 3) []
-        (record { kind = element.Passive; ty = funcref; items = Functions (2 ∷ []) }) }
+        (record { kind = element_kind.Passive; ty = funcref; items = Functions (2 ∷ []) }) }
     ensures into_no_table { ¬ IsElementValid (context_with usual_features 3) [] (record {
-      kind = element.Active None (Const32 (pos 0));
+      kind = element_kind.Active None (Const32 (pos 0));
       ty = funcref;
       items = Functions [];
     }) }
     ensures without_its_feature { ¬ IsElementValid
         (context_with (record usual_features { bulk_memory = false }) 3) []
-        (record { kind = element.Passive; ty = funcref; items = Functions [] }) }
+        (record { kind = element_kind.Passive; ty = funcref; items = Functions [] }) }
     ensures of_others_without_reference_types { ¬ IsElementValid
         (context_with (record usual_features { reference_types = false }) 3) [] (record {
-          kind = element.Passive;
+          kind = element_kind.Passive;
           ty = nullable (plain heap.Extern);
           items = Functions [];
         }) }
@@ -181,53 +181,53 @@ fn inside()
 
 fn elements_inside()
     ensures passive { IsElementInside []
-        (record { kind = element.Passive; ty = funcref; items = Functions (0 ∷ []) }) }
+        (record { kind = element_kind.Passive; ty = funcref; items = Functions (0 ∷ []) }) }
     ensures within { IsElementInside (table funcref 1 None ∷ []) (record {
-      kind = element.Active None (Const32 (pos 0));
+      kind = element_kind.Active None (Const32 (pos 0));
       ty = funcref;
       items = Functions (0 ∷ []);
     }) }
     ensures declared { IsElementInside []
-        (record { kind = element.Declared; ty = funcref; items = Functions (0 ∷ []) }) }
+        (record { kind = element_kind.Declared; ty = funcref; items = Functions (0 ∷ []) }) }
     ensures nothing_at_the_end { IsElementInside (table funcref 1 None ∷ []) (record {
-      kind = element.Active None (Const32 (pos 1));
+      kind = element_kind.Active None (Const32 (pos 1));
       ty = funcref;
       items = Functions [];
     }) }
     ensures expressions_within { IsElementInside (table funcref 2 None ∷ []) (record {
-      kind = element.Active None (Const32 (pos 0));
+      kind = element_kind.Active None (Const32 (pos 0));
       ty = funcref;
       items = Expressions ([] ∷ [] ∷ []);
     }) }
     ensures within_a_second_table { IsElementInside
         (table funcref 0 None ∷ table funcref 1 None ∷ []) (record {
-          kind = element.Active (Some 1) (Const32 (pos 0));
+          kind = element_kind.Active (Some 1) (Const32 (pos 0));
           ty = funcref;
           items = Functions (0 ∷ []);
         }) }
     ensures past_a_first_table { ¬ IsElementInside
         (table funcref 0 None ∷ table funcref 1 None ∷ []) (record {
-          kind = element.Active None (Const32 (pos 0));
+          kind = element_kind.Active None (Const32 (pos 0));
           ty = funcref;
           items = Functions (0 ∷ []);
         }) }
     ensures in_no_table { ¬ IsElementInside [] (record {
-      kind = element.Active None (Const32 (pos 0));
+      kind = element_kind.Active None (Const32 (pos 0));
       ty = funcref;
       items = Functions [];
     }) }
     ensures past_the_least_of_a_table { ¬ IsElementInside (table funcref 0 (Some 1) ∷ []) (record {
-      kind = element.Active None (Const32 (pos 0));
+      kind = element_kind.Active None (Const32 (pos 0));
       ty = funcref;
       items = Functions (0 ∷ []);
     }) }
     ensures past_the_table { ¬ IsElementInside (table funcref 1 None ∷ []) (record {
-      kind = element.Active None (Const32 (pos 1));
+      kind = element_kind.Active None (Const32 (pos 1));
       ty = funcref;
       items = Functions (0 ∷ []);
     }) }
     ensures expressions_past_the_table { ¬ IsElementInside (table funcref 1 None ∷ []) (record {
-      kind = element.Active None (Const32 (pos 0));
+      kind = element_kind.Active None (Const32 (pos 0));
       ty = funcref;
       items = Expressions ([] ∷ [] ∷ []);
     }) }

@@ -8,7 +8,7 @@ ghost use Rattle.smith_types.specs.Flags.{funcref};
 ghost use Rattle.smith_types.specs.ExampleTypes.{nullable, not_null, plain, shared_type};
 ghost use Rattle.smith_types.specs.ExampleTypes.{plain_func};
 ghost use Rattle.smith_types.specs.declared.segments.Offset.TheVariants.{Const32};
-ghost use Rattle.smith_types.specs.declared.segments.ElementKind.TheVariants as element;
+ghost use Rattle.smith_types.specs.declared.segments.ElementKind.TheVariants as element_kind;
 ghost use Rattle.smith_types.specs.declared.segments.Elements.TheVariants.{Functions, Expressions};
 ghost use Rattle.smith_types.specs.declared.value_type.AbstractHeapType.TheVariants as heap;
 ghost use Rattle.smith_draw.specs.ExampleConstExprs.{context_of_types};
@@ -93,7 +93,7 @@ fn copied()
         (1 ∷ 2 ∷ 255 ∷ 255 ∷ 255 ∷ 255 ∷ 9 ∷ [])
         ≡ Ok (
           record {
-            kind = element.Active None (Const32 (pos 5));
+            kind = element_kind.Active None (Const32 (pos 5));
             ty = funcref;
             items = Functions [];
           } ∷ [],

@@ -9,7 +9,7 @@ ghost use Rattle.smith_types.specs.declared.segments.Elements.TheVariants.{Expre
 ghost use Rattle.smith_types.specs.declared.value_type.AbstractHeapType.TheVariants as heap;
 ghost use Rattle.smith_sections.specs.Data.{IsDataWritten, IsData, data_of};
 ghost use Rattle.smith_sections.specs.Definitions.{IsTableWritten, IsTable, initialised_table};
-ghost use Rattle.smith_sections.specs.Elements.{IsElementWritten, IsElement, element_of};
+ghost use Rattle.smith_sections.specs.Elements.{IsElemWritten, IsElem, elem_of};
 ghost use Rattle.smith_instr_binary_law.specs.ExampleSegments.{a_byte, a_function};
 ghost use Rattle.smith_instr_binary_law.specs.ExampleSegments.{no_function, start};
 
@@ -26,32 +26,32 @@ fn tables()
 {}
 
 fn lists_of_functions()
-    ensures first_table { IsElementWritten (a_function (Active None start))
+    ensures first_table { IsElemWritten (a_function (Active None start))
         (0x00 ∷ 0x41 ∷ 0x00 ∷ 0x0B ∷ 0x01 ∷ 0x00 ∷ []) }
-    ensures first_table_by_its_index { IsElementWritten (a_function (Active (Some 0) start))
+    ensures first_table_by_its_index { IsElemWritten (a_function (Active (Some 0) start))
         (0x00 ∷ 0x41 ∷ 0x00 ∷ 0x0B ∷ 0x01 ∷ 0x00 ∷ []) }
-    ensures second_table { IsElementWritten (a_function (Active (Some 1) start))
+    ensures second_table { IsElemWritten (a_function (Active (Some 1) start))
         (0x02 ∷ 0x01 ∷ 0x41 ∷ 0x00 ∷ 0x0B ∷ 0x00 ∷ 0x01 ∷ 0x00 ∷ []) }
-    ensures passive { IsElementWritten (a_function Passive) (0x01 ∷ 0x00 ∷ 0x01 ∷ 0x00 ∷ []) }
-    ensures declared { IsElementWritten (a_function Declared) (0x03 ∷ 0x00 ∷ 0x01 ∷ 0x00 ∷ []) }
-    ensures index_in_the_grammar { IsElement (element_of (a_function (Active (Some 0) start)))
+    ensures passive { IsElemWritten (a_function Passive) (0x01 ∷ 0x00 ∷ 0x01 ∷ 0x00 ∷ []) }
+    ensures declared { IsElemWritten (a_function Declared) (0x03 ∷ 0x00 ∷ 0x01 ∷ 0x00 ∷ []) }
+    ensures index_in_the_grammar { IsElem (elem_of (a_function (Active (Some 0) start)))
         (0x02 ∷ 0x00 ∷ 0x41 ∷ 0x00 ∷ 0x0B ∷ 0x00 ∷ 0x01 ∷ 0x00 ∷ []) }
-    ensures index_as_written { ¬ IsElementWritten (a_function (Active (Some 0) start))
+    ensures index_as_written { ¬ IsElemWritten (a_function (Active (Some 0) start))
         (0x02 ∷ 0x00 ∷ 0x41 ∷ 0x00 ∷ 0x0B ∷ 0x00 ∷ 0x01 ∷ 0x00 ∷ []) }
-    ensures as_expressions { ¬ IsElementWritten (a_function (Active None start))
+    ensures as_expressions { ¬ IsElemWritten (a_function (Active None start))
         (0x04 ∷ 0x41 ∷ 0x00 ∷ 0x0B ∷ 0x01 ∷ 0xD2 ∷ 0x00 ∷ 0x0B ∷ []) }
 {}
 
 fn lists_of_expressions()
-    ensures first_table { IsElementWritten
+    ensures first_table { IsElemWritten
         (record { kind = Active None start; ty = funcref; items = Expressions (no_function ∷ []) })
         (0x04 ∷ 0x41 ∷ 0x00 ∷ 0x0B ∷ 0x01 ∷ 0xD0 ∷ 0x70 ∷ 0x0B ∷ []) }
-    ensures of_another_type { IsElementWritten (record {
+    ensures of_another_type { IsElemWritten (record {
       kind = Active None start;
       ty = nullable (plain heap.Extern);
       items = Expressions [];
     }) (0x06 ∷ 0x00 ∷ 0x41 ∷ 0x00 ∷ 0x0B ∷ 0x6F ∷ 0x00 ∷ []) }
-    ensures without_their_type { ¬ IsElementWritten (record {
+    ensures without_their_type { ¬ IsElemWritten (record {
       kind = Active None start;
       ty = nullable (plain heap.Extern);
       items = Expressions [];

@@ -1,13 +1,13 @@
 use Rattle.std.proofs.Common.{ℕ, ◌<◌, [], ◌∷◌, None, Some, refl, arith}
 use Rattle.smith_types.specs.declared.segments.ElementKind.TheVariants.{Active}
-use Rattle.smith_sections.specs.Elements.{IsElementIn, IsKindFuncs, element_of, first_funcs, table_funcs}
+use Rattle.smith_sections.specs.Elements.{IsElemIn, IsKindFuncs, elem_of, first_funcs, table_funcs}
 use Rattle.smith_sections.specs.Instructions.{offset_of}
 use Rattle.smith_encode_law.proofs.CheckLemmas.{both}
 use Rattle.smith_instr_binary_law.specs.ExampleSegments.{a_function, start}
 use Rattle.smith_instr_binary_law.proofs.SpelledExamples.{index, one_function, other_number, start_spelled}
 use Rattle.smith_instr_binary_law.proofs.examples.forms.lists_of_functions.Goals as goal
 
-first_form : IsElementIn first_funcs (element_of (a_function (Active None start))) (0x00 ∷ 0x41 ∷ 0x00 ∷ 0x0B ∷ 0x01 ∷ 0x00 ∷ [])
+first_form : IsElemIn first_funcs (elem_of (a_function (Active None start))) (0x00 ∷ 0x41 ∷ 0x00 ∷ 0x0B ∷ 0x01 ∷ 0x00 ∷ [])
 first_form =
     both (0x00 ∷ []) (0x41 ∷ 0x00 ∷ 0x0B ∷ 0x01 ∷ 0x00 ∷ []) (index 0 (omega arith))
     (offset_of start, 0 ∷ [], refl, both (0x41 ∷ 0x00 ∷ 0x0B ∷ []) (0x01 ∷ 0x00 ∷ []) start_spelled one_function)
@@ -16,7 +16,7 @@ first_form =
 listed : IsKindFuncs (0 ∷ []) (0x00 ∷ 0x01 ∷ 0x00 ∷ [])
 listed = both (0x00 ∷ []) (0x01 ∷ 0x00 ∷ []) refl one_function
 
-by_index : (table : ℕ) → table < 128 → IsElementIn table_funcs (element_of (a_function (Active (Some table) start))) (0x02 ∷ table ∷ 0x41 ∷ 0x00 ∷ 0x0B ∷ 0x00 ∷ 0x01 ∷ 0x00 ∷ [])
+by_index : (table : ℕ) → table < 128 → IsElemIn table_funcs (elem_of (a_function (Active (Some table) start))) (0x02 ∷ table ∷ 0x41 ∷ 0x00 ∷ 0x0B ∷ 0x00 ∷ 0x01 ∷ 0x00 ∷ [])
 by_index table low =
     both (0x02 ∷ []) (table ∷ 0x41 ∷ 0x00 ∷ 0x0B ∷ 0x00 ∷ 0x01 ∷ 0x00 ∷ []) (index 2 (omega arith))
     (table, offset_of start, 0 ∷ [], refl, both (table ∷ []) (0x41 ∷ 0x00 ∷ 0x0B ∷ 0x00 ∷ 0x01 ∷ 0x00 ∷ []) (index table low) (both (0x41 ∷ 0x00 ∷ 0x0B ∷ []) (0x00 ∷ 0x01 ∷ 0x00 ∷ []) start_spelled listed))

@@ -3,7 +3,7 @@ use Rattle.smith_sections.specs.Long.{IsLongData}
 use Rattle.smith_sections.proofs.SpelledFormLemmas.{data_spelled}
 use Rattle.smith_encode.specs.TooLong.{IsTooLong}
 use Rattle.smith_encode.proofs.MappedLemmas.{fault_weaker, long_mapped, long_as}
-use Rattle.smith_encode.proofs.sections.write_segments.Goals as goal
+use Rattle.smith_encode.proofs.sections.write_datas.Goals as goal
 
 pub returns-clause-writes : goal.returns-clause-writes
 returns-clause-writes c = rw (c.is_filled.ensures, c.data.ensures) at c.write_section_if.ensures.writes

@@ -1,6 +1,6 @@
 use Rattle.std.proofs.Common.{◌≡◌, map, take}
 use Rattle.smith_types.specs.declared.segments.ElementSegment.{ElementSegment}
-use Rattle.smith_program.proofs.references.element_types.Given as goal
+use Rattle.smith_program.proofs.references.segment_types.Given as goal
 
 abbrev pub invariant-loop-segment : goal.invariant-loop-segment
 invariant-loop-segment l = l.types ≡ map (λ (segment : ElementSegment). segment.ty) (take l.segment-index l.segment-items)
