@@ -16,7 +16,21 @@ const SMALLEST: usize = 16;
 const MOST_BLOCKS: usize = 30_000;
 
 // The maximum number of kept blocks: after each step, the blocks that the call freed are taken too.
-const MOST_KEPT: usize = 100_000;
+const MOST_KEPT: usize = 500_000;
+
+// The bytes of the largest block that the C library keeps apart when it is freed, for a request of
+// the same size.
+const LARGEST_APART: usize = 1024;
+
+// Returns the bytes of the blocks that are taken after all of `size` bytes: half as many, or the
+// next smaller size that is kept apart.
+fn next_size(size: usize) -> usize {
+    if size > LARGEST_APART {
+        size / 2
+    } else {
+        size.saturating_sub(SMALLEST)
+    }
+}
 
 /// All memory that the process can have, taken in blocks that nobody touches. Some slots are set
 /// aside, and freed one by one. Dropping the hoard frees all of it.
@@ -64,7 +78,7 @@ impl Hoard {
                     }
                 }
                 Err(_) if size <= SMALLEST => return true,
-                Err(_) => size /= 2,
+                Err(_) => size = next_size(size),
             }
         }
         false

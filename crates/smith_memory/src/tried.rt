@@ -19,17 +19,20 @@ pub trait Tried {
     fn ended(&mut self, alloc: Global) -> Ended;
 }
 
-// The maximum number of tries of a call.
-const MOST_TRIES: usize = 400;
+// The maximum number of tries of a call. The last one has nearly a slot.
+const MOST_TRIES: usize = 4_000;
 
-/// Tries `call` with no memory and then with `step` bytes more each time, until it isn't refused.
+// The bytes that a try has more than the one before: the least by which blocks differ.
+const STEP: usize = 16;
+
+/// Tries `call` with no memory and then with 16 bytes more each time, until it isn't refused.
 /// Returns the number of refusals.
-pub fn refusals<T: Tried>(alloc: Global, step: usize, call: &mut T) -> Result<usize, Fail> {
+pub fn refusals<T: Tried>(alloc: Global, call: &mut T) -> Result<usize, Fail> {
     let Some(mut hoard) = Hoard::new(alloc, MOST_TRIES)? else {
         return Err(Fail::new("the memory of this machine takes too many blocks"));
     };
     for count in 0..MOST_TRIES {
-        if !hoard.leave(alloc, count.saturating_mul(step)) {
+        if !hoard.leave(alloc, count.saturating_mul(STEP)) {
             return Err(Fail::new("there are too many blocks"));
         }
         match call.ended(alloc) {

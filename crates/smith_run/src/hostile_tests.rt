@@ -178,7 +178,7 @@ impl Tried for Running {
 #[test]
 fn want_of_memory_is_told_without_memory(rt: HostRuntime) -> Result<(), Fail> {
     for input in INPUTS {
-        assert!(rt; refusals(rt.alloc(), 64, &mut Running { input })? > 0);
+        assert!(rt; refusals(rt.alloc(), &mut Running { input })? > 0);
     }
     Ok(())
 }

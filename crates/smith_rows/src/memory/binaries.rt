@@ -45,7 +45,7 @@ fn module_of_parts(alloc: Global) -> Result<Module, Error> {
 }
 
 fn refusals_of(alloc: Global, module: &Module) -> Result<usize, Fail> {
-    refusals(alloc, 16, &mut Encoding { module })
+    refusals(alloc, &mut Encoding { module })
 }
 
 fn refusals_of_parts(alloc: Global) -> Result<usize, Fail> {

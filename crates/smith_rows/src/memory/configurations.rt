@@ -42,7 +42,7 @@ fn set_shapes(alloc: Global, config: &mut Config) -> Result<(), Error> {
 
 fn refusals_of_copies(alloc: Global, config: &mut Config) -> Result<usize, Fail> {
     set_shapes(alloc, config)?;
-    refusals(alloc, 16, &mut Copying { config })
+    refusals(alloc, &mut Copying { config })
 }
 
 fn refusals_of_a_copy(alloc: Global) -> Result<usize, Fail> {
@@ -81,7 +81,7 @@ fn refusals_of(alloc: Global, shape: &Shape, which: Which) -> Result<usize, Fail
         shape,
         which,
     };
-    refusals(alloc, 16, &mut checking)
+    refusals(alloc, &mut checking)
 }
 
 fn refusals_of_exports(alloc: Global) -> Result<usize, Fail> {

@@ -62,7 +62,7 @@ fn function(alloc: Global) -> Result<Module, Error> {
 }
 
 fn refusals_of(alloc: Global, module: Module, copy: Module) -> Result<usize, Fail> {
-    refusals(alloc, 16, &mut Counting { module, copy })
+    refusals(alloc, &mut Counting { module, copy })
 }
 
 fn refusals_beside_a_copy(alloc: Global, module: Module) -> Result<usize, Fail> {

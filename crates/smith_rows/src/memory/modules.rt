@@ -90,7 +90,7 @@ fn refusals_under(
     config: &mut Config,
 ) -> Result<usize, Fail> {
     set_asked(alloc, config, asked)?;
-    refusals(alloc, 64, &mut Drawing { config, input })
+    refusals(alloc, &mut Drawing { config, input })
 }
 
 // A group that is cloned past the end of the input.

@@ -77,7 +77,7 @@ fn standing(alloc: Global) -> Result<HashSet<String>, AllocError> {
 
 fn refusals_of(alloc: Global, kind: Kind) -> Result<usize, Fail> {
     let names = standing(alloc)?;
-    refusals(alloc, 16, &mut Naming { kind, names })
+    refusals(alloc, &mut Naming { kind, names })
 }
 
 #[test]

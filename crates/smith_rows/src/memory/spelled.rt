@@ -85,7 +85,7 @@ fn refusals_of(
         groups,
         funcs,
     };
-    refusals(alloc, 16, &mut spelling)
+    refusals(alloc, &mut spelling)
 }
 
 fn refusals_of_functions(alloc: Global) -> Result<usize, Fail> {

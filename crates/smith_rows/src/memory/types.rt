@@ -53,6 +53,6 @@ fn grouped(types: &mut TypeSpace) -> Ended {
 
 #[test]
 fn types(rt: HostRuntime) -> Result<(), Fail> {
-    assert!(rt; refusals(rt.alloc(), 16, &mut Pushes)? > 0);
+    assert!(rt; refusals(rt.alloc(), &mut Pushes)? > 0);
     Ok(())
 }
