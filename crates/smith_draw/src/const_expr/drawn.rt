@@ -128,8 +128,8 @@ fn carry_out(
 }
 
 /// Chooses how to produce a value of the type `wanted`, and spends fuel. Appends an extended
-/// constant or an instruction without operands to `out`. For any other choice, adds the operands
-/// and the instruction to `tasks`.
+/// constant or an instruction without operands to `out`. For any other choice, adds to `tasks` the
+/// operands of one instruction, and the instruction itself, for which it spends fuel.
 fn draw_choice(
     alloc: Global,
     scope: &Scope<'_>,
@@ -147,6 +147,8 @@ fn draw_choice(
     ensures step { OnOk result (IsStep (context_of scope.now) scope.now.config.now
         (Draw (Value wanted)) (reverse tasks.old.items) (state_of out.old fuel.old u.old)
         (reverse tasks.new.items) (state_of out.new fuel.new u.new)) }
+    ensures growth { OnOk result
+        (IsGrowthPaid (context_of scope.now) tasks.old.items fuel.old tasks.new.items fuel.new) }
     ensures kept { OnOk result (AreKeptOffers (context_of scope.now) kept.new) }
     ensures refusal { IfErr result (MayRefuseTask (context_of scope.now) scope.now.config.now
         (Draw (Value wanted)) (state_of out.old fuel.old u.old)) }

@@ -3,8 +3,10 @@ use Rattle.std.specs.Prelude.{reverse}
 use Rattle.std.proofs.lemmas.Result.{on_ok_weaker}
 use Rattle.smith_draw.specs.ConstScopes.{context_of}
 use Rattle.smith_draw.specs.ConstExprs.{state_of}
+use Rattle.smith_draw.specs.declared.const_expr.node.Operand.TheVariants.{Value}
+use Rattle.smith_draw.specs.declared.const_expr.task.Task.TheVariants.{Draw}
 use Rattle.smith_draw.proofs.ConstStepLemmas.{passed_on, node_made}
-use Rattle.smith_draw.proofs.ConstTaskLemmas.{choice_refused, extended_step, leaf_step, node_step, not_empty}
+use Rattle.smith_draw.proofs.ConstTaskLemmas.{choice_refused, extended_step, leaf_step, node_step, not_empty, step_grown}
 use Rattle.smith_draw.proofs.const_expr.drawn.draw_choice.Goals as goal
 
 pub returns-in_err-choice-clause-refusal : goal.returns-in_err-choice-clause-refusal
@@ -20,6 +22,12 @@ returns-then-is_extended-clause-step c =
     extended_step context _ c.args.wanted _ _ (reverse c.args.tasks.now.items) (state_of c.args.out.now c.args.fuel.now c.args.u.now) _ c.draw_extended_constant.result c.in_ok-choice.ensures.exact is c.saturating_sub.ensures c.draw_extended_constant.ensures.exact
     (c.draw_extended_constant.ensures.puts context enabled) c.draw_extended_constant.ensures.short
 
+pub returns-then-is_extended-clause-growth : goal.returns-then-is_extended-clause-growth
+returns-then-is_extended-clause-growth c =
+    on_ok_weaker c.draw_extended_constant.result
+    (step_grown (context_of c.args.scope.now) c.args.scope.now.config.now (Draw (Value c.args.wanted)) c.args.tasks.now.items c.args.tasks.now.items (state_of c.args.out.now c.args.fuel.now c.args.u.now) (state_of c.draw_extended_constant.new.out c.saturating_sub.result c.draw_extended_constant.new.u))
+    (returns-then-is_extended-clause-step c)
+
 pub returns-then-is_empty-clause-step : goal.returns-then-is_empty-clause-step
 returns-then-is_empty-clause-step c =
     let context = context_of c.args.scope.now in
@@ -28,6 +36,12 @@ returns-then-is_empty-clause-step c =
     (λ longer. leaf_step context _ c.args.wanted c.in_ok-choice.choice c.in_ok-node.node c.choose_offer.new.u (reverse c.args.tasks.now.items) (state_of c.args.out.now c.args.fuel.now c.args.u.now) (state_of c.push.new.self c.saturating_sub.result c.draw_node.new.u)
     c.in_ok-choice.ensures.exact (sym c.is_extended.ensures ∙ c.if-is_extended.false) (rw c.types.ensures.value at c.in_ok-node.ensures.exact) (c.is_empty.ensures.0 c.if-is_empty.true) fits longer c.saturating_sub.ensures)
     c.push.ensures.ok
+
+pub returns-then-is_empty-clause-growth : goal.returns-then-is_empty-clause-growth
+returns-then-is_empty-clause-growth c =
+    on_ok_weaker c.push.result
+    (step_grown (context_of c.args.scope.now) c.args.scope.now.config.now (Draw (Value c.args.wanted)) c.args.tasks.now.items c.args.tasks.now.items (state_of c.args.out.now c.args.fuel.now c.args.u.now) (state_of c.push.new.self c.saturating_sub.result c.draw_node.new.u))
+    (returns-then-is_empty-clause-step c)
 
 pub returns-clause-step : goal.returns-clause-step
 returns-clause-step c =
@@ -38,3 +52,9 @@ returns-clause-step c =
     (λ tasks. node_step context _ c.args.wanted c.in_ok-choice.choice c.in_ok-node.node c.choose_offer.new.u (reverse c.args.tasks.now.items) _ (state_of c.args.out.now c.args.fuel.now c.args.u.now) _
     c.in_ok-choice.ensures.exact (sym c.is_extended.ensures ∙ c.if-is_extended.false) (rw c.types.ensures.value at c.in_ok-node.ensures.exact) (rw c.saturating_sub.ensures refl) fits some tasks)
     c.push_node.ensures.ok
+
+pub returns-clause-growth : goal.returns-clause-growth
+returns-clause-growth c =
+    on_ok_weaker c.push_node.result
+    (step_grown (context_of c.args.scope.now) c.args.scope.now.config.now (Draw (Value c.args.wanted)) c.args.tasks.now.items c.push_node.new.tasks.items (state_of c.args.out.now c.args.fuel.now c.args.u.now) (state_of c.args.out.now c.saturating_sub.result c.draw_node.new.u))
+    (returns-clause-step c)
