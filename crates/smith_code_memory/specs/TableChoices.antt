@@ -1,7 +1,7 @@
 -- The table instruction that the bytes choose. The choices, their order and their weights are rules
 -- of this project.
 use Rattle.std.specs.Prelude.{ℕ, Bool, true, false, ◌&&◌, Option, Some, None, option_map, List, [], ◌∷◌, length, slice_get, if◌then◌else◌}
-use Rattle.smith_bytes.specs.Draws.{bool_at, choose_at}
+use Rattle.smith_bytes.specs.Draws.{bool_at}
 use Rattle.smith_types.specs.declared.entity_type.TableType.{TableType}
 use Rattle.smith_types.specs.declared.value_type.ValType.{ValType}
 use Rattle.smith_types.specs.declared.value_type.ValType.TheVariants.{I32, Ref}
@@ -13,7 +13,7 @@ use Rattle.smith_instr.specs.declared.table.TableInstr.TheVariants as table_inst
 use Rattle.smith_code_nodes.specs.Chosen.{Chosen, giving}
 use Rattle.smith_code_nodes.specs.Items.{continued, index_at, item_at}
 use Rattle.smith_code_nodes.specs.Nodes.{node_of}
-use Rattle.smith_code_nodes.specs.Offered.{is_address, is_below_at, offered}
+use Rattle.smith_code_nodes.specs.Offered.{chunk_at, is_address, is_below_at}
 use Rattle.smith_code_nodes.specs.Scopes.{indexed}
 use Rattle.smith_code_nodes.specs.declared.node.Node.{Node}
 use Rattle.smith_code_memory.specs.declared.tables.TableChange.{TableChange}
@@ -44,7 +44,7 @@ table_get_node context index =
 
 abbrev pub table_get_at : BodyContext → ValType → List ℕ → Chosen
 table_get_at context wanted bytes =
-    giving (table_get_node context) (choose_at (offered (is_table_below context wanted) (indexed (length context.tables))) bytes)
+    giving (table_get_node context) (chunk_at (is_table_below context wanted) (indexed (length context.tables)) bytes)
 
 -- the growth of a table, by references of its type, or its size
 abbrev pub table_growth_node : BodyContext → ValType → Bool → ℕ → Option Node
@@ -58,7 +58,7 @@ abbrev pub table_growth_at : BodyContext → ValType → List ℕ → Chosen
 table_growth_at context wanted bytes =
     let grown = bool_at bytes in
     giving (table_growth_node context wanted grown.0)
-    (choose_at (offered (is_table_addressed context wanted) (indexed (length context.tables))) grown.1)
+    (chunk_at (is_table_addressed context wanted) (indexed (length context.tables)) grown.1)
 
 -- a table instruction that produces a value of the wanted type
 unfoldable pub table_value_at : BodyContext → ValType → List ℕ → Chosen
@@ -86,7 +86,7 @@ table_copy_node context into from =
 
 abbrev pub table_copied : BodyContext → ℕ × TableType → List ℕ → Chosen
 table_copied context into bytes =
-    giving (table_copy_node context into) (choose_at (offered (is_table_below context (Ref into.1.element_type)) (indexed (length context.tables))) bytes)
+    giving (table_copy_node context into) (chunk_at (is_table_below context (Ref into.1.element_type)) (indexed (length context.tables)) bytes)
 
 abbrev pub table_copy_at : BodyContext → List ℕ → Chosen
 table_copy_at context bytes = let into = item_at context.tables bytes in continued (table_copied context) into.0 into.1
@@ -98,7 +98,7 @@ table_init_node into segment =
 
 abbrev pub table_initialized : BodyContext → ℕ × TableType → List ℕ → Chosen
 table_initialized context into bytes =
-    giving (table_init_node into) (choose_at (offered (is_segment_below context (Ref into.1.element_type)) (indexed (length context.elements))) bytes)
+    giving (table_init_node into) (chunk_at (is_segment_below context (Ref into.1.element_type)) (indexed (length context.elements)) bytes)
 
 abbrev pub table_init_at : BodyContext → List ℕ → Chosen
 table_init_at context bytes = let into = item_at context.tables bytes in continued (table_initialized context) into.0 into.1

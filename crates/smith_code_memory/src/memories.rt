@@ -1,6 +1,5 @@
 ghost use Rattle.std.specs.Prelude.{◌≡◌, Some, false, true, ◌<◌, ◌≤◌, ◌-◌, [], ◌∷◌, length, IfOk};
 ghost use Rattle.std.specs.Prelude.{IfErr, IfSome};
-ghost use Rattle.smith_bytes.specs.Draws.{choose_at};
 ghost use Rattle.smith_bytes.specs.Source.{KeepsPieces};
 ghost use Rattle.smith_types.specs.Entities.{addresses, page_log2};
 ghost use Rattle.smith_instr.specs.Contexts.{IsValid, address};
@@ -13,12 +12,12 @@ ghost use Rattle.smith_code_nodes.specs.Chosen.{giving};
 ghost use Rattle.smith_code_memory.specs.Accesses.{access_at, bytes_of, most_bytes, offset_at};
 ghost use Rattle.smith_code_memory.specs.Accesses.{place_at};
 ghost use Rattle.smith_code_nodes.specs.Nodes.{IsNode, IsOffer};
-ghost use Rattle.smith_code_nodes.specs.Offered.{is_address, is_addressed, offered};
+ghost use Rattle.smith_code_nodes.specs.Offered.{chunk_at, is_address, is_addressed};
 ghost use Rattle.smith_code_memory.specs.MemoryRows.{loads_of, stores};
 ghost use Rattle.smith_code_nodes.specs.Scopes.{IsScope, bare, indexed, where_stands};
 
 use smith_bytes::{Error, Unstructured};
-use smith_code_nodes::{Draft, Node, Offer, Scope, choose_offered, indexed, plain};
+use smith_code_nodes::{Draft, Node, Offer, Scope, choose_in_chunk, indexed, plain};
 use smith_config::MemoryOffsetChoices;
 use smith_instr::{Instr, Load, MemArg, MemoryInstr, Store};
 use smith_types::{MemoryType, ValType};
@@ -233,17 +232,17 @@ pub(crate) fn is_address(value: ValType, wide: bool) -> bool
     }
 }
 
-/// Chooses a memory whose addresses have the type `wanted`, if there is one.
+/// Chooses a memory of a drawn chunk whose addresses have the type `wanted`, if there is one.
 fn choose_addressed(scope: &Scope<'_>, wanted: ValType, u: &mut Unstructured<'_>) -> Option<u32>
     requires scope { IsScope (bare scope.now) }
-    ensures exact { choose_at (offered (is_addressed (bare scope.now) wanted)
-        (indexed (length scope.now.memories.now))) u.old
+    ensures exact { chunk_at (is_addressed (bare scope.now) wanted)
+        (indexed (length scope.now.memories.now)) u.old
         ≡ (result, u.new) }
     ensures below { IfSome result (λ index. index < length scope.now.memories.now) }
     ensures offered { IfSome result (λ index. is_addressed (bare scope.now) wanted index ≡ true) }
     ensures left { KeepsPieces u.old u.new }
 {
-    let index = choose_offered(&AddressOffer { scope, wanted }, u)?;
+    let index = choose_in_chunk(&AddressOffer { scope, wanted }, u)?;
     Some(index as u32)
 }
 

@@ -1,6 +1,5 @@
 ghost use Rattle.std.specs.Prelude.{◌≡◌, ◌<◌, true, IsTrue, [], ◌∷◌, length, slice_get, Some, IfOk};
 ghost use Rattle.std.specs.Prelude.{IfErr, IfSome};
-ghost use Rattle.smith_bytes.specs.Draws.{choose_at};
 ghost use Rattle.smith_bytes.specs.Source.{KeepsPieces};
 ghost use Rattle.smith_types.specs.Subtyping.{IsValInRange};
 ghost use Rattle.smith_types.specs.declared.entity_type.TableType.{TableType as Table};
@@ -9,7 +8,7 @@ ghost use Rattle.smith_instr.specs.Contexts.{IsValid};
 ghost use Rattle.smith_code_nodes.specs.Chosen.{or_nop};
 ghost use Rattle.smith_code_nodes.specs.Chosen.{giving};
 ghost use Rattle.smith_code_nodes.specs.Nodes.{IsNode, IsOffer};
-ghost use Rattle.smith_code_nodes.specs.Offered.{offered};
+ghost use Rattle.smith_code_nodes.specs.Offered.{chunk_at};
 ghost use Rattle.smith_code_nodes.specs.Scopes.{IsScope, bare, indexed, where_stands};
 ghost use Rattle.smith_code_memory.specs.TableChoices.{elem_drop_at, held_table_at};
 ghost use Rattle.smith_code_memory.specs.TableChoices.{is_segment_below, is_table_addressed};
@@ -23,7 +22,7 @@ ghost use Rattle.smith_code_memory.specs.TableChoices.{table_set_node, table_val
 use crate::memories::{address, is_address, narrower};
 use smith_bytes::{Error, Unstructured};
 use smith_code_nodes::{
-    Draft, Node, Offer, Scope, choose_offered, draw_index, draw_item, indexed, is_sub_type, plain,
+    Draft, Node, Offer, Scope, choose_in_chunk, draw_index, draw_item, indexed, is_sub_type, plain,
 };
 use smith_draw::choose;
 use smith_instr::{Instr, TableInstr};
@@ -169,18 +168,18 @@ pub fn choose_table_value(
     }
 }
 
-/// Chooses a table whose element type matches `wanted`, if there is one.
+/// Chooses a table of a drawn chunk whose element type matches `wanted`, if there is one.
 fn choose_table_below(scope: &Scope<'_>, wanted: ValType, u: &mut Unstructured<'_>) -> Option<u32>
     requires scope { IsScope (bare scope.now) }
     requires wanted { IsValInRange (bare scope.now).types wanted }
-    ensures exact { choose_at (offered (is_table_below (bare scope.now) wanted)
-        (indexed (length scope.now.tables.now))) u.old
+    ensures exact { chunk_at (is_table_below (bare scope.now) wanted)
+        (indexed (length scope.now.tables.now)) u.old
         ≡ (result, u.new) }
     ensures below { IfSome result (λ index. index < length scope.now.tables.now) }
     ensures offered { IfSome result (λ index. is_table_below (bare scope.now) wanted index ≡ true) }
     ensures left { KeepsPieces u.old u.new }
 {
-    let index = choose_offered(&TableOffer { scope, wanted }, u)?;
+    let index = choose_in_chunk(&TableOffer { scope, wanted }, u)?;
     Some(index as u32)
 }
 
@@ -214,21 +213,22 @@ fn choose_table_get(
     Ok(Some(node))
 }
 
-/// Chooses a table whose addresses have the type `wanted`. Returns none without reference types.
+/// Chooses a table of a drawn chunk whose addresses have the type `wanted`. Returns none without
+/// reference types.
 fn choose_table_addressed(
     scope: &Scope<'_>,
     wanted: ValType,
     u: &mut Unstructured<'_>,
 ) -> Option<u32>
-    ensures exact { choose_at (offered (is_table_addressed (bare scope.now) wanted)
-        (indexed (length scope.now.tables.now))) u.old
+    ensures exact { chunk_at (is_table_addressed (bare scope.now) wanted)
+        (indexed (length scope.now.tables.now)) u.old
         ≡ (result, u.new) }
     ensures below { IfSome result (λ index. index < length scope.now.tables.now) }
     ensures offered { IfSome result (λ index.
         is_table_addressed (bare scope.now) wanted index ≡ true) }
     ensures left { KeepsPieces u.old u.new }
 {
-    let index = choose_offered(&TableAddressOffer { scope, wanted }, u)?;
+    let index = choose_in_chunk(&TableAddressOffer { scope, wanted }, u)?;
     Some(index as u32)
 }
 
@@ -470,7 +470,7 @@ fn init_of(
     plain(alloc, &operands, instruction, 0)
 }
 
-/// Chooses an element segment whose type matches `wanted`, if there is one.
+/// Chooses an element segment of a drawn chunk whose type matches `wanted`, if there is one.
 pub fn choose_segment_below(
     scope: &Scope<'_>,
     wanted: ValType,
@@ -478,14 +478,14 @@ pub fn choose_segment_below(
 ) -> Option<u32>
     requires scope { IsScope (bare scope.now) }
     requires wanted { IsValInRange (bare scope.now).types wanted }
-    ensures exact { choose_at (offered (is_segment_below (bare scope.now) wanted)
-        (indexed (length scope.now.elements.now))) u.old
+    ensures exact { chunk_at (is_segment_below (bare scope.now) wanted)
+        (indexed (length scope.now.elements.now)) u.old
         ≡ (result, u.new) }
     ensures offered { IfSome result (λ segment.
         is_segment_below (bare scope.now) wanted segment ≡ true) }
     ensures left { KeepsPieces u.old u.new }
 {
-    let segment = choose_offered(&SegmentOffer { scope, wanted }, u)?;
+    let segment = choose_in_chunk(&SegmentOffer { scope, wanted }, u)?;
     Some(segment as u32)
 }
 

@@ -25,7 +25,7 @@ pub use node::{
     setter, topped, try_table,
 };
 pub use numeric::{choose_numeric, choose_select};
-pub use offer::{Offer, choose_offered, count_offered};
+pub use offer::{Offer, Reach, choose_in_chunk, choose_offered, choose_within, count_offered};
 pub use operands::{field_values, repeated, taking};
 pub use reference_values::{
     choose_reference_value, choose_select_typed, draw_referent, nullable_to,
