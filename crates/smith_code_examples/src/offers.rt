@@ -1,0 +1,17 @@
+#![tactic(auto, unfolding(smith_code_nodes::specs::Offered::chunk_at, smith_code_nodes::specs::Offered::offered, smith_bytes::specs::Draws::choose_at, smith_bytes::specs::Draws::digit_count, smith_bytes::specs::Draws::range_at))]
+
+ghost use Rattle.std.specs.Prelude.{◌≡◌, ◌==◌, ◌||◌, true, Some, None, [], ◌∷◌};
+ghost use Rattle.smith_bytes.specs.Draws.{choose_at};
+ghost use Rattle.smith_code_nodes.specs.Offered.{chunk_at, offered};
+
+fn chunks()
+    ensures no_item { chunk_at (λ index. true) 0 (1 ∷ []) ≡ (None, 1 ∷ []) }
+    ensures one_chunk { chunk_at (λ index. index == 3 || index == 5) 256 (1 ∷ 9 ∷ [])
+        ≡ (Some 5, 9 ∷ []) }
+    ensures as_among_all { chunk_at (λ index. true) 3 (2 ∷ 9 ∷ [])
+        ≡ choose_at (offered (λ index. true) 3) (2 ∷ 9 ∷ []) }
+    ensures second_of_two { chunk_at (λ index. true) 259 (1 ∷ 2 ∷ 9 ∷ []) ≡ (Some 258, 9 ∷ []) }
+    ensures third_of_four { chunk_at (λ index. index == 600) 1000 (2 ∷ 9 ∷ []) ≡ (Some 600, 9 ∷ []) }
+    ensures offered_in_another { chunk_at (λ index. index == 3) 300 (1 ∷ 9 ∷ [])
+        ≡ (None, 9 ∷ []) }
+{}
