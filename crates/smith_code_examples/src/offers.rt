@@ -1,6 +1,6 @@
 #![tactic(auto, unfolding(smith_code_nodes::specs::Offered::chunk_at, smith_code_nodes::specs::Offered::offered, smith_bytes::specs::Draws::choose_at, smith_bytes::specs::Draws::digit_count, smith_bytes::specs::Draws::range_at))]
 
-ghost use Rattle.std.specs.Prelude.{◌≡◌, ◌==◌, ◌||◌, true, Some, None, [], ◌∷◌};
+ghost use Rattle.std.specs.Prelude.{◌≡◌, ◌≤◌, ℕ, ◌==◌, ◌||◌, Bool, true, List, Some, None, [], ◌∷◌};
 ghost use Rattle.smith_bytes.specs.Draws.{choose_at};
 ghost use Rattle.smith_code_nodes.specs.Offered.{chunk_at, offered};
 
@@ -14,4 +14,10 @@ fn chunks()
     ensures third_of_four { chunk_at (λ index. index == 600) 1000 (2 ∷ 9 ∷ []) ≡ (Some 600, 9 ∷ []) }
     ensures offered_in_another { chunk_at (λ index. index == 3) 300 (1 ∷ 9 ∷ [])
         ≡ (None, 9 ∷ []) }
+{}
+
+// At most 256 items are one chunk, and the choice is one among all of them.
+fn few_items()
+    ensures { (test : ℕ → Bool) (size : ℕ) (bytes : List ℕ) → size ≤ 256
+        → chunk_at test size bytes ≡ choose_at (offered test size) bytes }
 {}
