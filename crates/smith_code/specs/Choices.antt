@@ -19,9 +19,9 @@ use Rattle.smith_code_nodes.specs.ReferenceChoices.{reference_value_at, select_t
 use Rattle.smith_code_nodes.specs.Scopes.{indexed}
 use Rattle.smith_code_nodes.specs.declared.node.Node.{Node}
 use Rattle.smith_code_nodes.specs.NumericChoices.{numeric_at, select_node}
-use Rattle.smith_code_memory.specs.BulkChoices.{bulk_at}
+use Rattle.smith_code_tables.specs.BulkChoices.{bulk_at}
 use Rattle.smith_code_memory.specs.AtomicChoices.{atomic_at, atomic_store_at}
-use Rattle.smith_code_memory.specs.TableChoices.{table_change_at, table_value_at}
+use Rattle.smith_code_tables.specs.TableChoices.{table_change_at, table_value_at}
 use Rattle.smith_code_memory.specs.VectorChoices.{store_lane_at, vector_at, vector_store_at}
 use Rattle.smith_code_memory.specs.MemoryChoices.{load_at, memory_at, store_at}
 use Rattle.smith_code_control.specs.CallChoices.{by_reference_at, indirect_at, tail_call_at}

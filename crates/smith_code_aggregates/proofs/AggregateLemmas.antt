@@ -28,11 +28,11 @@ use Rattle.smith_code_aggregates.specs.Fields.{AreFieldsValid, element_in, eleme
 use Rattle.smith_code_nodes.specs.Items.{continued}
 use Rattle.smith_code_nodes.specs.Offered.{chunk_at, offered}
 use Rattle.smith_code_nodes.specs.Scopes.{IsScope, indexed}
-use Rattle.smith_code_memory.specs.TableChoices.{is_segment_below}
+use Rattle.smith_code_tables.specs.TableChoices.{is_segment_below}
 use Rattle.smith_code_aggregates.specs.declared.fields.FieldUse.{FieldUse}
 use Rattle.smith_code_nodes.proofs.ItemLemmas.{given_none, given_some}
 use Rattle.smith_code_nodes.proofs.OfferLemmas.{both, tested}
-use Rattle.smith_code_memory.proofs.TableLemmas.{segment_below_at}
+use Rattle.smith_code_tables.proofs.TableLemmas.{segment_below_at}
 
 -- the struct type, and the array type, of an index
 inner_struct : (x : CompositeInnerType) (structure : StructType) → struct_of x ≡ Some structure → x ≡ inner.Struct structure

@@ -20,7 +20,7 @@ use Rattle.smith_code_nodes.specs.Items.{continued, index_at}
 use Rattle.smith_code_nodes.specs.Nodes.{node_of}
 use Rattle.smith_code_nodes.specs.Offered.{chunk_at}
 use Rattle.smith_code_nodes.specs.Scopes.{indexed}
-use Rattle.smith_code_memory.specs.TableChoices.{is_segment_below}
+use Rattle.smith_code_tables.specs.TableChoices.{is_segment_below}
 use Rattle.smith_code_aggregates.specs.declared.creations.Creation.{Creation}
 use Rattle.smith_code_aggregates.specs.declared.creations.Creation.TheVariants as creation
 use Rattle.smith_code_aggregates.specs.declared.fields.FieldUse.TheVariants as field_use

@@ -2,9 +2,8 @@ ghost use Rattle.std.specs.Prelude.{◌≡◌, Some, false, true, ◌<◌, ◌�
 ghost use Rattle.std.specs.Prelude.{IfErr, IfSome};
 ghost use Rattle.smith_bytes.specs.Source.{KeepsPieces};
 ghost use Rattle.smith_types.specs.Entities.{addresses, page_log2};
-ghost use Rattle.smith_instr.specs.Contexts.{IsValid, address};
+ghost use Rattle.smith_instr.specs.Contexts.{IsValid};
 ghost use Rattle.smith_instr.specs.MemoryTypes.{IsAccess, stored};
-ghost use Rattle.smith_instr.specs.ReferenceTypes.{narrower};
 ghost use Rattle.smith_code_memory.specs.MemoryChoices.{growth_node, load_at, memory_at, store_at};
 ghost use Rattle.smith_code_memory.specs.MemoryChoices.{store_node};
 ghost use Rattle.smith_code_nodes.specs.Chosen.{or_nop};
@@ -12,12 +11,14 @@ ghost use Rattle.smith_code_nodes.specs.Chosen.{giving};
 ghost use Rattle.smith_code_memory.specs.Accesses.{access_at, bytes_of, most_bytes, offset_at};
 ghost use Rattle.smith_code_memory.specs.Accesses.{place_at};
 ghost use Rattle.smith_code_nodes.specs.Nodes.{IsNode, IsOffer};
-ghost use Rattle.smith_code_nodes.specs.Offered.{chunk_at, is_address, is_addressed};
+ghost use Rattle.smith_code_nodes.specs.Offered.{chunk_at, is_addressed};
 ghost use Rattle.smith_code_memory.specs.MemoryRows.{loads_of, stores};
 ghost use Rattle.smith_code_nodes.specs.Scopes.{IsScope, bare, indexed, where_stands};
 
 use smith_bytes::{Error, Unstructured};
-use smith_code_nodes::{Draft, Node, Offer, Scope, choose_in_chunk, indexed, plain};
+use smith_code_nodes::{
+    Draft, Node, Offer, Scope, address, choose_in_chunk, indexed, is_address, plain,
+};
 use smith_config::MemoryOffsetChoices;
 use smith_instr::{Instr, Load, MemArg, MemoryInstr, Store};
 use smith_types::{MemoryType, ValType};
@@ -178,21 +179,6 @@ fn last_address(memory: MemoryType) -> u64
     }
 }
 
-/// Returns the type of the addresses of a memory or a table: of 64 bits if `wide` is set, else of
-/// 32 bits.
-pub fn address(wide: bool) -> ValType
-    ensures { result ≡ address wide }
-{
-    if wide { ValType::I64 } else { ValType::I32 }
-}
-
-/// Returns the narrower of the address types of two memories or tables.
-pub(crate) fn narrower(one: bool, other: bool) -> ValType
-    ensures { result ≡ narrower one other }
-{
-    if one { address(other) } else { ValType::I32 }
-}
-
 /// Memories whose addresses have a wanted type.
 #[derive(Clone, Copy)]
 struct AddressOffer<'a> {
@@ -217,18 +203,6 @@ impl<'a> Offer for AddressOffer<'a> {
 
     fn is_offered(&self, index: usize) -> bool {
         is_address(self.wanted, self.scope.memories[index].memory64)
-    }
-}
-
-/// Whether the addresses of a memory or a table have the type `value`. They have 64 bits if `wide`
-/// is set, else 32 bits.
-pub(crate) fn is_address(value: ValType, wide: bool) -> bool
-    ensures { result ≡ is_address value wide }
-{
-    match value {
-        ValType::I32 => !wide,
-        ValType::I64 => wide,
-        _ => false,
     }
 }
 
