@@ -13,7 +13,7 @@ use Rattle.smith_instr.specs.Contexts.{BodyContext}
 use Rattle.smith_instr.specs.declared.instr.Instr.TheVariants as instr
 use Rattle.smith_code_nodes.specs.Chosen.{or_nop, giving}
 use Rattle.smith_code_nodes.specs.Nodes.{is_node_allowed, node_of, setting}
-use Rattle.smith_code_nodes.specs.Offered.{function_at, is_callable, is_local_below, is_mutable, offered}
+use Rattle.smith_code_nodes.specs.Offered.{chunk_at, function_at, is_callable, is_local_below, is_mutable, offered}
 use Rattle.smith_code_nodes.specs.Scopes.{indexed}
 use Rattle.smith_code_nodes.specs.declared.node.Node.{Node}
 use Rattle.smith_code_nodes.proofs.ChosenLemmas.{same_item, chosen_by, no_count, no_index}
@@ -36,11 +36,11 @@ tee_there context wanted bytes left index d drawn inside =
     ∙ ap (λ (o : Option ValType). (option_map (λ value. setting index value (instr.LocalTee index)) o, left)) (slice_get-get_or context.locals index d inside)
 
 -- a function that is called for a value
-pub call_none : (context : BodyContext) (wanted : ValType) (bytes left : List ℕ) → choose_at (offered (is_callable context wanted) (indexed (length context.funcs))) bytes ≡ (None, left) → call_at context wanted bytes ≡ (None, left)
+pub call_none : (context : BodyContext) (wanted : ValType) (bytes left : List ℕ) → chunk_at (is_callable context wanted) (indexed (length context.funcs)) bytes ≡ (None, left) → call_at context wanted bytes ≡ (None, left)
 unfolding call_at
 call_none context wanted bytes left drawn = ap (λ (drawn : Option ℕ × List ℕ). giving (call_node context) drawn) drawn
 
-pub call_there : (context : BodyContext) (wanted : ValType) (bytes left : List ℕ) (index : ℕ) (function : FuncType) → choose_at (offered (is_callable context wanted) (indexed (length context.funcs))) bytes ≡ (Some index, left)
+pub call_there : (context : BodyContext) (wanted : ValType) (bytes left : List ℕ) (index : ℕ) (function : FuncType) → chunk_at (is_callable context wanted) (indexed (length context.funcs)) bytes ≡ (Some index, left)
     → function_at context index ≡ Some function → call_at context wanted bytes ≡ (Some (node_of function.params (instr.Call index) (length function.results - 1)), left)
 unfolding call_at
 call_there context wanted bytes left index function drawn at =
@@ -83,11 +83,11 @@ set_there context bytes left index d drawn inside =
     ∙ ap (λ (o : Option ValType). (option_map (λ value. setting index value (instr.LocalSet index)) o, left)) (slice_get-get_or context.locals index d inside)
 
 -- a global that is set
-pub global_set_none : (context : BodyContext) (bytes left : List ℕ) → choose_at (offered (is_mutable context) (indexed (length context.globals))) bytes ≡ (None, left) → global_set_at context bytes ≡ (None, left)
+pub global_set_none : (context : BodyContext) (bytes left : List ℕ) → chunk_at (is_mutable context) (indexed (length context.globals)) bytes ≡ (None, left) → global_set_at context bytes ≡ (None, left)
 unfolding global_set_at
 global_set_none context bytes left drawn = ap (λ (drawn : Option ℕ × List ℕ). giving (global_set_node context) drawn) drawn
 
-pub global_set_there : (context : BodyContext) (bytes left : List ℕ) (index : ℕ) (d : GlobalType) → choose_at (offered (is_mutable context) (indexed (length context.globals))) bytes ≡ (Some index, left) → index < length context.globals
+pub global_set_there : (context : BodyContext) (bytes left : List ℕ) (index : ℕ) (d : GlobalType) → chunk_at (is_mutable context) (indexed (length context.globals)) bytes ≡ (Some index, left) → index < length context.globals
     → global_set_at context bytes ≡ (Some (node_of ((get_or context.globals index d).val_type ∷ []) (instr.GlobalSet index) 0), left)
 unfolding global_set_at
 global_set_there context bytes left index d drawn inside =

@@ -2,7 +2,6 @@
 use Rattle.std.proofs.Common.{◌≡◌, ℕ, ◌<◌, Bool, List, [], Option, Some, None, length, get_or, refl, sym, subst, ap, ◌∙◌}
 use Rattle.std.specs.Prelude.{slice_get, if◌then◌else◌}
 use Rattle.std.proofs.lemmas.Option.{slice_get-get_or}
-use Rattle.smith_bytes.specs.Draws.{choose_at}
 use Rattle.smith_config.specs.declared.config.Config.{Config}
 use Rattle.smith_types.specs.declared.value_type.ValType.{ValType}
 use Rattle.smith_draw.specs.Choices.{chosen_at}
@@ -10,28 +9,30 @@ use Rattle.smith_instr.specs.Contexts.{BodyContext}
 use Rattle.smith_instr.specs.declared.instr.Instr.{Instr}
 use Rattle.smith_code_nodes.specs.Chosen.{giving}
 use Rattle.smith_code.specs.Leaves.{any_leaf_at, constant_instr_at, first_of, if_permitted, leaf_at, leaf_choice_at, leaf_families, leaf_of, named_at, or_constant, spare_leaf}
-use Rattle.smith_code_nodes.specs.Offered.{is_reference, offered}
+use Rattle.smith_code_nodes.specs.Offered.{is_reference, within_at}
 use Rattle.smith_code_nodes.specs.Scopes.{is_permitted}
+use Rattle.smith_code_nodes.specs.declared.offer.Reach.{Reach}
+use Rattle.smith_code_nodes.specs.declared.offer.Reach.TheVariants as reach
 use Rattle.smith_code.specs.declared.families.LeafFamily.{LeafFamily}
 use Rattle.smith_code.specs.declared.families.LeafFamily.TheVariants as leaf
 use Rattle.smith_code_nodes.proofs.ChosenLemmas.{chosen_by}
 
 -- a function that may be named, by its place among those offered
-pub named_none : (context : BodyContext) (wanted : ValType) (bytes left : List ℕ) → choose_at (offered (is_reference context wanted) (length context.references)) bytes ≡ (None, left) → named_at context wanted bytes ≡ (None, left)
+pub named_none : (context : BodyContext) (reach : Reach) (wanted : ValType) (bytes left : List ℕ) → within_at reach (is_reference context wanted) (length context.references) bytes ≡ (None, left) → named_at context reach wanted bytes ≡ (None, left)
 unfolding named_at
-named_none context wanted bytes left drawn = ap (λ (d : Option ℕ × List ℕ). giving (λ place. slice_get context.references place) d) drawn
+named_none context reach wanted bytes left drawn = ap (λ (d : Option ℕ × List ℕ). giving (λ place. slice_get context.references place) d) drawn
 
-pub named_there : (context : BodyContext) (wanted : ValType) (bytes left : List ℕ) (place d : ℕ) → choose_at (offered (is_reference context wanted) (length context.references)) bytes ≡ (Some place, left) → place < length context.references
-    → named_at context wanted bytes ≡ (Some (get_or context.references place d), left)
+pub named_there : (context : BodyContext) (reach : Reach) (wanted : ValType) (bytes left : List ℕ) (place d : ℕ) → within_at reach (is_reference context wanted) (length context.references) bytes ≡ (Some place, left) → place < length context.references
+    → named_at context reach wanted bytes ≡ (Some (get_or context.references place d), left)
 unfolding named_at
-named_there context wanted bytes left place d drawn inside =
+named_there context reach wanted bytes left place d drawn inside =
     ap (λ (d : Option ℕ × List ℕ). giving (λ place. slice_get context.references place) d) drawn ∙ ap (λ (o : Option ℕ). (o, left)) (slice_get-get_or context.references place d inside)
 
 -- an instruction without operands, by its drawn family
 pub leaf_by : (context : BodyContext) (set : List ℕ) (wanted : ValType) (bytes left : List ℕ) (families : List LeafFamily) (drawn_family family : LeafFamily) → families ≡ leaf_families → chosen_at leaf.Constant families bytes ≡ (drawn_family, left)
-    → drawn_family ≡ family → leaf_choice_at context set wanted bytes ≡ leaf_of context set wanted family left
+    → drawn_family ≡ family → leaf_choice_at context set wanted bytes ≡ leaf_of context set reach.Chunk wanted family left
 unfolding leaf_choice_at
-leaf_by context set wanted bytes left families drawn_family family are drawn is = chosen_by (leaf_of context set wanted) leaf.Constant leaf_families families bytes left drawn_family family are drawn is
+leaf_by context set wanted bytes left families drawn_family family are drawn is = chosen_by (leaf_of context set reach.Chunk wanted) leaf.Constant leaf_families families bytes left drawn_family family are drawn is
 
 pub leaf_chosen : (context : BodyContext) (set : List ℕ) (wanted : ValType) (bytes left : List ℕ) (instruction : Instr) → leaf_choice_at context set wanted bytes ≡ (Some instruction, left) → any_leaf_at context set wanted bytes ≡ (instruction, left)
 unfolding any_leaf_at
@@ -49,13 +50,13 @@ unfolding leaf_at
 leaf_permitted config context set wanted bytes left instruction permitted drawn is = rw (drawn, is) refl
 
 -- the first instruction of a family, if it is permitted
-pub first_none : (config : Config) (context : BodyContext) (set : List ℕ) (wanted : ValType) (family : LeafFamily) (bytes left : List ℕ) → bytes ≡ [] → leaf_of context set wanted family bytes ≡ (None, left) → None ≡ first_of config context set wanted family
+pub first_none : (config : Config) (context : BodyContext) (set : List ℕ) (wanted : ValType) (family : LeafFamily) (bytes left : List ℕ) → bytes ≡ [] → leaf_of context set reach.Whole wanted family bytes ≡ (None, left) → None ≡ first_of config context set wanted family
 first_none config context set wanted family bytes left empty drawn =
-    let drawn' : leaf_of context set wanted family [] ≡ (None, left) = subst (λ (bytes : List ℕ). leaf_of context set wanted family bytes ≡ (None, left)) empty drawn in
+    let drawn' : leaf_of context set reach.Whole wanted family [] ≡ (None, left) = subst (λ (bytes : List ℕ). leaf_of context set reach.Whole wanted family bytes ≡ (None, left)) empty drawn in
     ap (λ (d : Option Instr × List ℕ). if_permitted config context d.0) (sym drawn')
 
-pub first_there : (config : Config) (context : BodyContext) (set : List ℕ) (wanted : ValType) (family : LeafFamily) (bytes left : List ℕ) (instruction : Instr) (permitted : Bool) → bytes ≡ [] → leaf_of context set wanted family bytes ≡ (Some instruction, left)
+pub first_there : (config : Config) (context : BodyContext) (set : List ℕ) (wanted : ValType) (family : LeafFamily) (bytes left : List ℕ) (instruction : Instr) (permitted : Bool) → bytes ≡ [] → leaf_of context set reach.Whole wanted family bytes ≡ (Some instruction, left)
     → is_permitted context.features config instruction ≡ permitted → (if permitted then Some instruction else None) ≡ first_of config context set wanted family
 first_there config context set wanted family bytes left instruction permitted empty drawn is =
-    let drawn' : leaf_of context set wanted family [] ≡ (Some instruction, left) = subst (λ (bytes : List ℕ). leaf_of context set wanted family bytes ≡ (Some instruction, left)) empty drawn in
+    let drawn' : leaf_of context set reach.Whole wanted family [] ≡ (Some instruction, left) = subst (λ (bytes : List ℕ). leaf_of context set reach.Whole wanted family bytes ≡ (Some instruction, left)) empty drawn in
     ap (λ (b : Bool). if b then Some instruction else None) (sym is) ∙ ap (λ (d : Option Instr × List ℕ). if_permitted config context d.0) (sym drawn')

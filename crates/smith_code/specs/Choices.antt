@@ -14,14 +14,14 @@ use Rattle.smith_instr.specs.declared.memory.Load.{Load}
 use Rattle.smith_instr.specs.declared.memory.Store.{Store}
 use Rattle.smith_code_nodes.specs.Chosen.{Chosen, giving, or_nop}
 use Rattle.smith_code_nodes.specs.Nodes.{is_node_allowed, node_of, setting}
-use Rattle.smith_code_nodes.specs.Offered.{function_at, is_callable, is_local_below, is_mutable, offered}
+use Rattle.smith_code_nodes.specs.Offered.{chunk_at, function_at, is_callable, is_local_below, is_mutable, offered}
 use Rattle.smith_code_nodes.specs.ReferenceChoices.{reference_value_at, select_typed_node}
 use Rattle.smith_code_nodes.specs.Scopes.{indexed}
 use Rattle.smith_code_nodes.specs.declared.node.Node.{Node}
 use Rattle.smith_code_nodes.specs.NumericChoices.{numeric_at, select_node}
-use Rattle.smith_code_memory.specs.BulkChoices.{bulk_at}
+use Rattle.smith_code_tables.specs.BulkChoices.{bulk_at}
 use Rattle.smith_code_memory.specs.AtomicChoices.{atomic_at, atomic_store_at}
-use Rattle.smith_code_memory.specs.TableChoices.{table_change_at, table_value_at}
+use Rattle.smith_code_tables.specs.TableChoices.{table_change_at, table_value_at}
 use Rattle.smith_code_memory.specs.VectorChoices.{store_lane_at, vector_at, vector_store_at}
 use Rattle.smith_code_memory.specs.MemoryChoices.{load_at, memory_at, store_at}
 use Rattle.smith_code_control.specs.CallChoices.{by_reference_at, indirect_at, tail_call_at}
@@ -53,7 +53,7 @@ call_node context index =
     option_map (λ (function : FuncType). node_of function.params (instr.Call index) (length function.results - 1)) (function_at context index)
 
 unfoldable pub call_at : BodyContext → ValType → List ℕ → Chosen
-call_at context wanted bytes = giving (call_node context) (choose_at (offered (is_callable context wanted) (indexed (length context.funcs))) bytes)
+call_at context wanted bytes = giving (call_node context) (chunk_at (is_callable context wanted) (indexed (length context.funcs)) bytes)
 
 -- the families of numbers, of vectors and of references; the number of times that each is listed is
 -- its weight
@@ -239,7 +239,7 @@ abbrev pub global_set_node : BodyContext → ℕ → Option Node
 global_set_node context index = option_map (λ global. node_of (global.val_type ∷ []) (instr.GlobalSet index) 0) (slice_get context.globals index)
 
 unfoldable pub global_set_at : BodyContext → List ℕ → Chosen
-global_set_at context bytes = giving (global_set_node context) (choose_at (offered (is_mutable context) (indexed (length context.globals))) bytes)
+global_set_at context bytes = giving (global_set_node context) (chunk_at (is_mutable context) (indexed (length context.globals)) bytes)
 
 -- a call whose results are dropped
 abbrev pub any_call_node : BodyContext → ℕ → Option Node

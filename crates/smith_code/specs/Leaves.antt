@@ -13,8 +13,10 @@ use Rattle.smith_instr.specs.declared.instr.Instr.{Instr}
 use Rattle.smith_instr.specs.declared.instr.Instr.TheVariants as instr
 use Rattle.smith_instr.specs.declared.reference.ReferenceInstr.TheVariants as reference
 use Rattle.smith_code_nodes.specs.Chosen.{giving}
-use Rattle.smith_code_nodes.specs.Offered.{is_global_below, is_readable, is_reference, offered}
+use Rattle.smith_code_nodes.specs.Offered.{is_global_below, is_readable, is_reference, offered, within_at}
 use Rattle.smith_code_nodes.specs.Scopes.{indexed, is_permitted}
+use Rattle.smith_code_nodes.specs.declared.offer.Reach.{Reach}
+use Rattle.smith_code_nodes.specs.declared.offer.Reach.TheVariants as reach
 use Rattle.smith_code.specs.declared.families.LeafFamily.{LeafFamily}
 use Rattle.smith_code.specs.declared.families.LeafFamily.TheVariants as leaf
 
@@ -40,15 +42,15 @@ abbrev pub local_at : BodyContext → List ℕ → ValType → List ℕ → Opti
 local_at context set wanted bytes = by_index instr.LocalGet (choose_at (offered (is_readable context set wanted) (indexed (length context.locals))) bytes)
 
 -- a global whose type matches the wanted type
-abbrev pub global_at : BodyContext → ValType → List ℕ → Option Instr × List ℕ
-global_at context wanted bytes = by_index instr.GlobalGet (choose_at (offered (is_global_below context wanted) (indexed (length context.globals))) bytes)
+abbrev pub global_at : BodyContext → Reach → ValType → List ℕ → Option Instr × List ℕ
+global_at context reach wanted bytes = by_index instr.GlobalGet (within_at reach (is_global_below context wanted) (indexed (length context.globals)) bytes)
 
 -- a function that may be named; the bytes choose its place among those offered
-unfoldable pub named_at : BodyContext → ValType → List ℕ → Option ℕ × List ℕ
-named_at context wanted bytes = giving (slice_get context.references) (choose_at (offered (is_reference context wanted) (length context.references)) bytes)
+unfoldable pub named_at : BodyContext → Reach → ValType → List ℕ → Option ℕ × List ℕ
+named_at context reach wanted bytes = giving (slice_get context.references) (within_at reach (is_reference context wanted) (length context.references) bytes)
 
-abbrev pub reference_at : BodyContext → ValType → List ℕ → Option Instr × List ℕ
-reference_at context wanted bytes = by_index (λ function. instr.Reference (reference.Func function)) (named_at context wanted bytes)
+abbrev pub reference_at : BodyContext → Reach → ValType → List ℕ → Option Instr × List ℕ
+reference_at context reach wanted bytes = by_index (λ function. instr.Reference (reference.Func function)) (named_at context reach wanted bytes)
 
 -- the families of values without operands; the number of times that each is listed is its weight
 abbrev pub leaf_families : List LeafFamily
@@ -61,14 +63,14 @@ leaf_families =
     []
 
 -- an instruction of a family; none for a constant
-abbrev pub leaf_of : BodyContext → List ℕ → ValType → LeafFamily → List ℕ → Option Instr × List ℕ
-leaf_of context set wanted leaf.Local bytes = local_at context set wanted bytes
-leaf_of context set wanted leaf.Global bytes = global_at context wanted bytes
-leaf_of context set wanted leaf.Reference bytes = reference_at context wanted bytes
-leaf_of context set wanted leaf.Constant bytes = (None, bytes)
+abbrev pub leaf_of : BodyContext → List ℕ → Reach → ValType → LeafFamily → List ℕ → Option Instr × List ℕ
+leaf_of context set reach wanted leaf.Local bytes = local_at context set wanted bytes
+leaf_of context set reach wanted leaf.Global bytes = global_at context reach wanted bytes
+leaf_of context set reach wanted leaf.Reference bytes = reference_at context reach wanted bytes
+leaf_of context set reach wanted leaf.Constant bytes = (None, bytes)
 
 unfoldable pub leaf_choice_at : BodyContext → List ℕ → ValType → List ℕ → Option Instr × List ℕ
-leaf_choice_at context set wanted bytes = let family = chosen_at leaf.Constant leaf_families bytes in leaf_of context set wanted family.0 family.1
+leaf_choice_at context set wanted bytes = let family = chosen_at leaf.Constant leaf_families bytes in leaf_of context set reach.Chunk wanted family.0 family.1
 
 -- the instruction that was chosen, or a constant
 abbrev pub or_constant : ValType → Option Instr → List ℕ → Instr × List ℕ
@@ -83,9 +85,9 @@ abbrev pub if_permitted : Config → BodyContext → Option Instr → Option Ins
 if_permitted config context None = None
 if_permitted config context (Some instruction) = if is_permitted context.features config instruction then Some instruction else None
 
--- the first instruction of a family, without a draw
+-- the first instruction of a family among all items, without a draw
 abbrev pub first_of : Config → BodyContext → List ℕ → ValType → LeafFamily → Option Instr
-first_of config context set wanted family = if_permitted config context (leaf_of context set wanted family []).0
+first_of config context set wanted family = if_permitted config context (leaf_of context set reach.Whole wanted family []).0
 
 -- the first local, global or reference that may be read, zero or null; `unreachable` if there is
 -- none

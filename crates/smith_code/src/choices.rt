@@ -20,14 +20,15 @@ use smith_code_control::{
     choose_tail_call, choose_throw_statement, choose_try,
 };
 use smith_code_memory::{
-    choose_atomic, choose_atomic_store, choose_bulk, choose_load, choose_memory, choose_store,
-    choose_store_lane, choose_table_change, choose_table_value, choose_vector, choose_vector_store,
+    choose_atomic, choose_atomic_store, choose_load, choose_memory, choose_store,
+    choose_store_lane, choose_vector, choose_vector_store,
 };
 use smith_code_nodes::{
     Draft, Node, Scope, choose_callable, choose_local, choose_mutable, choose_numeric,
     choose_reference_value, choose_select, choose_select_typed, function_of, indexed,
     is_node_allowed, plain, setter,
 };
+use smith_code_tables::{choose_bulk, choose_table_change, choose_table_value};
 use smith_draw::choose;
 use smith_instr::Instr;
 use smith_types::ValType;

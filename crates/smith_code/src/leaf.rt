@@ -10,7 +10,7 @@ ghost use Rattle.smith_code_nodes.specs.Scopes.{IsAllowedIn, IsScope, bare, wher
 use crate::families::{LeafFamily, leaf_families};
 use crate::references::choose_reference;
 use smith_bytes::{Error, Unstructured};
-use smith_code_nodes::{Draft, Scope, choose_global, choose_set_local, is_allowed};
+use smith_code_nodes::{Draft, Reach, Scope, choose_global, choose_set_local, is_allowed};
 use smith_draw::choose;
 use smith_instr::{Instr, ReferenceInstr};
 use smith_types::ValType;
@@ -100,7 +100,7 @@ fn first_leaf(scope: &Scope<'_>, wanted: ValType, draft: &Draft) -> Instr
     Instr::Unreachable
 }
 
-/// Returns the first instruction of `family`, if it is allowed.
+/// Returns the first instruction of `family` among all items, if it is allowed.
 fn first_of(scope: &Scope<'_>, family: LeafFamily, wanted: ValType, draft: &Draft) -> Option<Instr>
     requires scope { IsScope (bare scope.now) }
     requires wanted { IsValid (bare scope.now) wanted }
@@ -112,7 +112,7 @@ fn first_of(scope: &Scope<'_>, family: LeafFamily, wanted: ValType, draft: &Draf
     ensures allowed { IfSome result (IsAllowedIn scope.now) }
 {
     let mut nothing = Unstructured::new(&[]);
-    let leaf = leaf_of(scope, family, wanted, draft, &mut nothing)?;
+    let leaf = leaf_of(scope, family, Reach::Whole, wanted, draft, &mut nothing)?;
     if is_allowed(scope, &leaf) {
         return Some(leaf);
     }
@@ -157,13 +157,15 @@ fn choose_leaf(
     ensures left { KeepsPieces u.old u.new }
 {
     let family = choose(leaf_families(), u);
-    leaf_of(scope, family, wanted, draft, u)
+    leaf_of(scope, family, Reach::Chunk, wanted, draft, u)
 }
 
-/// Chooses an instruction of `family`, if there is one.
+/// Chooses an instruction of `family`, if there is one. A global or a function is one of those that
+/// `reach` covers.
 fn leaf_of(
     scope: &Scope<'_>,
     family: LeafFamily,
+    reach: Reach,
     wanted: ValType,
     draft: &Draft,
     u: &mut Unstructured<'_>,
@@ -171,7 +173,7 @@ fn leaf_of(
     requires scope { IsScope (bare scope.now) }
     requires wanted { IsValid (bare scope.now) wanted }
     ensures exact { leaf_of (where_stands scope.now draft.now) draft.now.set.items
-        wanted family u.old
+        reach wanted family u.old
         ≡ (result, u.new) }
     ensures typed { IfSome result
         (IsLeaf (where_stands scope.now draft.now) draft.now.set.items wanted) }
@@ -183,11 +185,11 @@ fn leaf_of(
             Some(Instr::LocalGet(index))
         }
         LeafFamily::Global => {
-            let index = choose_global(scope, wanted, u)?;
+            let index = choose_global(scope, reach, wanted, u)?;
             Some(Instr::GlobalGet(index))
         }
         LeafFamily::Reference => {
-            let function = choose_reference(scope, wanted, u)?;
+            let function = choose_reference(scope, reach, wanted, u)?;
             Some(Instr::Reference(ReferenceInstr::Func(function)))
         }
         LeafFamily::Constant => None,

@@ -6,7 +6,7 @@ ghost use Rattle.smith_code_nodes.specs.Offered.{IsReferenceTo, is_named, is_ref
 ghost use Rattle.smith_code_nodes.specs.Scopes.{IsScope, bare};
 
 use smith_bytes::Unstructured;
-use smith_code_nodes::{Offer, Scope, choose_offered, is_sub_type};
+use smith_code_nodes::{Offer, Reach, Scope, choose_within, is_sub_type};
 use smith_types::{HeapType, RefType, ValType, WasmFeatures};
 
 /// Functions that `ref.func` may name and whose reference type matches a wanted type.
@@ -78,19 +78,20 @@ fn reference_to_function(scope: &Scope<'_>, function: usize, index: u32) -> ValT
     })
 }
 
-/// Chooses a function that `ref.func` may name and whose reference type matches `wanted`, if there
-/// is one.
+/// Chooses one of the functions that `reach` covers, that `ref.func` may name and whose reference
+/// type matches `wanted`, if there is one.
 pub(crate) fn choose_reference(
     scope: &Scope<'_>,
+    reach: Reach,
     wanted: ValType,
     u: &mut Unstructured<'_>,
 ) -> Option<u32>
     requires scope { IsScope (bare scope.now) }
     requires wanted { IsValid (bare scope.now) wanted }
-    ensures exact { named_at (bare scope.now) wanted u.old ≡ (result, u.new) }
+    ensures exact { named_at (bare scope.now) reach wanted u.old ≡ (result, u.new) }
     ensures named { IfSome result (IsReferenceTo (bare scope.now) wanted) }
     ensures left { KeepsPieces u.old u.new }
 {
-    let place = choose_offered(&ReferenceOffer { scope, wanted }, u)?;
+    let place = choose_within(&ReferenceOffer { scope, wanted }, reach, u)?;
     Some(scope.references[place])
 }

@@ -26,13 +26,13 @@ use Rattle.smith_instr.specs.Contexts.{BodyContext, IsValid, AreValid, nullable_
 use Rattle.smith_code_aggregates.specs.Aggregates.{array_at, array_there, created_array_at, field_at, field_in, field_there, fields_with, is_array, is_created_array, is_field, is_struct, names_types}
 use Rattle.smith_code_aggregates.specs.Fields.{AreFieldsValid, element_in, element_of, extension_of, is_of_bytes, is_of_references, is_storage_below, is_usable, is_usable_in, struct_in, struct_of}
 use Rattle.smith_code_nodes.specs.Items.{continued}
-use Rattle.smith_code_nodes.specs.Offered.{offered}
+use Rattle.smith_code_nodes.specs.Offered.{chunk_at, offered}
 use Rattle.smith_code_nodes.specs.Scopes.{IsScope, indexed}
-use Rattle.smith_code_memory.specs.TableChoices.{is_segment_below}
+use Rattle.smith_code_tables.specs.TableChoices.{is_segment_below}
 use Rattle.smith_code_aggregates.specs.declared.fields.FieldUse.{FieldUse}
 use Rattle.smith_code_nodes.proofs.ItemLemmas.{given_none, given_some}
 use Rattle.smith_code_nodes.proofs.OfferLemmas.{both, tested}
-use Rattle.smith_code_memory.proofs.TableLemmas.{segment_below_at}
+use Rattle.smith_code_tables.proofs.TableLemmas.{segment_below_at}
 
 -- the struct type, and the array type, of an index
 inner_struct : (x : CompositeInnerType) (structure : StructType) → struct_of x ≡ Some structure → x ≡ inner.Struct structure
@@ -136,37 +136,37 @@ storage_match types (storage.Val a) storage.I8 orderly is = cc
 storage_match types (storage.Val a) storage.I16 orderly is = cc
 
 -- a chosen array type
-pub array_none : (context : BodyContext) (way : FieldUse) (bytes left : List ℕ) → choose_at (offered (is_array context way) (indexed (length context.types))) bytes ≡ (None, left) → array_at context way bytes ≡ (None, left)
-array_none context way bytes left drawn = given_none (array_there context) (choose_at (offered (is_array context way) (indexed (length context.types))) bytes) left drawn
+pub array_none : (context : BodyContext) (way : FieldUse) (bytes left : List ℕ) → chunk_at (is_array context way) (indexed (length context.types)) bytes ≡ (None, left) → array_at context way bytes ≡ (None, left)
+array_none context way bytes left drawn = given_none (array_there context) (chunk_at (is_array context way) (indexed (length context.types)) bytes) left drawn
 
-pub array_some : (context : BodyContext) (way : FieldUse) (bytes left : List ℕ) (index : ℕ) (element : FieldType) → choose_at (offered (is_array context way) (indexed (length context.types))) bytes ≡ (Some index, left) → element_in (slice_get context.types index) ≡ Some element
+pub array_some : (context : BodyContext) (way : FieldUse) (bytes left : List ℕ) (index : ℕ) (element : FieldType) → chunk_at (is_array context way) (indexed (length context.types)) bytes ≡ (Some index, left) → element_in (slice_get context.types index) ≡ Some element
     → array_at context way bytes ≡ (Some (index, element), left)
 array_some context way bytes left index element drawn at =
-    given_some (array_there context) (choose_at (offered (is_array context way) (indexed (length context.types))) bytes) left index (Some (index, element)) drawn
+    given_some (array_there context) (chunk_at (is_array context way) (indexed (length context.types)) bytes) left index (Some (index, element)) drawn
     (ap (λ (o : Option FieldType). option_map (λ (element : FieldType). (index, element)) o) at)
 
-pub created_array_none : (context : BodyContext) (wanted : ValType) (way : FieldUse) (bytes left : List ℕ) → choose_at (offered (is_created_array context wanted way) (indexed (length context.types))) bytes ≡ (None, left)
+pub created_array_none : (context : BodyContext) (wanted : ValType) (way : FieldUse) (bytes left : List ℕ) → chunk_at (is_created_array context wanted way) (indexed (length context.types)) bytes ≡ (None, left)
     → created_array_at context wanted way bytes ≡ (None, left)
-created_array_none context wanted way bytes left drawn = given_none (array_there context) (choose_at (offered (is_created_array context wanted way) (indexed (length context.types))) bytes) left drawn
+created_array_none context wanted way bytes left drawn = given_none (array_there context) (chunk_at (is_created_array context wanted way) (indexed (length context.types)) bytes) left drawn
 
-pub created_array_some : (context : BodyContext) (wanted : ValType) (way : FieldUse) (bytes left : List ℕ) (index : ℕ) (element : FieldType) → choose_at (offered (is_created_array context wanted way) (indexed (length context.types))) bytes ≡ (Some index, left)
+pub created_array_some : (context : BodyContext) (wanted : ValType) (way : FieldUse) (bytes left : List ℕ) (index : ℕ) (element : FieldType) → chunk_at (is_created_array context wanted way) (indexed (length context.types)) bytes ≡ (Some index, left)
     → element_in (slice_get context.types index) ≡ Some element → created_array_at context wanted way bytes ≡ (Some (index, element), left)
 created_array_some context wanted way bytes left index element drawn at =
-    given_some (array_there context) (choose_at (offered (is_created_array context wanted way) (indexed (length context.types))) bytes) left index (Some (index, element)) drawn
+    given_some (array_there context) (chunk_at (is_created_array context wanted way) (indexed (length context.types)) bytes) left index (Some (index, element)) drawn
     (ap (λ (o : Option FieldType). option_map (λ (element : FieldType). (index, element)) o) at)
 
 -- a chosen field
-pub field_none : (context : BodyContext) (way : FieldUse) (bytes left : List ℕ) → choose_at (offered (is_struct context way) (indexed (length context.types))) bytes ≡ (None, left) → field_at context way bytes ≡ (None, left)
+pub field_none : (context : BodyContext) (way : FieldUse) (bytes left : List ℕ) → chunk_at (is_struct context way) (indexed (length context.types)) bytes ≡ (None, left) → field_at context way bytes ≡ (None, left)
 field_none context way bytes left drawn = ap (λ (d : Option ℕ × List ℕ). continued (λ (ty : ℕ) (bytes : List ℕ). field_in context way ty (struct_in (slice_get context.types ty)) bytes) d.0 d.1) drawn
 
-pub field_without : (context : BodyContext) (way : FieldUse) (bytes middle left : List ℕ) (ty : ℕ) (structure : StructType) → choose_at (offered (is_struct context way) (indexed (length context.types))) bytes ≡ (Some ty, middle)
+pub field_without : (context : BodyContext) (way : FieldUse) (bytes middle left : List ℕ) (ty : ℕ) (structure : StructType) → chunk_at (is_struct context way) (indexed (length context.types)) bytes ≡ (Some ty, middle)
     → struct_in (slice_get context.types ty) ≡ Some structure → choose_at (fields_with context.types way structure.fields) middle ≡ (None, left) → field_at context way bytes ≡ (None, left)
 field_without context way bytes middle left ty structure drawn at drawn' =
     ap (λ (d : Option ℕ × List ℕ). continued (λ (ty : ℕ) (bytes : List ℕ). field_in context way ty (struct_in (slice_get context.types ty)) bytes) d.0 d.1) drawn
     ∙ ap (λ (o : Option StructType). field_in context way ty o middle) at
     ∙ (given_none (field_there ty structure.fields) (choose_at (fields_with context.types way structure.fields) middle) left drawn')
 
-pub field_some : (context : BodyContext) (way : FieldUse) (bytes middle left : List ℕ) (ty index : ℕ) (structure : StructType) (d : FieldType) → choose_at (offered (is_struct context way) (indexed (length context.types))) bytes ≡ (Some ty, middle)
+pub field_some : (context : BodyContext) (way : FieldUse) (bytes middle left : List ℕ) (ty index : ℕ) (structure : StructType) (d : FieldType) → chunk_at (is_struct context way) (indexed (length context.types)) bytes ≡ (Some ty, middle)
     → struct_in (slice_get context.types ty) ≡ Some structure → choose_at (fields_with context.types way structure.fields) middle ≡ (Some index, left) → index < length structure.fields
     → field_at context way bytes ≡ (Some (record { ty = ty; index = index; field = get_or structure.fields index d }), left)
 field_some context way bytes middle left ty index structure d drawn at drawn' inside =

@@ -21,7 +21,7 @@ use Rattle.smith_code_aggregates.specs.Aggregates.{created_struct_at, is_creatab
 use Rattle.smith_code_aggregates.specs.CreationChoices.{aggregate_of, created_at, creation_of, creations, struct_new_at, struct_new_node}
 use Rattle.smith_code_aggregates.specs.Fields.{is_of_bytes, is_of_references, struct_in}
 use Rattle.smith_code_nodes.specs.Nodes.{IsNode}
-use Rattle.smith_code_memory.specs.TableChoices.{is_segment_below}
+use Rattle.smith_code_tables.specs.TableChoices.{is_segment_below}
 use Rattle.smith_code_aggregates.specs.declared.creations.Creation.{Creation}
 use Rattle.smith_code_aggregates.specs.declared.creations.Creation.TheVariants as creation
 use Rattle.smith_code_aggregates.proofs.AggregateLemmas.{all_default, of_bytes, one_default, segment_of, struct_there}

@@ -19,7 +19,7 @@ use Rattle.smith_code_aggregates.specs.FieldChoices.{array_get_at, elem_initiali
 use Rattle.smith_code_aggregates.specs.Fields.{extension_of, is_of_bytes, is_of_references, is_usable}
 use Rattle.smith_code_nodes.specs.Nodes.{IsNode}
 use Rattle.smith_code_nodes.specs.Scopes.{bare, context_of}
-use Rattle.smith_code_memory.specs.TableChoices.{is_segment_below}
+use Rattle.smith_code_tables.specs.TableChoices.{is_segment_below}
 use Rattle.smith_code_aggregates.specs.declared.aggregates.StructField.{StructField}
 use Rattle.smith_code_aggregates.specs.declared.field_writes.FieldWrite.{FieldWrite}
 use Rattle.smith_code_aggregates.specs.declared.field_writes.FieldWrite.TheVariants as write

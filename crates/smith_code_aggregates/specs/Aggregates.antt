@@ -11,7 +11,7 @@ use Rattle.smith_instr.specs.Contexts.{BodyContext, created_reference}
 use Rattle.smith_code_nodes.specs.Chosen.{giving}
 use Rattle.smith_code_aggregates.specs.Fields.{element_in, is_usable_in, struct_in}
 use Rattle.smith_code_nodes.specs.Items.{continued}
-use Rattle.smith_code_nodes.specs.Offered.{offered}
+use Rattle.smith_code_nodes.specs.Offered.{chunk_at, offered}
 use Rattle.smith_code_nodes.specs.Scopes.{indexed}
 use Rattle.smith_code_aggregates.specs.declared.aggregates.StructField.{StructField}
 use Rattle.smith_code_aggregates.specs.declared.fields.FieldUse.{FieldUse}
@@ -36,12 +36,12 @@ abbrev pub array_there : BodyContext → ℕ → Option (ℕ × FieldType)
 array_there context index = option_map (λ (element : FieldType). (index, element)) (element_in (slice_get context.types index))
 
 abbrev pub array_at : BodyContext → FieldUse → List ℕ → Option (ℕ × FieldType) × List ℕ
-array_at context way bytes = giving (array_there context) (choose_at (offered (is_array context way) (indexed (length context.types))) bytes)
+array_at context way bytes = giving (array_there context) (chunk_at (is_array context way) (indexed (length context.types)) bytes)
 
 -- an array type whose created values match the wanted type
 abbrev pub created_array_at : BodyContext → ValType → FieldUse → List ℕ → Option (ℕ × FieldType) × List ℕ
 created_array_at context wanted way bytes =
-    giving (array_there context) (choose_at (offered (is_created_array context wanted way) (indexed (length context.types))) bytes)
+    giving (array_there context) (chunk_at (is_created_array context wanted way) (indexed (length context.types)) bytes)
 
 -- a struct may be created from default values, or from values for its fields if these are at most
 -- seven
@@ -58,7 +58,7 @@ is_created_struct context wanted defaults index = is_created_below context wante
 
 abbrev pub created_struct_at : BodyContext → ValType → Bool → List ℕ → Option ℕ × List ℕ
 created_struct_at context wanted defaults bytes =
-    choose_at (offered (is_created_struct context wanted defaults) (indexed (length context.types))) bytes
+    chunk_at (is_created_struct context wanted defaults) (indexed (length context.types)) bytes
 
 -- a field that has a use
 abbrev pub is_field : List SubType → FieldUse → List FieldType → ℕ → Bool
@@ -85,5 +85,5 @@ field_in context way ty (Some structure) bytes = giving (field_there ty structur
 
 abbrev pub field_at : BodyContext → FieldUse → List ℕ → Option StructField × List ℕ
 field_at context way bytes =
-    let ty = choose_at (offered (is_struct context way) (indexed (length context.types))) bytes in
+    let ty = chunk_at (is_struct context way) (indexed (length context.types)) bytes in
     continued (λ (ty : ℕ) (bytes : List ℕ). field_in context way ty (struct_in (slice_get context.types ty)) bytes) ty.0 ty.1

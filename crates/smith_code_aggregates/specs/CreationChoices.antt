@@ -1,7 +1,7 @@
 -- The creation of a struct or an array that the bytes choose. The choices, their order and their
 -- weights are rules of this project.
 use Rattle.std.specs.Prelude.{ℕ, true, false, Option, Some, None, option_map, List, [], ◌∷◌, length, replicate, slice_get}
-use Rattle.smith_bytes.specs.Draws.{choose_at, range_at}
+use Rattle.smith_bytes.specs.Draws.{range_at}
 use Rattle.smith_types.specs.Expressions.{field_values}
 use Rattle.smith_types.specs.declared.composite_type.FieldType.{FieldType}
 use Rattle.smith_types.specs.declared.composite_type.StructType.{StructType}
@@ -18,9 +18,9 @@ use Rattle.smith_code_nodes.specs.Chosen.{Chosen, giving}
 use Rattle.smith_code_aggregates.specs.Fields.{struct_in}
 use Rattle.smith_code_nodes.specs.Items.{continued, index_at}
 use Rattle.smith_code_nodes.specs.Nodes.{node_of}
-use Rattle.smith_code_nodes.specs.Offered.{offered}
+use Rattle.smith_code_nodes.specs.Offered.{chunk_at}
 use Rattle.smith_code_nodes.specs.Scopes.{indexed}
-use Rattle.smith_code_memory.specs.TableChoices.{is_segment_below}
+use Rattle.smith_code_tables.specs.TableChoices.{is_segment_below}
 use Rattle.smith_code_aggregates.specs.declared.creations.Creation.{Creation}
 use Rattle.smith_code_aggregates.specs.declared.creations.Creation.TheVariants as creation
 use Rattle.smith_code_aggregates.specs.declared.fields.FieldUse.TheVariants as field_use
@@ -65,7 +65,7 @@ abbrev pub array_data : BodyContext → ℕ × FieldType → List ℕ → Chosen
 array_data context array bytes = giving (array_data_node array) (index_at context.datas bytes)
 
 abbrev pub segment_at : BodyContext → ValType → List ℕ → Option ℕ × List ℕ
-segment_at context wanted bytes = choose_at (offered (is_segment_below context wanted) (indexed (length context.elements))) bytes
+segment_at context wanted bytes = chunk_at (is_segment_below context wanted) (indexed (length context.elements)) bytes
 
 abbrev pub array_elem_node : ℕ × FieldType → ℕ → Option Node
 array_elem_node array segment = Some (aggregate_of (I32 ∷ I32 ∷ []) (aggregate.ArrayNewElem array.0 segment))

@@ -12,7 +12,9 @@ ghost use Rattle.smith_code_nodes.specs.Scopes.{IsScope, bare, indexed};
 
 use crate::fields::{FieldUse, element_at, is_usable, struct_type_at};
 use smith_bytes::Unstructured;
-use smith_code_nodes::{Offer, Scope, choose_offered, count_offered, indexed, is_sub_type};
+use smith_code_nodes::{
+    Offer, Scope, choose_in_chunk, choose_offered, count_offered, indexed, is_sub_type,
+};
 use smith_types::{
     FieldType, HeapType, RefType, StructType, ValType, WasmFeatures, are_defaultable,
 };
@@ -263,7 +265,7 @@ pub(crate) fn choose_array(
     ensures usable { IfSome result (λ array. is_usable (bare scope.now).types of array.1 ≡ true) }
     ensures left { KeepsPieces u.old u.new }
 {
-    let index = choose_offered(&ArrayOffer { scope, of }, u)?;
+    let index = choose_in_chunk(&ArrayOffer { scope, of }, u)?;
     let element = element_at(scope, index)?;
     Some((index as u32, element))
 }
@@ -287,7 +289,7 @@ pub(crate) fn choose_created_array(
         is_created_below (bare scope.now) wanted array.0 ≡ true) }
     ensures left { KeepsPieces u.old u.new }
 {
-    let index = choose_offered(&CreatedArrayOffer { scope, wanted, of }, u)?;
+    let index = choose_in_chunk(&CreatedArrayOffer { scope, wanted, of }, u)?;
     let element = element_at(scope, index)?;
     Some((index as u32, element))
 }
@@ -312,7 +314,7 @@ pub(crate) fn choose_created_struct(
         wanted,
         defaults,
     };
-    let index = choose_offered(&offer, u)?;
+    let index = choose_in_chunk(&offer, u)?;
     Some(index as u32)
 }
 
@@ -332,7 +334,7 @@ pub(crate) fn choose_field(
         is_usable (bare scope.now).types of chosen.field ≡ true) }
     ensures left { KeepsPieces u.old u.new }
 {
-    let ty = choose_offered(&StructOffer { scope: &*scope, of }, u)?;
+    let ty = choose_in_chunk(&StructOffer { scope: &*scope, of }, u)?;
     let structure = struct_type_at(scope, ty)?;
     let fields = structure.fields.as_slice();
     let index = choose_offered(

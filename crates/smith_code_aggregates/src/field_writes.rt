@@ -20,8 +20,8 @@ ghost use Rattle.smith_code_aggregates.specs.declared.fields.FieldUse.TheVariant
 use crate::aggregates::{choose_array, choose_field, names_types};
 use crate::fields::FieldUse;
 use smith_bytes::{Error, Unstructured};
-use smith_code_memory::choose_segment_below;
 use smith_code_nodes::{Draft, Node, Scope, draw_index, nullable_to, plain};
+use smith_code_tables::choose_segment_below;
 use smith_draw::choose;
 use smith_instr::{AggregateInstr, Instr};
 use smith_types::{FieldType, HeapType, ValType, unpacked};

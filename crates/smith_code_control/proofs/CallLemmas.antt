@@ -4,7 +4,7 @@ use Rattle.std.specs.Prelude.{slice_get, IsTrue, option_map, ◌&&◌}
 use Rattle.std.proofs.lemmas.List.{append-nil}
 use Rattle.std.proofs.lemmas.List.Elements.{All-push, All-drop}
 use Rattle.std.proofs.lemmas.Option.{same_Some, slice_get-get_or, slice_get_within}
-use Rattle.smith_bytes.specs.Draws.{choose_at, range_at}
+use Rattle.smith_bytes.specs.Draws.{range_at}
 use Rattle.smith_types.specs.Entities.{IsFuncAt}
 use Rattle.smith_types.specs.Subtyping.{IsRefBelow}
 use Rattle.smith_types.specs.Types.{IsOrderly}
@@ -23,7 +23,7 @@ use Rattle.smith_instr.proofs.SequenceLemmas.{below_themselves}
 use Rattle.smith_code_control.specs.CallChoices.{IsLeft, IsOutcome, by_reference_at, by_reference_instr, by_reference_node, dropped_of, fit_type_at, holds_functions, indirect_at, indirect_by, indirect_instr, indirect_node, is_below_func, is_fit, is_fit_in, is_fit_type, is_function_table, is_function_table_at, is_returnable, return_call_at, return_call_node, tail_call_at}
 use Rattle.smith_code_nodes.specs.Chosen.{giving}
 use Rattle.smith_code_nodes.specs.Nodes.{IsNode, node_of}
-use Rattle.smith_code_nodes.specs.Offered.{func_in, function_at, offered}
+use Rattle.smith_code_nodes.specs.Offered.{chunk_at, func_in, function_at}
 use Rattle.smith_code_nodes.specs.Scopes.{indexed, widest}
 use Rattle.smith_code_control.specs.declared.outcomes.Outcome.{Outcome}
 use Rattle.smith_code_control.specs.declared.outcomes.Outcome.TheVariants as outcome
@@ -177,7 +177,7 @@ pub indirect_none : (context : BodyContext) (outcome : Outcome) (bytes left : Li
 unfolding indirect_at
 indirect_none context outcome bytes left drawn = ap (λ (ty : Option ℕ × List ℕ). indirect_by context outcome ty.0 ty.1) drawn
 
-pub indirect_without : (context : BodyContext) (outcome : Outcome) (bytes middle left : List ℕ) (ty : ℕ) → fit_type_at context outcome bytes ≡ (Some ty, middle) → choose_at (offered (is_function_table context) (indexed (length context.tables))) middle ≡ (None, left)
+pub indirect_without : (context : BodyContext) (outcome : Outcome) (bytes middle left : List ℕ) (ty : ℕ) → fit_type_at context outcome bytes ≡ (Some ty, middle) → chunk_at (is_function_table context) (indexed (length context.tables)) middle ≡ (None, left)
     → indirect_at context outcome bytes ≡ (None, left)
 unfolding indirect_at
 indirect_without context outcome bytes middle left ty drawn drawn' =
@@ -185,7 +185,7 @@ indirect_without context outcome bytes middle left ty drawn drawn' =
     ∙ ap (λ (table : Option ℕ × List ℕ). giving (λ table. indirect_node outcome ty table (func_in (slice_get context.types ty)) (slice_get context.tables table)) table) drawn'
 
 pub indirect_there : (context : BodyContext) (outcome : Outcome) (bytes middle left : List ℕ) (ty table : ℕ) (function : FuncType) (d : TableType) → fit_type_at context outcome bytes ≡ (Some ty, middle)
-    → choose_at (offered (is_function_table context) (indexed (length context.tables))) middle ≡ (Some table, left) → table < length context.tables → func_in (slice_get context.types ty) ≡ Some function
+    → chunk_at (is_function_table context) (indexed (length context.tables)) middle ≡ (Some table, left) → table < length context.tables → func_in (slice_get context.types ty) ≡ Some function
     → indirect_at context outcome bytes ≡ (Some (node_of (function.params ++ address (get_or context.tables table d).table64 ∷ []) (indirect_instr outcome table ty) (dropped_of outcome function)), left)
 unfolding indirect_at
 indirect_there context outcome bytes middle left ty table function d drawn drawn' inside at =
@@ -210,11 +210,11 @@ by_reference_there context outcome bytes left ty function on drawn at =
     rw on (ap (λ (ty : Option ℕ × List ℕ). giving (by_reference_node context outcome) ty) drawn
     ∙ ap (λ (o : Option FuncType). (option_map (λ (function : FuncType). node_of (function.params ++ nullable_to (Concrete ty) ∷ []) (by_reference_instr outcome ty) (dropped_of outcome function)) o, left)) at)
 
-pub return_call_none : (context : BodyContext) (bytes left : List ℕ) → choose_at (offered (is_returnable context) (indexed (length context.funcs))) bytes ≡ (None, left) → return_call_at context bytes ≡ (None, left)
+pub return_call_none : (context : BodyContext) (bytes left : List ℕ) → chunk_at (is_returnable context) (indexed (length context.funcs)) bytes ≡ (None, left) → return_call_at context bytes ≡ (None, left)
 unfolding return_call_at
 return_call_none context bytes left drawn = ap (λ (index : Option ℕ × List ℕ). giving (return_call_node context) index) drawn
 
-pub return_call_there : (context : BodyContext) (bytes left : List ℕ) (index : ℕ) (function : FuncType) → choose_at (offered (is_returnable context) (indexed (length context.funcs))) bytes ≡ (Some index, left) → function_at context index ≡ Some function
+pub return_call_there : (context : BodyContext) (bytes left : List ℕ) (index : ℕ) (function : FuncType) → chunk_at (is_returnable context) (indexed (length context.funcs)) bytes ≡ (Some index, left) → function_at context index ≡ Some function
     → return_call_at context bytes ≡ (Some (node_of function.params (instr.ReturnCall index) 0), left)
 unfolding return_call_at
 return_call_there context bytes left index function drawn at =

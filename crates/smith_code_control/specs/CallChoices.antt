@@ -1,7 +1,7 @@
 -- The call through a table or a reference that the bytes choose, and the tail call. The choices,
 -- their order and their weights are rules of this project.
 use Rattle.std.specs.Prelude.{◌≡◌, ℕ, ◌-◌, ◌==◌, ◌&&◌, ◌||◌, Bool, true, false, Option, Some, None, option_map, List, [], ◌∷◌, ◌++◌, length, slice_get, All, if◌then◌else◌}
-use Rattle.smith_bytes.specs.Draws.{choose_at, range_at}
+use Rattle.smith_bytes.specs.Draws.{range_at}
 use Rattle.smith_types.specs.Features.{Features}
 use Rattle.smith_types.specs.ValidTypes.{IsValTypeValid}
 use Rattle.smith_types.specs.declared.value_type.AbstractHeapType.TheVariants as abstract
@@ -18,7 +18,7 @@ use Rattle.smith_instr.specs.declared.instr.Instr.{Instr}
 use Rattle.smith_instr.specs.declared.instr.Instr.TheVariants as instr
 use Rattle.smith_code_nodes.specs.Chosen.{Chosen, giving}
 use Rattle.smith_code_nodes.specs.Nodes.{node_of}
-use Rattle.smith_code_nodes.specs.Offered.{are_below, func_in, function_at, is_first_below, offered}
+use Rattle.smith_code_nodes.specs.Offered.{chunk_at, are_below, func_in, function_at, is_first_below}
 use Rattle.smith_code_nodes.specs.Scopes.{indexed}
 use Rattle.smith_code_control.specs.declared.outcomes.Outcome.{Outcome}
 use Rattle.smith_code_control.specs.declared.outcomes.Outcome.TheVariants as outcome
@@ -97,11 +97,11 @@ abbrev pub indirect_by : BodyContext → Outcome → Option ℕ → List ℕ →
 indirect_by context outcome None bytes = (None, bytes)
 indirect_by context outcome (Some ty) bytes =
     giving (λ table. indirect_node outcome ty table (func_in (slice_get context.types ty)) (slice_get context.tables table))
-    (choose_at (offered (is_function_table context) (indexed (length context.tables))) bytes)
+    (chunk_at (is_function_table context) (indexed (length context.tables)) bytes)
 
 -- a function type whose results may have this outcome
 abbrev pub fit_type_at : BodyContext → Outcome → List ℕ → Option ℕ × List ℕ
-fit_type_at context outcome bytes = choose_at (offered (is_fit_type context outcome) (indexed (length context.types))) bytes
+fit_type_at context outcome bytes = chunk_at (is_fit_type context outcome) (indexed (length context.types)) bytes
 
 -- such a call, of a type whose results may have this outcome
 unfoldable pub indirect_at : BodyContext → Outcome → List ℕ → Chosen
@@ -129,7 +129,7 @@ return_call_node context index =
     option_map (λ (function : FuncType). node_of function.params (instr.ReturnCall index) 0) (function_at context index)
 
 unfoldable pub return_call_at : BodyContext → List ℕ → Chosen
-return_call_at context bytes = giving (return_call_node context) (choose_at (offered (is_returnable context) (indexed (length context.funcs))) bytes)
+return_call_at context bytes = giving (return_call_node context) (chunk_at (is_returnable context) (indexed (length context.funcs)) bytes)
 
 -- a tail call of one of the three kinds
 unfoldable pub tail_call_at : BodyContext → List ℕ → Chosen

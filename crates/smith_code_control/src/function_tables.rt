@@ -1,15 +1,14 @@
 ghost use Rattle.std.specs.Prelude.{◌≡◌, ◌<◌, true, length, IfSome};
-ghost use Rattle.smith_bytes.specs.Draws.{choose_at};
 ghost use Rattle.smith_bytes.specs.Source.{KeepsPieces};
 ghost use Rattle.smith_types.specs.Subtyping.{IsValInRange};
 ghost use Rattle.smith_types.specs.declared.value_type.ValType.TheVariants.{Ref};
 ghost use Rattle.smith_code_control.specs.CallChoices.{holds_functions, is_below_func};
 ghost use Rattle.smith_code_control.specs.CallChoices.{is_function_table};
-ghost use Rattle.smith_code_nodes.specs.Offered.{offered};
+ghost use Rattle.smith_code_nodes.specs.Offered.{chunk_at};
 ghost use Rattle.smith_code_nodes.specs.Scopes.{IsScope, bare, indexed};
 
 use smith_bytes::Unstructured;
-use smith_code_nodes::{Offer, Scope, choose_offered, indexed, is_sub_type, nullable_to};
+use smith_code_nodes::{Offer, Scope, choose_in_chunk, indexed, is_sub_type, nullable_to};
 use smith_types::{AbstractHeapType, HeapType, RefType, ValType};
 
 /// Tables of functions.
@@ -57,16 +56,16 @@ fn is_below_func(scope: &Scope<'_>, element: RefType, shared: bool) -> bool
     is_sub_type(scope, ValType::Ref(element), nullable_to(func))
 }
 
-/// Chooses a table of functions, if there is one.
+/// Chooses a table of functions of a drawn chunk, if there is one.
 pub(crate) fn choose_function_table(scope: &Scope<'_>, u: &mut Unstructured<'_>) -> Option<u32>
     requires scope { IsScope (bare scope.now) }
-    ensures exact { choose_at
-        (offered (is_function_table (bare scope.now)) (indexed (length scope.now.tables.now))) u.old
+    ensures exact { chunk_at (is_function_table (bare scope.now))
+        (indexed (length scope.now.tables.now)) u.old
         ≡ (result, u.new) }
     ensures below { IfSome result (λ index. index < length scope.now.tables.now) }
     ensures offered { IfSome result (λ index. is_function_table (bare scope.now) index ≡ true) }
     ensures left { KeepsPieces u.old u.new }
 {
-    let index = choose_offered(&FunctionTableOffer { scope }, u)?;
+    let index = choose_in_chunk(&FunctionTableOffer { scope }, u)?;
     Some(index as u32)
 }

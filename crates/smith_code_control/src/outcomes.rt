@@ -7,7 +7,7 @@ ghost use Rattle.smith_code_nodes.specs.Scopes.{IsScope, bare, indexed};
 
 use crate::branches::are_below;
 use smith_bytes::Unstructured;
-use smith_code_nodes::{Offer, Scope, choose_offered, func_type_at, indexed, is_first_below};
+use smith_code_nodes::{Offer, Scope, choose_in_chunk, func_type_at, indexed, is_first_below};
 use smith_types::{FuncType, ValType};
 
 /// Outcomes of the results of a call.
@@ -77,7 +77,8 @@ pub(crate) fn dropped_of(outcome: Outcome, function: &FuncType) -> usize
     }
 }
 
-/// Chooses a function type whose results may have the outcome `outcome`, if there is one.
+/// Chooses a function type of a drawn chunk whose results may have the outcome `outcome`, if there
+/// is one.
 pub(crate) fn choose_fit_type(
     scope: &Scope<'_>,
     outcome: Outcome,
@@ -89,6 +90,6 @@ pub(crate) fn choose_fit_type(
     ensures offered { IfSome result (λ index. is_fit_type (bare scope.now) outcome index ≡ true) }
     ensures left { KeepsPieces u.old u.new }
 {
-    let index = choose_offered(&TypeOffer { scope, outcome }, u)?;
+    let index = choose_in_chunk(&TypeOffer { scope, outcome }, u)?;
     Some(index as u32)
 }

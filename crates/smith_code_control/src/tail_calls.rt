@@ -1,19 +1,18 @@
 ghost use Rattle.std.specs.Prelude.{◌≡◌, ◌<◌, true, List, [], length, IfOk, IfErr, IfSome};
-ghost use Rattle.smith_bytes.specs.Draws.{choose_at};
 ghost use Rattle.smith_bytes.specs.Source.{KeepsPieces};
 ghost use Rattle.smith_types.specs.declared.value_type.ValType.{ValType as Val};
 ghost use Rattle.smith_instr.specs.Contexts.{AreValid};
 ghost use Rattle.smith_code_control.specs.CallChoices.{is_returnable, return_call_at, tail_call_at};
 ghost use Rattle.smith_code_nodes.specs.Chosen.{or_nop};
 ghost use Rattle.smith_code_nodes.specs.Nodes.{IsNode, IsOffer};
-ghost use Rattle.smith_code_nodes.specs.Offered.{offered};
+ghost use Rattle.smith_code_nodes.specs.Offered.{chunk_at};
 ghost use Rattle.smith_code_nodes.specs.Scopes.{IsScope, bare, indexed, where_stands};
 
 use crate::calls::{choose_by_reference, choose_indirect};
 use crate::outcomes::{Outcome, is_fit};
 use smith_bytes::{Error, Unstructured};
 use smith_code_nodes::{
-    Draft, Node, Offer, Scope, choose_offered, function_of, indexed, or_nop, plain,
+    Draft, Node, Offer, Scope, choose_in_chunk, function_of, indexed, or_nop, plain,
 };
 use smith_instr::Instr;
 use std::alloc::Global;
@@ -47,17 +46,18 @@ impl<'a> Offer for ReturnOffer<'a> {
     }
 }
 
-/// Chooses a function whose results the function of the body may return, if there is one.
+/// Chooses a function of a drawn chunk whose results the function of the body may return, if there
+/// is one.
 fn choose_returnable(scope: &Scope<'_>, u: &mut Unstructured<'_>) -> Option<u32>
     requires scope { IsScope (bare scope.now) }
-    ensures exact { choose_at
-        (offered (is_returnable (bare scope.now)) (indexed (length scope.now.funcs.now))) u.old
+    ensures exact { chunk_at (is_returnable (bare scope.now))
+        (indexed (length scope.now.funcs.now)) u.old
         ≡ (result, u.new) }
     ensures below { IfSome result (λ index. index < length scope.now.funcs.now) }
     ensures offered { IfSome result (λ index. is_returnable (bare scope.now) index ≡ true) }
     ensures left { KeepsPieces u.old u.new }
 {
-    let index = choose_offered(&ReturnOffer { scope }, u)?;
+    let index = choose_in_chunk(&ReturnOffer { scope }, u)?;
     Some(index as u32)
 }
 

@@ -1,5 +1,6 @@
 -- Contexts of the examples of choices, each a variation of that of `function_of`.
-use Rattle.std.specs.Prelude.{true, false, List, [], ◌∷◌}
+use Rattle.std.specs.Prelude.{true, false, List, [], ◌∷◌, ◌++◌, replicate}
+use Rattle.smith_types.specs.ExampleEntities.{constant_global}
 use Rattle.smith_types.specs.ExampleFeatures.{usual_features, without_gc}
 use Rattle.smith_types.specs.ExampleTypes.{nullable, plain}
 use Rattle.smith_types.specs.Flags.{funcref}
@@ -47,3 +48,7 @@ unmanaged context = record context { features = without_gc }
 
 abbrev pub without_vectors : BodyContext → BodyContext
 without_vectors context = record context { features = record usual_features { simd = false } }
+
+-- a context with 256 globals of an i64, and one of an i32
+abbrev pub many_globals : BodyContext
+many_globals = record (function_of [] []) { globals = replicate 256 (constant_global I64) ++ constant_global I32 ∷ [] }

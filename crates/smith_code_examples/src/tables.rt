@@ -1,4 +1,4 @@
-#![tactic(auto, unfolding(smith_code_memory::specs::TableChoices::table_value_at, smith_code_memory::specs::TableChoices::table_change_at, smith_code_nodes::specs::Items::index_at, smith_code_nodes::specs::Items::item_at, smith_code_nodes::specs::Offered::offered, smith_draw::specs::Below::is_heap_below, smith_draw::specs::Choices::chosen_at, smith_bytes::specs::Draws::bool_at, smith_bytes::specs::Draws::choose_at, smith_bytes::specs::Draws::digit_count, smith_bytes::specs::Draws::range_at))]
+#![tactic(auto, unfolding(smith_code_tables::specs::TableChoices::table_value_at, smith_code_tables::specs::TableChoices::table_change_at, smith_code_nodes::specs::Items::index_at, smith_code_nodes::specs::Items::item_at, smith_code_nodes::specs::Offered::chunk_at, smith_code_nodes::specs::Offered::offered, smith_draw::specs::Below::is_heap_below, smith_draw::specs::Choices::chosen_at, smith_bytes::specs::Draws::bool_at, smith_bytes::specs::Draws::choose_at, smith_bytes::specs::Draws::digit_count, smith_bytes::specs::Draws::range_at))]
 
 ghost use Rattle.std.specs.Prelude.{◌≡◌, Some, None, [], ◌∷◌};
 ghost use Rattle.smith_types.specs.Flags.{funcref};
@@ -7,7 +7,7 @@ ghost use Rattle.smith_instr.specs.declared.instr.Instr.TheVariants as instr;
 ghost use Rattle.smith_instr.specs.declared.table.TableInstr.TheVariants as table;
 ghost use Rattle.smith_instr_examples.specs.ExampleBodies.{some_func};
 ghost use Rattle.smith_code_nodes.specs.Nodes.{node_of};
-ghost use Rattle.smith_code_memory.specs.TableChoices.{table_change_at, table_value_at};
+ghost use Rattle.smith_code_tables.specs.TableChoices.{table_change_at, table_value_at};
 ghost use Rattle.smith_code_examples.specs.ExampleContexts.{external, externals, holding, tabled};
 ghost use Rattle.smith_code_examples.specs.ExampleContexts.{without_references};
 

@@ -1,8 +1,6 @@
 pub mod MemoryLemmas
 pub mod MemoryNodeLemmas
 pub mod MemoryChoiceLemmas
-pub mod TableLemmas
-pub mod BulkLemmas
 pub mod VectorNodeLemmas
 pub mod VectorChoiceLemmas
 pub mod AtomicNodeLemmas

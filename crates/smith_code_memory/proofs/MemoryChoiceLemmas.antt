@@ -16,7 +16,7 @@ use Rattle.smith_instr.specs.declared.memory.Store.{Store}
 use Rattle.smith_instr.specs.declared.memory.Store.TheVariants as store
 use Rattle.smith_code_nodes.specs.Chosen.{giving}
 use Rattle.smith_code_nodes.specs.Nodes.{node_of}
-use Rattle.smith_code_nodes.specs.Offered.{is_addressed, offered}
+use Rattle.smith_code_nodes.specs.Offered.{chunk_at, is_addressed}
 use Rattle.smith_code_nodes.specs.Scopes.{indexed}
 use Rattle.smith_code_nodes.proofs.ChosenLemmas.{choose_none, choose_there, no_count, no_index}
 use Rattle.smith_code_memory.specs.MemoryChoices.{growth_node, load_at, load_by, load_node, memory_at, memory_by, store_at, store_node}
@@ -72,11 +72,11 @@ unfolding store_at chosen_at
 store_by config context bytes left place rows are drawn = rw (drawn, are) refl
 
 -- the size of a memory, or its growth
-pub memory_none : (context : BodyContext) (wanted : ValType) (bytes left : List ℕ) → choose_at (offered (is_addressed context wanted) (indexed (length context.memories))) bytes ≡ (None, left) → memory_at context wanted bytes ≡ (None, left)
+pub memory_none : (context : BodyContext) (wanted : ValType) (bytes left : List ℕ) → chunk_at (is_addressed context wanted) (indexed (length context.memories)) bytes ≡ (None, left) → memory_at context wanted bytes ≡ (None, left)
 unfolding memory_at
 memory_none context wanted bytes left drawn = ap (λ (index : Option ℕ × List ℕ). memory_by wanted index.0 index.1) drawn
 
-pub memory_there : (context : BodyContext) (wanted : ValType) (bytes middle left : List ℕ) (index : ℕ) (grown : Bool) → choose_at (offered (is_addressed context wanted) (indexed (length context.memories))) bytes ≡ (Some index, middle) → bool_at middle ≡ (grown, left)
+pub memory_there : (context : BodyContext) (wanted : ValType) (bytes middle left : List ℕ) (index : ℕ) (grown : Bool) → chunk_at (is_addressed context wanted) (indexed (length context.memories)) bytes ≡ (Some index, middle) → bool_at middle ≡ (grown, left)
     → memory_at context wanted bytes ≡ (Some (growth_node wanted index grown), left)
 unfolding memory_at
 memory_there context wanted bytes middle left index grown drawn drawn' =

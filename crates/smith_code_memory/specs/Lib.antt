@@ -1,8 +1,6 @@
 pub mod Accesses
 pub mod MemoryRows
 pub mod MemoryChoices
-pub mod TableChoices
-pub mod BulkChoices
 pub mod VectorRows
 pub mod VectorChoices
 pub mod AtomicRows

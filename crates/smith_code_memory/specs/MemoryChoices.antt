@@ -16,7 +16,7 @@ use Rattle.smith_instr.specs.declared.memory.Store.TheVariants as store
 use Rattle.smith_instr.specs.declared.memory.MemoryInstr.TheVariants as memory
 use Rattle.smith_code_nodes.specs.Chosen.{Chosen, giving}
 use Rattle.smith_code_nodes.specs.Nodes.{node_of}
-use Rattle.smith_code_nodes.specs.Offered.{is_addressed, offered}
+use Rattle.smith_code_nodes.specs.Offered.{chunk_at, is_addressed}
 use Rattle.smith_code_nodes.specs.Scopes.{indexed}
 use Rattle.smith_code_nodes.specs.declared.node.Node.{Node}
 use Rattle.smith_code_memory.specs.Accesses.{access_at}
@@ -47,7 +47,7 @@ memory_by wanted (Some index) bytes = let grown = bool_at bytes in (Some (growth
 -- the growth or the size of a memory whose addresses have the wanted type
 unfoldable pub memory_at : BodyContext → ValType → List ℕ → Chosen
 memory_at context wanted bytes =
-    let index = choose_at (offered (is_addressed context wanted) (indexed (length context.memories))) bytes in
+    let index = chunk_at (is_addressed context wanted) (indexed (length context.memories)) bytes in
     memory_by wanted index.0 index.1
 
 -- a store

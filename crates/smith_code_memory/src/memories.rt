@@ -1,11 +1,9 @@
 ghost use Rattle.std.specs.Prelude.{◌≡◌, Some, false, true, ◌<◌, ◌≤◌, ◌-◌, [], ◌∷◌, length, IfOk};
 ghost use Rattle.std.specs.Prelude.{IfErr, IfSome};
-ghost use Rattle.smith_bytes.specs.Draws.{choose_at};
 ghost use Rattle.smith_bytes.specs.Source.{KeepsPieces};
 ghost use Rattle.smith_types.specs.Entities.{addresses, page_log2};
-ghost use Rattle.smith_instr.specs.Contexts.{IsValid, address};
+ghost use Rattle.smith_instr.specs.Contexts.{IsValid};
 ghost use Rattle.smith_instr.specs.MemoryTypes.{IsAccess, stored};
-ghost use Rattle.smith_instr.specs.ReferenceTypes.{narrower};
 ghost use Rattle.smith_code_memory.specs.MemoryChoices.{growth_node, load_at, memory_at, store_at};
 ghost use Rattle.smith_code_memory.specs.MemoryChoices.{store_node};
 ghost use Rattle.smith_code_nodes.specs.Chosen.{or_nop};
@@ -13,12 +11,14 @@ ghost use Rattle.smith_code_nodes.specs.Chosen.{giving};
 ghost use Rattle.smith_code_memory.specs.Accesses.{access_at, bytes_of, most_bytes, offset_at};
 ghost use Rattle.smith_code_memory.specs.Accesses.{place_at};
 ghost use Rattle.smith_code_nodes.specs.Nodes.{IsNode, IsOffer};
-ghost use Rattle.smith_code_nodes.specs.Offered.{is_address, is_addressed, offered};
+ghost use Rattle.smith_code_nodes.specs.Offered.{chunk_at, is_addressed};
 ghost use Rattle.smith_code_memory.specs.MemoryRows.{loads_of, stores};
 ghost use Rattle.smith_code_nodes.specs.Scopes.{IsScope, bare, indexed, where_stands};
 
 use smith_bytes::{Error, Unstructured};
-use smith_code_nodes::{Draft, Node, Offer, Scope, choose_offered, indexed, plain};
+use smith_code_nodes::{
+    Draft, Node, Offer, Scope, address, choose_in_chunk, indexed, is_address, plain,
+};
 use smith_config::MemoryOffsetChoices;
 use smith_instr::{Instr, Load, MemArg, MemoryInstr, Store};
 use smith_types::{MemoryType, ValType};
@@ -179,21 +179,6 @@ fn last_address(memory: MemoryType) -> u64
     }
 }
 
-/// Returns the type of the addresses of a memory or a table: of 64 bits if `wide` is set, else of
-/// 32 bits.
-pub fn address(wide: bool) -> ValType
-    ensures { result ≡ address wide }
-{
-    if wide { ValType::I64 } else { ValType::I32 }
-}
-
-/// Returns the narrower of the address types of two memories or tables.
-pub(crate) fn narrower(one: bool, other: bool) -> ValType
-    ensures { result ≡ narrower one other }
-{
-    if one { address(other) } else { ValType::I32 }
-}
-
 /// Memories whose addresses have a wanted type.
 #[derive(Clone, Copy)]
 struct AddressOffer<'a> {
@@ -221,29 +206,17 @@ impl<'a> Offer for AddressOffer<'a> {
     }
 }
 
-/// Whether the addresses of a memory or a table have the type `value`. They have 64 bits if `wide`
-/// is set, else 32 bits.
-pub(crate) fn is_address(value: ValType, wide: bool) -> bool
-    ensures { result ≡ is_address value wide }
-{
-    match value {
-        ValType::I32 => !wide,
-        ValType::I64 => wide,
-        _ => false,
-    }
-}
-
-/// Chooses a memory whose addresses have the type `wanted`, if there is one.
+/// Chooses a memory of a drawn chunk whose addresses have the type `wanted`, if there is one.
 fn choose_addressed(scope: &Scope<'_>, wanted: ValType, u: &mut Unstructured<'_>) -> Option<u32>
     requires scope { IsScope (bare scope.now) }
-    ensures exact { choose_at (offered (is_addressed (bare scope.now) wanted)
-        (indexed (length scope.now.memories.now))) u.old
+    ensures exact { chunk_at (is_addressed (bare scope.now) wanted)
+        (indexed (length scope.now.memories.now)) u.old
         ≡ (result, u.new) }
     ensures below { IfSome result (λ index. index < length scope.now.memories.now) }
     ensures offered { IfSome result (λ index. is_addressed (bare scope.now) wanted index ≡ true) }
     ensures left { KeepsPieces u.old u.new }
 {
-    let index = choose_offered(&AddressOffer { scope, wanted }, u)?;
+    let index = choose_in_chunk(&AddressOffer { scope, wanted }, u)?;
     Some(index as u32)
 }
 

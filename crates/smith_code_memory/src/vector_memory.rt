@@ -9,11 +9,11 @@ ghost use Rattle.smith_code_memory.specs.VectorChoices.{lane_access_at, load_lan
 ghost use Rattle.smith_code_memory.specs.VectorChoices.{store_lane_at, vector_load_at};
 ghost use Rattle.smith_code_memory.specs.VectorChoices.{vector_store_at};
 
-use crate::memories::{Access, address, draw_access};
+use crate::memories::{Access, draw_access};
 use crate::vector_rows::vector_loads;
 use crate::vectors::has_vectors;
 use smith_bytes::{Error, Unstructured};
-use smith_code_nodes::{Draft, Node, Scope, plain};
+use smith_code_nodes::{Draft, Node, Scope, address, plain};
 use smith_draw::choose;
 use smith_instr::{Instr, VectorLoad};
 use smith_types::ValType;

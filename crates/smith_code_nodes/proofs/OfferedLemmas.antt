@@ -1,12 +1,12 @@
 -- The places of offered items.
-use Rattle.std.proofs.Common.{◌≡◌, ℕ, zero, suc, ◌+◌, ◌-◌, ◌<◌, Bool, true, false, List, [], ◌∷◌, ◌++◌, Option, Some, None, length, length-append, refl, sym, ap, ◌∙◌, arith}
-use Rattle.std.specs.Prelude.{slice_get, if◌then◌else◌}
+use Rattle.std.proofs.Common.{◌≡◌, ℕ, zero, suc, ◌+◌, ◌-◌, ◌*◌, ◌/◌, ◌<◌, Bool, true, false, List, [], ◌∷◌, ◌++◌, Option, Some, None, length, length-append, refl, sym, ap, ◌∙◌, arith}
+use Rattle.std.specs.Prelude.{min, option_map, slice_get, if◌then◌else◌}
 use Rattle.std.proofs.Math.ListN.{get_or-append}
 use Rattle.std.proofs.Math.Seq.{get_or-append_seam}
 use Rattle.std.proofs.lemmas.List.{append-nil}
 use Rattle.std.proofs.lemmas.Option.{slice_get-get_or, slice_get_past}
 use Rattle.smith_bytes.specs.Draws.{choose_at, range_at}
-use Rattle.smith_code_nodes.specs.Offered.{offered}
+use Rattle.smith_code_nodes.specs.Offered.{chunk_at, offered}
 
 pub offered_more : (test : ℕ → Bool) (n : ℕ) → test n ≡ true → offered test (n + 1) ≡ offered test n ++ n ∷ []
 unfolding offered
@@ -103,3 +103,9 @@ placed_past test size n rest place all placed =
 pub chosen_at_place : {A : Type 0} (items : List A) (bytes left : List ℕ) (place : ℕ) (o : Option A) → range_at 0 (length items - 1) bytes ≡ (place, left) → o ≡ slice_get items place → choose_at items bytes ≡ (o, left)
 unfolding choose_at
 chosen_at_place items bytes left place o drawn is = rw (drawn, is) refl
+
+-- a choice in the drawn chunk
+pub chosen_in_chunk : (test : ℕ → Bool) (size : ℕ) (bytes middle left : List ℕ) (chunk count : ℕ) (o : Option ℕ) → range_at 0 ((size - 1) / 256) bytes ≡ (chunk, middle) → count ≡ min (size - 256 * chunk) 256
+    → choose_at (offered (λ (index : ℕ). test (256 * chunk + index)) count) middle ≡ (o, left) → chunk_at test size bytes ≡ (option_map (λ (index : ℕ). 256 * chunk + index) o, left)
+unfolding chunk_at
+chosen_in_chunk test size bytes middle left chunk count o drawn is chosen = rw (drawn, sym is, chosen) refl

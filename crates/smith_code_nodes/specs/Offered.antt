@@ -1,6 +1,7 @@
 -- The items that are offered when an instruction is drawn.
-use Rattle.std.specs.Prelude.{◌≡◌, ℕ, zero, suc, Bool, true, false, ◌&&◌, ◌||◌, not, nat_lt, ◌==◌, Option, Some, None, List, [], ◌∷◌, ◌++◌, length, min, slice_get, if◌then◌else◌}
+use Rattle.std.specs.Prelude.{◌≡◌, ℕ, zero, suc, ◌+◌, ◌-◌, ◌*◌, ◌/◌, Bool, true, false, ◌&&◌, ◌||◌, not, nat_lt, ◌==◌, Option, Some, None, option_map, List, [], ◌∷◌, ◌++◌, length, min, slice_get, if◌then◌else◌}
 use Rattle.std.specs.List.{Contains}
+use Rattle.smith_bytes.specs.Draws.{choose_at, range_at}
 use Rattle.smith_types.specs.Subtyping.{IsValBelow}
 use Rattle.smith_types.specs.declared.value_type.ValType.{ValType}
 use Rattle.smith_types.specs.declared.value_type.ValType.TheVariants.{I32, I64, Ref}
@@ -12,11 +13,26 @@ use Rattle.smith_types.specs.declared.entity_type.GlobalType.{GlobalType}
 use Rattle.smith_types.specs.declared.entity_type.MemoryType.{MemoryType}
 use Rattle.smith_draw.specs.Below.{is_val_below}
 use Rattle.smith_instr.specs.Contexts.{BodyContext, IsLocalSet, IsFunction, reference_to_function}
+use Rattle.smith_code_nodes.specs.declared.offer.Reach.{Reach}
+use Rattle.smith_code_nodes.specs.declared.offer.Reach.TheVariants as reach
 
 -- the indices below an end that pass a test, in order
 unfoldable pub offered : (ℕ → Bool) → ℕ → List ℕ
 offered test zero = []
 offered test (suc n) = offered test n ++ (if test n then n ∷ [] else [])
+
+-- one of the offered items of a drawn chunk; the items are in chunks of 256
+unfoldable pub chunk_at : (ℕ → Bool) → ℕ → List ℕ → Option ℕ × List ℕ
+chunk_at test size bytes =
+    let chunk = range_at 0 ((size - 1) / 256) bytes in
+    let start = 256 * chunk.0 in
+    let drawn = choose_at (offered (λ index. test (start + index)) (min (size - start) 256)) chunk.1 in
+    (option_map (λ index. start + index) drawn.0, drawn.1)
+
+-- one of the offered items, of a drawn chunk or of them all
+abbrev pub within_at : Reach → (ℕ → Bool) → ℕ → List ℕ → Option ℕ × List ℕ
+within_at reach.Chunk test size bytes = chunk_at test size bytes
+within_at reach.Whole test size bytes = choose_at (offered test size) bytes
 
 -- the number of labels that may be chosen: the 64 innermost ones
 abbrev pub label_count : BodyContext → ℕ

@@ -1,14 +1,13 @@
 ghost use Rattle.std.specs.Prelude.{◌≡◌, ◌<◌, true, length, slice_get, None, Some, IfSome};
 ghost use Rattle.std.specs.Prelude.{MatchOption};
-ghost use Rattle.smith_bytes.specs.Draws.{choose_at};
 ghost use Rattle.smith_bytes.specs.Source.{KeepsPieces};
 ghost use Rattle.smith_instr.specs.Contexts.{AreValid, IsValid};
-ghost use Rattle.smith_code_nodes.specs.Offered.{func_in, func_of, function_at, is_callable};
-ghost use Rattle.smith_code_nodes.specs.Offered.{is_first_below, offered};
+ghost use Rattle.smith_code_nodes.specs.Offered.{chunk_at, func_in, func_of, function_at};
+ghost use Rattle.smith_code_nodes.specs.Offered.{is_callable, is_first_below};
 ghost use Rattle.smith_code_nodes.specs.Scopes.{IsScope, bare, indexed};
 
 use crate::locals::is_below;
-use crate::offer::{Offer, choose_offered};
+use crate::offer::{Offer, choose_in_chunk};
 use crate::scope::{Scope, indexed};
 use smith_bytes::Unstructured;
 use smith_types::{CompositeInnerType, FuncType, SubType, ValType};
@@ -89,17 +88,17 @@ pub(crate) fn inner_func<'a>(ty: &'a SubType) -> Option<&'a FuncType>
     }
 }
 
-/// Chooses a function whose first result matches `wanted`, if there is one.
+/// Chooses a function of a drawn chunk whose first result matches `wanted`, if there is one.
 pub fn choose_callable(scope: &Scope<'_>, wanted: ValType, u: &mut Unstructured<'_>) -> Option<u32>
     requires scope { IsScope (bare scope.now) }
     requires wanted { IsValid (bare scope.now) wanted }
-    ensures exact { choose_at
-        (offered (is_callable (bare scope.now) wanted) (indexed (length scope.now.funcs.now))) u.old
+    ensures exact { chunk_at (is_callable (bare scope.now) wanted)
+        (indexed (length scope.now.funcs.now)) u.old
         ≡ (result, u.new) }
     ensures below { IfSome result (λ index. index < length scope.now.funcs.now) }
     ensures offered { IfSome result (λ index. is_callable (bare scope.now) wanted index ≡ true) }
     ensures left { KeepsPieces u.old u.new }
 {
-    let index = choose_offered(&CallOffer { scope, wanted }, u)?;
+    let index = choose_in_chunk(&CallOffer { scope, wanted }, u)?;
     Some(index as u32)
 }

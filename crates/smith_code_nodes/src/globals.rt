@@ -1,12 +1,11 @@
 ghost use Rattle.std.specs.Prelude.{◌≡◌, ◌<◌, true, length, IfSome};
-ghost use Rattle.smith_bytes.specs.Draws.{choose_at};
 ghost use Rattle.smith_bytes.specs.Source.{KeepsPieces};
 ghost use Rattle.smith_instr.specs.Contexts.{IsValid};
-ghost use Rattle.smith_code_nodes.specs.Offered.{is_global_below, is_mutable, offered};
+ghost use Rattle.smith_code_nodes.specs.Offered.{chunk_at, is_global_below, is_mutable, within_at};
 ghost use Rattle.smith_code_nodes.specs.Scopes.{IsScope, bare, indexed};
 
 use crate::locals::is_below;
-use crate::offer::{Offer, choose_offered};
+use crate::offer::{Offer, Reach, choose_in_chunk, choose_within};
 use crate::scope::{Scope, indexed};
 use smith_bytes::Unstructured;
 use smith_types::ValType;
@@ -67,32 +66,37 @@ impl<'a> Offer for MutableOffer<'a> {
     }
 }
 
-/// Chooses a global whose type matches `wanted`, if there is one.
-pub fn choose_global(scope: &Scope<'_>, wanted: ValType, u: &mut Unstructured<'_>) -> Option<u32>
+/// Chooses one of the globals that `reach` covers whose type matches `wanted`, if there is one.
+pub fn choose_global(
+    scope: &Scope<'_>,
+    reach: Reach,
+    wanted: ValType,
+    u: &mut Unstructured<'_>,
+) -> Option<u32>
     requires scope { IsScope (bare scope.now) }
     requires wanted { IsValid (bare scope.now) wanted }
-    ensures exact { choose_at (offered (is_global_below (bare scope.now) wanted)
-        (indexed (length scope.now.globals.now))) u.old
+    ensures exact { within_at reach (is_global_below (bare scope.now) wanted)
+        (indexed (length scope.now.globals.now)) u.old
         ≡ (result, u.new) }
     ensures below { IfSome result (λ index. index < length scope.now.globals.now) }
     ensures offered { IfSome result (λ index.
         is_global_below (bare scope.now) wanted index ≡ true) }
     ensures left { KeepsPieces u.old u.new }
 {
-    let index = choose_offered(&GlobalOffer { scope, wanted }, u)?;
+    let index = choose_within(&GlobalOffer { scope, wanted }, reach, u)?;
     Some(index as u32)
 }
 
-/// Chooses a mutable global, if there is one.
+/// Chooses a mutable global of a drawn chunk, if there is one.
 pub fn choose_mutable(scope: &Scope<'_>, u: &mut Unstructured<'_>) -> Option<u32>
     requires scope { IsScope (bare scope.now) }
-    ensures exact { choose_at
-        (offered (is_mutable (bare scope.now)) (indexed (length scope.now.globals.now))) u.old
+    ensures exact { chunk_at (is_mutable (bare scope.now))
+        (indexed (length scope.now.globals.now)) u.old
         ≡ (result, u.new) }
     ensures below { IfSome result (λ index. index < length scope.now.globals.now) }
     ensures offered { IfSome result (λ index. is_mutable (bare scope.now) index ≡ true) }
     ensures left { KeepsPieces u.old u.new }
 {
-    let index = choose_offered(&MutableOffer { scope }, u)?;
+    let index = choose_in_chunk(&MutableOffer { scope }, u)?;
     Some(index as u32)
 }

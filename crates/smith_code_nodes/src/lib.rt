@@ -3,6 +3,7 @@
 //! standard is the WebAssembly Core Specification 3.0.
 #![tactic(auto)]
 
+mod addresses;
 mod funcs;
 mod globals;
 mod items;
@@ -16,6 +17,7 @@ mod reference_values;
 mod scope;
 mod traps;
 
+pub use addresses::{address, is_address, narrower};
 pub use funcs::{choose_callable, func_type_at, function_of, is_first_below};
 pub use globals::{choose_global, choose_mutable};
 pub use items::{draw_index, draw_item};
@@ -25,7 +27,7 @@ pub use node::{
     setter, topped, try_table,
 };
 pub use numeric::{choose_numeric, choose_select};
-pub use offer::{Offer, choose_offered, count_offered};
+pub use offer::{Offer, Reach, choose_in_chunk, choose_offered, choose_within, count_offered};
 pub use operands::{field_values, repeated, taking};
 pub use reference_values::{
     choose_reference_value, choose_select_typed, draw_referent, nullable_to,

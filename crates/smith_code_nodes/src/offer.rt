@@ -1,7 +1,7 @@
 ghost use Rattle.std.specs.Prelude.{◌≡◌, ◌<◌, ℕ, Bool, true, length, slice_get, IfSome};
 ghost use Rattle.smith_bytes.specs.Draws.{choose_at};
 ghost use Rattle.smith_bytes.specs.Source.{KeepsPieces};
-ghost use Rattle.smith_code_nodes.specs.Offered.{offered};
+ghost use Rattle.smith_code_nodes.specs.Offered.{chunk_at, offered, within_at};
 
 use smith_bytes::Unstructured;
 
@@ -39,6 +39,75 @@ pub fn choose_offered<O: Offer>(offer: &O, u: &mut Unstructured<'_>) -> Option<u
     let count = count_offered(offer);
     let place = u.int_in_range(0..=count.saturating_sub(1));
     offered_at(offer, place)
+}
+
+/// Items among which one is chosen.
+#[derive(Clone, Copy)]
+pub enum Reach {
+    /// The items of a drawn chunk.
+    Chunk,
+    /// All items.
+    Whole,
+}
+
+/// Chooses one of the offered items that `reach` covers, and returns its index. Returns none if
+/// none of them is offered.
+pub fn choose_within<O: Offer>(offer: &O, reach: Reach, u: &mut Unstructured<'_>) -> Option<usize>
+    requires { O.ready offer.now }
+    ensures exact { within_at reach (O.test offer.now) (O.size offer.now) u.old ≡ (result, u.new) }
+    ensures below { IfSome result (λ index. index < O.size offer.now) }
+    ensures offered { IfSome result (λ index. O.test offer.now index ≡ true) }
+    ensures left { KeepsPieces u.old u.new }
+{
+    match reach {
+        Reach::Chunk => choose_in_chunk(offer, u),
+        Reach::Whole => choose_offered(offer, u),
+    }
+}
+
+/// The items of a row from `start` to before `end`.
+#[derive(Drop)]
+struct Chunk<'a, O> {
+    offer: &'a O,
+    start: usize,
+    end: usize,
+}
+
+impl<'a, O: Offer> Offer for Chunk<'a, O> {
+    ghost use Rattle.std.specs.Prelude.{◌+◌, ◌-◌, ◌≤◌};
+
+    ghost ready = { λ self. O.ready self.offer.now × (self.end ≤ O.size self.offer.now) };
+
+    ghost size = { λ self. self.end - self.start };
+
+    ghost test = { λ self index. O.test self.offer.now (self.start + index) };
+
+    fn count(&self) -> usize {
+        self.end.saturating_sub(self.start)
+    }
+
+    fn is_offered(&self, index: usize) -> bool {
+        self.offer.is_offered(self.start + index)
+    }
+}
+
+/// Draws a chunk of 256 items, chooses one of its offered items, and returns its index. Returns
+/// none if no item of the chunk is offered.
+///
+/// So a choice tests at most 256 items, however many there are. If there are at most 256, they are
+/// one chunk, and drawing it takes no byte.
+pub fn choose_in_chunk<O: Offer>(offer: &O, u: &mut Unstructured<'_>) -> Option<usize>
+    requires { O.ready offer.now }
+    ensures exact { chunk_at (O.test offer.now) (O.size offer.now) u.old ≡ (result, u.new) }
+    ensures below { IfSome result (λ index. index < O.size offer.now) }
+    ensures offered { IfSome result (λ index. O.test offer.now index ≡ true) }
+    ensures left { KeepsPieces u.old u.new }
+{
+    let count = offer.count();
+    let start = 256 * u.int_in_range(0..=count.saturating_sub(1) / 256);
+    let end = start + (count - start).min(256);
+    let index = choose_offered(&Chunk { offer, start, end }, u)?;
+    Some(start + index)
 }
 
 /// Counts the offered items.

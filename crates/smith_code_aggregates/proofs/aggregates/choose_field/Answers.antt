@@ -6,8 +6,8 @@ use Rattle.smith_code_aggregates.proofs.aggregates.choose_field.Goals as goal
 pub returns-in_err-ty-clause-exact : goal.returns-in_err-ty-clause-exact
 returns-in_err-ty-clause-exact c = rw c.from_residual.ensures (field_none (bare c.args.scope.now) c.args.of c.args.u.now _ c.in_err-ty.ensures.exact)
 
-pub choose_offered-requires-2 : goal.choose_offered-requires-2
-choose_offered-requires-2 c =
+pub choose_offered-requires : goal.choose_offered-requires
+choose_offered-requires c =
     let context = bare c.args.scope.now in
     let structure = c.in_ok-structure.structure.now in
     rw c.as_slice-fields.ensures (c.requires.of, struct_fields context c.in_ok-ty.ty structure.fields c.requires.scope (struct_there context.types c.in_ok-ty.ty structure c.in_ok-structure.ensures))

@@ -1,0 +1,2 @@
+pub mod TableChoices
+pub mod BulkChoices

@@ -1,0 +1,9 @@
+//! Choices of instructions on tables and element segments, and of those on several bytes of a memory
+//! or on a data segment. The standard is the WebAssembly Core Specification 3.0.
+#![tactic(auto)]
+
+mod bulk;
+mod tables;
+
+pub use bulk::choose_bulk;
+pub use tables::{choose_segment_below, choose_table_change, choose_table_value};
