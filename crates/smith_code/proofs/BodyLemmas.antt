@@ -1,4 +1,4 @@
--- The body without fuel.
+-- The body for a budget of 0.
 use Rattle.std.proofs.Common.{[], ◌∷◌, refl}
 use Rattle.smith_instr.specs.Contexts.{BodyContext, AreValid}
 use Rattle.smith_instr.specs.Sequences.{IsBodyTyped, step}

@@ -68,8 +68,8 @@ one context instruction operands results given base set set' typed below valid t
 
 -- an instruction without operands
 pub leaf_drawn : {scope : Scope} {wanted : ValType} {old new : Draft} (instruction : Instr) → IsLeaf (where_stands scope old) old.set.items wanted instruction
-    → IsValid (bare scope) wanted → IsAllowedIn scope instruction → new.out ≡ old.out ++ instruction ∷ [] → new.set.items ≡ old.set.items → new.labels.items ≡ old.labels.items → new.fuel ≡ old.fuel → IsDrawn scope [] (wanted ∷ []) 1 old new
-leaf_drawn {scope = scope} {wanted = wanted} {old = old} {new = new} instruction leaf valid allowed longer set labels fuel =
+    → IsValid (bare scope) wanted → IsAllowedIn scope instruction → new.out ≡ old.out ++ instruction ∷ [] → new.set.items ≡ old.set.items → new.labels.items ≡ old.labels.items → new.budget ≡ old.budget → IsDrawn scope [] (wanted ∷ []) 1 old new
+leaf_drawn {scope = scope} {wanted = wanted} {old = old} {new = new} instruction leaf valid allowed longer set labels budget =
     let context = where_stands scope old in
     let none : new.set.items ≡ old.set.items ++ sets instruction = rw (leaf.sets_none, append-nil) set in
     let len : length new.out ≡ length old.out + 1 = rw longer (simp length-append refl) in
@@ -85,7 +85,7 @@ leaf_drawn {scope = scope} {wanted = wanted} {old = old} {new = new} instruction
       set_more = rw append-nil set;
       same = labels;
       spent = omega arith;
-      short = rw fuel (omega arith);
+      short = rw budget (omega arith);
     }
 
 pub drawn_none : (scope : Scope) (draft : Draft) → IsDrawn scope [] [] 0 draft draft
@@ -192,9 +192,9 @@ all_allowed scope (suc count) allowed =
 
 -- values that are dropped
 pub dropped_drawn : {scope : Scope} {old new : Draft} (values dropped : List ValType) → AreValid (bare scope) values → AreValid (bare scope) dropped → (0 < length dropped → IsAllowedIn scope instr.Drop)
-    → new.out ≡ old.out ++ replicate (length dropped) instr.Drop → new.set.items ≡ old.set.items → new.labels.items ≡ old.labels.items → new.fuel ≡ old.fuel
+    → new.out ≡ old.out ++ replicate (length dropped) instr.Drop → new.set.items ≡ old.set.items → new.labels.items ≡ old.labels.items → new.budget ≡ old.budget
     → IsDrawn scope (values ++ dropped) values (length dropped) old new
-dropped_drawn {scope = scope} {old = old} {new = new} values dropped valid spare allowed out set labels fuel =
+dropped_drawn {scope = scope} {old = old} {new = new} values dropped valid spare allowed out set labels budget =
     let len : length new.out ≡ length old.out + length dropped = rw out (simp (length-append, length-replicate) refl) in
     record {
       more = replicate (length dropped) instr.Drop;
@@ -205,7 +205,7 @@ dropped_drawn {scope = scope} {old = old} {new = new} values dropped valid spare
       set_more = rw append-nil set;
       same = labels;
       spent = omega arith;
-      short = rw fuel (omega arith);
+      short = rw budget (omega arith);
     }
 
 -- an instruction after its operands
@@ -213,7 +213,7 @@ pub written_drawn : {scope : Scope} {old new : Draft} (instruction : Instr) (ope
     → AreValid (bare scope) values → IsAllowedIn scope instruction → sets instruction ≡ option_to_list set → IsWritten instruction set old new → IsDrawn scope operands values 1 old new
 written_drawn {scope = scope} {old = old} {new = new} instruction operands results values set typed below valid allowed local written =
     let context = where_stands scope old in
-    let fuel = written.fuel in
+    let budget = written.budget in
     let then : new.set.items ≡ old.set.items ++ sets instruction = written.set_more ∙ ap (λ (set : List ℕ). old.set.items ++ set) (sym local) in
     let len : length new.out ≡ length old.out + 1 = rw written.out (simp length-append refl) in
     record {
@@ -226,7 +226,7 @@ written_drawn {scope = scope} {old = old} {new = new} instruction operands resul
       set_more = then;
       same = written.same;
       spent = omega arith;
-      short = rw fuel (omega arith);
+      short = rw budget (omega arith);
     }
 
 pay : (w n g o m f : ℕ) → n ≤ 4 * w + 4 → 0 < f → m + (4 * w + 4) * g ≤ o + n + (4 * w + 4) * (f - 1) → m + (4 * w + 4) * g ≤ o + 0 + (4 * w + 4) * f
@@ -236,8 +236,8 @@ pay w n g o m (suc f) few paid short =
     let short' : m + (4 * w + 4) * g ≤ o + n + (4 * w + 4) * f = rw less at short in
     omega arith
 
--- one unit of fuel pays for the instructions of a node
-pub paid_for : {scope : Scope} {a b : List ValType} {n : ℕ} {old new : Draft} → n ≤ most scope.types.now.types → 0 < old.fuel → IsDrawn scope a b n (record old { fuel = old.fuel - 1 }) new → IsDrawn scope a b 0 old new
+-- one unit of the budget pays for the instructions of a node
+pub paid_for : {scope : Scope} {a b : List ValType} {n : ℕ} {old new : Draft} → n ≤ most scope.types.now.types → 0 < old.budget → IsDrawn scope a b n (record old { budget = old.budget - 1 }) new → IsDrawn scope a b 0 old new
 paid_for {scope = scope} {n = n} {old = old} {new = new} few paid drawn =
     let spent = drawn.spent in
     record {
@@ -249,17 +249,17 @@ paid_for {scope = scope} {n = n} {old = old} {new = new} few paid drawn =
       set_more = drawn.set_more;
       same = drawn.same;
       spent = omega arith;
-      short = pay (widest scope.types.now.types) n new.fuel (length old.out) (length new.out) old.fuel few paid drawn.short;
+      short = pay (widest scope.types.now.types) n new.budget (length old.out) (length new.out) old.budget few paid drawn.short;
     }
 
 -- a node: its operands, its head, and the dropped values
-pub node_drawn : {scope : Scope} {values : List ValType} {node : Node} {old middle after new : Draft} → IsNode (where_stands scope old) old.set.items values node → (0 < node.drops → IsAllowedIn scope instr.Drop) → 0 < old.fuel
-    → IsDrawn scope [] node.operands (length node.operands) (record old { fuel = old.fuel - 1 }) middle
+pub node_drawn : {scope : Scope} {values : List ValType} {node : Node} {old middle after new : Draft} → IsNode (where_stands scope old) old.set.items values node → (0 < node.drops → IsAllowedIn scope instr.Drop) → 0 < old.budget
+    → IsDrawn scope [] node.operands (length node.operands) (record old { budget = old.budget - 1 }) middle
     → ((operands given values : List ValType) → HasHeadType (where_stands scope middle) middle.set.items node.head operands given → AreBelow (bare scope) given values → AreValid (bare scope) values → head_sets node.head ≡ option_to_list node.sets
     → IsDrawn scope operands values (block_cost scope.types.now.types) middle after)
-    → new.out ≡ after.out ++ replicate node.drops instr.Drop → new.set.items ≡ after.set.items → new.labels.items ≡ after.labels.items → new.fuel ≡ after.fuel
+    → new.out ≡ after.out ++ replicate node.drops instr.Drop → new.set.items ≡ after.set.items → new.labels.items ≡ after.labels.items → new.budget ≡ after.budget
     → IsDrawn scope [] values 0 old new
-node_drawn {scope = scope} {values = values} {node = node} {old = old} {middle = middle} {after = after} {new = new} fits may_drop paid operands tops out set labels fuel =
+node_drawn {scope = scope} {values = values} {node = node} {old = old} {middle = middle} {after = after} {new = new} fits may_drop paid operands tops out set labels budget =
     let stood : HasHeadType (context_of scope old.labels.items) (old.set.items ++ operands.set) node.head node.operands fits.results = fits.typed operands.set in
     let at_set : HasHeadType (context_of scope old.labels.items) middle.set.items node.head node.operands fits.results =
     subst (λ (set : List ℕ). HasHeadType (context_of scope old.labels.items) set node.head node.operands fits.results) (sym operands.set_more) stood in
@@ -271,7 +271,7 @@ node_drawn {scope = scope} {values = values} {node = node} {old = old} {middle =
     let out' : new.out ≡ after.out ++ replicate (length fits.dropped) instr.Drop = rw fits.drops out in
     let few = fits.few in
     let same = fits.drops in
-    paid_for {n = length node.operands + block_cost scope.types.now.types + length fits.dropped} (omega arith) paid (drawn_then (drawn_then operands top) (dropped_drawn values fits.dropped fits.given fits.spare allowed out' set labels fuel))
+    paid_for {n = length node.operands + block_cost scope.types.now.types + length fits.dropped} (omega arith) paid (drawn_then (drawn_then operands top) (dropped_drawn values fits.dropped fits.given fits.spare allowed out' set labels budget))
 
 -- the locals that were set before remain
 pub height_left : (xs ys zs : List ℕ) → zs ≡ xs ++ ys → take (length xs) zs ≡ xs
@@ -331,8 +331,8 @@ around_drawn {scope = scope} {old = old} {entered = entered} {inside = inside} {
     let out : new.out ≡ old.out ++ (opening ∷ (drawn.more ++ instr.End ∷ [])) = rw (end.out, drawn.longer, start.out) (simp append_assoc refl) in
     let len : length new.out ≡ length inside.out + 1 = rw end.out (simp length-append refl) in
     let len' : length entered.out ≡ length old.out + 1 = rw start.out (simp length-append refl) in
-    let same = start.fuel in
-    let same' = end.fuel in
+    let same = start.budget in
+    let same' = end.budget in
     record {
       more = opening ∷ (drawn.more ++ instr.End ∷ []);
       longer = out;
@@ -385,11 +385,11 @@ if_drawn {scope = scope} {old = old} {entered = entered} {first = first} {other 
     let len : length new.out ≡ length last.out + 1 = rw end.out (simp length-append refl) in
     let len' : length entered.out ≡ length old.out + 1 = rw start.out (simp length-append refl) in
     let len'' : length other.out ≡ length first.out + 1 = rw middle.out (simp length-append refl) in
-    let same = start.fuel in
-    let same' = end.fuel in
-    let same'' = middle.fuel in
-    let most' : length first.out + most scope.types.now.types * first.fuel ≤ length entered.out + (length params + length results) + most scope.types.now.types * old.fuel = rw same at short in
-    let most'' : length last.out + most scope.types.now.types * last.fuel ≤ length other.out + (length params + length results) + most scope.types.now.types * first.fuel = rw same'' at short' in
+    let same = start.budget in
+    let same' = end.budget in
+    let same'' = middle.budget in
+    let most' : length first.out + most scope.types.now.types * first.budget ≤ length entered.out + (length params + length results) + most scope.types.now.types * old.budget = rw same at short in
+    let most'' : length last.out + most scope.types.now.types * last.budget ≤ length other.out + (length params + length results) + most scope.types.now.types * first.budget = rw same'' at short' in
     record {
       more = instr.If ty ∷ (drawn.more ++ instr.Else ∷ (drawn'.more ++ instr.End ∷ []));
       longer = out;
@@ -431,7 +431,7 @@ body_typed {scope = scope} {start = start} {new = new} drawn empty unset alone =
 pub body_allowed : {scope : Scope} {start new : Draft} → IsDrawn scope [] scope.results.now (length scope.results.now) start new → start.out ≡ [] → All (IsAllowedIn scope) new.out
 body_allowed drawn empty = rw (drawn.longer, empty) drawn.allowed
 
-pub body_short : {scope : Scope} {start new : Draft} → IsDrawn scope [] scope.results.now (length scope.results.now) start new → start.out ≡ [] → length new.out ≤ length scope.results.now + most scope.types.now.types * start.fuel
+pub body_short : {scope : Scope} {start new : Draft} → IsDrawn scope [] scope.results.now (length scope.results.now) start new → start.out ≡ [] → length new.out ≤ length scope.results.now + most scope.types.now.types * start.budget
 body_short {scope = scope} {start = start} {new = new} drawn empty =
     let short = drawn.short in
     let none : length start.out ≡ 0 = rw empty refl in

@@ -25,38 +25,39 @@ use Rattle.smith_code_nodes.specs.declared.scope.Scope.{Scope}
 use Rattle.smith_code_nodes.proofs.ChosenLemmas.{not_zero}
 use Rattle.smith_code.proofs.DrawnLemmas.{height_left}
 
--- a state of these labels, instructions, locals, fuel and bytes
+-- a state of these labels, instructions, locals, budget and bytes
 abbrev made : Scope → List (List ValType) → List Instr → List ℕ → ℕ → List ℕ → State
-made scope labels out set fuel bytes = record { context = context_of scope labels; out = out; set = set; fuel = fuel; bytes = bytes }
+made scope labels out set budget bytes = record { context = context_of scope labels; out = out; set = set; budget = budget; bytes = bytes }
 
-state_is : (scope : Scope) (draft : Draft) (labels : List (List ValType)) (out : List Instr) (set : List ℕ) (fuel : ℕ) (bytes : List ℕ)
-    → draft.labels.items ≡ labels → draft.out ≡ out → draft.set.items ≡ set → draft.fuel ≡ fuel → made scope labels out set fuel bytes ≡ state_of scope draft bytes
-state_is scope draft labels out set fuel bytes labels_are out_is set_is fuel_is = rw (← labels_are, ← out_is, ← set_is, ← fuel_is) refl
+state_is : (scope : Scope) (draft : Draft) (labels : List (List ValType)) (out : List Instr) (set : List ℕ) (budget : ℕ) (bytes : List ℕ)
+    → draft.labels.items ≡ labels → draft.out ≡ out → draft.set.items ≡ set → draft.budget ≡ budget → made scope labels out set budget bytes ≡ state_of scope draft bytes
+state_is scope draft labels out set budget bytes labels_are out_is set_is budget_is = rw (← labels_are, ← out_is, ← set_is, ← budget_is) refl
 
--- a value: an instruction without operands at the last level and without fuel, else the chosen node
+-- a value: an instruction without operands at the last level and once the budget is spent, else the
+-- chosen node
 pub last_value : (config : Config) (depth : ℕ) (wanted : ValType) (s : State) → depth ≡ 0 → (drawing_at config depth).value wanted s ≡ leaf_in config wanted s
 unfolding drawing_at
 last_value config zero wanted s last = refl
 last_value config (suc depth) wanted s last = absurd (omega arith)
 
-pub unpaid_value : (config : Config) (depth : ℕ) (wanted : ValType) (s : State) → s.fuel ≡ 0 → (drawing_at config depth).value wanted s ≡ leaf_in config wanted s
+pub unpaid_value : (config : Config) (depth : ℕ) (wanted : ValType) (s : State) → s.budget ≡ 0 → (drawing_at config depth).value wanted s ≡ leaf_in config wanted s
 unfolding drawing_at value_at
 unpaid_value config zero wanted s none = refl
-unpaid_value config (suc depth) wanted s none = let test : (s.fuel == 0) ≡ true = ap (λ (n : ℕ). n == 0) none in rw test refl
+unpaid_value config (suc depth) wanted s none = let test : (s.budget == 0) ≡ true = ap (λ (n : ℕ). n == 0) none in rw test refl
 
-pub chosen_value : (config : Config) (depth : ℕ) (wanted : ValType) (s : State) (node : Node) (left : List ℕ) → 0 < depth → 0 < s.fuel → allowed_choice_at config s.context wanted s.bytes ≡ (Some node, left)
+pub chosen_value : (config : Config) (depth : ℕ) (wanted : ValType) (s : State) (node : Node) (left : List ℕ) → 0 < depth → 0 < s.budget → allowed_choice_at config s.context wanted s.bytes ≡ (Some node, left)
     → (drawing_at config depth).value wanted s ≡ node_at (drawing_at config (depth - 1)) node (record s { bytes = left })
 unfolding drawing_at value_at
 chosen_value config zero wanted s node left deep paid chosen = absurd (omega arith)
 chosen_value config (suc depth) wanted s node left deep paid chosen =
     let less : suc depth - 1 ≡ depth = omega arith in
-    rw (less, not_zero s.fuel paid, chosen) refl
+    rw (less, not_zero s.budget paid, chosen) refl
 
-pub other_value : (config : Config) (depth : ℕ) (wanted : ValType) (s : State) (left : List ℕ) → 0 < depth → 0 < s.fuel → allowed_choice_at config s.context wanted s.bytes ≡ (None, left)
+pub other_value : (config : Config) (depth : ℕ) (wanted : ValType) (s : State) (left : List ℕ) → 0 < depth → 0 < s.budget → allowed_choice_at config s.context wanted s.bytes ≡ (None, left)
     → (drawing_at config depth).value wanted s ≡ leaf_in config wanted (record s { bytes = left })
 unfolding drawing_at value_at
 other_value config zero wanted s left deep paid chosen = absurd (omega arith)
-other_value config (suc depth) wanted s left deep paid chosen = rw (not_zero s.fuel paid, chosen) refl
+other_value config (suc depth) wanted s left deep paid chosen = rw (not_zero s.budget paid, chosen) refl
 
 pub leaf_written : (config : Config) (wanted : ValType) (s : State) (instruction : Instr) (out : List Instr) (left : List ℕ) → leaf_at config s.context s.set wanted s.bytes ≡ (instruction, left) → out ≡ s.out ++ instruction ∷ []
     → leaf_in config wanted s ≡ record s { out = out; bytes = left }
@@ -64,12 +65,12 @@ unfolding leaf_in
 leaf_written config wanted s instruction out left drawn is =
     ap (λ (leaf : Instr × List ℕ). record s { out = s.out ++ leaf.0 ∷ []; bytes = leaf.1 }) drawn ∙ ap (λ (out : List Instr). record s { out = out; bytes = left }) (sym is)
 
-pub drops_written : (scope : Scope) (count : ℕ) (old new : Draft) (bytes : List ℕ) → new.out ≡ old.out ++ replicate count instr.Drop → new.set.items ≡ old.set.items → new.labels.items ≡ old.labels.items → new.fuel ≡ old.fuel
+pub drops_written : (scope : Scope) (count : ℕ) (old new : Draft) (bytes : List ℕ) → new.out ≡ old.out ++ replicate count instr.Drop → new.set.items ≡ old.set.items → new.labels.items ≡ old.labels.items → new.budget ≡ old.budget
     → dropped count (state_of scope old bytes) ≡ state_of scope new bytes
-drops_written scope count old new bytes out set labels fuel = state_is scope new old.labels.items (old.out ++ replicate count instr.Drop) old.set.items old.fuel bytes labels out set fuel
+drops_written scope count old new bytes out set labels budget = state_is scope new old.labels.items (old.out ++ replicate count instr.Drop) old.set.items old.budget bytes labels out set budget
 
 -- a node: its operands, its head, and the dropped values
-pub node_exact : (draw : Drawing) (node : Node) (s operands rest : State) → values_at draw node.operands (record s { fuel = s.fuel - 1 }) ≡ operands → head_at draw node.head node.sets operands ≡ rest → node_at draw node s ≡ dropped node.drops rest
+pub node_exact : (draw : Drawing) (node : Node) (s operands rest : State) → values_at draw node.operands (record s { budget = s.budget - 1 }) ≡ operands → head_at draw node.head node.sets operands ≡ rest → node_at draw node s ≡ dropped node.drops rest
 unfolding node_at
 node_exact draw node s operands rest first second =
     ap (λ (s : State). dropped node.drops (head_at draw node.head node.sets s)) first ∙ ap (λ (s : State). dropped node.drops s) second
@@ -78,7 +79,7 @@ pub plain_exact : (scope : Scope) (draw : Drawing) (head : Head) (instruction : 
     → head_at draw head sets (state_of scope old bytes) ≡ state_of scope new bytes
 unfolding head_at
 plain_exact scope draw head instruction sets old new bytes is done =
-    rw is (state_is scope new old.labels.items (old.out ++ instruction ∷ []) (old.set.items ++ option_to_list sets) old.fuel bytes done.same done.out done.set_more done.fuel)
+    rw is (state_is scope new old.labels.items (old.out ++ instruction ∷ []) (old.set.items ++ option_to_list sets) old.budget bytes done.same done.out done.set_more done.budget)
 
 pub head_enclosed : (draw : Drawing) (head : Head) (opening : Opening) (ty : BlockType) (sides : Sides) (sets : Option ℕ) (s : State) → head ≡ heads.Enclosed opening ty sides
     → head_at draw head sets s ≡ written instr.End (enclosed_at draw (label_of opening sides.params sides.results) sides (written (opened opening ty) s))
@@ -105,14 +106,14 @@ inside_exact draw sides s dropping statements first second =
 entered_exact : (scope : Scope) (opening : Instr) (label : List ValType) (old entered : Draft) (bytes : List ℕ) → IsOpened opening label old entered
     → record (written opening (state_of scope old bytes)) { context = labelled (context_of scope old.labels.items) label } ≡ state_of scope entered bytes
 entered_exact scope opening label old entered bytes start =
-    state_is scope entered (label ∷ old.labels.items) (old.out ++ opening ∷ []) old.set.items old.fuel bytes start.labels start.out start.set start.fuel
+    state_is scope entered (label ∷ old.labels.items) (old.out ++ opening ∷ []) old.set.items old.budget bytes start.labels start.out start.set start.budget
 
 -- the instructions drawn in a block, and the end of the block
-closed_exact : (scope : Scope) (closing : Instr) (s : State) (old inside new : Draft) (bytes left : List ℕ) → s ≡ state_of scope inside left → new.out ≡ inside.out ++ closing ∷ [] → new.set.items ≡ old.set.items → new.labels.items ≡ old.labels.items → new.fuel ≡ inside.fuel
+closed_exact : (scope : Scope) (closing : Instr) (s : State) (old inside new : Draft) (bytes left : List ℕ) → s ≡ state_of scope inside left → new.out ≡ inside.out ++ closing ∷ [] → new.set.items ≡ old.set.items → new.labels.items ≡ old.labels.items → new.budget ≡ inside.budget
     → written closing (record s { context = context_of scope old.labels.items; set = old.set.items }) ≡ state_of scope new left
-closed_exact scope closing s old inside new bytes left is out set labels fuel =
+closed_exact scope closing s old inside new bytes left is out set labels budget =
     ap (λ (s : State). written closing (record s { context = context_of scope old.labels.items; set = old.set.items })) is
-    ∙ state_is scope new old.labels.items (inside.out ++ closing ∷ []) old.set.items inside.fuel left labels out set fuel
+    ∙ state_is scope new old.labels.items (inside.out ++ closing ∷ []) old.set.items inside.budget left labels out set budget
 
 -- the locals that are set after a block are those before it
 set_again : {scope : Scope} {a b : List ValType} {n : ℕ} (old entered inside new : Draft) (height : ℕ) → IsDrawn scope a b n entered inside → entered.set.items ≡ old.set.items → height ≡ length old.set.items → new.set.items ≡ take height inside.set.items → new.set.items ≡ old.set.items
@@ -127,7 +128,7 @@ pub enclosed_exact : {a b : List ValType} {n : ℕ} (scope : Scope) (draw : Draw
 unfolding enclosed_at
 enclosed_exact scope draw opening label sides old entered inside new bytes left height start exact drawn high end labels =
     let begin = entered_exact scope opening label old entered bytes start in
-    closed_exact scope instr.End _ old inside new bytes left (ap (λ (s : State). inside_at draw sides s) begin ∙ exact) end.out (set_again old entered inside new height drawn start.set high end.set) labels end.fuel
+    closed_exact scope instr.End _ old inside new bytes left (ap (λ (s : State). inside_at draw sides s) begin ∙ exact) end.out (set_again old entered inside new height drawn start.set high end.set) labels end.budget
 
 pub if_exact : {a b c d : List ValType} {m n : ℕ} (scope : Scope) (draw : Drawing) (ty : BlockType) (sides : Sides) (old entered first other last new : Draft) (bytes middle left : List ℕ) (height : ℕ)
     → IsOpened (instr.If ty) sides.results old entered → inside_at draw sides (state_of scope entered bytes) ≡ state_of scope first middle → IsDrawn scope a b m entered first
@@ -141,12 +142,12 @@ if_exact scope draw ty sides old entered first other last new bytes middle left 
     let set : other.set.items ≡ old.set.items = set_again old entered first other height drawn start.set high split.set in
     let set' : new.set.items ≡ old.set.items = set_again old other last new height drawn' set high end.set in
     let labels' : other.labels.items ≡ sides.results ∷ old.labels.items = between ∙ (drawn.same ∙ start.labels) in
-    let begin' : made scope (sides.results ∷ old.labels.items) (first.out ++ instr.Else ∷ []) old.set.items first.fuel middle ≡ state_of scope other middle =
-    state_is scope other (sides.results ∷ old.labels.items) (first.out ++ instr.Else ∷ []) old.set.items first.fuel middle labels' split.out set split.fuel in
-    let again : inside_at draw sides (made scope (sides.results ∷ old.labels.items) (first.out ++ instr.Else ∷ []) old.set.items first.fuel middle) ≡ state_of scope last left =
+    let begin' : made scope (sides.results ∷ old.labels.items) (first.out ++ instr.Else ∷ []) old.set.items first.budget middle ≡ state_of scope other middle =
+    state_is scope other (sides.results ∷ old.labels.items) (first.out ++ instr.Else ∷ []) old.set.items first.budget middle labels' split.out set split.budget in
+    let again : inside_at draw sides (made scope (sides.results ∷ old.labels.items) (first.out ++ instr.Else ∷ []) old.set.items first.budget middle) ≡ state_of scope last left =
     ap (λ (s : State). inside_at draw sides s) begin' ∙ exact' in
     ap (λ (s : State). written instr.End (enclosed_at draw sides.results sides (written instr.Else (record s { context = context_of scope old.labels.items; set = old.set.items })))) once
-    ∙ closed_exact scope instr.End _ old last new middle left again end.out set' labels end.fuel
+    ∙ closed_exact scope instr.End _ old last new middle left again end.out set' labels end.budget
 
 -- values, one after another
 pub next_value : (draw : Drawing) (wanted : List ValType) (place : ℕ) (d : ValType) (s t : State) → place < length wanted → draw.value (get_or wanted place d) s ≡ t → values_at draw (drop place wanted) s ≡ values_at draw (drop (place + 1) wanted) t
@@ -168,40 +169,40 @@ unfolding statement_at
 chosen_statement config below s node left chosen allowed = rw (chosen, allowed) refl
 
 pub forbidden_statement : (config : Config) (below : Drawing) (s : State) (node : Node) (left : List ℕ) → statement_choice_at config s.context s.bytes ≡ (node, left) → is_node_allowed s.context.features config node ≡ false
-    → statement_at config below s ≡ record s { fuel = s.fuel - 1; bytes = left }
+    → statement_at config below s ≡ record s { budget = s.budget - 1; bytes = left }
 unfolding statement_at
 forbidden_statement config below s node left chosen forbidden = rw (chosen, forbidden) refl
 
--- the remaining statements, at most one for each unit of fuel
+-- the remaining statements, at most one for each unit of the budget
 pub record AreLeft (statement : State → State) (whole s : State) : Type 0 where
   pub most : ℕ
-  pub few : s.fuel ≤ most
+  pub few : s.budget ≤ most
   pub same : whole ≡ statements_within statement most s
 
-pub all_left : (statement : State → State) (s : State) → AreLeft statement (statements_within statement s.fuel s) s
-all_left statement s = record { most = s.fuel; few = omega arith; same = refl }
+pub all_left : (statement : State → State) (s : State) → AreLeft statement (statements_within statement s.budget s) s
+all_left statement s = record { most = s.budget; few = omega arith; same = refl }
 
-without_fuel : (statement : State → State) (most : ℕ) (s : State) → s.fuel ≡ 0 → statements_within statement most s ≡ s
-without_fuel statement zero s none = refl
-without_fuel statement (suc most) s none = let test : (s.fuel == 0) ≡ true = ap (λ (n : ℕ). n == 0) none in rw test refl
+without_budget : (statement : State → State) (most : ℕ) (s : State) → s.budget ≡ 0 → statements_within statement most s ≡ s
+without_budget statement zero s none = refl
+without_budget statement (suc most) s none = let test : (s.budget == 0) ≡ true = ap (λ (n : ℕ). n == 0) none in rw test refl
 
-pub none_left : (statement : State → State) (whole s : State) → s.fuel ≡ 0 → AreLeft statement whole s → whole ≡ s
-none_left statement whole s none all = all.same ∙ without_fuel statement all.most s none
+pub none_left : (statement : State → State) (whole s : State) → s.budget ≡ 0 → AreLeft statement whole s → whole ≡ s
+none_left statement whole s none all = all.same ∙ without_budget statement all.most s none
 
-one_statement : (statement : State → State) (most number : ℕ) (s : State) (left : List ℕ) → 0 < s.fuel → s.fuel ≤ most → range_at 0 3 s.bytes ≡ (number, left) → 0 < number
+one_statement : (statement : State → State) (most number : ℕ) (s : State) (left : List ℕ) → 0 < s.budget → s.budget ≤ most → range_at 0 3 s.bytes ≡ (number, left) → 0 < number
     → statements_within statement most s ≡ statements_within statement (most - 1) (statement (record s { bytes = left }))
 one_statement statement zero number s left paid few drawn more = absurd (omega arith)
 one_statement statement (suc most) number s left paid few drawn more =
     let less : suc most - 1 ≡ most = omega arith in
-    rw (less, not_zero s.fuel paid, drawn, not_zero number more) refl
+    rw (less, not_zero s.budget paid, drawn, not_zero number more) refl
 
-last_statement : (statement : State → State) (most number : ℕ) (s : State) (left : List ℕ) → 0 < s.fuel → s.fuel ≤ most → range_at 0 3 s.bytes ≡ (number, left) → number ≡ 0 → statements_within statement most s ≡ record s { bytes = left }
+last_statement : (statement : State → State) (most number : ℕ) (s : State) (left : List ℕ) → 0 < s.budget → s.budget ≤ most → range_at 0 3 s.bytes ≡ (number, left) → number ≡ 0 → statements_within statement most s ≡ record s { bytes = left }
 last_statement statement zero number s left paid few drawn none = absurd (omega arith)
 last_statement statement (suc most) number s left paid few drawn none =
     let drawn' : range_at 0 3 s.bytes ≡ (0, left) = drawn ∙ ap (λ (n : ℕ). (n, left)) none in
-    rw (not_zero s.fuel paid, drawn') refl
+    rw (not_zero s.budget paid, drawn') refl
 
-pub one_less : (statement : State → State) (whole s t : State) (number : ℕ) (left : List ℕ) → 0 < s.fuel → range_at 0 3 s.bytes ≡ (number, left) → 0 < number → statement (record s { bytes = left }) ≡ t → t.fuel < s.fuel
+pub one_less : (statement : State → State) (whole s t : State) (number : ℕ) (left : List ℕ) → 0 < s.budget → range_at 0 3 s.bytes ≡ (number, left) → 0 < number → statement (record s { bytes = left }) ≡ t → t.budget < s.budget
     → AreLeft statement whole s → AreLeft statement whole t
 one_less statement whole s t number left paid drawn more is less all =
     let few = all.few in
@@ -211,7 +212,7 @@ one_less statement whole s t number left paid drawn more is less all =
       same = all.same ∙ (one_statement statement all.most number s left paid all.few drawn more ∙ ap (λ (s : State). statements_within statement (all.most - 1) s) is);
     }
 
-pub stopped : (statement : State → State) (whole s : State) (number : ℕ) (left : List ℕ) → 0 < s.fuel → range_at 0 3 s.bytes ≡ (number, left) → number ≡ 0 → AreLeft statement whole s → whole ≡ record s { bytes = left }
+pub stopped : (statement : State → State) (whole s : State) (number : ℕ) (left : List ℕ) → 0 < s.budget → range_at 0 3 s.bytes ≡ (number, left) → number ≡ 0 → AreLeft statement whole s → whole ≡ record s { bytes = left }
 stopped statement whole s number left paid drawn none all = all.same ∙ last_statement statement all.most number s left paid all.few drawn none
 
 -- the statements of a depth
@@ -220,7 +221,7 @@ unfolding drawing_at
 last_statements config zero s last = refl
 last_statements config (suc depth) s last = absurd (omega arith)
 
-pub deep_statements : (config : Config) (depth : ℕ) (s : State) → 0 < depth → (drawing_at config depth).statements s ≡ statements_within (statement_at config (drawing_at config (depth - 1))) s.fuel s
+pub deep_statements : (config : Config) (depth : ℕ) (s : State) → 0 < depth → (drawing_at config depth).statements s ≡ statements_within (statement_at config (drawing_at config (depth - 1))) s.budget s
 unfolding drawing_at
 deep_statements config zero s deep = absurd (omega arith)
 deep_statements config (suc depth) s deep = let less : suc depth - 1 ≡ depth = omega arith in rw less refl
@@ -230,14 +231,14 @@ unfolding whole_at
 whole_exact draw results s statements rest first second = ap (λ (s : State). values_at draw results s) first ∙ second
 
 -- a body
-pub body_exact : (config : Config) (context : BodyContext) (fuel : ℕ) (bytes : List ℕ) (start rest : State) → 0 < fuel → whole_at (drawing_at config 40) context.results start ≡ rest → start ≡ begun context fuel bytes
-    → body_at config context fuel bytes ≡ ended rest
+pub body_exact : (config : Config) (context : BodyContext) (budget : ℕ) (bytes : List ℕ) (start rest : State) → 0 < budget → whole_at (drawing_at config 40) context.results start ≡ rest → start ≡ begun context budget bytes
+    → body_at config context budget bytes ≡ ended rest
 unfolding body_at
-body_exact config context fuel bytes start rest some drawn begin =
-    let whole : ended (whole_at (drawing_at config 40) context.results (begun context fuel bytes)) ≡ ended rest =
+body_exact config context budget bytes start rest some drawn begin =
+    let whole : ended (whole_at (drawing_at config 40) context.results (begun context budget bytes)) ≡ ended rest =
     ap (λ (s : State). ended (whole_at (drawing_at config 40) context.results s)) (sym begin) ∙ ap (λ (s : State). ended s) drawn in
-    rw (not_zero fuel some) whole
+    rw (not_zero budget some) whole
 
-pub body_stops : (config : Config) (context : BodyContext) (fuel : ℕ) (bytes : List ℕ) → fuel ≡ 0 → body_at config context fuel bytes ≡ (instr.Unreachable ∷ [], bytes)
+pub body_stops : (config : Config) (context : BodyContext) (budget : ℕ) (bytes : List ℕ) → budget ≡ 0 → body_at config context budget bytes ≡ (instr.Unreachable ∷ [], bytes)
 unfolding body_at
-body_stops config context fuel bytes none = let test : (fuel == 0) ≡ true = ap (λ (n : ℕ). n == 0) none in rw test refl
+body_stops config context budget bytes none = let test : (budget == 0) ≡ true = ap (λ (n : ℕ). n == 0) none in rw test refl

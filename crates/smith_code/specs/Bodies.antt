@@ -15,12 +15,12 @@ use Rattle.smith_code_nodes.specs.declared.node.Node.{Node}
 use Rattle.smith_code_nodes.specs.declared.node.Sides.{Sides}
 
 -- a body that is being drawn: the context of the next instruction, the instructions so far, the
--- locals that were set, the fuel, and the bytes left
+-- locals that were set, the budget (how many nodes may still be drawn), and the bytes left
 pub record State : Type 0 where
   pub context : BodyContext
   pub out : List Instr
   pub set : List ℕ
-  pub fuel : ℕ
+  pub budget : ℕ
   pub bytes : List ℕ
 
 -- the draw of a value of a type, and the draw of statements
@@ -59,9 +59,9 @@ head_at draw (head.If ty sides) sets s =
     (written (instr.If ty) s))))
 head_at draw (head.Try ty clauses sides) sets s = written instr.End (enclosed_at draw sides.results sides (written (instr.TryTable ty clauses) s))
 
--- a node takes one unit of fuel: its operands are drawn, then its other instructions
+-- a node takes one unit of the budget: its operands are drawn, then its other instructions
 unfoldable pub node_at : Drawing → Node → State → State
-node_at draw node s = dropped node.drops (head_at draw node.head node.sets (values_at draw node.operands (record s { fuel = s.fuel - 1 })))
+node_at draw node s = dropped node.drops (head_at draw node.head node.sets (values_at draw node.operands (record s { budget = s.budget - 1 })))
 
 -- an instruction without operands
 unfoldable pub leaf_in : Config → ValType → State → State
@@ -74,16 +74,16 @@ abbrev pub node_or_leaf_at : Config → Drawing → ValType → Option Node → 
 node_or_leaf_at config below wanted (Some node) s = node_at below node s
 node_or_leaf_at config below wanted None s = leaf_in config wanted s
 
--- a value, by the draws one level deeper: without fuel an instruction without operands
+-- a value, by the draws one level deeper: an instruction without operands once the budget is spent
 unfoldable pub value_at : Config → Drawing → ValType → State → State
 value_at config below wanted s =
     let chosen = allowed_choice_at config s.context wanted s.bytes in
-    if s.fuel == 0 then leaf_in config wanted s else node_or_leaf_at config below wanted chosen.0 (record s { bytes = chosen.1 })
+    if s.budget == 0 then leaf_in config wanted s else node_or_leaf_at config below wanted chosen.0 (record s { bytes = chosen.1 })
 
--- a node if it is allowed; otherwise only one unit of fuel is taken
+-- a node if it is allowed; otherwise only one unit of the budget is taken
 abbrev pub allowed_at : Config → Drawing → Node → State → State
 allowed_at config below node s =
-    if is_node_allowed s.context.features config node then node_at below node s else record s { fuel = s.fuel - 1 }
+    if is_node_allowed s.context.features config node then node_at below node s else record s { budget = s.budget - 1 }
 
 -- a statement, by the draws one level deeper
 unfoldable pub statement_at : Config → Drawing → State → State
@@ -91,13 +91,13 @@ statement_at config below s =
     let chosen = statement_choice_at config s.context s.bytes in
     allowed_at config below chosen.0 (record s { bytes = chosen.1 })
 
--- at most `most` statements, until the fuel ends or a drawn number is 0
+-- at most `most` statements, until the budget is spent or a drawn number is 0
 abbrev pub statements_within : (State → State) → ℕ → State → State
 statements_within statement zero s = s
 statements_within statement (suc most) s =
     let more = range_at 0 3 s.bytes in
     let next = record s { bytes = more.1 } in
-    if s.fuel == 0 then s else if more.0 == 0 then next else statements_within statement most (statement next)
+    if s.budget == 0 then s else if more.0 == 0 then next else statements_within statement most (statement next)
 
 -- the draws at a depth, by those one level deeper: at the last level there are no statements, and
 -- values have no operands
@@ -105,7 +105,7 @@ unfoldable pub drawing_at : Config → ℕ → Drawing
 drawing_at config zero = record { value = leaf_in config; statements = λ s. s }
 drawing_at config (suc depth) = record {
   value = λ wanted s. value_at config (drawing_at config depth) wanted s;
-  statements = λ s. statements_within (statement_at config (drawing_at config depth)) s.fuel s;
+  statements = λ s. statements_within (statement_at config (drawing_at config depth)) s.budget s;
 }
 
 -- the inside of a body: statements, then the results
@@ -114,13 +114,13 @@ whole_at draw results s = values_at draw results (draw.statements s)
 
 -- the state in which a body begins, and its result at the end
 abbrev pub begun : BodyContext → ℕ → List ℕ → State
-begun context fuel bytes = record { context = labelled context context.results; out = []; set = []; fuel = fuel; bytes = bytes }
+begun context budget bytes = record { context = labelled context context.results; out = []; set = []; budget = budget; bytes = bytes }
 
 abbrev pub ended : State → List Instr × List ℕ
 ended s = (s.out, s.bytes)
 
--- a body of at most 40 levels, without its last `end`, and the bytes left: without fuel
+-- a body of at most 40 levels, without its last `end`, and the bytes left: for a budget of 0
 -- `unreachable`
 unfoldable pub body_at : Config → BodyContext → ℕ → List ℕ → List Instr × List ℕ
-body_at config context fuel bytes =
-    if fuel == 0 then (instr.Unreachable ∷ [], bytes) else ended (whole_at (drawing_at config 40) context.results (begun context fuel bytes))
+body_at config context budget bytes =
+    if budget == 0 then (instr.Unreachable ∷ [], bytes) else ended (whole_at (drawing_at config 40) context.results (begun context budget bytes))

@@ -13,7 +13,7 @@ use Rattle.smith_code_nodes.specs.declared.scope.Scope.{Scope}
 
 -- the new instructions take operands of the first types from the top of any stack, and leave values
 -- of the second types; the labels are the same, and at most `cost` instructions are not paid for by
--- fuel
+-- the budget
 pub record IsDrawn (scope : Scope) (operands values : List ValType) (cost : ℕ) (old new : Draft) : Type 0 where
   pub more : List Instr
   pub longer : new.out ≡ old.out ++ more
@@ -23,34 +23,34 @@ pub record IsDrawn (scope : Scope) (operands values : List ValType) (cost : ℕ)
   pub set : List ℕ
   pub set_more : new.set.items ≡ old.set.items ++ set
   pub same : new.labels.items ≡ old.labels.items
-  pub spent : new.fuel ≤ old.fuel
-  pub short : length new.out + most scope.types.now.types * new.fuel ≤ length old.out + cost + most scope.types.now.types * old.fuel
+  pub spent : new.budget ≤ old.budget
+  pub short : length new.out + most scope.types.now.types * new.budget ≤ length old.out + cost + most scope.types.now.types * old.budget
 
 -- the state of a draft before these bytes
 abbrev pub state_of : Scope → Draft → List ℕ → State
 state_of scope draft bytes =
-    record { context = where_stands scope draft; out = draft.out; set = draft.set.items; fuel = draft.fuel; bytes = bytes }
+    record { context = where_stands scope draft; out = draft.out; set = draft.set.items; budget = draft.budget; bytes = bytes }
 
 -- an instruction is written, and the local is set
 pub record IsWritten (instruction : Instr) (set : Option ℕ) (old new : Draft) : Type 0 where
   pub out : new.out ≡ old.out ++ instruction ∷ []
   pub set_more : new.set.items ≡ old.set.items ++ option_to_list set
   pub same : new.labels.items ≡ old.labels.items
-  pub fuel : new.fuel ≡ old.fuel
+  pub budget : new.budget ≡ old.budget
 
 -- a block with this label is opened
 pub record IsOpened (instruction : Instr) (label : List ValType) (old new : Draft) : Type 0 where
   pub out : new.out ≡ old.out ++ instruction ∷ []
   pub set : new.set.items ≡ old.set.items
   pub labels : new.labels.items ≡ label ∷ old.labels.items
-  pub fuel : new.fuel ≡ old.fuel
+  pub budget : new.budget ≡ old.budget
 
 -- the first part of an `if`, or a block, ends: the first `height` of the locals that were set
 -- remain
 pub record IsEnded (instruction : Instr) (height : ℕ) (old new : Draft) : Type 0 where
   pub out : new.out ≡ old.out ++ instruction ∷ []
   pub set : new.set.items ≡ take height old.set.items
-  pub fuel : new.fuel ≡ old.fuel
+  pub budget : new.budget ≡ old.budget
 
 -- an instruction that produces a value that matches this type, without operands
 pub record IsLeaf (context : BodyContext) (set : List ℕ) (wanted : ValType) (instruction : Instr) : Type 0 where

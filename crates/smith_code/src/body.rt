@@ -20,12 +20,12 @@ const DEPTH: u32 = 40;
 /// Draws the body of a function over `scope`, without its last `end`. The standard's section
 /// Structure, Functions.
 ///
-/// Most instructions take one unit of `fuel` each. Constants, reads of locals and globals, and
-/// references to functions take none. Without fuel the body is `unreachable`.
+/// Most instructions take one unit of `budget` each. Constants, reads of locals and globals, and
+/// references to functions take none. With a budget of 0 the body is `unreachable`.
 ///
 /// With `disallow_traps` of the configuration, only `unreachable` may trap. It is then drawn only
-/// without fuel, or for a value that no permitted local, global, function reference, constant or
-/// null produces, such as most references that are not nullable.
+/// with a budget of 0, or for a value that no permitted local, global, function reference, constant
+/// or null produces, such as most references that are not nullable.
 ///
 /// # Errors
 ///
@@ -33,7 +33,7 @@ const DEPTH: u32 = 40;
 pub fn draw_body(
     alloc: Global,
     scope: &Scope<'_>,
-    fuel: usize,
+    budget: usize,
     u: &mut Unstructured<'_>,
 ) -> Result<Items<Instr>, Error>
     requires scope { IsScope (bare scope.now) }
@@ -42,33 +42,33 @@ pub fn draw_body(
         (IsEnabled (features_in scope.now.features) scope.now.config.now.allowed_instructions)) }
     ensures trapless { IsTrue scope.now.config.now.disallow_traps → IfOk result (All IsTrapless) }
     ensures short { IfOk result (λ body.
-        length body ≤ 1 + length scope.now.results.now + most scope.now.types.now.types * fuel) }
-    ensures exact { Draws (body_at scope.now.config.now (bare scope.now) fuel u.old)
+        length body ≤ 1 + length scope.now.results.now + most scope.now.types.now.types * budget) }
+    ensures exact { Draws (body_at scope.now.config.now (bare scope.now) budget u.old)
         result u.old u.new }
 {
-    if fuel == 0 {
+    if budget == 0 {
         let mut body = Items::new(alloc);
         body.push(Instr::Unreachable)?;
         return Ok(body);
     }
-    draw_some(alloc, scope, fuel, u)
+    draw_some(alloc, scope, budget, u)
 }
 
 fn draw_some(
     alloc: Global,
     scope: &Scope<'_>,
-    fuel: usize,
+    budget: usize,
     u: &mut Unstructured<'_>,
 ) -> Result<Items<Instr>, Error>
     requires scope { IsScope (bare scope.now) }
-    requires some { 0 < fuel }
+    requires some { 0 < budget }
     ensures typed { IfOk result (IsBodyTyped (bare scope.now)) }
     ensures allowed { IfOk result (All
         (IsEnabled (features_in scope.now.features) scope.now.config.now.allowed_instructions)) }
     ensures trapless { IsTrue scope.now.config.now.disallow_traps → IfOk result (All IsTrapless) }
     ensures short { IfOk result (λ body.
-        length body ≤ length scope.now.results.now + most scope.now.types.now.types * fuel) }
-    ensures exact { Draws (body_at scope.now.config.now (bare scope.now) fuel u.old)
+        length body ≤ length scope.now.results.now + most scope.now.types.now.types * budget) }
+    ensures exact { Draws (body_at scope.now.config.now (bare scope.now) budget u.old)
         result u.old u.new }
 {
     let mut labels = Vec::new(alloc);
@@ -77,14 +77,14 @@ fn draw_some(
         out: Items::new(alloc),
         set: Vec::new(alloc),
         labels,
-        fuel,
+        budget,
     };
     draw_whole(alloc, scope, DEPTH, &mut draft, u)?;
     let Draft {
         out,
         set: _,
         labels: _,
-        fuel: _,
+        budget: _,
     } = draft;
     Ok(out)
 }

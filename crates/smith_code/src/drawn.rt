@@ -45,7 +45,7 @@ fn draw_value(
     ensures memory { IfErr result (λ e. e ≡ Error.Memory) }
     ensures left { KeepsPieces u.old u.new }
 {
-    if depth == 0 || draft.fuel == 0 {
+    if depth == 0 || draft.budget == 0 {
         return write_leaf(scope, wanted, draft, u);
     }
     let chosen = choose_allowed(alloc, scope, wanted, draft, u)?;
@@ -55,7 +55,7 @@ fn draw_value(
     }
 }
 
-/// Draws the operands of `node`, then its other instructions. Takes one unit of fuel.
+/// Draws the operands of `node`, then its other instructions. Takes one unit of the budget.
 #[cycle(body)]
 fn draw_node(
     alloc: Global,
@@ -70,14 +70,14 @@ fn draw_node(
     requires valid { AreValid (bare scope.now) node.operands }
     requires inside { IsHeadValid (bare scope.now).features (bare scope.now).types node.head }
     requires allowed { IsNodeAllowed scope.now node }
-    requires paid { 0 < draft.old.fuel }
+    requires paid { 0 < draft.old.budget }
     ensures exact { OnOk result
         (node_at (drawing_at scope.now.config.now depth) node (state_of scope.now draft.old u.old)
         ≡ state_of scope.now draft.new u.new) }
     ensures drawn { (values : List Val)
         → IsNode (where_stands scope.now draft.old) draft.old.set.items values node
         → OnOk result (IsDrawn scope.now [] values 0 draft.old draft.new) }
-    ensures less { OnOk result (draft.new.fuel < draft.old.fuel) }
+    ensures less { OnOk result (draft.new.budget < draft.old.budget) }
     ensures memory { IfErr result (λ e. e ≡ Error.Memory) }
     ensures left { KeepsPieces u.old u.new }
 {
@@ -87,7 +87,7 @@ fn draw_node(
         sets,
         drops,
     } = node;
-    draft.fuel -= 1;
+    draft.budget -= 1;
     draw_values(alloc, scope, operands.as_slice(), depth, draft, u)?;
     draw_head(alloc, scope, head, sets, depth, draft, u)?;
     drop_values(drops, draft)
@@ -115,7 +115,7 @@ fn draw_head(
         → AreBelow (bare scope.now) given values → AreValid (bare scope.now) values
         → head_sets head ≡ option_to_list sets → OnOk result (IsDrawn scope.now operands values
         (block_cost scope.now.types.now.types) draft.old draft.new) }
-    ensures less { OnOk result (draft.new.fuel ≤ draft.old.fuel) }
+    ensures less { OnOk result (draft.new.budget ≤ draft.old.budget) }
     ensures memory { IfErr result (λ e. e ≡ Error.Memory) }
     ensures left { KeepsPieces u.old u.new }
 {
@@ -159,7 +159,7 @@ fn draw_enclosed(
         → AreBelow (bare scope.now) sides.now.results values → AreValid (bare scope.now) values
         → OnOk result (IsDrawn scope.now (taken_by opening sides.now.params) values
         (block_cost scope.now.types.now.types) draft.old draft.new) }
-    ensures less { OnOk result (draft.new.fuel ≤ draft.old.fuel) }
+    ensures less { OnOk result (draft.new.budget ≤ draft.old.budget) }
     ensures memory { IfErr result (λ e. e ≡ Error.Memory) }
     ensures left { KeepsPieces u.old u.new }
 {
@@ -215,7 +215,7 @@ fn draw_if(
         → AreBelow (bare scope.now) sides.now.results values → AreValid (bare scope.now) values
         → OnOk result (IsDrawn scope.now (sides.now.params ++ I32 ∷ []) values
         (block_cost scope.now.types.now.types) draft.old draft.new) }
-    ensures less { OnOk result (draft.new.fuel ≤ draft.old.fuel) }
+    ensures less { OnOk result (draft.new.budget ≤ draft.old.budget) }
     ensures memory { IfErr result (λ e. e ≡ Error.Memory) }
     ensures left { KeepsPieces u.old u.new }
 {
@@ -254,7 +254,7 @@ fn draw_try(
         → AreBelow (bare scope.now) sides.now.results values → AreValid (bare scope.now) values
         → OnOk result (IsDrawn scope.now sides.now.params values
         (block_cost scope.now.types.now.types) draft.old draft.new) }
-    ensures less { OnOk result (draft.new.fuel ≤ draft.old.fuel) }
+    ensures less { OnOk result (draft.new.budget ≤ draft.old.budget) }
     ensures memory { IfErr result (λ e. e ≡ Error.Memory) }
     ensures left { KeepsPieces u.old u.new }
 {
@@ -319,7 +319,7 @@ fn draw_values(
 }
 
 /// Draws instructions that leave the stack unchanged, at most `depth` instructions deep. A choice
-/// that is not allowed takes one unit of fuel and adds no instruction.
+/// that is not allowed takes one unit of the budget and adds no instruction.
 #[cycle(body)]
 fn draw_statement(
     alloc: Global,
@@ -331,25 +331,25 @@ fn draw_statement(
     requires scope { IsScope (bare scope.now) }
     requires labels { AreLabels scope.now draft.old.labels.items }
     requires deep { 0 < depth }
-    requires paid { 0 < draft.old.fuel }
+    requires paid { 0 < draft.old.budget }
     ensures exact { OnOk result (statement_at scope.now.config.now
         (drawing_at scope.now.config.now (depth - 1)) (state_of scope.now draft.old u.old)
         ≡ state_of scope.now draft.new u.new) }
     ensures drawn { OnOk result (IsDrawn scope.now [] [] 0 draft.old draft.new) }
-    ensures less { OnOk result (draft.new.fuel < draft.old.fuel) }
+    ensures less { OnOk result (draft.new.budget < draft.old.budget) }
     ensures memory { IfErr result (λ e. e ≡ Error.Memory) }
     ensures left { KeepsPieces u.old u.new }
 {
     let node = choose_statement(alloc, scope, draft, u)?;
     if !is_node_allowed(scope, &node) {
-        draft.fuel = draft.fuel.saturating_sub(1);
+        draft.budget = draft.budget.saturating_sub(1);
         return Ok(());
     }
     draw_node(alloc, scope, node, depth - 1, draft, u)
 }
 
-/// Draws instructions that leave the stack unchanged, until the fuel ends or a number drawn from 0
-/// to 3 is 0.
+/// Draws instructions that leave the stack unchanged, until the budget is spent or a number drawn
+/// from 0 to 3 is 0.
 #[cycle(body)]
 fn draw_statements(
     alloc: Global,
@@ -370,7 +370,7 @@ fn draw_statements(
     if depth == 0 {
         return Ok(());
     }
-    while draft.fuel > 0 {
+    while draft.budget > 0 {
         if u.int_in_range(0..=3u8) == 0 {
             return Ok(());
         }

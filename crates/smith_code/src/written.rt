@@ -70,7 +70,7 @@ pub(crate) fn drop_values(count: usize, draft: &mut Draft) -> Result<(), Error>
     ensures out { OnOk result (draft.new.out ≡ draft.old.out ++ replicate count Instr.Drop) }
     ensures set { draft.new.set.items ≡ draft.old.set.items }
     ensures same { draft.new.labels.items ≡ draft.old.labels.items }
-    ensures fuel { draft.new.fuel ≡ draft.old.fuel }
+    ensures budget { draft.new.budget ≡ draft.old.budget }
     ensures memory { IfErr result (λ e. e ≡ Error.Memory) }
 {
     for _ in 0..count {

@@ -12,7 +12,7 @@ mod creations;
 mod enabled;
 mod exceptions;
 mod fields;
-mod fuel;
+mod budget;
 mod memories;
 mod null_branches;
 mod offers;

@@ -110,6 +110,6 @@ fn in_place_of_a_stop()
     ensures zero { body_at (record trapless { allowed_instructions = kinds_of NumericInt })
         (function_of [] (I32 ∷ [])) 1 (0 ∷ 0 ∷ 2 ∷ 1 ∷ [])
         ≡ (number 0 ∷ [], []) }
-    ensures fuel { body_at trapless (function_of [] (I32 ∷ [])) 0 []
+    ensures budget { body_at trapless (function_of [] (I32 ∷ [])) 0 []
         ≡ (instr.Unreachable ∷ [], []) }
 {}

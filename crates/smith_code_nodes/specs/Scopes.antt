@@ -75,7 +75,7 @@ unfoldable pub widest : List SubType → ℕ
 widest [] = 3
 widest (t ∷ types) = max (func_size t.composite_type.inner) (widest types)
 
--- the greatest number of instructions for one unit of fuel
+-- the greatest number of instructions for one unit of the budget
 abbrev pub most : List SubType → ℕ
 most types = 4 * widest types + 4
 

@@ -53,8 +53,8 @@ pub struct Draft {
     pub set: Vec<u32>,
     /// The types of the operands of a branch to each label, the innermost label first.
     pub labels: Vec<Items<ValType>>,
-    /// The units of fuel left.
-    pub fuel: usize,
+    /// The number of nodes that may still be drawn.
+    pub budget: usize,
 }
 
 /// Returns the number of those of `count` items that have an index: at most `2^32 - 1`.

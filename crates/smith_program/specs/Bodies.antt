@@ -51,7 +51,7 @@ pub record IsBodyAt (m : ModuleParts) (place : ℕ) (code : Code) (instructions 
   pub there : HasDefinedType m place function
   pub typed : IsBodyTyped (function_context m function code.locals) instructions
 
--- the same; the instructions are enabled, no more than the fuel of a body allows, and with
+-- the same; the instructions are enabled, no more than the budget of a body allows, and with
 -- `disallow_traps` only `unreachable` may trap (own rules)
 pub record IsDrawnAt (m : ModuleParts) (place : ℕ) (code : Code) (instructions : List Instr) : Type 0 where
   pub body : IsBodyAt m place code instructions

@@ -17,7 +17,7 @@ use Rattle.smith_code_examples.specs.ExampleBytes.{narrow}
 use Rattle.smith_program.specs.declared.program.Body.{Body}
 use Rattle.smith_program.specs.declared.program.Body.TheVariants as body
 
--- one unit of fuel for each body, and raw bytes are allowed
+-- a budget of one for each body, and raw bytes are allowed
 abbrev pub one_unit : Config
 one_unit = record default_config { max_instructions = 1; allow_invalid_funcs = true }
 

@@ -35,7 +35,7 @@ fn several()
         ≡ (constant 5 ∷ constant 5 ∷ [], constant_bytes 7)) }
     ensures one_for_both { ¬ (bodies_at two_functions (constant_bytes 5 ++ constant_bytes 7)
         ≡ (constant 5 ∷ [], constant_bytes 7)) }
-    ensures fuel_for_each { bodies_at (record plain {
+    ensures budget_for_each { bodies_at (record plain {
       funcs = 0 ∷ 0 ∷ [];
       num_defined_funcs = 2;
       code = trapping ∷ trapping ∷ [];

@@ -43,7 +43,7 @@ fn locals()
 {}
 
 fn configurations()
-    ensures no_fuel { bodies_at
+    ensures no_budget { bodies_at
         (record narrow_function { config = record one_unit { max_instructions = 0 } })
         (constant_bytes 5)
         ≡ (body.Drawn (instr.Unreachable ∷ []) ∷ [], constant_bytes 5) }

@@ -21,7 +21,7 @@ returns-clause-short c = body_short c.in_ok-draw_whole.ensures.drawn c.new.ensur
 
 pub returns-clause-exact : goal.returns-clause-exact
 returns-clause-exact c = record {
-  exact = body_exact c.args.scope.now.config.now (bare c.args.scope.now) c.args.fuel c.args.u.now _ _ c.requires.some c.in_ok-draw_whole.ensures.exact
+  exact = body_exact c.args.scope.now.config.now (bare c.args.scope.now) c.args.budget c.args.u.now _ _ c.requires.some c.in_ok-draw_whole.ensures.exact
       (rw (c.new.ensures, c.new-2.ensures.items, c.in_ok-push.ensures.items, c.new-labels.ensures.items, c.in_ok-from_slice.ensures.ok) refl);
   memory = tt;
   left = c.draw_whole.ensures.left;

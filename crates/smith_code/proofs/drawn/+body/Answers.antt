@@ -84,17 +84,17 @@ draw_if-returns-clause-left t c = λ whole h. c.draw_inside-2.ensures.left whole
 pub draw_inside-returns-clause-drawn : goal.draw_inside-returns-clause-drawn
 draw_inside-returns-clause-drawn t c =
     let out = rw c.len.ensures at c.in_ok-drop_values.ensures.out in
-    let dropped = dropped_drawn {scope = c.args.scope.now} [] c.args.sides.now.params (no_valid (bare c.args.scope.now)) c.requires.params c.requires.drops out c.drop_values.ensures.set c.drop_values.ensures.same c.drop_values.ensures.fuel in
+    let dropped = dropped_drawn {scope = c.args.scope.now} [] c.args.sides.now.params (no_valid (bare c.args.scope.now)) c.requires.params c.requires.drops out c.drop_values.ensures.set c.drop_values.ensures.same c.drop_values.ensures.budget in
     on_ok_weaker c.draw_values.result (λ values. drawn_within (omega arith) (drawn_then (drawn_then dropped c.in_ok-draw_statements.ensures.drawn) values)) (rw c.as_slice.ensures at c.draw_values.ensures.drawn)
 
 pub draw_node-returns-clause-drawn : goal.draw_node-returns-clause-drawn
 draw_node-returns-clause-drawn t c = λ values fits.
-    on_ok_weaker c.drop_values.result (λ out. node_drawn fits c.requires.allowed.drops c.requires.paid (rw c.as_slice.ensures at c.in_ok-draw_values.ensures.drawn) c.in_ok-draw_head.ensures.drawn out c.drop_values.ensures.set c.drop_values.ensures.same c.drop_values.ensures.fuel) c.drop_values.ensures.out
+    on_ok_weaker c.drop_values.result (λ out. node_drawn fits c.requires.allowed.drops c.requires.paid (rw c.as_slice.ensures at c.in_ok-draw_values.ensures.drawn) c.in_ok-draw_head.ensures.drawn out c.drop_values.ensures.set c.drop_values.ensures.same c.drop_values.ensures.budget) c.drop_values.ensures.out
 
 pub draw_statement-returns-then-not-is_node_allowed-clause-drawn : goal.draw_statement-returns-then-not-is_node_allowed-clause-drawn
 draw_statement-returns-then-not-is_node_allowed-clause-drawn t c =
     rw c.saturating_sub-draft.ensures
-    (paid_for {n = 0} (omega arith) c.requires.paid (drawn_none c.args.scope.now (record c.args.draft.now { fuel = c.args.draft.now.fuel - 1 })))
+    (paid_for {n = 0} (omega arith) c.requires.paid (drawn_none c.args.scope.now (record c.args.draft.now { budget = c.args.draft.now.budget - 1 })))
 
 pub draw_values-returns-clause-exact : goal.draw_values-returns-clause-exact
 draw_values-returns-clause-exact t c = c.loop-value.invariant.exact ∙ no_values (drawing_at c.args.scope.now.config.now c.args.depth) c.args.wanted.now c.loop-value.value-index _ (omega arith)
@@ -122,7 +122,7 @@ pub draw_node-returns-clause-exact : goal.draw_node-returns-clause-exact
 draw_node-returns-clause-exact t c =
     on_ok_weaker c.drop_values.result
     (λ out. node_exact (drawing_at c.args.scope.now.config.now c.args.depth) c.args.node (state_of c.args.scope.now c.args.draft.now c.args.u.now) _ _ (rw c.as_slice.ensures at c.in_ok-draw_values.ensures.exact) c.in_ok-draw_head.ensures.exact
-    ∙ drops_written c.args.scope.now c.args.node.drops c.draw_head.new.draft c.drop_values.new.draft c.draw_head.new.u out c.drop_values.ensures.set c.drop_values.ensures.same c.drop_values.ensures.fuel) c.drop_values.ensures.out
+    ∙ drops_written c.args.scope.now c.args.node.drops c.draw_head.new.draft c.drop_values.new.draft c.draw_head.new.u out c.drop_values.ensures.set c.drop_values.ensures.same c.drop_values.ensures.budget) c.drop_values.ensures.out
 
 pub draw_head-returns-in-Plain-clause-exact : goal.draw_head-returns-in-Plain-clause-exact
 draw_head-returns-in-Plain-clause-exact t c =
@@ -157,7 +157,7 @@ draw_if-returns-clause-exact t c =
 pub draw_inside-returns-clause-exact : goal.draw_inside-returns-clause-exact
 draw_inside-returns-clause-exact t c =
     let out = rw c.len.ensures at c.in_ok-drop_values.ensures.out in
-    let dropping = drops_written c.args.scope.now (length c.args.sides.now.params) c.args.draft.now c.drop_values.new.draft c.args.u.now out c.drop_values.ensures.set c.drop_values.ensures.same c.drop_values.ensures.fuel in
+    let dropping = drops_written c.args.scope.now (length c.args.sides.now.params) c.args.draft.now c.drop_values.new.draft c.args.u.now out c.drop_values.ensures.set c.drop_values.ensures.same c.drop_values.ensures.budget in
     on_ok_weaker c.draw_values.result (λ is. inside_exact (drawing_at c.args.scope.now.config.now c.args.depth) c.args.sides.now (state_of c.args.scope.now c.args.draft.now c.args.u.now) _ _ dropping c.in_ok-draw_statements.ensures.exact ∙ is) (rw c.as_slice.ensures at c.draw_values.ensures.exact)
 
 pub draw_head-returns-in-Try-clause-exact : goal.draw_head-returns-in-Try-clause-exact

@@ -45,12 +45,12 @@ invariant-draw_values-loop-value l = record {
 }
 
 abbrev pub decreases-draw_statements-loop-draft : goal.decreases-draw_statements-loop-draft
-decreases-draw_statements-loop-draft l = l.draft.fuel
+decreases-draw_statements-loop-draft l = l.draft.budget
 
 abbrev pub invariant-draw_statements-loop-draft : goal.invariant-draw_statements-loop-draft
 invariant-draw_statements-loop-draft l = record {
   drawn : IsDrawn l.scope [] [] 0 l.fn.draft l.draft;
-  rest : AreLeft (statement_at l.scope.config.now (drawing_at l.scope.config.now (l.depth - 1))) (statements_within (statement_at l.scope.config.now (drawing_at l.scope.config.now (l.depth - 1))) l.fn.draft.fuel (state_of l.scope l.fn.draft l.fn.u)) (state_of l.scope l.draft l.u);
+  rest : AreLeft (statement_at l.scope.config.now (drawing_at l.scope.config.now (l.depth - 1))) (statements_within (statement_at l.scope.config.now (drawing_at l.scope.config.now (l.depth - 1))) l.fn.draft.budget (state_of l.scope l.fn.draft l.fn.u)) (state_of l.scope l.draft l.u);
   labels : AreLabels l.scope l.draft.labels.items;
   kept : KeepsPieces l.fn.u l.u;
 }

@@ -7,5 +7,5 @@ invariant-loop l = record {
   out : l.draft.out ≡ l.fn.draft.out ++ replicate l.counter instr.Drop;
   set : l.draft.set.items ≡ l.fn.draft.set.items;
   same : l.draft.labels.items ≡ l.fn.draft.labels.items;
-  fuel : l.draft.fuel ≡ l.fn.draft.fuel;
+  budget : l.draft.budget ≡ l.fn.draft.budget;
 }

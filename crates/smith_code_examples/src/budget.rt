@@ -8,7 +8,7 @@ ghost use Rattle.smith_instr_examples.specs.ExampleBodies.{function_of, number};
 ghost use Rattle.smith_code.specs.Bodies.{body_at};
 ghost use Rattle.smith_code_examples.specs.ExampleBytes.{narrow};
 
-fn fuel()
+fn budget()
     ensures none { body_at default_config (function_of [] (I32 ∷ [])) 0 (1 ∷ 2 ∷ [])
         ≡ (instr.Unreachable ∷ [], 1 ∷ 2 ∷ []) }
     ensures of_one { body_at default_config (function_of [] (I32 ∷ [])) 1 (0 ∷ 1 ∷ 0 ∷ narrow 5)
