@@ -38,7 +38,7 @@ impl<'a> Offer for ReferenceOffer<'a> {
     }
 }
 
-/// Whether the function `function` exists and its reference type matches `wanted`.
+/// Returns whether the function `function` exists and its reference type matches `wanted`.
 fn is_named(scope: &Scope<'_>, wanted: ValType, function: u32) -> bool
     requires scope { IsScope (bare scope.now) }
     requires wanted { IsValid (bare scope.now) wanted }

@@ -196,7 +196,7 @@ impl<'a> Offer for StructOffer<'a> {
     }
 }
 
-/// Whether a value may be a reference to a type.
+/// Returns whether a value may be a reference to a type.
 pub fn names_types(scope: &Scope<'_>) -> bool
     ensures { result ≡ names_types (bare scope.now) }
 {
@@ -204,7 +204,7 @@ pub fn names_types(scope: &Scope<'_>) -> bool
         && scope.features.contains(WasmFeatures::GC)
 }
 
-/// Whether the type at `index` is an array type whose element may be used for `of`.
+/// Returns whether the type at `index` is an array type whose element may be used for `of`.
 fn is_array(scope: &Scope<'_>, of: FieldUse, index: usize) -> bool
     requires scope { IsScope (bare scope.now) }
     requires of { IsUse (bare scope.now) of }
@@ -216,7 +216,7 @@ fn is_array(scope: &Scope<'_>, of: FieldUse, index: usize) -> bool
     }
 }
 
-/// Whether created values of the type at `index` match `wanted`.
+/// Returns whether created values of the type at `index` match `wanted`.
 fn is_created_below(scope: &Scope<'_>, wanted: ValType, index: usize) -> bool
     requires wanted { IsValid (bare scope.now) wanted }
     requires below { index < indexed (length scope.now.types.now.types) }
@@ -240,8 +240,8 @@ fn created_reference(scope: &Scope<'_>, index: u32) -> ValType
     })
 }
 
-/// Whether a struct of `fields` may be created: from default values if `defaults` is set, else from
-/// at most seven operands.
+/// Returns whether a struct of `fields` may be created: from default values if `defaults` is set,
+/// else from at most seven operands.
 fn is_creatable(defaults: bool, fields: &[FieldType]) -> bool
     ensures { result ≡ is_creatable defaults fields.now }
 {

@@ -38,7 +38,7 @@ pub(crate) enum FieldUse {
     CopyInto(StorageType),
 }
 
-/// Whether `field` may be used for `of`.
+/// Returns whether `field` may be used for `of`.
 pub(crate) fn is_usable(scope: &Scope<'_>, of: FieldUse, field: FieldType) -> bool
     requires of { IsUse (bare scope.now) of }
     requires field { IsValid (bare scope.now) (value_of field) }
@@ -73,7 +73,7 @@ fn is_of_references(stored: StorageType) -> bool
     }
 }
 
-/// Whether the storage type `stored` matches `into`.
+/// Returns whether the storage type `stored` matches `into`.
 fn is_storage_below(scope: &Scope<'_>, stored: StorageType, into: StorageType) -> bool
     requires stored { IsValid (bare scope.now) (unpacked stored) }
     requires into { IsValid (bare scope.now) (unpacked into) }

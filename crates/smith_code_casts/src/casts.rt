@@ -398,7 +398,7 @@ fn choose_i31(
     Ok(None)
 }
 
-/// Whether the type of an i31 matches `to`. If `shared` is set, the i31 is shared.
+/// Returns whether the type of an i31 matches `to`. If `shared` is set, the i31 is shared.
 fn is_i31_below(scope: &Scope<'_>, to: RefType, shared: bool) -> bool
     requires to { IsValid (bare scope.now) (Ref to) }
     ensures { result ≡ is_i31_below (bare scope.now) to shared }

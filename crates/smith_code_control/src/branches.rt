@@ -98,7 +98,7 @@ impl<'a> Offer for TargetOffer<'a> {
     }
 }
 
-/// Whether each of `values` matches the type at its place in `wanted`.
+/// Returns whether each of `values` matches the type at its place in `wanted`.
 pub(crate) fn are_below(scope: &Scope<'_>, values: &[ValType], wanted: &[ValType]) -> bool
     requires scope { IsScope (bare scope.now) }
     requires values { AreValid (bare scope.now) values.now }

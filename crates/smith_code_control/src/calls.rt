@@ -110,7 +110,7 @@ fn by_reference_instr(outcome: Outcome, ty: u32) -> Instr
     }
 }
 
-/// Whether reference types may name a type by its index.
+/// Returns whether reference types may name a type by its index.
 fn may_name_types(scope: &Scope<'_>) -> bool
     ensures { result ≡ ((bare scope.now).features.reference_types && (bare scope.now).features.gc) }
 {

@@ -37,7 +37,7 @@ impl<'a> Offer for FunctionTableOffer<'a> {
     }
 }
 
-/// Whether references of the type `element` are to functions, shared or unshared.
+/// Returns whether references of the type `element` are to functions, shared or unshared.
 fn holds_functions(scope: &Scope<'_>, element: RefType) -> bool
     requires element { IsValInRange (bare scope.now).types (Ref element) }
     ensures { result ≡ holds_functions (bare scope.now).types element }

@@ -52,7 +52,7 @@ impl<'a> Offer for TypeOffer<'a> {
     }
 }
 
-/// Whether the results of `function` may have the outcome `outcome`.
+/// Returns whether the results of `function` may have the outcome `outcome`.
 pub(crate) fn is_fit(scope: &Scope<'_>, outcome: Outcome, function: &FuncType) -> bool
     requires scope { IsScope (bare scope.now) }
     requires outcome { IsOutcome (bare scope.now) outcome }

@@ -49,7 +49,7 @@ pub(crate) fn exn() -> HeapType
     }
 }
 
-/// Whether references to exceptions are enabled.
+/// Returns whether references to exceptions are enabled.
 pub(crate) fn refers_to_exceptions(scope: &Scope<'_>) -> bool
     ensures { result ≡ refers_to_exceptions (bare scope.now).features }
 {

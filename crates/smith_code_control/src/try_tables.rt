@@ -19,7 +19,7 @@ use smith_instr::{BlockType, Catch};
 use smith_types::{Items, RefType, ValType, WasmFeatures};
 use std::alloc::Global;
 
-/// Whether non-nullable references to exceptions are enabled.
+/// Returns whether non-nullable references to exceptions are enabled.
 fn refers_to_caught(scope: &Scope<'_>) -> bool
     ensures { result ≡ refers_to_caught (bare scope.now).features }
 {

@@ -5,6 +5,7 @@
 mod atomics;
 mod blocks;
 mod branches;
+mod budget;
 mod bulk;
 mod calls;
 mod casts;
@@ -12,7 +13,6 @@ mod creations;
 mod enabled;
 mod exceptions;
 mod fields;
-mod budget;
 mod memories;
 mod null_branches;
 mod offers;

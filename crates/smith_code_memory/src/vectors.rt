@@ -70,7 +70,7 @@ pub fn choose_vector(
     choose_any_vector(alloc, scope, wanted, draft, u)
 }
 
-/// Whether vectors are on.
+/// Returns whether vectors are on.
 pub(crate) fn has_vectors(scope: &Scope<'_>) -> bool
     ensures { result ≡ (bare scope.now).features.simd }
 {

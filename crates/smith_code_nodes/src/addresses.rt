@@ -20,8 +20,8 @@ pub fn narrower(one: bool, other: bool) -> ValType
     if one { address(other) } else { ValType::I32 }
 }
 
-/// Whether the addresses of a memory or a table have the type `value`. They have 64 bits if `wide`
-/// is set, else 32 bits.
+/// Returns whether the addresses of a memory or a table have the type `value`. They have 64 bits if
+/// `wide` is set, else 32 bits.
 pub fn is_address(value: ValType, wide: bool) -> bool
     ensures { result ≡ is_address value wide }
 {

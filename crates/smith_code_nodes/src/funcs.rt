@@ -44,7 +44,7 @@ impl<'a> Offer for CallOffer<'a> {
     }
 }
 
-/// Whether the first result of `function` matches `wanted`.
+/// Returns whether the first result of `function` matches `wanted`.
 pub fn is_first_below(scope: &Scope<'_>, function: &FuncType, wanted: ValType) -> bool
     requires results { AreValid (bare scope.now) function.now.results }
     requires wanted { IsValid (bare scope.now) wanted }

@@ -112,7 +112,7 @@ pub fn choose_set_local(
     Some(index as u32)
 }
 
-/// Whether `number` is in `numbers`.
+/// Returns whether `number` is in `numbers`.
 fn is_among(number: usize, numbers: &[u32]) -> bool
     ensures { result ≡ is_among number numbers.now }
 {
@@ -133,7 +133,7 @@ fn has_default(value: ValType) -> bool
     }
 }
 
-/// Whether `value` matches `wanted`. Both are valid.
+/// Returns whether `value` matches `wanted`. Both are valid.
 pub fn is_below(scope: &Scope<'_>, value: ValType, wanted: ValType) -> bool
     requires value { IsValid (bare scope.now) value }
     requires wanted { IsValid (bare scope.now) wanted }
@@ -142,7 +142,7 @@ pub fn is_below(scope: &Scope<'_>, value: ValType, wanted: ValType) -> bool
     is_sub_type(scope, value, wanted)
 }
 
-/// Whether `value` matches `wanted`. Both refer only to types of `scope`.
+/// Returns whether `value` matches `wanted`. Both refer only to types of `scope`.
 pub fn is_sub_type(scope: &Scope<'_>, value: ValType, wanted: ValType) -> bool
     requires value { IsValInRange (bare scope.now).types value }
     requires wanted { IsValInRange (bare scope.now).types wanted }

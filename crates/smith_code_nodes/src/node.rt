@@ -223,7 +223,7 @@ fn fitting(opening: Option<Opening>, sides: &Sides) -> Option<Opening>
     }
 }
 
-/// Whether the instructions of `node`, except its operands, are allowed in `scope`.
+/// Returns whether the instructions of `node`, except its operands, are allowed in `scope`.
 pub fn is_node_allowed(scope: &Scope<'_>, node: &Node) -> bool
     ensures exact { result
         ≡ is_node_allowed (features_in scope.now.features) scope.now.config.now node.now }
@@ -256,8 +256,8 @@ fn is_head_allowed(scope: &Scope<'_>, head: &Head) -> bool
     }
 }
 
-/// Whether a `try_table` of the type `ty` is allowed in `scope`: if `throw` and a `block` of that
-/// type are.
+/// Returns whether a `try_table` of the type `ty` is allowed in `scope`: if `throw` and a `block`
+/// of that type are.
 fn is_try_allowed(scope: &Scope<'_>, ty: BlockType, sides: &Sides) -> bool
     ensures exact { (clauses : List Clause) → result ≡ (is_permitted
         (features_in scope.now.features) scope.now.config.now (instr.TryTable ty clauses)
@@ -285,8 +285,8 @@ fn is_block_allowed(scope: &Scope<'_>, opening: &Instr, sides: &Sides) -> bool
     sides.params.is_empty() || is_allowed(scope, &Instr::Drop)
 }
 
-/// Whether `instruction` may be chosen in `scope`: it is enabled, and with `disallow_traps` it does
-/// not trap.
+/// Returns whether `instruction` may be chosen in `scope`: it is enabled, and with `disallow_traps`
+/// it does not trap.
 #[tactic(auto, unfolding(crate::specs::Scopes::is_permitted))]
 pub fn is_allowed(scope: &Scope<'_>, instruction: &Instr) -> bool
     ensures exact { result

@@ -20,7 +20,7 @@ pub trait Offer {
     fn count(&self) -> usize
         ensures { result ≡ Self.size self.now };
 
-    /// Whether the item at `index` is offered.
+    /// Returns whether the item at `index` is offered.
     fn is_offered(&self, index: usize) -> bool
         requires ready { Self.ready self.now }
         requires below { index < Self.size self.now }

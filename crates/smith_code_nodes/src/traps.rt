@@ -8,7 +8,7 @@ use smith_instr::{
     TableInstr,
 };
 
-/// Whether `instruction` may trap: the standard's chapter Execution.
+/// Returns whether `instruction` may trap: the standard's chapter Execution.
 pub(crate) fn may_trap(instruction: &Instr) -> bool
     ensures { result ≡ may_trap instruction.now }
 {

@@ -138,7 +138,7 @@ impl<'a> Offer for TableAddressOffer<'a> {
     }
 }
 
-/// Whether reference types are on.
+/// Returns whether reference types are on.
 fn has_references(scope: &Scope<'_>) -> bool
     ensures { result ≡ (bare scope.now).features.reference_types }
 {
