@@ -1,6 +1,4 @@
-use crate::memory::made_configurations::set_minimums;
-use smith_bytes::{Error, Unstructured};
-use smith_config::Config;
+use crate::memory::made_modules::module_of_parts;
 use smith_encode::{EncodeError, encode};
 use smith_memory::{Ended, Tried, refusals};
 use std::alloc::Global;
@@ -26,22 +24,6 @@ fn encoded(answer: Result<Vec<u8>, EncodeError>) -> Ended {
         Err(EncodeError::Memory) => Ended::Refused,
         _ => Ended::Wrong("the binary is another"),
     }
-}
-
-// A configuration with some of each part.
-const PARTS: &[u8] = &[
-    1, 1, 1, 1, 0, 0, 0, 0, 0, 0, 1, 1, 0, 1, 0, 1, 1, 0, 1, 1, 1, 0, 1, 0, 1, 1, 1,
-];
-
-fn config_of_parts() -> Config {
-    let mut config = Config::default();
-    set_minimums(&mut config);
-    config
-}
-
-// Returns a module with some of each part.
-fn module_of_parts(alloc: Global) -> Result<Module, Error> {
-    Module::new(alloc, config_of_parts(), &mut Unstructured::new(PARTS))
 }
 
 fn refusals_of(alloc: Global, module: &Module) -> Result<usize, Fail> {

@@ -1,4 +1,6 @@
+use crate::memory::made_modules::module_of_parts;
 use crate::memory::tries::refused;
+use crate::memory::whole::{is_whole, whole};
 use smith_bytes::{Error, Unstructured};
 use smith_config::Config;
 use smith_memory::{Ended, Tried, refusals};
@@ -6,43 +8,34 @@ use std::alloc::Global;
 use std::test::Fail;
 use wasm_smith::Module;
 
-// Counter of fuel that is added to `module`. `copy` is the same module, and is unchanged.
+// Counter of fuel that is added to `module`, of which `text` tells all.
 #[derive(Drop)]
 struct Counting {
     module: Module,
-    copy: Module,
+    text: String,
 }
 
 impl Tried for Counting {
     fn ended(&mut self, alloc: Global) -> Ended {
-        if are_equal(&self.module, &self.copy) {
-            counted(alloc, &mut self.module)
-        } else {
-            Ended::Wrong("the module is another")
+        match counted(alloc, &mut self.module) {
+            Ended::Refused if !is_whole(&self.module, self.text.as_str()) => {
+                Ended::Wrong("the module is another")
+            }
+            ended => ended,
         }
     }
 }
 
 fn counted(alloc: Global, module: &mut Module) -> Ended {
+    let count = module.globals().len() as u32;
     if module.globals().len() >= u32::MAX as usize {
         return Ended::Wrong("there are too many globals");
     }
     match module.ensure_termination(alloc, 5) {
-        Ok(0) => Ended::Given,
+        Ok(index) if index == count => Ended::Given,
         Ok(_) => Ended::Wrong("the counter is another"),
         Err(refusal) => refused(refusal),
     }
-}
-
-// Whether two modules are equal in the parts that a counter adds to, and in those that it must not
-// change.
-fn are_equal(one: &Module, other: &Module) -> bool {
-    one.globals() == other.globals()
-        && one.defined_globals() == other.defined_globals()
-        && one.fuel_globals() == other.fuel_globals()
-        && one.exports() == other.exports()
-        && one.code().len() == other.code().len()
-        && one.types() == other.types()
 }
 
 // A function with a parameter that is a number.
@@ -61,20 +54,26 @@ fn function(alloc: Global) -> Result<Module, Error> {
     Module::new(alloc, config_of_a_function(), &mut Unstructured::new(INPUT))
 }
 
-fn refusals_of(alloc: Global, module: Module, copy: Module) -> Result<usize, Fail> {
-    refusals(alloc, &mut Counting { module, copy })
+fn refusals_of(alloc: Global, module: Module, text: String) -> Result<usize, Fail> {
+    refusals(alloc, &mut Counting { module, text })
 }
 
-fn refusals_beside_a_copy(alloc: Global, module: Module) -> Result<usize, Fail> {
-    refusals_of(alloc, module, function(alloc)?)
+fn refusals_beside_a_text(alloc: Global, module: Module) -> Result<usize, Fail> {
+    let text = whole(alloc, &module)?;
+    refusals_of(alloc, module, text)
 }
 
 fn refusals_of_a_function(alloc: Global) -> Result<usize, Fail> {
-    refusals_beside_a_copy(alloc, function(alloc)?)
+    refusals_beside_a_text(alloc, function(alloc)?)
+}
+
+fn refusals_of_parts(alloc: Global) -> Result<usize, Fail> {
+    refusals_beside_a_text(alloc, module_of_parts(alloc)?)
 }
 
 #[test]
 fn counters(rt: HostRuntime) -> Result<(), Fail> {
     assert!(rt; refusals_of_a_function(rt.alloc())? > 0);
+    assert!(rt; refusals_of_parts(rt.alloc())? > 0);
     Ok(())
 }

@@ -37,8 +37,9 @@ pub(crate) fn set_available_imports(alloc: Global, config: &mut Config) -> Resul
     Ok(())
 }
 
-/// Sets the module shape to three memories that are imported.
+/// Sets the module shape to three memories that are imported, and allows as many.
 pub(crate) fn set_module_shape(alloc: Global, config: &mut Config) -> Result<(), Error> {
+    config.max_memories = 3;
     put(&mut config.module_shape, three_memories(alloc)?);
     Ok(())
 }

@@ -1,5 +1,5 @@
 use crate::memory::made_configurations::{
-    config_of_memories, set_available_imports, set_exports, set_minimums, set_module_shape,
+    set_available_imports, set_exports, set_minimums, set_module_shape,
 };
 use crate::memory::tries::{is_left, refused};
 use smith_bytes::{Error, Unstructured};
@@ -79,7 +79,7 @@ fn set_imports(config: &mut Config) {
 
 // Returns the number of refusals before there is enough memory.
 fn refusals_of(alloc: Global, asked: Asked, input: &'static [u8]) -> Result<usize, Fail> {
-    let mut config = config_of_memories();
+    let mut config = Config::default();
     refusals_under(alloc, asked, input, &mut config)
 }
 

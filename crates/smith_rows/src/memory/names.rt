@@ -20,20 +20,19 @@ const INPUT: &[u8] = &[
     15, 97, 98, 99, 100, 101, 102, 103, 104, 105, 106, 107, 108, 109, 110, 111, 112,
 ];
 
-// Name that is drawn, distinct from those before.
+// Name that is drawn, distinct from `names`. `copy` has the names before the draw.
 #[derive(Drop)]
 struct Naming {
     kind: Kind,
     names: HashSet<String>,
+    copy: HashSet<String>,
 }
 
 impl Tried for Naming {
     fn ended(&mut self, alloc: Global) -> Ended {
         let mut u = Unstructured::new(INPUT);
-        let ended = drawn(
-            named(alloc, self.kind, &mut self.names, &mut u),
-            &self.names,
-        );
+        let answer = named(alloc, self.kind, &mut self.names, &mut u);
+        let ended = drawn(answer, &self.names, &self.copy);
         if is_left(&u, INPUT) {
             ended
         } else {
@@ -42,16 +41,22 @@ impl Tried for Naming {
     }
 }
 
-// Returns the outcome of the draw that answered `answer` and left `names`.
-fn drawn(answer: Result<String, Error>, names: &HashSet<String>) -> Ended {
-    if !NAMES.iter().all(|name| names.contains(*name)) {
-        return Ended::Wrong("the names are others");
-    }
+// Returns the outcome of the draw that answered `answer` and left `names`, which were `before`.
+fn drawn(
+    answer: Result<String, Error>,
+    names: &HashSet<String>,
+    before: &HashSet<String>,
+) -> Ended {
     match answer {
-        Ok(_) if names.len() == NAMES.len() + 1 => Ended::Given,
-        Err(Error::Memory) if names.len() == NAMES.len() => Ended::Refused,
+        Ok(_) if has_one_more(names, before) => Ended::Given,
+        Err(Error::Memory) if names == before => Ended::Refused,
         _ => Ended::Wrong("the names are others"),
     }
+}
+
+// Whether `names` are those of `before` and one more.
+fn has_one_more(names: &HashSet<String>, before: &HashSet<String>) -> bool {
+    names.len() == before.len().saturating_add(1) && before.is_subset(names)
 }
 
 fn named(
@@ -76,8 +81,12 @@ fn standing(alloc: Global) -> Result<HashSet<String>, AllocError> {
 }
 
 fn refusals_of(alloc: Global, kind: Kind) -> Result<usize, Fail> {
-    let names = standing(alloc)?;
-    refusals(alloc, &mut Naming { kind, names })
+    let mut naming = Naming {
+        kind,
+        names: standing(alloc)?,
+        copy: standing(alloc)?,
+    };
+    refusals(alloc, &mut naming)
 }
 
 #[test]

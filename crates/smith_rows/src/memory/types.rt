@@ -1,31 +1,59 @@
 use crate::memory::made_types::empty_struct;
 use smith_bytes::Error;
 use smith_memory::{Ended, Tried, refusals};
-use smith_types::TypeSpace;
+use smith_types::{SubType, TypeSpace};
 use std::alloc::Global;
+use std::ops::Range;
 use std::test::Fail;
 
-// Types that are pushed onto a space, each a subtype of the one before, in one group.
+// Types that are pushed onto a space, each a subtype of the one before, in two groups.
 #[derive(Drop)]
 struct Pushes;
 
-const TYPES: u32 = 5;
+// The pushes: whether each is of a group, and how many types and groups stand before it.
+const PUSHES: [(bool, u32, usize); 7] = [
+    (false, 0, 0),
+    (false, 1, 0),
+    (true, 2, 0),
+    (false, 2, 1),
+    (false, 3, 1),
+    (false, 4, 1),
+    (true, 5, 1),
+];
+
+// The types of each group.
+const GROUPS: [Range<usize>; 2] = [0..2, 2..5];
 
 impl Tried for Pushes {
     fn ended(&mut self, alloc: Global) -> Ended {
         let mut types = TypeSpace::new(alloc);
-        for index in 0..TYPES {
-            match push(alloc, &mut types, index) {
+        for (is_group, standing, groups) in PUSHES {
+            match push(alloc, &mut types, is_group, standing) {
                 Ok(()) => {}
-                Err(Error::Memory) if is_chain(&types, index) => return Ended::Refused,
+                Err(Error::Memory) if is_chain(alloc, &types, standing, groups) => {
+                    return Ended::Refused;
+                }
                 Err(_) => return Ended::Wrong("the types are others"),
             }
         }
-        grouped(&mut types)
+        whole(alloc, &types)
     }
 }
 
-fn push(alloc: Global, types: &mut TypeSpace, index: u32) -> Result<(), Error> {
+// Returns the outcome of all pushes.
+fn whole(alloc: Global, types: &TypeSpace) -> Ended {
+    if is_chain(alloc, types, 5, 2) {
+        Ended::Given
+    } else {
+        Ended::Wrong("the types are others")
+    }
+}
+
+// Pushes a group, or the type `index`.
+fn push(alloc: Global, types: &mut TypeSpace, is_group: bool, index: u32) -> Result<(), Error> {
+    if is_group {
+        return types.push_group();
+    }
     let added = empty_struct(alloc, false, index.checked_sub(1));
     if types.may_follow(&added) {
         let _ = types.push_type(added)?;
@@ -33,22 +61,19 @@ fn push(alloc: Global, types: &mut TypeSpace, index: u32) -> Result<(), Error> {
     Ok(())
 }
 
-// Whether `types` has `count` types, each a subtype of the one before, and no group.
-fn is_chain(types: &TypeSpace, count: u32) -> bool {
-    let above = types.types().iter().map(|ty| ty.supertype);
-    types.rec_groups().is_empty()
-        && types.types().len() == count as usize
-        && above
-            .zip(0..count)
-            .all(|(supertype, index)| supertype == index.checked_sub(1))
+// Whether `types` has the first `standing` types, each a subtype of the one before, the first
+// `groups` groups, and nothing else.
+fn is_chain(alloc: Global, types: &TypeSpace, standing: u32, groups: usize) -> bool {
+    types.types().len() == standing as usize
+        && types.rec_groups().len() == groups
+        && GROUPS.starts_with(types.rec_groups())
+        && are_links(alloc, types.types())
 }
 
-fn grouped(types: &mut TypeSpace) -> Ended {
-    match types.push_group() {
-        Ok(()) if types.rec_groups().len() == 1 => Ended::Given,
-        Err(Error::Memory) if is_chain(types, TYPES) => Ended::Refused,
-        _ => Ended::Wrong("the groups are others"),
-    }
+// Whether each of `types` is an empty structure, a subtype of the one before.
+fn are_links(alloc: Global, types: &[SubType]) -> bool {
+    types.iter().zip(0u32..).all(|(ty, index)| *ty
+        == empty_struct(alloc, false, index.checked_sub(1)))
 }
 
 #[test]
