@@ -44,7 +44,7 @@ pub fn refusals<T: Tried>(alloc: Global, call: &mut T) -> Result<usize, Fail> {
     Err(Fail::new("the call wants more memory than is tried"))
 }
 
-/// Whether `left` is a piece of `whole`.
+/// Returns whether `left` is a piece of `whole`.
 pub fn is_piece(left: &[u8], whole: &[u8]) -> bool {
     left.is_empty() || whole.windows(left.len()).any(|window| window == left)
 }

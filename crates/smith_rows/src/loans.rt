@@ -7,7 +7,7 @@ fn lent<'a>(u: &mut Unstructured<'a>) -> Result<(&'a str, &'a [u8]), Error> {
     Ok((name, u.bytes(2)?))
 }
 
-// Whether `u`, which has `cde` and one more byte, returns the expected draws.
+// Returns whether `u`, which has `cde` and one more byte, returns the expected draws.
 fn draws_on(u: &mut Unstructured<'_>) -> bool {
     u.peek_bytes(3) == Some(b"cde".as_slice())
         && u.arbitrary::<u8>() == b'c'

@@ -54,7 +54,7 @@ fn drawn(
     }
 }
 
-// Whether `names` are those of `before` and one more.
+// Returns whether `names` are those of `before` and one more.
 fn has_one_more(names: &HashSet<String>, before: &HashSet<String>) -> bool {
     names.len() == before.len().saturating_add(1) && before.is_subset(names)
 }

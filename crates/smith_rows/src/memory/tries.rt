@@ -11,7 +11,7 @@ pub(crate) fn refused(refusal: Error) -> Ended {
     }
 }
 
-/// Whether the rest of `u` is a piece of `input`.
+/// Returns whether the rest of `u` is a piece of `input`.
 pub(crate) fn is_left(u: &Unstructured<'_>, input: &[u8]) -> bool {
     u.peek_bytes(u.len())
         .is_some_and(|left| is_piece(left, input))

@@ -61,8 +61,8 @@ fn push(alloc: Global, types: &mut TypeSpace, is_group: bool, index: u32) -> Res
     Ok(())
 }
 
-// Whether `types` has the first `standing` types, each a subtype of the one before, the first
-// `groups` groups, and nothing else.
+// Returns whether `types` has the first `standing` types, each a subtype of the one before, the
+// first `groups` groups, and nothing else.
 fn is_chain(alloc: Global, types: &TypeSpace, standing: u32, groups: usize) -> bool {
     types.types().len() == standing as usize
         && types.rec_groups().len() == groups
@@ -70,7 +70,7 @@ fn is_chain(alloc: Global, types: &TypeSpace, standing: u32, groups: usize) -> b
         && are_links(alloc, types.types())
 }
 
-// Whether each of `types` is an empty structure, a subtype of the one before.
+// Returns whether each of `types` is an empty structure, a subtype of the one before.
 fn are_links(alloc: Global, types: &[SubType]) -> bool {
     types.iter().zip(0u32..).all(|(ty, index)| *ty
         == empty_struct(alloc, false, index.checked_sub(1)))

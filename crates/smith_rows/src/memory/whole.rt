@@ -37,7 +37,7 @@ impl fmt::Write for Expecting<'_> {
     }
 }
 
-/// Whether `text` is what [`whole`] returns for `module`. Takes no memory.
+/// Returns whether `text` is what [`whole`] returns for `module`. Takes no memory.
 pub(crate) fn is_whole(module: &Module, text: &str) -> bool {
     let mut expecting = Expecting {
         rest: text.as_bytes(),
