@@ -17,22 +17,22 @@ struct Counting {
 
 impl Tried for Counting {
     fn ended(&mut self, alloc: Global) -> Ended {
-        match counted(alloc, &mut self.module) {
-            Ended::Refused if !is_whole(&self.module, self.text.as_str()) => {
-                Ended::Wrong("the module is another")
-            }
-            ended => ended,
+        let ended = counted(alloc, &mut self.module);
+        match (ended, is_whole(&self.module, self.text.as_str())) {
+            (Ended::Refused, false) => Ended::Wrong("the module is another"),
+            (Ended::Given, true) => Ended::Wrong("the module is the same"),
+            (ended, _) => ended,
         }
     }
 }
 
 fn counted(alloc: Global, module: &mut Module) -> Ended {
-    let count = module.globals().len() as u32;
-    if module.globals().len() >= u32::MAX as usize {
+    let count = module.globals().len();
+    if count >= u32::MAX as usize {
         return Ended::Wrong("there are too many globals");
     }
     match module.ensure_termination(alloc, 5) {
-        Ok(index) if index == count => Ended::Given,
+        Ok(index) if index as usize == count => Ended::Given,
         Ok(_) => Ended::Wrong("the counter is another"),
         Err(refusal) => refused(refusal),
     }
