@@ -302,13 +302,19 @@ pub fn arbitrary_heap_type(
 ) -> Result<HeapType, Error>
     requires sanitized { IsSanitized config.now }
     requires may_share { IsTrue must_share → IsTrue config.now.shared_everything_threads_enabled }
+
+    // What is drawn.
     ensures ok { IsOk result }
     ensures draws { Draws
         (heap_type_at config.now spaces.now.types.now.types must_share limit u.old)
         result u.old u.new }
+
+    // Validity.
     ensures valid { IfOk result (IsHeapTypeValid (features_of config.now) limit) }
     ensures stands { IfOk result (IsInRange spaces.now.types.now.types) }
     ensures shared { IsTrue must_share → IfOk result (IsHeapTypeShared spaces.now.types.now.types) }
+
+    // Reach.
     ensures reach { must_share ≡ false → IfOk result (λ drawn.
         Takes (SpellsSuch (IsInRange spaces.now.types.now.types) (SpellsHeapType config.now limit))
         u.old drawn u.new) }
@@ -339,16 +345,22 @@ pub fn arbitrary_ref_type(
 ) -> Result<RefType, Error>
     requires sanitized { IsSanitized config.now }
     requires may_share { IsTrue must_share → IsTrue config.now.shared_everything_threads_enabled }
+
+    // What is drawn.
     ensures ok { IsOk result }
     ensures draws { Draws
         (ref_type_at config.now (standing_in config.now spaces.now) must_share limit u.old)
         result u.old u.new }
+
+    // Validity and references.
     ensures granted { IfOk result (λ drawn.
         drawn.nullable ≡ false → IsGrounded (standing_in config.now spaces.now) drawn.heap_type) }
     ensures valid { IfOk result (IsRefTypeValid (features_of config.now) limit) }
     ensures stands { IfOk result (λ drawn. IsInRange spaces.now.types.now.types drawn.heap_type) }
     ensures shared { IsTrue must_share
         → IfOk result (λ drawn. IsHeapTypeShared spaces.now.types.now.types drawn.heap_type) }
+
+    // Reach.
     ensures reach { must_share ≡ false → IfOk result (λ drawn. Takes
         (SpellsSuch (λ reference. RefersTo config.now spaces.now.types.now.types (Ref reference))
         (SpellsRefType config.now limit)) u.old drawn u.new) }
@@ -376,14 +388,20 @@ pub fn arbitrary_valtype(
 ) -> Result<ValType, Error>
     requires sanitized { IsSanitized config.now }
     requires may_share { IsTrue must_share → IsTrue config.now.shared_everything_threads_enabled }
+
+    // What is drawn.
     ensures ok { IsOk result }
     ensures draws { Draws
         (val_type_at config.now (standing_in config.now spaces.now) must_share limit u.old)
         result u.old u.new }
+
+    // Validity and references.
     ensures granted { IfOk result (IsGranted config.now (standing_in config.now spaces.now)) }
     ensures valid { IfOk result (IsValTypeValid (features_of config.now) limit) }
     ensures stands { IfOk result (IsValInRange spaces.now.types.now.types) }
     ensures shared { IsTrue must_share → IfOk result (IsShareable spaces.now.types.now.types) }
+
+    // Reach.
     ensures reach { must_share ≡ false → IfOk result (λ drawn. Takes (SpellsSuch
         (RefersTo config.now spaces.now.types.now.types) (SpellsValType config.now limit))
         u.old drawn u.new) }

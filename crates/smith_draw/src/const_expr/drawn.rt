@@ -36,15 +36,21 @@ pub(super) fn draw_whole_expression(
     requires wanted { IsValTypeValid (context_of scope.now).features
         (length (context_of scope.now).types) wanted }
     requires kept { AreKeptOffers (context_of scope.now) kept.old }
+
+    // What is drawn.
     ensures exact { IfOk result (λ drawn. expression_alone_at (context_of scope.now)
         scope.now.config.now scope.now.config.now.const_expr_fuel wanted u.old
         ≡ Some (drawn, u.new)) }
     ensures none { IfErr result (λ e. e ≡ Error.EmptyChoose
         → expression_alone_at (context_of scope.now) scope.now.config.now
         scope.now.config.now.const_expr_fuel wanted u.old ≡ None) }
+
+    // Validity and bounds.
     ensures typed { IfOk result (IsConstExpr (context_of scope.now) wanted) }
     ensures short { IfOk result (λ drawn.
         length drawn ≤ most_instructions scope.now.config.now (context_of scope.now).types) }
+
+    // The records, refusals and the source.
     ensures kept { OnOk result (AreKeptOffers (context_of scope.now) kept.new) }
     ensures refusal { IfErr result
         (MayRefuseConstExpr scope.now.config.now (context_of scope.now) wanted) }
