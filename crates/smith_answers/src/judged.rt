@@ -1,9 +1,6 @@
 use crate::answers::answer;
-use crate::call::RECORDED;
-use crate::case::{Case, read_case};
-use crate::fault::Fault;
-use crate::input::bytes_of;
-use crate::wanted::{check_wanted, first_difference};
+use smith_case::call::RECORDED;
+use smith_case::{Case, Fault, bytes_of, check_wanted, first_difference, read_case};
 use std::alloc::{AllocError, Global};
 
 /// Answers the case of `line` twice, or once if the answer is a checksum, and appends to `report`

@@ -1,59 +1,12 @@
 //! Answers cases, each a JSON object on a line, and compares the answers with those that the cases
 //! want.
 //!
-//! Each key occurs once, and a key that the call does not read is refused.
-//!
-//! - `name` says what the case shows.
-//! - `call` names the call as Rust does, such as `Module::new`, `spell` or `arbitrary_const_expr`.
-//!   `call.rt` lists them. `Module::new of Config::arbitrary` draws the configuration first and the
-//!   module from the bytes left. `encode` adds fuel to the module of `Module::new` for each
-//!   argument and encodes it. `Program::new` and `encode of Program::new` do the same with the
-//!   program, and report the bytes of the input left. `recorded` makes checksums of the results for
-//!   generated inputs.
-//! - `args` lists the arguments of the call: numbers in decimal, types and heap types as the text
-//!   format writes them without its abbreviations, function types and entities as shapes write
-//!   them, `true` and `false`, names. The functions in `answers` that make the calls describe each.
-//! - `config` holds the fields of the configuration that are not the default, as `smith_json` reads
-//!   them.
-//! - `available-imports`, `exports` and `module-shape` name the shapes of the configuration,
-//!   `shape` the shape that the call is about, and `types` the shape whose types the call draws
-//!   over or compares. The shapes are in `shapes.rt` and `checked_shapes.rt`.
-//! - `input` is the input in hexadecimal, with blanks between words. `00*512` means 512 bytes 00.
-//! - `inputs` is `each byte` for all inputs of one byte, `each even byte` or `each odd byte` for
-//!   half of them, or `each cut` for each prefix of `input`. The case then wants the same of each
-//!   answer.
-//!
-//! An answer is text: the text of a module as `smith_text` writes it, or of a program as
-//! `smith_program_text` does; for encoded ones the line `8 bytes, SHA-256 93a4..`, and the bytes
-//! after the word `binary` if there are at most 200; else a line for each value. A refusal is a
-//! line such as `refused: IncorrectFormat(TypeSize)`. After a draw, `left 2` is the number of bytes
-//! left, and `next 0102` the first of them.
-//!
-//! A case wants at least one of the first four of these, none of them empty. Blanks around lines do
-//! not count.
-//!
-//! - `answer` lists all lines, or those up to a last line `...`.
-//! - `lines` lists lines that occur in this order.
-//! - `pieces` lists pieces that occur.
-//! - `may` lists the kinds that the answer may have: `Ok`, or the refusal's name as in
-//!   `IncorrectFormat(TypeSize)`.
-//! - `absent` lists pieces that do not occur.
+//! The documentation of `smith_case` explains the keys of a case. Calls that make a module or a
+//! program are answered here, and all others in `smith_part_answers`.
 #![tactic(auto)]
 
 mod answers;
-mod arguments;
-mod call;
-mod case;
-mod checked_shapes;
-mod fault;
-mod input;
 mod judged;
-mod keys;
-mod large_parts;
 mod recorded;
-mod shape_parts;
-mod shapes;
-mod type_names;
-mod wanted;
 
 pub use judged::judge;

@@ -12,7 +12,7 @@
 //! rt try --seconds 600 < stdin
 //! ```
 //!
-//! The documentation of `smith_answers` explains the keys of a case.
+//! The documentation of `smith_case` explains the keys of a case.
 #![tactic(auto)]
 
 #[cfg(test)]

@@ -1,7 +1,7 @@
-use crate::answers::told::tell_bytes;
-use crate::fault::Fault;
 use sha2::{Digest, Sha256};
+use smith_case::Fault;
 use smith_encode::encode;
+use smith_part_answers::tell_bytes;
 use std::alloc::Global;
 use wasm_smith::Module;
 

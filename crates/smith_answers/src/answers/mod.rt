@@ -1,42 +1,19 @@
 //! The answers to calls, each as text.
 
 mod binaries;
-mod configs;
-mod configured;
-mod constants;
-mod copies;
-mod draws;
-mod entities;
-mod free_types;
-mod matching;
 mod modules;
-mod names;
-mod numbers;
-mod parsers;
 mod programs;
-mod sources;
-mod spaces;
-mod subtypes;
-mod told;
-mod type_spaces;
 
-use crate::answers::configs::{answer_config, answer_drawn_config};
-use crate::answers::configured::set_config;
-use crate::answers::copies::answer_copies;
-use crate::answers::draws::answer_draw;
 use crate::answers::modules::answer_module;
-use crate::answers::names::answer_name;
-use crate::answers::parsers::answer_parser;
 use crate::answers::programs::answer_program;
-use crate::answers::sources::answer_source;
-use crate::answers::subtypes::answer_subtype;
-use crate::answers::type_spaces::answer_space;
-use crate::call::{Call, ConfigCall, call_named};
-use crate::case::Case;
-use crate::fault::Fault;
-use crate::keys::check_keys;
 use crate::recorded::answer_recorded;
+use smith_case::call::{Call, ConfigCall, call_named};
+use smith_case::{Case, Fault, check_keys};
 use smith_config::Config;
+use smith_part_answers::{
+    answer_config, answer_copies, answer_draw, answer_drawn_config, answer_name, answer_parser,
+    answer_source, answer_space, answer_subtype, set_config,
+};
 use std::alloc::Global;
 
 /// Returns the answer to the call of `case`, which `line` holds, over the bytes `input`.

@@ -1,12 +1,10 @@
 use crate::answers::binaries::tell_binary;
-use crate::answers::configured::taken;
-use crate::answers::told::{tell_refusal, tell_rest};
-use crate::arguments::{number, word};
-use crate::call::ModuleCall;
-use crate::case::Case;
-use crate::fault::Fault;
 use smith_bytes::{Error, Unstructured};
+use smith_case::arguments::{number, word};
+use smith_case::call::ModuleCall;
+use smith_case::{Case, Fault};
 use smith_config::Config;
+use smith_part_answers::{taken, tell_refusal, tell_rest};
 use smith_text::text;
 use std::alloc::Global;
 use wasm_smith::{DuplicateImportsBehavior, Module};

@@ -1,12 +1,10 @@
 use crate::answers::binaries::tell_bytes_whole;
-use crate::answers::configured::taken;
-use crate::answers::told::{tell_refusal, tell_rest};
-use crate::arguments::number;
-use crate::call::ProgramCall;
-use crate::case::Case;
-use crate::fault::Fault;
 use smith_bytes::{Error, Unstructured};
+use smith_case::arguments::number;
+use smith_case::call::ProgramCall;
+use smith_case::{Case, Fault};
 use smith_config::Config;
+use smith_part_answers::{taken, tell_refusal, tell_rest};
 use smith_program::Program;
 use smith_program_binary::encode;
 use smith_program_text::text;

@@ -4,13 +4,12 @@
 mod answer_kinds;
 mod formula;
 
-use crate::arguments::{at_most, number, read};
-use crate::case::Case;
-use crate::fault::Fault;
 use crate::recorded::answer_kinds::AnswerKinds;
 use crate::recorded::formula::{Formula, formula_named};
 use sha2::{Digest, Sha256};
 use smith_bytes::{Error, Unstructured};
+use smith_case::arguments::{at_most, number, read};
+use smith_case::{Case, Fault};
 use smith_config::Config;
 use smith_text::text;
 use std::alloc::Global;

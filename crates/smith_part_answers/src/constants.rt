@@ -2,14 +2,13 @@ ghost use Rattle.std.specs.Prelude.{◌≡◌, false, length, IsTrue, IfOk};
 ghost use Rattle.smith_config.specs.Features.{features_of};
 ghost use Rattle.smith_types.specs.ValidTypes.{AreTypesValid, IsRefTypeValid, IsValTypeValid};
 
-use crate::answers::spaces::{Over, number_global, spaces_of, with_globals};
-use crate::answers::told::{tell_refusal, tell_values};
-use crate::arguments::{at_most, flag, read, word};
-use crate::call::ConstantCall;
-use crate::case::Case;
-use crate::fault::Fault;
-use crate::type_names::{ref_type_of, val_type_of};
+use crate::spaces::{Over, number_global, spaces_of, with_globals};
+use crate::told::{tell_refusal, tell_values};
 use smith_bytes::{Error, Unstructured};
+use smith_case::arguments::{at_most, flag, read, word};
+use smith_case::call::ConstantCall;
+use smith_case::{Case, Fault};
+use smith_case_shapes::{ref_type_of, val_type_of};
 use smith_draw::{arbitrary_const_expr, arbitrary_table_init, globals_for_const_expr};
 use smith_types::{
     ConstInstr, Items, RefType, ValType, are_types_valid, is_ref_type_valid, is_val_type_valid,

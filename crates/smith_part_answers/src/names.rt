@@ -1,19 +1,18 @@
-use crate::answers::told::{tell_refusal, tell_rest};
-use crate::arguments::number;
-use crate::call::NameCall;
-use crate::case::Case;
-use crate::fault::Fault;
+use crate::told::{tell_refusal, tell_rest};
 use smith_bytes::{
     Error, Unstructured, limited_str, limited_string, unique_kebab_string, unique_string,
     unique_url,
 };
+use smith_case::arguments::number;
+use smith_case::call::NameCall;
+use smith_case::{Case, Fault};
 use std::alloc::Global;
 use std::collections::HashSet;
 
 /// Appends the name that `call` draws from `input`, the names that are taken afterwards, and the
 /// bytes left. The first argument is the greatest number of bytes of a name, the others are the
 /// names that are taken.
-pub(crate) fn answer_name(
+pub fn answer_name(
     alloc: Global,
     case: &Case,
     call: NameCall,

@@ -1,13 +1,14 @@
 ghost use Rattle.smith_config.specs.Sanitized.{IsSanitized};
 
-use crate::answers::spaces::{Over, spaces_of};
-use crate::answers::told::tell_drawn;
-use crate::arguments::{at_most, number, read, word};
-use crate::call::MatchingCall;
-use crate::fault::Fault;
-use crate::shape_parts::function_of;
-use crate::type_names::{field_type_of, heap_type_of, ref_type_of, storage_type_of, val_type_of};
+use crate::spaces::{Over, spaces_of};
+use crate::told::tell_drawn;
 use smith_bytes::Unstructured;
+use smith_case::Fault;
+use smith_case::arguments::{at_most, number, read, word};
+use smith_case::call::MatchingCall;
+use smith_case_shapes::{
+    field_type_of, function_of, heap_type_of, ref_type_of, storage_type_of, val_type_of,
+};
 use smith_draw::{
     arbitrary_matching_field_type, arbitrary_matching_func_type, arbitrary_matching_heap_type,
     arbitrary_matching_ref_type, arbitrary_matching_storage_type, arbitrary_matching_struct_type,

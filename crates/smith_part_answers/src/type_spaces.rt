@@ -3,15 +3,13 @@ ghost use Rattle.smith_types.specs.Matching.{IsInnerInRange};
 ghost use Rattle.smith_types.specs.Sizes.{IsTyped, size_in};
 ghost use Rattle.smith_types.specs.GroupedTypes.{MayFollow};
 
-use crate::answers::spaces::types_of;
-use crate::answers::told::{tell_refusal, tell_types, tell_values};
-use crate::arguments::{at_most, number, read, word};
-use crate::call::SpaceCall;
-use crate::case::Case;
-use crate::fault::Fault;
-use crate::shape_parts::entity_of;
-use crate::shapes::shape_named;
+use crate::spaces::types_of;
+use crate::told::{tell_refusal, tell_types, tell_values};
 use smith_bytes::Error;
+use smith_case::arguments::{at_most, number, read, word};
+use smith_case::call::SpaceCall;
+use smith_case::{Case, Fault};
+use smith_case_shapes::{entity_of, shape_named};
 use smith_draw::{TypeUse, add_type, list_types};
 use smith_types::{
     CompositeInnerType, CompositeType, EntityType, Items, StandingValue, SubType, TypeSpace,
@@ -20,7 +18,7 @@ use smith_types::{
 use std::alloc::Global;
 
 /// Appends the result of `call` on the type space of `case`.
-pub(crate) fn answer_space(
+pub fn answer_space(
     alloc: Global,
     case: &Case,
     call: SpaceCall,

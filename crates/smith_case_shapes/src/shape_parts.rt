@@ -1,6 +1,6 @@
-use crate::fault::Fault;
 use crate::large_parts::{cycle_of, export_many, fan_of, wide_of};
 use crate::type_names::{field_type_of, ref_type_of, val_type_of};
+use smith_case::Fault;
 use smith_config::Shape;
 use smith_types::{
     ArrayType, CompositeInnerType, CompositeType, EntityType, ExportKind, FuncType, GlobalType,
@@ -173,7 +173,7 @@ fn inner_of(alloc: Global, text: &str) -> Result<CompositeInnerType, Fault> {
 }
 
 /// Reads the function type that `text` writes: `i32,f64 -> i64`.
-pub(crate) fn function_of(alloc: Global, text: &str) -> Result<FuncType, Fault> {
+pub fn function_of(alloc: Global, text: &str) -> Result<FuncType, Fault> {
     let Some((params, results)) = text.split_once("->") else {
         return Err(Fault::UnknownShape);
     };
@@ -249,7 +249,7 @@ fn names_of(alloc: Global, text: &str) -> Result<Imports, Fault> {
 }
 
 /// Reads the entity that `text` writes.
-pub(crate) fn entity_of(text: &str) -> Option<EntityType> {
+pub fn entity_of(text: &str) -> Option<EntityType> {
     let (word, rest) = split_word(text);
     match word {
         "func" => Some(EntityType::Func(rest.parse::<u32>().ok()?)),

@@ -3,7 +3,7 @@ use std::alloc::{AllocError, AllocFailed};
 
 /// Reasons why a case cannot be answered.
 #[derive(Clone, Copy, Debug, thiserror::Error)]
-pub(crate) enum Fault {
+pub enum Fault {
     /// The line is not a JSON object of strings and lists of strings, from this byte on.
     #[error("no object of a case, from byte {0} on")]
     Syntax(usize),
@@ -54,10 +54,10 @@ pub(crate) enum Fault {
     #[error("the call may not be made: {0}")]
     NotCallable(&'static str),
     /// The configuration cannot be read.
-    #[error("the configuration, line {line}, column {column}: {fault:?}")]
+    #[error("the configuration, line {line}, column {column}: {fault}")]
     Config {
-        /// The fault.
-        fault: smith_json::Fault,
+        /// The name of the fault.
+        fault: &'static str,
         /// The line of the fault, from 1.
         line: usize,
         /// The column in that line, from 1.

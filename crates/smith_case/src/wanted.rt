@@ -4,7 +4,7 @@ use std::fmt;
 
 /// First difference of an answer from the wanted one.
 #[derive(Clone, Copy, Drop)]
-pub(crate) enum Difference<'a> {
+pub enum Difference<'a> {
     /// The kind of the answer is none of those allowed.
     Kind(&'a str),
     /// Another line at this place, from 1.
@@ -41,7 +41,7 @@ impl fmt::Display for Difference<'_> {
 }
 
 /// Checks that `case` wants something that not every answer has, and no list that is empty.
-pub(crate) fn check_wanted(case: &Case) -> Result<(), Fault> {
+pub fn check_wanted(case: &Case) -> Result<(), Fault> {
     let wanted = [
         &case.wanted.answer,
         &case.wanted.lines,
@@ -82,7 +82,7 @@ fn has_blank(texts: &[String]) -> bool {
 
 /// Returns the first difference of the answer `answer` from the one that `case` wants: of its kind,
 /// then of all of its lines, then of single lines, of pieces, and of absent pieces.
-pub(crate) fn first_difference<'a>(answer: &'a str, case: &'a Case) -> Option<Difference<'a>> {
+pub fn first_difference<'a>(answer: &'a str, case: &'a Case) -> Option<Difference<'a>> {
     let kind = kind_of(answer);
     if case.wanted.may.is_some()
         && !list(&case.wanted.may)

@@ -39,7 +39,7 @@ fn inside<'a>(text: &'a str, keyword: &str) -> Option<&'a str> {
 }
 
 /// Reads the heap type that `text` writes: `any`, `(shared any)`, `0`, `(exact 0)`.
-pub(crate) fn heap_type_of(text: &str) -> Option<HeapType> {
+pub fn heap_type_of(text: &str) -> Option<HeapType> {
     if let Some(name) = inside(text, "(shared ") {
         return abstract_of(true, name);
     }
@@ -53,7 +53,7 @@ pub(crate) fn heap_type_of(text: &str) -> Option<HeapType> {
 }
 
 /// Reads the reference type that `text` writes: `(ref any)`, `(ref null 0)`.
-pub(crate) fn ref_type_of(text: &str) -> Option<RefType> {
+pub fn ref_type_of(text: &str) -> Option<RefType> {
     let referred = inside(text, "(ref ")?;
     let (nullable, heap_type) = match referred.strip_prefix("null ") {
         Some(heap_type) => (true, heap_type),
@@ -66,7 +66,7 @@ pub(crate) fn ref_type_of(text: &str) -> Option<RefType> {
 }
 
 /// Reads the value type that `text` writes.
-pub(crate) fn val_type_of(text: &str) -> Option<ValType> {
+pub fn val_type_of(text: &str) -> Option<ValType> {
     match text {
         "i32" => Some(ValType::I32),
         "i64" => Some(ValType::I64),
@@ -78,7 +78,7 @@ pub(crate) fn val_type_of(text: &str) -> Option<ValType> {
 }
 
 /// Reads the storage type that `text` writes.
-pub(crate) fn storage_type_of(text: &str) -> Option<StorageType> {
+pub fn storage_type_of(text: &str) -> Option<StorageType> {
     match text {
         "i8" => Some(StorageType::I8),
         "i16" => Some(StorageType::I16),
@@ -87,7 +87,7 @@ pub(crate) fn storage_type_of(text: &str) -> Option<StorageType> {
 }
 
 /// Reads the field type that `text` writes: a storage type, or `(mut TYPE)`.
-pub(crate) fn field_type_of(text: &str) -> Option<FieldType> {
+pub fn field_type_of(text: &str) -> Option<FieldType> {
     let (mutable, element_type) = match inside(text, "(mut ") {
         Some(element_type) => (true, element_type),
         None => (false, text),

@@ -1,7 +1,7 @@
 //! Parts of shapes that are too large to be written out.
 
-use crate::fault::Fault;
 use crate::shape_parts::open_struct;
+use smith_case::Fault;
 use smith_types::{
     CompositeInnerType, CompositeType, ExportKind, FieldType, HeapType, Items, Name, RefType,
     StorageType, StructType, SubType, ValType,

@@ -1,13 +1,12 @@
-use crate::answers::configs::shape_of;
-use crate::case::Case;
-use crate::fault::Fault;
+use crate::configs::shape_of;
 use smith_bytes::Error;
+use smith_case::{Case, Fault};
 use smith_types::{CompositeInnerType, CompositeType, ImportItem, Imports, Items, SubType};
 use std::alloc::Global;
 
 /// Appends a line for each group, type and import of the shape of `case`, and for each of their
 /// parts, that says whether a copy is equal. A group of imports is printed before its lines.
-pub(crate) fn answer_copies(alloc: Global, case: &Case, answer: &mut String) -> Result<(), Fault> {
+pub fn answer_copies(alloc: Global, case: &Case, answer: &mut String) -> Result<(), Fault> {
     let shape = shape_of(alloc, case)?;
     answer_groups(alloc, shape.groups.as_slice(), answer)?;
     answer_imports(alloc, shape.imports.as_slice(), answer)

@@ -1,8 +1,7 @@
-use crate::arguments::{at_most, flag, number};
-use crate::call::NumberCall;
-use crate::case::Case;
-use crate::fault::Fault;
 use smith_bytes::Unstructured;
+use smith_case::arguments::{at_most, flag, number};
+use smith_case::call::NumberCall;
+use smith_case::{Case, Fault};
 use smith_draw::{arbitrary_limits64, arbitrary_offset, gradually_grow};
 
 /// Appends the numbers that `call` draws.

@@ -1,7 +1,6 @@
-use crate::case::{Case, goes_to_config};
-use crate::fault::Fault;
-use crate::shapes::shape_named;
 use json::{Reader, Scratch};
+use smith_case::{Case, Fault, goes_to_config};
+use smith_case_shapes::shape_named;
 use smith_config::{Config, Shape};
 use smith_json::{ConfigRefusal, Refusal, read_config};
 use std::alloc::Global;
@@ -9,7 +8,7 @@ use std::mem;
 
 /// Sets the fields and the shapes of `case` in `config`, which is the default. `line` holds the
 /// case.
-pub(crate) fn set_config(
+pub fn set_config(
     alloc: Global,
     line: &str,
     case: &Case,
@@ -20,7 +19,7 @@ pub(crate) fn set_config(
 }
 
 /// Returns the configuration `config`, and leaves the default in its place.
-pub(crate) fn taken(config: &mut Config) -> Config {
+pub fn taken(config: &mut Config) -> Config {
     mem::replace(config, Config::default())
 }
 
@@ -57,9 +56,21 @@ fn fault_of(refusal: Refusal, line: &str) -> Fault {
         column,
     } = refusal.in_text(line);
     Fault::Config {
-        fault,
+        fault: name_of(fault),
         line,
         column,
+    }
+}
+
+fn name_of(fault: smith_json::Fault) -> &'static str {
+    match fault {
+        smith_json::Fault::NotAnObject => "NotAnObject",
+        smith_json::Fault::UnknownField => "UnknownField",
+        smith_json::Fault::RepeatedField => "RepeatedField",
+        smith_json::Fault::WrongType => "WrongType",
+        smith_json::Fault::OutOfRange => "OutOfRange",
+        smith_json::Fault::TextAfter => "TextAfter",
+        smith_json::Fault::OutOfMemory => "OutOfMemory",
     }
 }
 

@@ -1,6 +1,6 @@
 use crate::checked_shapes::checked_shapes;
-use crate::fault::Fault;
 use crate::shape_parts::add_part;
+use smith_case::Fault;
 use smith_config::Shape;
 use smith_types::Items;
 use std::alloc::Global;
@@ -261,7 +261,7 @@ fn parts_of(name: &str) -> Option<&'static [&'static str]> {
 }
 
 /// Makes the shape of the name `name`.
-pub(crate) fn shape_named(alloc: Global, name: &str) -> Result<Shape, Fault> {
+pub fn shape_named(alloc: Global, name: &str) -> Result<Shape, Fault> {
     match parts_of(name) {
         Some(parts) => shape_of_parts(alloc, parts),
         None => Err(Fault::UnknownShape),

@@ -1,17 +1,16 @@
 ghost use Rattle.std.specs.Prelude.{◌↔◌, IsTrue};
 ghost use Rattle.smith_types.specs.Subtyping.{IsInRange, IsValInRange};
 
-use crate::answers::spaces::types_of;
-use crate::arguments::{at_most, read};
-use crate::call::SubtypeCall;
-use crate::case::Case;
-use crate::fault::Fault;
-use crate::type_names::{heap_type_of, ref_type_of, val_type_of};
+use crate::spaces::types_of;
+use smith_case::arguments::{at_most, read};
+use smith_case::call::SubtypeCall;
+use smith_case::{Case, Fault};
+use smith_case_shapes::{heap_type_of, ref_type_of, val_type_of};
 use smith_types::{HeapType, TypeSpace, ValType};
 use std::alloc::Global;
 
 /// Appends `yes` if the first argument is a subtype of the second, else `no`.
-pub(crate) fn answer_subtype(
+pub fn answer_subtype(
     alloc: Global,
     case: &Case,
     call: SubtypeCall,

@@ -3,7 +3,7 @@ use crate::fault::Fault;
 use std::str::FromStr;
 
 /// Returns the argument of `case` at `place`, from 0.
-pub(crate) fn word(case: &Case, place: usize) -> Result<&str, Fault> {
+pub fn word(case: &Case, place: usize) -> Result<&str, Fault> {
     match case.args().get(place) {
         Some(word) => Ok(word.as_str()),
         None => Err(Fault::Argument(place)),
@@ -11,11 +11,7 @@ pub(crate) fn word(case: &Case, place: usize) -> Result<&str, Fault> {
 }
 
 /// Returns the argument of `case` at `place`, from 0, as `read` reads it.
-pub(crate) fn read<T, F: FnOnce(&str) -> Option<T>>(
-    case: &Case,
-    place: usize,
-    read: F,
-) -> Result<T, Fault>
+pub fn read<T, F: FnOnce(&str) -> Option<T>>(case: &Case, place: usize, read: F) -> Result<T, Fault>
     requires { F.IsAlwaysCallable read }
 {
     match read(word(case, place)?) {
@@ -25,7 +21,7 @@ pub(crate) fn read<T, F: FnOnce(&str) -> Option<T>>(
 }
 
 /// Returns the argument of `case` at `place`, from 0, as a number.
-pub(crate) fn number<T: FromStr>(case: &Case, place: usize) -> Result<T, Fault>
+pub fn number<T: FromStr>(case: &Case, place: usize) -> Result<T, Fault>
 where
     T::Err: Drop,
 {
@@ -36,7 +32,7 @@ where
 }
 
 /// Returns the argument of `case` at `place`, from 0, as `true` or `false`.
-pub(crate) fn flag(case: &Case, place: usize) -> Result<bool, Fault> {
+pub fn flag(case: &Case, place: usize) -> Result<bool, Fault> {
     match word(case, place)? {
         "true" => Ok(true),
         "false" => Ok(false),
@@ -45,7 +41,7 @@ pub(crate) fn flag(case: &Case, place: usize) -> Result<bool, Fault> {
 }
 
 /// Checks that `case` has no more than `count` arguments.
-pub(crate) fn at_most(case: &Case, count: usize) -> Result<(), Fault> {
+pub fn at_most(case: &Case, count: usize) -> Result<(), Fault> {
     if case.args().len() > count {
         return Err(Fault::TooManyArguments);
     }

@@ -1,17 +1,12 @@
-use crate::arguments::{at_most, word};
-use crate::call::ParserCall;
-use crate::case::Case;
-use crate::fault::Fault;
+use smith_case::arguments::{at_most, word};
+use smith_case::call::ParserCall;
+use smith_case::{Case, Fault};
 use smith_config::MemoryOffsetChoices;
 use smith_types::{InstructionKind, InstructionKinds};
 use std::str::FromStr;
 
 /// Appends the result of parsing the argument with `call`, or a set of kinds.
-pub(crate) fn answer_parser(
-    case: &Case,
-    call: ParserCall,
-    answer: &mut String,
-) -> Result<(), Fault> {
+pub fn answer_parser(case: &Case, call: ParserCall, answer: &mut String) -> Result<(), Fault> {
     match call {
         ParserCall::OffsetChoices => answer_choices(case, answer),
         ParserCall::Kind => answer_each_kind(case, answer),

@@ -1,12 +1,12 @@
 ghost use Rattle.smith_config.specs.Faults.{Passes};
 ghost use Rattle.smith_config.specs.Sanitized.{IsSanitized};
 
-use crate::answers::spaces::{Over, spaces_of};
-use crate::answers::told::{tell_drawn, tell_refusal, tell_values};
-use crate::arguments::at_most;
-use crate::call::EntityCall;
-use crate::fault::Fault;
+use crate::spaces::{Over, spaces_of};
+use crate::told::{tell_drawn, tell_refusal, tell_values};
 use smith_bytes::Unstructured;
+use smith_case::Fault;
+use smith_case::arguments::at_most;
+use smith_case::call::EntityCall;
 use smith_draw::{
     TypeUse, arbitrary_global_type, arbitrary_locals, arbitrary_memtype, arbitrary_table_type,
     arbitrary_tag_type, count_types,

@@ -2,12 +2,12 @@ ghost use Rattle.std.specs.Prelude.{IsTrue};
 ghost use Rattle.smith_config.specs.Faults.{Passes};
 ghost use Rattle.smith_config.specs.Sanitized.{IsSanitized};
 
-use crate::answers::spaces::{Over, spaces_of, types_of};
-use crate::answers::told::{tell_drawn, tell_refusal, tell_types};
-use crate::arguments::{at_most, flag, number};
-use crate::call::FreeCall;
-use crate::fault::Fault;
+use crate::spaces::{Over, spaces_of, types_of};
+use crate::told::{tell_drawn, tell_refusal, tell_types};
 use smith_bytes::Unstructured;
+use smith_case::Fault;
+use smith_case::arguments::{at_most, flag, number};
+use smith_case::call::FreeCall;
 use smith_draw::{
     Entities, arbitrary_composite_type, arbitrary_field_type, arbitrary_func_type,
     arbitrary_heap_type, arbitrary_rec_group, arbitrary_ref_type, arbitrary_storage_type,

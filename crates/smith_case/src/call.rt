@@ -1,6 +1,6 @@
 /// A call of a case.
 #[derive(Clone, Copy)]
-pub(crate) enum Call {
+pub enum Call {
     /// A module, answered with its text or its binary.
     Module(ModuleCall),
     /// A program, answered with its text or its binary.
@@ -27,7 +27,7 @@ pub(crate) enum Call {
 
 /// Calls that make a module.
 #[derive(Clone, Copy, PartialEq)]
-pub(crate) enum ModuleCall {
+pub enum ModuleCall {
     New,
     NewInternal,
     Arbitrary,
@@ -38,14 +38,14 @@ pub(crate) enum ModuleCall {
 
 /// Forms of a program in an answer.
 #[derive(Clone, Copy)]
-pub(crate) enum ProgramCall {
+pub enum ProgramCall {
     New,
     Encode,
 }
 
 /// Calls on a configuration, or under it.
 #[derive(Clone, Copy, PartialEq)]
-pub(crate) enum ConfigCall {
+pub enum ConfigCall {
     Arbitrary,
     Clone,
     Sanitize,
@@ -57,7 +57,7 @@ pub(crate) enum ConfigCall {
 
 /// Draws over a type space.
 #[derive(Clone, Copy)]
-pub(crate) enum DrawCall {
+pub enum DrawCall {
     Free(FreeCall),
     Matching(MatchingCall),
     Entity(EntityCall),
@@ -67,7 +67,7 @@ pub(crate) enum DrawCall {
 
 /// Draws of a type.
 #[derive(Clone, Copy)]
-pub(crate) enum FreeCall {
+pub enum FreeCall {
     Types,
     RecGroup,
     CloneRecGroup,
@@ -85,7 +85,7 @@ pub(crate) enum FreeCall {
 
 /// Draws of a subtype or a supertype of another type.
 #[derive(Clone, Copy)]
-pub(crate) enum MatchingCall {
+pub enum MatchingCall {
     Func,
     Struct,
     Field,
@@ -100,7 +100,7 @@ pub(crate) enum MatchingCall {
 
 /// Draws of the type of an entity, or of locals.
 #[derive(Clone, Copy)]
-pub(crate) enum EntityCall {
+pub enum EntityCall {
     Global,
     Tag,
     Table,
@@ -110,7 +110,7 @@ pub(crate) enum EntityCall {
 
 /// Draws of constant expressions, and the globals that they may read.
 #[derive(Clone, Copy)]
-pub(crate) enum ConstantCall {
+pub enum ConstantCall {
     Expression,
     TableInit,
     Globals,
@@ -118,7 +118,7 @@ pub(crate) enum ConstantCall {
 
 /// Draws of numbers.
 #[derive(Clone, Copy)]
-pub(crate) enum NumberCall {
+pub enum NumberCall {
     GraduallyGrow,
     Limits64,
     Offset,
@@ -126,7 +126,7 @@ pub(crate) enum NumberCall {
 
 /// Draws of the byte source.
 #[derive(Clone, Copy)]
-pub(crate) enum SourceCall {
+pub enum SourceCall {
     Arbitrary,
     IntInRange,
     Ratio,
@@ -139,7 +139,7 @@ pub(crate) enum SourceCall {
 
 /// Draws of a name.
 #[derive(Clone, Copy, PartialEq)]
-pub(crate) enum NameCall {
+pub enum NameCall {
     LimitedStr,
     LimitedString,
     UniqueString,
@@ -149,7 +149,7 @@ pub(crate) enum NameCall {
 
 /// Parses of a text, and sets of kinds.
 #[derive(Clone, Copy)]
-pub(crate) enum ParserCall {
+pub enum ParserCall {
     OffsetChoices,
     Kind,
     Kinds,
@@ -162,7 +162,7 @@ pub(crate) enum ParserCall {
 
 /// Subtype tests, by the form of the types.
 #[derive(Clone, Copy)]
-pub(crate) enum SubtypeCall {
+pub enum SubtypeCall {
     HeapType,
     RefType,
     ValType,
@@ -170,7 +170,7 @@ pub(crate) enum SubtypeCall {
 
 /// Calls on a type space.
 #[derive(Clone, Copy)]
-pub(crate) enum SpaceCall {
+pub enum SpaceCall {
     Depth,
     Size,
     Matches,
@@ -180,7 +180,7 @@ pub(crate) enum SpaceCall {
 }
 
 /// The name of the call that makes recorded answers.
-pub(crate) const RECORDED: &str = "recorded";
+pub const RECORDED: &str = "recorded";
 
 // Each call by its name.
 static CALLS: [(&str, Call); 81] = [
@@ -426,7 +426,7 @@ fn calls() -> &'static [(&'static str, Call)] {
 }
 
 /// Finds the call of the name `name`, if there is one.
-pub(crate) fn call_named(name: &str) -> Option<Call> {
+pub fn call_named(name: &str) -> Option<Call> {
     call_among(calls(), name)
 }
 

@@ -1,5 +1,5 @@
-use crate::fault::Fault;
 use smith_bytes::{Error, Unstructured};
+use smith_case::Fault;
 use smith_text::{FromFmt, TextForm};
 use smith_types::TypeSpace;
 
@@ -45,13 +45,13 @@ pub(crate) fn tell_types(types: &TypeSpace, answer: &mut String) -> Result<(), F
 }
 
 /// Appends the line of the refusal `refusal`.
-pub(crate) fn tell_refusal(refusal: Error, answer: &mut String) -> Result<(), Fault> {
+pub fn tell_refusal(refusal: Error, answer: &mut String) -> Result<(), Fault> {
     writeln!(answer, "refused: {refusal:?}")?;
     Ok(())
 }
 
 /// Appends the number of bytes that `u` has left, and the next of these.
-pub(crate) fn tell_rest(u: &Unstructured<'_>, answer: &mut String) -> Result<(), Fault> {
+pub fn tell_rest(u: &Unstructured<'_>, answer: &mut String) -> Result<(), Fault> {
     let count = u.len();
     writeln!(answer, "left {count}")?;
     if let Some(next) = u.peek_bytes(count.min(MOST_BYTES)) {
@@ -64,7 +64,7 @@ pub(crate) fn tell_rest(u: &Unstructured<'_>, answer: &mut String) -> Result<(),
 const MOST_BYTES: usize = 16;
 
 /// Appends a line of `word` and `bytes` in hexadecimal, if there are any.
-pub(crate) fn tell_bytes(word: &str, bytes: &[u8], answer: &mut String) -> Result<(), Fault> {
+pub fn tell_bytes(word: &str, bytes: &[u8], answer: &mut String) -> Result<(), Fault> {
     if bytes.is_empty() {
         return Ok(());
     }

@@ -4,58 +4,58 @@ use std::alloc::Global;
 
 /// A case: the value of each of its keys. The documentation of this crate explains the keys.
 #[derive(Default, Drop)]
-pub(crate) struct Case {
+pub struct Case {
     /// The value of `name`.
-    pub(crate) name: Option<String>,
+    pub name: Option<String>,
     /// The value of `call`.
-    pub(crate) call: Option<String>,
+    pub call: Option<String>,
     /// Whether there is a configuration under `config`.
-    pub(crate) config: Option<()>,
+    pub config: Option<()>,
     /// The value of `input`.
-    pub(crate) input: Option<String>,
+    pub input: Option<String>,
     /// The value of `inputs`.
-    pub(crate) inputs: Option<String>,
+    pub inputs: Option<String>,
     /// The value of `args`.
-    pub(crate) args: Option<Vec<String>>,
+    pub args: Option<Vec<String>>,
     /// The names of shapes.
-    pub(crate) shapes: ShapeNames,
+    pub shapes: ShapeNames,
     /// The properties that the answer must have.
-    pub(crate) wanted: Wanted,
+    pub wanted: Wanted,
 }
 
 /// Names of the shapes of a case.
 #[derive(Default, Drop)]
-pub(crate) struct ShapeNames {
+pub struct ShapeNames {
     /// The value of `types`.
-    pub(crate) types: Option<String>,
+    pub types: Option<String>,
     /// The value of `shape`.
-    pub(crate) shape: Option<String>,
+    pub shape: Option<String>,
     /// The value of `available-imports`.
-    pub(crate) available_imports: Option<String>,
+    pub available_imports: Option<String>,
     /// The value of `exports`.
-    pub(crate) exports: Option<String>,
+    pub exports: Option<String>,
     /// The value of `module-shape`.
-    pub(crate) module_shape: Option<String>,
+    pub module_shape: Option<String>,
 }
 
 /// Properties that a case wants of its answer.
 #[derive(Default, Drop)]
-pub(crate) struct Wanted {
+pub struct Wanted {
     /// The value of `answer`.
-    pub(crate) answer: Option<Vec<String>>,
+    pub answer: Option<Vec<String>>,
     /// The value of `lines`.
-    pub(crate) lines: Option<Vec<String>>,
+    pub lines: Option<Vec<String>>,
     /// The value of `pieces`.
-    pub(crate) pieces: Option<Vec<String>>,
+    pub pieces: Option<Vec<String>>,
     /// The value of `absent`.
-    pub(crate) absent: Option<Vec<String>>,
+    pub absent: Option<Vec<String>>,
     /// The value of `may`.
-    pub(crate) may: Option<Vec<String>>,
+    pub may: Option<Vec<String>>,
 }
 
 impl Case {
     /// Returns the arguments of the call.
-    pub(crate) fn args(&self) -> &[String] {
+    pub fn args(&self) -> &[String] {
         list(&self.args)
     }
 
@@ -117,7 +117,7 @@ pub(crate) fn list(texts: &Option<Vec<String>>) -> &[String] {
 
 /// Reads the case of `line` into `case`, whose fields are empty. After a fault `case` has the keys
 /// before it. The configuration is only skipped.
-pub(crate) fn read_case(alloc: Global, line: &str, case: &mut Case) -> Result<(), Fault> {
+pub fn read_case(alloc: Global, line: &str, case: &mut Case) -> Result<(), Fault> {
     let mut scratch = Scratch::new(alloc);
     let mut reader = Reader::new(line, &mut scratch)?;
     read_members(alloc, line.len(), &mut reader, case)
@@ -216,7 +216,7 @@ fn read_list(alloc: Global, reader: &mut Reader<'_>) -> Result<Vec<String>, Faul
 
 /// Moves `reader`, which is at the start of a case of at most `most` keys, to the value of the key
 /// `config`. Returns false if the case has no such key.
-pub(crate) fn goes_to_config(reader: &mut Reader<'_>, most: usize) -> bool {
+pub fn goes_to_config(reader: &mut Reader<'_>, most: usize) -> bool {
     let _ = reader.next();
     for _ in 0..most {
         match reader.next_key() {

@@ -1,17 +1,16 @@
-use crate::answers::told::{tell_bytes, tell_refusal};
-use crate::arguments::{at_most, word};
-use crate::call::ConfigCall;
-use crate::case::Case;
-use crate::fault::Fault;
-use crate::shapes::shape_named;
+use crate::told::{tell_bytes, tell_refusal};
 use smith_bytes::{Error, Unstructured, Which};
+use smith_case::arguments::{at_most, word};
+use smith_case::call::ConfigCall;
+use smith_case::{Case, Fault};
+use smith_case_shapes::shape_named;
 use smith_config::{Config, Shape};
 use smith_spell::spell;
 use smith_types::{Items, WasmFeatures};
 use std::alloc::Global;
 
 /// Appends the result of `call` on `config`, or under it.
-pub(crate) fn answer_config(
+pub fn answer_config(
     alloc: Global,
     case: &Case,
     call: ConfigCall,
@@ -38,7 +37,7 @@ fn told(call: ConfigCall, config: &mut Config, answer: &mut String) -> Result<()
 }
 
 /// Appends the configuration drawn from `input`, and its features.
-pub(crate) fn answer_drawn_config(input: &[u8], answer: &mut String) -> Result<(), Fault> {
+pub fn answer_drawn_config(input: &[u8], answer: &mut String) -> Result<(), Fault> {
     tell_drawn_config(Config::arbitrary(&mut Unstructured::new(input)), answer)
 }
 

@@ -3,7 +3,7 @@ use std::alloc::Global;
 
 /// Returns the bytes of `text`: words separated by blanks, each hexadecimal bytes, or `BYTES*COUNT`
 /// for `COUNT` copies of the bytes.
-pub(crate) fn bytes_of(alloc: Global, text: &str) -> Result<Vec<u8>, Fault> {
+pub fn bytes_of(alloc: Global, text: &str) -> Result<Vec<u8>, Fault> {
     let mut bytes = Vec::new(alloc);
     for word in text.split_whitespace() {
         append_word(alloc, word, &mut bytes)?;

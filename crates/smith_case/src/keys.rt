@@ -23,7 +23,7 @@ const NONE: Keys = Keys {
 };
 
 /// Checks that `call` reads each key that `case` has.
-pub(crate) fn check_keys(case: &Case, call: Call) -> Result<(), Fault> {
+pub fn check_keys(case: &Case, call: Call) -> Result<(), Fault> {
     let keys = keys_of(call);
     let has_shapes = case.shapes.available_imports.is_some()
         || case.shapes.exports.is_some()

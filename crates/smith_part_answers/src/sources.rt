@@ -1,15 +1,14 @@
-use crate::answers::told::{tell_bytes, tell_refusal, tell_rest};
-use crate::arguments::{at_most, number, word};
-use crate::call::SourceCall;
-use crate::case::Case;
-use crate::fault::Fault;
+use crate::told::{tell_bytes, tell_refusal, tell_rest};
 use smith_bytes::{Arbitrary, Error, Int, Unstructured, arbitrary_loop};
+use smith_case::arguments::{at_most, number, word};
+use smith_case::call::SourceCall;
+use smith_case::{Case, Fault};
 use std::alloc::Global;
 use std::fmt::Display;
 use std::str::FromStr;
 
 /// Appends the result of the draw `call` from `input`, and the bytes left.
-pub(crate) fn answer_source(
+pub fn answer_source(
     alloc: Global,
     case: &Case,
     call: SourceCall,

@@ -1,0 +1,31 @@
+//! Answers, each as text, to the calls that make neither a module nor a program: on sources of
+//! bytes, names, kinds of instructions, types, shapes and configurations.
+#![tactic(auto)]
+
+mod configs;
+mod configured;
+mod constants;
+mod copies;
+mod draws;
+mod entities;
+mod free_types;
+mod matching;
+mod names;
+mod numbers;
+mod parsers;
+mod sources;
+mod spaces;
+mod subtypes;
+mod told;
+mod type_spaces;
+
+pub use configs::{answer_config, answer_drawn_config};
+pub use configured::{set_config, taken};
+pub use copies::answer_copies;
+pub use draws::answer_draw;
+pub use names::answer_name;
+pub use parsers::answer_parser;
+pub use sources::answer_source;
+pub use subtypes::answer_subtype;
+pub use told::{tell_bytes, tell_refusal, tell_rest};
+pub use type_spaces::answer_space;
