@@ -73,7 +73,10 @@ fn drawn(
 
 // Appends a line of the names in order.
 fn tell_names(alloc: Global, names: &HashSet<String>, answer: &mut String) -> Result<(), Fault> {
-    let mut sorted: Vec<&str> = names.iter().map(|name| name.as_str()).collect(alloc)?;
+    let mut sorted: Vec<&str> = Vec::with_capacity(alloc, names.len())?;
+    for name in names.iter() {
+        sorted.push(name.as_str())?;
+    }
     sorted.sort()?;
     writeln!(answer, "names {sorted:?}")?;
     Ok(())
