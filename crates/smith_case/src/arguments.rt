@@ -1,3 +1,5 @@
+//! Reads the arguments of a case.
+
 use crate::case::Case;
 use crate::fault::Fault;
 use std::str::FromStr;

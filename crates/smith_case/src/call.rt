@@ -1,3 +1,5 @@
+//! The calls that cases make, each by its name.
+
 /// A call of a case.
 #[derive(Clone, Copy)]
 pub enum Call {
@@ -28,154 +30,238 @@ pub enum Call {
 /// Calls that make a module.
 #[derive(Clone, Copy, PartialEq)]
 pub enum ModuleCall {
+    /// `Module::new`.
     New,
+    /// `Module::new_internal`.
     NewInternal,
+    /// `Module::arbitrary`.
     Arbitrary,
+    /// `Module::new` of a drawn configuration.
     NewOfDrawn,
+    /// `Module::ensure_termination`.
     EnsureTermination,
+    /// `encode` of a module.
     Encode,
 }
 
 /// Forms of a program in an answer.
 #[derive(Clone, Copy)]
 pub enum ProgramCall {
+    /// The text.
     New,
+    /// The binary.
     Encode,
 }
 
 /// Calls on a configuration, or under it.
 #[derive(Clone, Copy, PartialEq)]
 pub enum ConfigCall {
+    /// `Config::arbitrary`.
     Arbitrary,
+    /// `Config::clone`.
     Clone,
+    /// `Config::sanitize`.
     Sanitize,
+    /// `Config::check`.
     Check,
+    /// `Config::features`.
     Features,
+    /// `Shape::check`.
     ShapeCheck,
+    /// `spell`.
     Spell,
 }
 
 /// Draws over a type space.
 #[derive(Clone, Copy)]
 pub enum DrawCall {
+    /// A type.
     Free(FreeCall),
+    /// A subtype or a supertype of another type.
     Matching(MatchingCall),
+    /// The type of an entity, or locals.
     Entity(EntityCall),
+    /// A constant expression, or the globals that it may read.
     Constant(ConstantCall),
+    /// A number.
     Number(NumberCall),
 }
 
 /// Draws of a type.
 #[derive(Clone, Copy)]
 pub enum FreeCall {
+    /// `arbitrary_types`.
     Types,
+    /// `arbitrary_rec_group`.
     RecGroup,
+    /// `clone_rec_group`.
     CloneRecGroup,
+    /// `arbitrary_sub_type`.
     Sub,
+    /// `arbitrary_sub_type_of_super_type`.
     SubOfSuper,
+    /// `arbitrary_composite_type`.
     Composite,
+    /// `arbitrary_struct_type`.
     Struct,
+    /// `arbitrary_func_type`.
     Func,
+    /// `arbitrary_field_type`.
     Field,
+    /// `arbitrary_storage_type`.
     Storage,
+    /// `arbitrary_valtype`.
     Val,
+    /// `arbitrary_ref_type`.
     Ref,
+    /// `arbitrary_heap_type`.
     Heap,
 }
 
 /// Draws of a subtype or a supertype of another type.
 #[derive(Clone, Copy)]
 pub enum MatchingCall {
+    /// `arbitrary_matching_func_type`.
     Func,
+    /// `arbitrary_matching_struct_type`.
     Struct,
+    /// `arbitrary_matching_field_type`.
     Field,
+    /// `arbitrary_matching_storage_type`.
     Storage,
+    /// `arbitrary_matching_val_type`.
     Val,
+    /// `arbitrary_matching_ref_type`.
     Ref,
+    /// `arbitrary_matching_heap_type`.
     Heap,
+    /// `arbitrary_super_type_of_val_type`.
     AboveVal,
+    /// `arbitrary_super_type_of_ref_type`.
     AboveRef,
+    /// `arbitrary_super_type_of_heap_type`.
     AboveHeap,
 }
 
 /// Draws of the type of an entity, or of locals.
 #[derive(Clone, Copy)]
 pub enum EntityCall {
+    /// `arbitrary_global_type`.
     Global,
+    /// `arbitrary_tag_type`.
     Tag,
+    /// `arbitrary_table_type`.
     Table,
+    /// `arbitrary_memtype`.
     Mem,
+    /// `arbitrary_locals`.
     Locals,
 }
 
 /// Draws of constant expressions, and the globals that they may read.
 #[derive(Clone, Copy)]
 pub enum ConstantCall {
+    /// `arbitrary_const_expr`.
     Expression,
+    /// `arbitrary_table_init`.
     TableInit,
+    /// `globals_for_const_expr`.
     Globals,
 }
 
 /// Draws of numbers.
 #[derive(Clone, Copy)]
 pub enum NumberCall {
+    /// `gradually_grow`.
     GraduallyGrow,
+    /// `arbitrary_limits64`.
     Limits64,
+    /// `arbitrary_offset`.
     Offset,
 }
 
 /// Draws of the byte source.
 #[derive(Clone, Copy)]
 pub enum SourceCall {
+    /// `Unstructured::arbitrary`.
     Arbitrary,
+    /// `Unstructured::int_in_range`.
     IntInRange,
+    /// `Unstructured::ratio`.
     Ratio,
+    /// `Unstructured::choose`.
     Choose,
+    /// `Unstructured::bytes`.
     Bytes,
+    /// `Unstructured::peek_bytes`.
     PeekBytes,
+    /// `Unstructured::arbitrary_len`.
     ArbitraryLen,
+    /// `arbitrary_loop`.
     ArbitraryLoop,
 }
 
 /// Draws of a name.
 #[derive(Clone, Copy, PartialEq)]
 pub enum NameCall {
+    /// `limited_str`.
     LimitedStr,
+    /// `limited_string`.
     LimitedString,
+    /// `unique_string`.
     UniqueString,
+    /// `unique_kebab_string`.
     UniqueKebabString,
+    /// `unique_url`.
     UniqueUrl,
 }
 
 /// Parses of a text, and sets of kinds.
 #[derive(Clone, Copy)]
 pub enum ParserCall {
+    /// `MemoryOffsetChoices::from_str`.
     OffsetChoices,
+    /// `InstructionKind::from_str`.
     Kind,
+    /// `InstructionKinds::from_str`.
     Kinds,
+    /// `InstructionKinds::without_floats`.
     WithoutFloats,
+    /// `InstructionKinds::contains`.
     Contains,
+    /// `InstructionKinds::none`.
     NoKinds,
+    /// `InstructionKinds::all`.
     AllKinds,
+    /// `InstructionKinds::default`.
     DefaultKinds,
 }
 
 /// Subtype tests, by the form of the types.
 #[derive(Clone, Copy)]
 pub enum SubtypeCall {
+    /// `TypeSpace::heap_type_is_sub_type`.
     HeapType,
+    /// `TypeSpace::ref_type_is_sub_type`.
     RefType,
+    /// `TypeSpace::val_type_is_sub_type`.
     ValType,
 }
 
 /// Calls on a type space.
 #[derive(Clone, Copy)]
 pub enum SpaceCall {
+    /// `TypeSpace::depth`.
     Depth,
+    /// `TypeSpace::size_of`.
     Size,
+    /// `TypeSpace::composite_type_matches`.
     Matches,
+    /// `TypeSpace::push_type`.
     Pushed,
+    /// `add_type`.
     Added,
+    /// `list_types`.
     Listed,
 }
 
