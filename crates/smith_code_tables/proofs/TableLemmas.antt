@@ -1,7 +1,8 @@
 -- The chosen table instructions, and their operands and results.
-use Rattle.std.proofs.Common.{◌≡◌, ℕ, ◌<◌, true, List, [], ◌∷◌, Option, Some, None, length, get_or, refl, sym, subst, ap, ◌∙◌, arith}
+use Rattle.std.proofs.Common.{◌≡◌, ℕ, ◌<◌, Bool, true, List, [], ◌∷◌, Option, Some, None, length, get_or, refl, sym, subst, ap, ◌∙◌, arith}
 use Rattle.std.specs.Prelude.{slice_get, option_map, All}
 use Rattle.std.proofs.lemmas.Option.{same_Some, slice_get-get_or}
+use Rattle.smith_bytes.specs.Draws.{bool_at}
 use Rattle.smith_types.specs.Subtyping.{IsValBelow}
 use Rattle.smith_types.specs.Types.{IsOrderly}
 use Rattle.smith_types.specs.declared.entity_type.TableType.{TableType}
@@ -16,8 +17,10 @@ use Rattle.smith_instr.specs.declared.instr.Instr.TheVariants as instr
 use Rattle.smith_instr.specs.declared.table.TableInstr.TheVariants as table_instr
 use Rattle.smith_code_nodes.specs.Chosen.{or_nop}
 use Rattle.smith_code_nodes.specs.Nodes.{IsNode, node_of}
-use Rattle.smith_code_nodes.specs.Offered.{is_below_at}
-use Rattle.smith_code_tables.specs.TableChoices.{is_segment_below, is_table_addressed, is_table_addressed_at, is_table_below, table_change_at, table_change_of, table_changes, table_get_at, table_growth_at, table_value_at}
+use Rattle.smith_code_nodes.specs.Offered.{chunk_at, is_below_at}
+use Rattle.smith_code_nodes.specs.Scopes.{indexed}
+use Rattle.smith_code_nodes.specs.declared.node.Node.{Node}
+use Rattle.smith_code_tables.specs.TableChoices.{is_segment_below, is_table_addressed, is_table_addressed_at, is_table_below, table_change_at, table_change_of, table_changes, table_get_at, table_growth_at, table_growth_node, table_value_at}
 use Rattle.smith_code_tables.specs.declared.tables.TableChange.{TableChange}
 use Rattle.smith_code_tables.specs.declared.tables.TableChange.TheVariants as change
 use Rattle.smith_code_nodes.proofs.ChosenLemmas.{chosen_by}
@@ -120,6 +123,11 @@ value_number context I64 bytes other = refl
 value_number context F32 bytes other = refl
 value_number context F64 bytes other = refl
 value_number context V128 bytes other = refl
+
+-- the growth or the size of the chosen table
+pub table_grown : (context : BodyContext) (wanted : ValType) (bytes middle left : List ℕ) (grown : Bool) (index : ℕ) (o : Option Node) → bool_at bytes ≡ (grown, middle)
+    → chunk_at (is_table_addressed context wanted) (indexed (length context.tables)) middle ≡ (Some index, left) → o ≡ table_growth_node context wanted grown index → table_growth_at context wanted bytes ≡ (o, left)
+table_grown context wanted bytes middle left grown index o drawn chosen is = rw (drawn, chosen, is) refl
 
 -- the chosen statement on a table
 pub change_by : (context : BodyContext) (bytes left : List ℕ) (rows : List TableChange) (drawn this : TableChange) → rows ≡ table_changes → chosen_at change.Set rows bytes ≡ (drawn, left) → drawn ≡ this
