@@ -1,16 +1,56 @@
-use Rattle.std.proofs.Common.{◌≡◌, false, refl}
+use Rattle.std.proofs.Common.{◌≡◌, ℕ, Bool, true, false, List, refl}
+use Rattle.smith_types.specs.Expressions.{Context}
 use Rattle.smith_types.specs.Grounded.{IsGrounded}
+use Rattle.smith_types.specs.declared.value_type.HeapType.{HeapType}
 use Rattle.smith_types.specs.declared.value_type.RefType.{RefType}
+use Rattle.smith_config.specs.Sanitized.{IsSanitized}
+use Rattle.smith_config.specs.declared.config.Config.{Config}
 use Rattle.smith_draw.specs.Grounding.{standing_in}
+use Rattle.smith_draw.specs.ValueTypes.{ref_type_at}
 use Rattle.smith_draw.proofs.GroundingLemmas.{grounded_if}
-use Rattle.smith_draw.proofs.ValueTypeLemmas.{drawn_is, IsRefTypeDrawn, ref_type_drawn, ref_type_granted}
+use Rattle.smith_draw.proofs.ValueTypeLemmas.{drawn_is, MayShare, IsRefTypeDrawn, ref_type_drawn, ref_type_granted}
 use Rattle.smith_draw.proofs.TakenLemmas.{ref_type_taken}
 use Rattle.smith_draw.proofs.value_type.arbitrary_ref_type.Goals as goal
 
-pub returns : goal.returns
-returns c =
+-- a nullable reference needs no ground
+ungranted : (context : Context) (ty : HeapType) → true ≡ false → IsGrounded context ty
+ungranted context ty e = cc
+
+drawn_as : (config : Config) (context : Context) (must_share : Bool) (limit : ℕ) (old : List ℕ) (drawn : RefType) (new : List ℕ) → IsSanitized config → MayShare config must_share → ref_type_at config context must_share limit old ≡ (drawn, new) → IsRefTypeDrawn config context.types must_share limit drawn
+drawn_as config context must_share limit old drawn new sanitized may exact =
+    drawn_is (λ (ty : RefType). IsRefTypeDrawn config context.types must_share limit ty) _ (ref_type_drawn _ _ _ _ _ sanitized may) exact
+
+pub returns-clause-granted : goal.returns-clause-granted
+returns-clause-granted c =
+    let context = standing_in c.args.config.now c.args.spaces.now in
     let exact = rw c.over-standing.ensures at c.draw_ref_type.ensures.exact in
-    let drawn = drawn_is (λ (ty : RefType). IsRefTypeDrawn c.args.config.now c.args.spaces.now.types.now.types c.args.must_share c.args.limit ty) _ (ref_type_drawn _ _ _ _ _ c.requires.sanitized c.requires.may_share) exact in
-    let granted = drawn_is (λ (ty : RefType). ty.nullable ≡ false → IsGrounded (standing_in c.args.config.now c.args.spaces.now) ty.heap_type) _
-    (λ e. grounded_if (standing_in c.args.config.now c.args.spaces.now) _ c.orderly.ensures (ref_type_granted _ _ _ _ _ e).1) exact in
-    record { ok = refl; draws = record { exact = exact; memory = tt; left = c.draw_ref_type.ensures.left }; granted = granted; valid = drawn.valid; stands = drawn.stands; shared = drawn.shared; reach = λ no. ref_type_taken c.args.config.now (standing_in c.args.config.now c.args.spaces.now) refl _ _ _ _ _ c.orderly.ensures no exact }
+    let granted : c.draw_ref_type.result.nullable ≡ false → IsGrounded context c.draw_ref_type.result.heap_type =
+    drawn_is (λ (ty : RefType). ty.nullable ≡ false → IsGrounded context ty.heap_type) _ (λ e. grounded_if context _ c.orderly.ensures (ref_type_granted _ _ _ _ _ e).1) exact in
+    search (granted, ungranted)
+
+pub returns-clause-reach : goal.returns-clause-reach
+returns-clause-reach c =
+    λ no. ref_type_taken c.args.config.now (standing_in c.args.config.now c.args.spaces.now) refl _ _ _ _ _ c.orderly.ensures no (rw c.over-standing.ensures at c.draw_ref_type.ensures.exact)
+
+pub returns-clause-draws : goal.returns-clause-draws
+returns-clause-draws c =
+    let exact = rw c.over-standing.ensures at c.draw_ref_type.ensures.exact in
+    record { exact = exact; memory = tt; left = c.draw_ref_type.ensures.left }
+
+pub returns-clause-valid : goal.returns-clause-valid
+returns-clause-valid c =
+    let exact = rw c.over-standing.ensures at c.draw_ref_type.ensures.exact in
+    let drawn = drawn_as _ _ _ _ _ _ _ c.requires.sanitized c.requires.may_share exact in
+    drawn.valid
+
+pub returns-clause-stands : goal.returns-clause-stands
+returns-clause-stands c =
+    let exact = rw c.over-standing.ensures at c.draw_ref_type.ensures.exact in
+    let drawn = drawn_as _ _ _ _ _ _ _ c.requires.sanitized c.requires.may_share exact in
+    drawn.stands
+
+pub returns-clause-shared : goal.returns-clause-shared
+returns-clause-shared c =
+    let exact = rw c.over-standing.ensures at c.draw_ref_type.ensures.exact in
+    let drawn = drawn_as _ _ _ _ _ _ _ c.requires.sanitized c.requires.may_share exact in
+    drawn.shared
