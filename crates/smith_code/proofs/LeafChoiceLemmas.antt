@@ -1,6 +1,6 @@
 -- The instruction without operands that is chosen.
 use Rattle.std.proofs.Common.{◌≡◌, ℕ, ◌<◌, Bool, List, [], Option, Some, None, length, get_or, refl, sym, subst, ap, ◌∙◌}
-use Rattle.std.specs.Prelude.{slice_get, if◌then◌else◌}
+use Rattle.std.specs.Prelude.{option_map, slice_get, if◌then◌else◌}
 use Rattle.std.proofs.lemmas.Option.{slice_get-get_or}
 use Rattle.smith_config.specs.declared.config.Config.{Config}
 use Rattle.smith_types.specs.declared.value_type.ValType.{ValType}
@@ -60,3 +60,12 @@ pub first_there : (config : Config) (context : BodyContext) (set : List ℕ) (wa
 first_there config context set wanted family bytes left instruction permitted empty drawn is =
     let drawn' : leaf_of context set reach.Whole wanted family [] ≡ (Some instruction, left) = subst (λ (bytes : List ℕ). leaf_of context set reach.Whole wanted family bytes ≡ (Some instruction, left)) empty drawn in
     ap (λ (b : Bool). if b then Some instruction else None) (sym is) ∙ ap (λ (d : Option Instr × List ℕ). if_permitted config context d.0) (sym drawn')
+
+-- the instruction of an index, if there is one and it is permitted
+pub made_none : (config : Config) (context : BodyContext) (make : ℕ → Instr) (o : Option ℕ) → None ≡ o → None ≡ if_permitted config context (option_map make o)
+made_none config context make o is = ap (λ (o : Option ℕ). if_permitted config context (option_map make o)) is
+
+pub made_some : (config : Config) (context : BodyContext) (make : ℕ → Instr) (o : Option ℕ) (index : ℕ) (permitted : Bool) → Some index ≡ o → is_permitted context.features config (make index) ≡ permitted
+    → (if permitted then Some (make index) else None) ≡ if_permitted config context (option_map make o)
+made_some config context make o index permitted at is =
+    ap (λ (b : Bool). if b then Some (make index) else None) (sym is) ∙ ap (λ (o : Option ℕ). if_permitted config context (option_map make o)) at

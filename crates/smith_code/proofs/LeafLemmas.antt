@@ -1,20 +1,27 @@
 -- Instructions that produce a value without operands.
 use Rattle.std.proofs.Common.{◌≡◌, ℕ, true, List, [], refl}
+use Rattle.std.specs.Prelude.{slice_get}
 use Rattle.smith_types.specs.Types.{IsOrderly}
 use Rattle.smith_types.specs.Subtyping.{itself}
 use Rattle.smith_types.specs.declared.value_type.RefType.{RefType}
 use Rattle.smith_types.specs.declared.value_type.ValType.{ValType}
 use Rattle.smith_types.specs.declared.value_type.ValType.TheVariants.{Ref}
 use Rattle.smith_types.proofs.GrowthLemmas.{IsValBelow-refl}
-use Rattle.smith_instr.specs.Contexts.{BodyContext}
+use Rattle.smith_instr.specs.Contexts.{BodyContext, created_reference}
 use Rattle.smith_instr.specs.Enabled.{is_enabled}
+use Rattle.smith_instr.specs.declared.aggregate.AggregateInstr.TheVariants as aggregate
 use Rattle.smith_instr.specs.declared.instr.Instr.TheVariants as instr
 use Rattle.smith_instr.specs.declared.reference.ReferenceInstr.TheVariants as reference
 use Rattle.smith_code.specs.Drawn.{IsConstant, IsLeaf}
+use Rattle.smith_code_aggregates.specs.Aggregates.{is_array, is_creatable_in, is_created_array, is_created_below, is_created_struct}
+use Rattle.smith_code_aggregates.specs.Fields.{struct_in}
+use Rattle.smith_code_aggregates.specs.declared.fields.FieldUse.TheVariants as field_use
+use Rattle.smith_code_aggregates.proofs.AggregateLemmas.{array_tested}
+use Rattle.smith_code_aggregates.proofs.CreationLemmas.{default_there}
 use Rattle.smith_code_nodes.specs.Scopes.{IsAllowedIn}
 use Rattle.smith_code_nodes.specs.Offered.{is_readable, is_global_below, IsReferenceTo}
 use Rattle.smith_code_nodes.specs.declared.scope.Scope.{Scope}
-use Rattle.smith_code_nodes.proofs.OfferLemmas.{readable, global_below}
+use Rattle.smith_code_nodes.proofs.OfferLemmas.{both, global_below, readable, tested}
 use Rattle.smith_code_nodes.proofs.NodeLemmas.{one_valid}
 
 pub null_constant : (to : RefType) → to.nullable ≡ true → IsConstant (Ref to) (instr.Reference (reference.Null to.heap_type))
@@ -50,3 +57,15 @@ global_leaf context set wanted index orderly is =
 pub reference_leaf : (context : BodyContext) (set : List ℕ) (wanted : ValType) (function : ℕ) → IsReferenceTo context wanted function → IsLeaf context set wanted (instr.Reference (reference.Func function))
 reference_leaf context set wanted function (index, there, named, below) =
     record { value = _; typed = (index, there, named, (refl, refl)); below = below; sets_none = refl }
+
+pub struct_leaf : (context : BodyContext) (set : List ℕ) (wanted : ValType) (ty : ℕ) → IsOrderly context.types → is_created_struct context wanted true ty ≡ true → IsLeaf context set wanted (instr.Aggregate (aggregate.StructNewDefault ty))
+struct_leaf context set wanted ty orderly is =
+    let (below, can) = both (is_created_below context wanted ty) (is_creatable_in true (struct_in (slice_get context.types ty))) is in
+    let (fields, there, defaults) = default_there context.types ty can in
+    record { value = created_reference context ty; typed = (fields, there, defaults, (refl, refl)); below = tested context.types orderly (created_reference context ty) wanted below; sets_none = refl }
+
+pub array_leaf : (context : BodyContext) (set : List ℕ) (wanted : ValType) (ty : ℕ) → IsOrderly context.types → is_created_array context wanted field_use.New ty ≡ true → IsLeaf context set wanted (instr.Aggregate (aggregate.ArrayNewFixed ty 0))
+array_leaf context set wanted ty orderly is =
+    let (below, may) = both (is_created_below context wanted ty) (is_array context field_use.New ty) is in
+    let (element, there) = array_tested context.types ty may in
+    record { value = created_reference context ty; typed = (element, there, (refl, refl)); below = tested context.types orderly (created_reference context ty) wanted below; sets_none = refl }

@@ -1,6 +1,8 @@
 pub mod ReferenceLemmas
 pub mod LeafLemmas
 pub mod LeafChoiceLemmas
+pub mod OtherLemmas
+pub mod LawLemmas
 pub mod ChoiceNodeLemmas
 pub mod ChoiceLemmas
 pub mod DrawnLemmas

@@ -9,9 +9,11 @@ use Rattle.smith_types.specs.declared.value_type.ValType.{ValType}
 use Rattle.smith_types.specs.declared.value_type.ValType.TheVariants.{I32, I64, F32, F64, V128, Ref}
 use Rattle.smith_draw.specs.Choices.{chosen_at}
 use Rattle.smith_instr.specs.Contexts.{BodyContext}
+use Rattle.smith_instr.specs.declared.aggregate.AggregateInstr.TheVariants as aggregate
 use Rattle.smith_instr.specs.declared.instr.Instr.{Instr}
 use Rattle.smith_instr.specs.declared.instr.Instr.TheVariants as instr
 use Rattle.smith_instr.specs.declared.reference.ReferenceInstr.TheVariants as reference
+use Rattle.smith_code_aggregates.specs.Aggregates.{first_created_array, first_created_struct}
 use Rattle.smith_code_nodes.specs.Chosen.{giving}
 use Rattle.smith_code_nodes.specs.Offered.{is_global_below, is_readable, is_reference, offered, within_at}
 use Rattle.smith_code_nodes.specs.Scopes.{indexed, is_permitted}
@@ -89,14 +91,30 @@ if_permitted config context (Some instruction) = if is_permitted context.feature
 abbrev pub first_of : Config → BodyContext → List ℕ → ValType → LeafFamily → Option Instr
 first_of config context set wanted family = if_permitted config context (leaf_of context set reach.Whole wanted family []).0
 
--- the first local, global or reference that may be read, zero or null; `unreachable` if there is
--- none
+-- zero or null
+abbrev pub first_constant : Config → BodyContext → ValType → Option Instr
+first_constant config context wanted = if_permitted config context (Some (constant_instr_at wanted []).0)
+
+-- a struct of default values, of the first type that has them
+abbrev pub default_struct : Config → BodyContext → ValType → Option Instr
+default_struct config context wanted =
+    if_permitted config context (option_map (λ ty. instr.Aggregate (aggregate.StructNewDefault ty)) (first_created_struct context wanted))
+
+-- an array without elements, of the first array type
+abbrev pub empty_array : Config → BodyContext → ValType → Option Instr
+empty_array config context wanted =
+    if_permitted config context (option_map (λ ty. instr.Aggregate (aggregate.ArrayNewFixed ty 0)) (first_created_array context wanted))
+
+-- the first local, global or reference that may be read, zero or null, a struct of default values,
+-- or an array without elements; `unreachable` if there is none
 unfoldable pub first_leaf : Config → BodyContext → List ℕ → ValType → Instr
 first_leaf config context set wanted =
     unwrap_or (first_of config context set wanted leaf.Local)
     (unwrap_or (first_of config context set wanted leaf.Global)
     (unwrap_or (first_of config context set wanted leaf.Reference)
-    (unwrap_or (if_permitted config context (Some (constant_instr_at wanted []).0)) instr.Unreachable)))
+    (unwrap_or (first_constant config context wanted)
+    (unwrap_or (default_struct config context wanted)
+    (unwrap_or (empty_array config context wanted) instr.Unreachable)))))
 
 -- the replacement for an instruction that is not permitted: `unreachable`; with `disallow_traps`
 -- the first permitted instruction

@@ -3,16 +3,18 @@ ghost use Rattle.smith_bytes.specs.Source.{KeepsPieces};
 ghost use Rattle.smith_instr.specs.Contexts.{IsValid};
 ghost use Rattle.smith_code.specs.Bodies.{leaf_in};
 ghost use Rattle.smith_code.specs.Drawn.{IsConstant, IsDrawn, IsLeaf, state_of};
-ghost use Rattle.smith_code.specs.Leaves.{any_leaf_at, constant_instr_at, first_leaf, first_of};
+ghost use Rattle.smith_code.specs.Leaves.{any_leaf_at, constant_instr_at, default_struct};
+ghost use Rattle.smith_code.specs.Leaves.{empty_array, first_constant, first_leaf, first_of};
 ghost use Rattle.smith_code.specs.Leaves.{leaf_at, leaf_choice_at, leaf_of, spare_leaf};
 ghost use Rattle.smith_code_nodes.specs.Scopes.{IsAllowedIn, IsScope, bare, where_stands};
 
 use crate::families::{LeafFamily, leaf_families};
 use crate::references::choose_reference;
 use smith_bytes::{Error, Unstructured};
+use smith_code_aggregates::{first_created_array, first_created_struct};
 use smith_code_nodes::{Draft, Reach, Scope, choose_global, choose_set_local, is_allowed};
 use smith_draw::choose;
-use smith_instr::{Instr, ReferenceInstr};
+use smith_instr::{AggregateInstr, Instr, ReferenceInstr};
 use smith_types::ValType;
 
 /// Writes an instruction that produces a value that matches `wanted`, without operands.
@@ -92,10 +94,14 @@ fn first_leaf(scope: &Scope<'_>, wanted: ValType, draft: &Draft) -> Instr
     if let Some(leaf) = first_of(scope, LeafFamily::Reference, wanted, draft) {
         return leaf;
     }
-    let mut nothing = Unstructured::new(&[]);
-    let constant = draw_constant(wanted, &mut nothing);
-    if is_allowed(scope, &constant) {
-        return constant;
+    if let Some(leaf) = first_constant(scope, wanted, draft) {
+        return leaf;
+    }
+    if let Some(leaf) = default_struct(scope, wanted, draft) {
+        return leaf;
+    }
+    if let Some(leaf) = empty_array(scope, wanted, draft) {
+        return leaf;
     }
     Instr::Unreachable
 }
@@ -115,6 +121,61 @@ fn first_of(scope: &Scope<'_>, family: LeafFamily, wanted: ValType, draft: &Draf
     let leaf = leaf_of(scope, family, Reach::Whole, wanted, draft, &mut nothing)?;
     if is_allowed(scope, &leaf) {
         return Some(leaf);
+    }
+    None
+}
+
+/// Returns zero or null, if it has the type `wanted` and is allowed.
+fn first_constant(scope: &Scope<'_>, wanted: ValType, draft: &Draft) -> Option<Instr>
+    requires wanted { IsValid (bare scope.now) wanted }
+    ensures exact { result
+        ≡ first_constant scope.now.config.now (where_stands scope.now draft.now) wanted }
+    ensures typed { IfSome result
+        (IsLeaf (where_stands scope.now draft.now) draft.now.set.items wanted) }
+    ensures allowed { IfSome result (IsAllowedIn scope.now) }
+{
+    let mut nothing = Unstructured::new(&[]);
+    let constant = draw_constant(wanted, &mut nothing);
+    if is_allowed(scope, &constant) {
+        return Some(constant);
+    }
+    None
+}
+
+/// Returns the creation of a struct of default values, of the first type for which it is a value of
+/// the type `wanted`, if it is allowed.
+fn default_struct(scope: &Scope<'_>, wanted: ValType, draft: &Draft) -> Option<Instr>
+    requires scope { IsScope (bare scope.now) }
+    requires wanted { IsValid (bare scope.now) wanted }
+    ensures exact { result
+        ≡ default_struct scope.now.config.now (where_stands scope.now draft.now) wanted }
+    ensures typed { IfSome result
+        (IsLeaf (where_stands scope.now draft.now) draft.now.set.items wanted) }
+    ensures allowed { IfSome result (IsAllowedIn scope.now) }
+{
+    let ty = first_created_struct(scope, wanted)?;
+    let creation = Instr::Aggregate(AggregateInstr::StructNewDefault(ty));
+    if is_allowed(scope, &creation) {
+        return Some(creation);
+    }
+    None
+}
+
+/// Returns the creation of an array without elements, of the first type for which it is a value of
+/// the type `wanted`, if it is allowed.
+fn empty_array(scope: &Scope<'_>, wanted: ValType, draft: &Draft) -> Option<Instr>
+    requires scope { IsScope (bare scope.now) }
+    requires wanted { IsValid (bare scope.now) wanted }
+    ensures exact { result
+        ≡ empty_array scope.now.config.now (where_stands scope.now draft.now) wanted }
+    ensures typed { IfSome result
+        (IsLeaf (where_stands scope.now draft.now) draft.now.set.items wanted) }
+    ensures allowed { IfSome result (IsAllowedIn scope.now) }
+{
+    let ty = first_created_array(scope, wanted)?;
+    let creation = Instr::Aggregate(AggregateInstr::ArrayNewFixed { ty, size: 0 });
+    if is_allowed(scope, &creation) {
+        return Some(creation);
     }
     None
 }

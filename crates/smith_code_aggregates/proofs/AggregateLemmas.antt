@@ -30,6 +30,7 @@ use Rattle.smith_code_nodes.specs.Offered.{chunk_at, offered}
 use Rattle.smith_code_nodes.specs.Scopes.{IsScope, indexed}
 use Rattle.smith_code_tables.specs.TableChoices.{is_segment_below}
 use Rattle.smith_code_aggregates.specs.declared.fields.FieldUse.{FieldUse}
+use Rattle.smith_code_aggregates.specs.declared.fields.FieldUse.TheVariants as field_use
 use Rattle.smith_code_nodes.proofs.ItemLemmas.{given_none, given_some}
 use Rattle.smith_code_nodes.proofs.OfferLemmas.{both, tested}
 use Rattle.smith_code_tables.proofs.TableLemmas.{segment_below_at}
@@ -58,6 +59,14 @@ array_option types index element None at is = cc
 
 pub array_is : (types : List SubType) (index : ℕ) (element : FieldType) → element_in (slice_get types index) ≡ Some element → IsArrayAt types index element
 array_is types index element is = array_option types index element (slice_get types index) refl is
+
+-- an array type, by the test of its element
+element_option : (types : List SubType) (index : ℕ) (o : Option FieldType) → element_in (slice_get types index) ≡ o → is_usable_in types field_use.New o ≡ true → (element : FieldType) × IsArrayAt types index element
+element_option types index (Some element) at is = (element, array_is types index element at)
+element_option types index None at is = cc
+
+pub array_tested : (types : List SubType) (index : ℕ) → is_usable_in types field_use.New (element_in (slice_get types index)) ≡ true → (element : FieldType) × IsArrayAt types index element
+array_tested types index is = element_option types index (element_in (slice_get types index)) refl is
 
 -- the values of fields and elements are valid
 pub struct_fields : (context : BodyContext) (index : ℕ) (fields : List FieldType) → IsScope context → IsStructAt context.types index fields → AreFieldsValid context fields

@@ -8,6 +8,7 @@ use Rattle.smith_types.specs.Expressions.{IsArrayAt, IsDefaultable, IsStructAt, 
 use Rattle.smith_types.specs.Types.{IsOrderly}
 use Rattle.smith_types.specs.declared.composite_type.FieldType.{FieldType}
 use Rattle.smith_types.specs.declared.composite_type.StructType.{StructType}
+use Rattle.smith_types.specs.declared.composite_type.SubType.{SubType}
 use Rattle.smith_types.specs.declared.value_type.ValType.{ValType}
 use Rattle.smith_types.specs.declared.value_type.ValType.TheVariants.{I32}
 use Rattle.smith_types.specs.Grounded.{is_defaultable}
@@ -48,16 +49,18 @@ struct_new_gives context set wanted ty structure orderly held valid is at =
     let there = struct_there context.types ty structure at in
     created_gives context set wanted ty (field_values structure.fields) (aggregate.StructNew ty) orderly valid below (structure.fields, there, (refl, refl)) (omega arith) held
 
-default_option : (context : BodyContext) (ty : ℕ) (o : Option StructType) → struct_in (slice_get context.types ty) ≡ o → is_creatable_in true o ≡ true
-    → (fields : List FieldType) × IsStructAt context.types ty fields × All IsDefaultable (field_values fields)
-default_option context ty (Some structure) at is = (structure.fields, struct_there context.types ty structure at, all_default structure.fields is)
-default_option context ty None at is = cc
+default_option : (types : List SubType) (ty : ℕ) (o : Option StructType) → struct_in (slice_get types ty) ≡ o → is_creatable_in true o ≡ true → (fields : List FieldType) × IsStructAt types ty fields × All IsDefaultable (field_values fields)
+default_option types ty (Some structure) at is = (structure.fields, struct_there types ty structure at, all_default structure.fields is)
+default_option types ty None at is = cc
+
+pub default_there : (types : List SubType) (ty : ℕ) → is_creatable_in true (struct_in (slice_get types ty)) ≡ true → (fields : List FieldType) × IsStructAt types ty fields × All IsDefaultable (field_values fields)
+default_there types ty is = default_option types ty (struct_in (slice_get types ty)) refl is
 
 pub struct_default_gives : (context : BodyContext) (set : List ℕ) (wanted : ValType) (ty : ℕ) → IsOrderly context.types → IsValid context wanted → is_created_struct context wanted true ty ≡ true
     → IsNode context set (wanted ∷ []) (aggregate_of [] (aggregate.StructNewDefault ty))
 struct_default_gives context set wanted ty orderly valid is =
     let (below, can) = both (is_created_below context wanted ty) (is_creatable_in true (struct_in (slice_get context.types ty))) is in
-    let (fields, there, defaults) = default_option context ty (struct_in (slice_get context.types ty)) refl can in
+    let (fields, there, defaults) = default_there context.types ty can in
     created_gives context set wanted ty [] (aggregate.StructNewDefault ty) orderly valid below (fields, there, defaults, (refl, refl)) (omega arith) (no_valid context)
 
 pub struct_new_there : (context : BodyContext) (wanted : ValType) (bytes left : List ℕ) (ty : ℕ) (structure : StructType) → created_struct_at context wanted false bytes ≡ (Some ty, left) → struct_in (slice_get context.types ty) ≡ Some structure

@@ -1,5 +1,5 @@
 -- The struct types, array types and fields that are offered.
-use Rattle.std.specs.Prelude.{ℕ, Bool, false, ◌&&◌, nat_le, nat_lt, Option, Some, None, option_map, List, length, slice_get, if◌then◌else◌}
+use Rattle.std.specs.Prelude.{ℕ, Bool, true, false, ◌&&◌, nat_le, nat_lt, Option, Some, None, option_map, List, length, slice_get, if◌then◌else◌}
 use Rattle.smith_bytes.specs.Draws.{choose_at}
 use Rattle.smith_types.specs.Grounded.{are_defaultable}
 use Rattle.smith_types.specs.declared.composite_type.FieldType.{FieldType}
@@ -15,6 +15,7 @@ use Rattle.smith_code_nodes.specs.Offered.{chunk_at, offered}
 use Rattle.smith_code_nodes.specs.Scopes.{indexed}
 use Rattle.smith_code_aggregates.specs.declared.aggregates.StructField.{StructField}
 use Rattle.smith_code_aggregates.specs.declared.fields.FieldUse.{FieldUse}
+use Rattle.smith_code_aggregates.specs.declared.fields.FieldUse.TheVariants as field_use
 
 -- references may name types by their indices
 abbrev pub names_types : BodyContext → Bool
@@ -59,6 +60,18 @@ is_created_struct context wanted defaults index = is_created_below context wante
 abbrev pub created_struct_at : BodyContext → ValType → Bool → List ℕ → Option ℕ × List ℕ
 created_struct_at context wanted defaults bytes =
     chunk_at (is_created_struct context wanted defaults) (indexed (length context.types)) bytes
+
+-- the first of the offered items
+abbrev pub first_offered : (ℕ → Bool) → ℕ → Option ℕ
+first_offered test size = slice_get (offered test size) 0
+
+-- the first struct type whose fields all have defaults, and the first array type, whose created
+-- values match the wanted type
+abbrev pub first_created_struct : BodyContext → ValType → Option ℕ
+first_created_struct context wanted = first_offered (is_created_struct context wanted true) (indexed (length context.types))
+
+abbrev pub first_created_array : BodyContext → ValType → Option ℕ
+first_created_array context wanted = first_offered (is_created_array context wanted field_use.New) (indexed (length context.types))
 
 -- a field that has a use
 abbrev pub is_field : List SubType → FieldUse → List FieldType → ℕ → Bool

@@ -4,10 +4,14 @@ ghost use Rattle.smith_types.specs.Expressions.{IsArrayAt};
 ghost use Rattle.smith_instr.specs.AggregateTypes.{IsFieldAt, value_of};
 ghost use Rattle.smith_instr.specs.Contexts.{IsValid, created_reference};
 ghost use Rattle.smith_code_aggregates.specs.Aggregates.{array_at, created_array_at};
-ghost use Rattle.smith_code_aggregates.specs.Aggregates.{created_struct_at, field_at, is_array};
-ghost use Rattle.smith_code_aggregates.specs.Aggregates.{is_creatable, is_created_below};
+ghost use Rattle.smith_code_aggregates.specs.Aggregates.{created_struct_at, field_at};
+ghost use Rattle.smith_code_aggregates.specs.Aggregates.{first_created_array, first_created_struct};
+ghost use Rattle.smith_code_aggregates.specs.Aggregates.{first_offered, is_array};
+ghost use Rattle.smith_code_aggregates.specs.Aggregates.{is_creatable, is_created_array};
+ghost use Rattle.smith_code_aggregates.specs.Aggregates.{is_created_below};
 ghost use Rattle.smith_code_aggregates.specs.Aggregates.{is_created_struct, names_types};
 ghost use Rattle.smith_code_aggregates.specs.Fields.{AreFieldsValid, IsUse, is_usable};
+ghost use Rattle.smith_code_aggregates.specs.declared.fields.FieldUse.TheVariants as field_use;
 ghost use Rattle.smith_code_nodes.specs.Scopes.{IsScope, bare, indexed};
 
 use crate::fields::{FieldUse, element_at, is_usable, struct_type_at};
@@ -316,6 +320,52 @@ pub(crate) fn choose_created_struct(
     };
     let index = choose_in_chunk(&offer, u)?;
     Some(index as u32)
+}
+
+/// Returns the first struct type whose fields all have defaults and whose created values match
+/// `wanted`, if there is one.
+pub fn first_created_struct(scope: &Scope<'_>, wanted: ValType) -> Option<u32>
+    requires scope { IsScope (bare scope.now) }
+    requires wanted { IsValid (bare scope.now) wanted }
+    ensures exact { result ≡ first_created_struct (bare scope.now) wanted }
+    ensures offered { IfSome result (λ index.
+        is_created_struct (bare scope.now) wanted true index ≡ true) }
+{
+    let offer = CreatedStructOffer {
+        scope,
+        wanted,
+        defaults: true,
+    };
+    let index = first_offered(&offer)?;
+    Some(index as u32)
+}
+
+/// Returns the first array type whose created values match `wanted`, if there is one.
+pub fn first_created_array(scope: &Scope<'_>, wanted: ValType) -> Option<u32>
+    requires scope { IsScope (bare scope.now) }
+    requires wanted { IsValid (bare scope.now) wanted }
+    ensures exact { result ≡ first_created_array (bare scope.now) wanted }
+    ensures offered { IfSome result (λ index.
+        is_created_array (bare scope.now) wanted field_use.New index ≡ true) }
+{
+    let offer = CreatedArrayOffer {
+        scope,
+        wanted,
+        of: FieldUse::New,
+    };
+    let index = first_offered(&offer)?;
+    Some(index as u32)
+}
+
+/// Returns the index of the first offered item, if an item is offered.
+fn first_offered<O: Offer>(offer: &O) -> Option<usize>
+    requires { O.ready offer.now }
+    ensures exact { result ≡ first_offered (O.test offer.now) (O.size offer.now) }
+    ensures below { IfSome result (λ index. index < O.size offer.now) }
+    ensures offered { IfSome result (λ index. O.test offer.now index ≡ true) }
+{
+    let mut nothing = Unstructured::new(&[]);
+    choose_offered(offer, &mut nothing)
 }
 
 /// Chooses a field of a struct type that may be used for `of`.

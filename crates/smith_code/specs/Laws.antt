@@ -1,0 +1,53 @@
+-- Laws of instructions without operands.
+use Rattle.std.specs.Prelude.{◌≡◌, ℕ, ◌-◌, ◌^◌, ◌<◌, true, List}
+use Rattle.smith_config.specs.declared.config.Config.{Config}
+use Rattle.smith_types.specs.Types.{IsOrderly}
+use Rattle.smith_types.specs.declared.value_type.HeapType.{HeapType}
+use Rattle.smith_types.specs.declared.value_type.ValType.{ValType}
+use Rattle.smith_instr.specs.Contexts.{BodyContext}
+use Rattle.smith_instr.specs.declared.aggregate.AggregateInstr.TheVariants as aggregate
+use Rattle.smith_instr.specs.declared.instr.Instr.{Instr}
+use Rattle.smith_instr.specs.declared.instr.Instr.TheVariants as instr
+use Rattle.smith_instr.specs.declared.reference.ReferenceInstr.TheVariants as reference
+use Rattle.smith_code_nodes.specs.Scopes.{is_permitted}
+use Rattle.smith_code.specs.Drawn.{IsLeaf}
+use Rattle.smith_code.specs.Leaves.{leaf_at}
+
+-- a constant of a number or a vector
+abbrev pub IsNumber : Instr → Type 0
+IsNumber (instr.I32Const value) = Unit {0}
+IsNumber (instr.I64Const value) = Unit {0}
+IsNumber (instr.F32Const bits) = Unit {0}
+IsNumber (instr.F64Const bits) = Unit {0}
+IsNumber (instr.V128Const bits) = Unit {0}
+IsNumber _ = ⊥
+
+-- an index that an item of a list may have: a list has at most 2^32 - 1 items (Structure, Lists)
+abbrev pub IsIndex : ℕ → Type 0
+IsIndex index = index < 2 ^ 32 - 1
+
+-- an instruction that is permitted and produces a value that matches the wanted type, without
+-- operands
+abbrev pub IsOther : Config → BodyContext → List ℕ → ValType → Instr → Type 0
+IsOther config context set wanted instruction =
+    (is_permitted context.features config instruction ≡ true) × IsLeaf context set wanted instruction
+
+-- no permitted instruction produces a value that matches the wanted type: no read of a local or a
+-- global, no reference to a function, no constant, no null, no struct of default values, and no
+-- array without elements
+pub record HasNoOther (config : Config) (context : BodyContext) (set : List ℕ) (wanted : ValType) : Type 0 where
+  pub no_local : (index : ℕ) → IsIndex index → ¬ IsOther config context set wanted (instr.LocalGet index)
+  pub no_global : (index : ℕ) → IsIndex index → ¬ IsOther config context set wanted (instr.GlobalGet index)
+  pub no_function : (function : ℕ) → ¬ IsOther config context set wanted (instr.Reference (reference.Func function))
+  pub no_number : (instruction : Instr) → IsNumber instruction → ¬ IsOther config context set wanted instruction
+  pub no_null : (heap_type : HeapType) → ¬ IsOther config context set wanted (instr.Reference (reference.Null heap_type))
+  pub no_struct : (ty : ℕ) → IsIndex ty → ¬ IsOther config context set wanted (instr.Aggregate (aggregate.StructNewDefault ty))
+  pub no_array : (ty : ℕ) → IsIndex ty → ¬ IsOther config context set wanted (instr.Aggregate (aggregate.ArrayNewFixed ty 0))
+
+-- with `disallow_traps`, `unreachable` stands for a value only where there is no other such
+-- instruction
+abbrev pub TrapsOnlyForNoOther : Type 0
+TrapsOnlyForNoOther =
+    (config : Config) (context : BodyContext) (set : List ℕ) (wanted : ValType) (bytes : List ℕ)
+    → IsOrderly context.types → config.disallow_traps ≡ true → (leaf_at config context set wanted bytes).0 ≡ instr.Unreachable
+    → HasNoOther config context set wanted
