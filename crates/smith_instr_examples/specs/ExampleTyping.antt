@@ -1,6 +1,6 @@
 -- Instructions that have a type in the managed context, or none; instructions that are enabled, or
 -- not.
-use Rattle.std.specs.Prelude.{◌+◌, ◌-◌, ◌^◌, List, []}
+use Rattle.std.specs.Prelude.{◌-◌, ◌^◌, List, []}
 use Rattle.smith_types.specs.Features.{Features, every_feature}
 use Rattle.smith_types.specs.Instructions.{every_kind, float_bits, kind_bits}
 use Rattle.smith_types.specs.declared.instruction_kind.InstructionKind.{InstructionKind}

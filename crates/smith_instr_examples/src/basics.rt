@@ -9,12 +9,14 @@ ghost use Rattle.smith_types.specs.declared.value_type.ValType.{ValType};
 ghost use Rattle.smith_instr.specs.Contexts.{IsBlockType, created_reference, nullable_to};
 ghost use Rattle.smith_instr.specs.Contexts.{reference_to_function};
 ghost use Rattle.smith_instr.specs.InstrTypes.{HasInstrType, sets};
+ghost use Rattle.smith_instr.specs.declared.aggregate.AggregateInstr.TheVariants as aggregate;
+ghost use Rattle.smith_instr.specs.declared.aggregate.Extension.TheVariants as extension;
 ghost use Rattle.smith_instr.specs.declared.control.BlockType.TheVariants as block;
 ghost use Rattle.smith_instr.specs.declared.control.BlockType.{BlockType};
 ghost use Rattle.smith_instr.specs.declared.instr.Instr.TheVariants as instr;
 ghost use Rattle.smith_instr.specs.declared.reference.ReferenceInstr.TheVariants as reference;
 ghost use Rattle.smith_instr_examples.specs.ExampleBodies.{function_of, some_func};
-ghost use Rattle.smith_instr_examples.specs.ExampleManaged.{managed};
+ghost use Rattle.smith_instr_examples.specs.ExampleManaged.{any_struct, managed};
 ghost use Rattle.smith_instr_examples.specs.ExampleTyping.{HasNoType, HasType, LeavesNot, TakesNot};
 
 fn parametric()
@@ -127,4 +129,30 @@ fn references()
     ensures as_non_null_to_none { LeavesNot (instr.Reference reference.AsNonNull) [] }
     ensures as_non_null_of_no_type { TakesNot (instr.Reference reference.AsNonNull)
         (nullable_to (Concrete 8) ∷ []) }
+{}
+
+fn fields()
+    ensures get { HasType (instr.Aggregate (aggregate.StructGet 0 1 extension.Unpacked))
+        (Ref any_struct ∷ []) (I64 ∷ []) }
+    ensures get_unsigned { HasType (instr.Aggregate (aggregate.StructGet 0 0 extension.Unsigned))
+        (Ref any_struct ∷ []) (I32 ∷ []) }
+    ensures get_unsigned_of_one_that_is_not_packed { HasNoType
+        (instr.Aggregate (aggregate.StructGet 0 1 extension.Unsigned)) }
+    ensures get_of_another_type { LeavesNot
+        (instr.Aggregate (aggregate.StructGet 0 1 extension.Unpacked)) (I32 ∷ []) }
+    ensures get_of_a_packed_type { LeavesNot
+        (instr.Aggregate (aggregate.StructGet 0 0 extension.Signed)) (I64 ∷ []) }
+    ensures get_of_no_struct { TakesNot
+        (instr.Aggregate (aggregate.StructGet 0 1 extension.Unpacked)) [] }
+    ensures get_of_an_array { HasNoType
+        (instr.Aggregate (aggregate.StructGet 2 0 extension.Unpacked)) }
+    ensures get_past_the_last_type { HasNoType
+        (instr.Aggregate (aggregate.StructGet 8 0 extension.Unpacked)) }
+    ensures set_of_another_type { TakesNot (instr.Aggregate (aggregate.StructSet 0 1))
+        (Ref any_struct ∷ I32 ∷ []) }
+    ensures set_without_a_value { TakesNot (instr.Aggregate (aggregate.StructSet 0 1))
+        (Ref any_struct ∷ []) }
+    ensures set_to_one { LeavesNot (instr.Aggregate (aggregate.StructSet 0 1)) (I64 ∷ []) }
+    ensures set_of_an_array { HasNoType (instr.Aggregate (aggregate.StructSet 2 0)) }
+    ensures set_past_the_last_type { HasNoType (instr.Aggregate (aggregate.StructSet 8 0)) }
 {}
