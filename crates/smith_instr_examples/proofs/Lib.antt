@@ -1,3 +1,4 @@
+pub mod AccessExamples
 pub mod SequenceExamples
 pub mod ManagedExamples
 pub mod BlockExamples

@@ -1,2 +1,3 @@
 pub mod ExampleBodies
 pub mod ExampleManaged
+pub mod ExampleTyping

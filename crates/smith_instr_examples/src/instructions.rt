@@ -1,11 +1,10 @@
-ghost use Rattle.std.specs.Prelude.{[], ◌∷◌, true, false, pos, replicate};
+ghost use Rattle.std.specs.Prelude.{[], ◌∷◌, false};
 ghost use Rattle.smith_types.specs.Expressions.{reference_to};
 ghost use Rattle.smith_types.specs.Flags.{funcref};
 ghost use Rattle.smith_types.specs.declared.value_type.AbstractHeapType.TheVariants as heap;
 ghost use Rattle.smith_types.specs.declared.value_type.HeapType.TheVariants.{Abstract, Concrete};
-ghost use Rattle.smith_types.specs.declared.value_type.HeapType.TheVariants.{Exact};
-ghost use Rattle.smith_types.specs.declared.value_type.ValType.TheVariants.{I32, I64, F32, F64};
-ghost use Rattle.smith_types.specs.declared.value_type.ValType.TheVariants.{V128, Ref};
+ghost use Rattle.smith_types.specs.declared.value_type.ValType.TheVariants.{I32, I64, F64};
+ghost use Rattle.smith_types.specs.declared.value_type.ValType.TheVariants.{Ref};
 ghost use Rattle.smith_instr.specs.Contexts.{nullable_to, labelled, reference_to_function};
 ghost use Rattle.smith_instr.specs.InstrTypes.{HasInstrType, IsCatch};
 ghost use Rattle.smith_instr.specs.declared.control.Catch.TheVariants as catch;
@@ -19,8 +18,6 @@ ghost use Rattle.smith_instr.specs.declared.memory.Store.TheVariants as store;
 ghost use Rattle.smith_instr.specs.declared.memory.MemoryInstr.TheVariants as memory;
 ghost use Rattle.smith_instr.specs.declared.reference.ReferenceInstr.TheVariants as reference;
 ghost use Rattle.smith_instr.specs.declared.table.TableInstr.TheVariants as table;
-ghost use Rattle.smith_instr.specs.declared.vector.LaneExtract.TheVariants as extract;
-ghost use Rattle.smith_instr.specs.declared.vector.VectorInstr.TheVariants as vector;
 ghost use Rattle.smith_instr_examples.specs.ExampleBodies.{function_of, aligned, exnref, some_func};
 
 fn globals()
@@ -58,17 +55,6 @@ fn accesses()
         (instr.Atomic (atomic.Load width.I32) (aligned 0 2)) (I32 ∷ []) (I32 ∷ []) }
     ensures atomic_below_its_alignment { ¬ HasInstrType (function_of [] []) []
         (instr.Atomic (atomic.Load width.I32) (aligned 0 1)) (I32 ∷ []) (I32 ∷ []) }
-{}
-
-fn lanes()
-    ensures last { HasInstrType (function_of [] []) []
-        (instr.Vector (vector.ExtractLane extract.I8x16S 15)) (V128 ∷ []) (I32 ∷ []) }
-    ensures past_the_last { ¬ HasInstrType (function_of [] []) []
-        (instr.Vector (vector.ExtractLane extract.I8x16S 16)) (V128 ∷ []) (I32 ∷ []) }
-    ensures of_floats { HasInstrType (function_of [] []) []
-        (instr.Vector (vector.ExtractLane extract.F64x2 1)) (V128 ∷ []) (F64 ∷ []) }
-    ensures shuffled_past_the_last { ¬ HasInstrType (function_of [] []) []
-        (instr.Vector (vector.Shuffle (replicate 16 32))) (V128 ∷ V128 ∷ []) (V128 ∷ []) }
 {}
 
 fn fields()

@@ -2,17 +2,30 @@
 //! proved, and nothing calls these functions.
 #![tactic(auto)]
 
-mod arithmetic;
+mod atomics;
+mod basics;
 mod blocks;
 mod bulk;
 mod calls;
 mod casts;
+mod conversions;
 mod creations;
 mod elements;
 mod enabled;
+mod features;
 mod handlers;
 mod instructions;
 mod jumps;
+mod kinds;
+mod lanes;
+mod loads;
+mod memories;
+mod numbers;
 mod plain;
 mod scalars;
 mod sequences;
+mod shared;
+mod stores;
+mod tables;
+mod vector_accesses;
+mod vectors;

@@ -1,0 +1,12 @@
+use Rattle.std.proofs.Common.{[], ◌∷◌, refl}
+use Rattle.smith_instr_examples.proofs.ManagedExamples.{struct_there}
+use Rattle.smith_types.specs.ExampleTypes.{constant, variable}
+use Rattle.smith_types.specs.declared.composite_type.StorageType.TheVariants.{I8, Val}
+use Rattle.smith_types.specs.declared.value_type.ValType.TheVariants.{I64}
+use Rattle.smith_instr_examples.proofs.basics.fields.Goals as goal
+
+pub returns-clause-get : goal.returns-clause-get
+returns-clause-get c = (variable (Val I64), record { fields = constant I8 ∷ variable (Val I64) ∷ []; structure = struct_there; there = refl }, tt, (refl, refl))
+
+pub returns-clause-get_unsigned : goal.returns-clause-get_unsigned
+returns-clause-get_unsigned c = (constant I8, record { fields = constant I8 ∷ variable (Val I64) ∷ []; structure = struct_there; there = refl }, tt, (refl, refl))

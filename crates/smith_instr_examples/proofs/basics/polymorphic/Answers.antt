@@ -1,0 +1,8 @@
+use Rattle.std.proofs.Common.{[], ◌∷◌, refl}
+use Rattle.smith_instr_examples.proofs.SequenceExamples.{valid_one}
+use Rattle.smith_instr_examples.specs.ExampleManaged.{managed}
+use Rattle.smith_types.specs.declared.value_type.ValType.TheVariants.{F32, I32}
+use Rattle.smith_instr_examples.proofs.basics.polymorphic.Goals as goal
+
+pub returns-clause-unreachable : goal.returns-clause-unreachable
+returns-clause-unreachable c = (I32 ∷ [], refl, valid_one (managed [] []) F32 tt)

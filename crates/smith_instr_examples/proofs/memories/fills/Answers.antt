@@ -1,0 +1,6 @@
+use Rattle.std.proofs.Common.{refl}
+use Rattle.smith_instr_examples.specs.ExampleBodies.{narrow_memory}
+use Rattle.smith_instr_examples.proofs.memories.fills.Goals as goal
+
+pub returns-clause-fill : goal.returns-clause-fill
+returns-clause-fill c = (narrow_memory, refl, (refl, refl))

@@ -1,0 +1,6 @@
+use Rattle.std.proofs.Common.{refl}
+use Rattle.smith_instr_examples.specs.ExampleBodies.{functions}
+use Rattle.smith_instr_examples.proofs.tables.fills.Goals as goal
+
+pub returns-clause-fill : goal.returns-clause-fill
+returns-clause-fill c = (functions, refl, (refl, refl))

@@ -1,0 +1,8 @@
+use Rattle.std.proofs.Common.{refl}
+use Rattle.smith_instr_examples.specs.ExampleManaged.{managed_types, wide_functions}
+use Rattle.smith_types.proofs.GrowthLemmas.{IsRefBelow-refl}
+use Rattle.smith_types.specs.Flags.{funcref}
+use Rattle.smith_instr_examples.proofs.tables.segments.Goals as goal
+
+pub returns-clause-init_of_a_wide_table : goal.returns-clause-init_of_a_wide_table
+returns-clause-init_of_a_wide_table c = (wide_functions, funcref, refl, refl, IsRefBelow-refl managed_types funcref, (refl, refl))

@@ -1,0 +1,51 @@
+-- Instructions that have a type in the managed context, or none; instructions that are enabled, or
+-- not.
+use Rattle.std.specs.Prelude.{◌-◌, ◌^◌, List, []}
+use Rattle.smith_types.specs.Features.{Features, every_feature}
+use Rattle.smith_types.specs.Instructions.{every_kind, float_bits, kind_bits}
+use Rattle.smith_types.specs.declared.instruction_kind.InstructionKind.{InstructionKind}
+use Rattle.smith_types.specs.declared.instruction_kind.InstructionKinds.{InstructionKinds}
+use Rattle.smith_types.specs.declared.value_type.ValType.{ValType}
+use Rattle.smith_instr.specs.Enabled.{IsEnabled}
+use Rattle.smith_instr.specs.InstrTypes.{HasInstrType}
+use Rattle.smith_instr.specs.declared.instr.Instr.{Instr}
+use Rattle.smith_instr_examples.specs.ExampleBodies.{kinds_of}
+use Rattle.smith_instr_examples.specs.ExampleManaged.{managed}
+
+-- the instruction takes these operands and leaves these results
+abbrev pub HasType : Instr → List ValType → List ValType → Type 0
+HasType instruction operands results = HasInstrType (managed [] []) [] instruction operands results
+
+-- the instruction does not take these operands, whatever its results
+abbrev pub TakesNot : Instr → List ValType → Type 0
+TakesNot instruction operands = (results : List ValType) → ¬ HasInstrType (managed [] []) [] instruction operands results
+
+-- the instruction does not leave these results, whatever its operands
+abbrev pub LeavesNot : Instr → List ValType → Type 0
+LeavesNot instruction results = (operands : List ValType) → ¬ HasInstrType (managed [] []) [] instruction operands results
+
+-- the instruction has no type
+abbrev pub HasNoType : Instr → Type 0
+HasNoType instruction = (operands results : List ValType) → ¬ HasInstrType (managed [] []) [] instruction operands results
+
+-- the instruction is enabled with these features, and is not; all kinds are allowed
+abbrev pub IsOn : Features → Instr → Type 0
+IsOn features instruction = IsEnabled features every_kind instruction
+
+abbrev pub IsOff : Features → Instr → Type 0
+IsOff features instruction = ¬ IsEnabled features every_kind instruction
+
+-- the instruction is enabled if this is the only kind that is allowed; all features are on
+abbrev pub IsAmong : InstructionKind → Instr → Type 0
+IsAmong kind instruction = IsEnabled every_feature (kinds_of kind) instruction
+
+-- the instruction is not enabled if only these kinds are allowed; all features are on
+abbrev pub IsBarred : InstructionKinds → Instr → Type 0
+IsBarred kinds instruction = ¬ IsEnabled every_feature kinds instruction
+
+-- all kinds but one, and all kinds without floats
+abbrev pub all_but : InstructionKind → InstructionKinds
+all_but kind = record { 0 = 2 ^ 12 - 1 - kind_bits kind }
+
+abbrev pub without_floats : InstructionKinds
+without_floats = record { 0 = 2 ^ 12 - 1 - float_bits }
