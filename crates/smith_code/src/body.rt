@@ -24,8 +24,9 @@ const DEPTH: u32 = 40;
 /// references to functions take none. With a budget of 0 the body is `unreachable`.
 ///
 /// With `disallow_traps` of the configuration, only `unreachable` may trap. It is then drawn only
-/// with a budget of 0, or for a value that no permitted local, global, function reference, constant
-/// or null produces, such as most references that are not nullable.
+/// with a budget of 0, or for a value that no permitted instruction without operands produces: no
+/// local, global, function reference, constant, null, struct of default values, or array without
+/// elements.
 ///
 /// # Errors
 ///

@@ -5,11 +5,10 @@ mod body;
 mod choices;
 mod drawn;
 mod families;
-mod laws;
+pub mod laws;
 mod leaf;
 mod references;
 mod written;
 
 pub use body::draw_body;
-pub use laws::traps_only_for_no_other;
 pub use smith_code_nodes::Scope;

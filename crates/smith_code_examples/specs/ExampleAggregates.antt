@@ -27,6 +27,10 @@ aggregates locals = record (function_of locals []) {
       ∷ [];
 }
 
+-- such a function, in which `ref.func` may name no function
+abbrev pub unnamed : BodyContext
+unnamed = record (aggregates []) { references = [] }
+
 -- such a function without garbage collection
 abbrev pub unmanaged : BodyContext
 unmanaged = record (aggregates []) { features = without_gc }

@@ -19,6 +19,7 @@ mod offers;
 mod offsets;
 mod references;
 mod scopes;
+mod spare_leaves;
 mod statements;
 mod tables;
 mod traps;
