@@ -44,8 +44,8 @@ pub record HasNoOther (config : Config) (context : BodyContext) (set : List ℕ)
   pub no_struct : (ty : ℕ) → IsIndex ty → ¬ IsOther config context set wanted (instr.Aggregate (aggregate.StructNewDefault ty))
   pub no_array : (ty : ℕ) → IsIndex ty → ¬ IsOther config context set wanted (instr.Aggregate (aggregate.ArrayNewFixed ty 0))
 
--- with `disallow_traps`, `unreachable` stands for a value only where there is no other such
--- instruction
+-- with `disallow_traps`, the instruction that produces a value is `unreachable` only if there is no
+-- other such instruction
 abbrev pub TrapsOnlyForNoOther : Type 0
 TrapsOnlyForNoOther =
     (config : Config) (context : BodyContext) (set : List ℕ) (wanted : ValType) (bytes : List ℕ)
