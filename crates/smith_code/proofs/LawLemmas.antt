@@ -22,8 +22,7 @@ use Rattle.smith_code.specs.Drawn.{IsLeaf}
 use Rattle.smith_code.specs.Laws.{HasNoOther, IsIndex, IsNumber, IsOther}
 use Rattle.smith_code.specs.Leaves.{any_leaf_at, constant_instr_at, default_struct, empty_array, first_constant, first_leaf, first_of, if_permitted, leaf_at, leaf_of, named_at, null_or_stop, spare_leaf}
 use Rattle.smith_code.specs.declared.families.LeafFamily.TheVariants as leaf
-use Rattle.smith_code_aggregates.specs.Aggregates.{first_created_array, first_created_struct, is_created_array, is_created_struct}
-use Rattle.smith_code_aggregates.specs.declared.fields.FieldUse.TheVariants as field_use
+use Rattle.smith_code_aggregates.specs.Aggregates.{first_created_array, first_created_struct, is_created_empty, is_created_struct}
 use Rattle.smith_code_aggregates.proofs.FirstLemmas.{chosen_first, none_offered}
 use Rattle.smith_code_nodes.specs.Offered.{is_global_below, is_named, is_readable, is_reference, offered}
 use Rattle.smith_code_nodes.specs.Scopes.{indexed, is_permitted}
@@ -78,7 +77,7 @@ all_tried config context set wanted trapless stop =
     record { local = local; global = global; function = function; constant = constant; struct = struct; array = array }
 
 spared : (config : Config) (context : BodyContext) (set : List ℕ) (wanted : ValType) (bytes : List ℕ) → config.disallow_traps ≡ true → (leaf_at config context set wanted bytes).0 ≡ instr.Unreachable → first_leaf config context set wanted ≡ instr.Unreachable
-unfolding leaf_at, spare_leaf
+unfolding leaf_at spare_leaf
 spared config context set wanted bytes trapless stop =
     let drawn = (any_leaf_at context set wanted bytes).0 in
     let (_, spare) = drawn_apart config context drawn (spare_leaf config context set wanted) (is_permitted context.features config drawn) trapless refl stop in
@@ -99,27 +98,27 @@ first_item items = chosen_first items [] (choose_at items []).1 (choose_at items
 
 -- whether an instruction is permitted does not depend on its index
 local_permitted : (features : Features) (config : Config) (index other : ℕ) → is_permitted features config (instr.LocalGet index) ≡ true → is_permitted features config (instr.LocalGet other) ≡ true
-unfolding is_permitted, is_enabled
+unfolding is_permitted is_enabled
 local_permitted features config index other is = is
 
 global_permitted : (features : Features) (config : Config) (index other : ℕ) → is_permitted features config (instr.GlobalGet index) ≡ true → is_permitted features config (instr.GlobalGet other) ≡ true
-unfolding is_permitted, is_enabled
+unfolding is_permitted is_enabled
 global_permitted features config index other is = is
 
 function_permitted : (features : Features) (config : Config) (function other : ℕ) → is_permitted features config (instr.Reference (reference.Func function)) ≡ true → is_permitted features config (instr.Reference (reference.Func other)) ≡ true
-unfolding is_permitted, is_enabled
+unfolding is_permitted is_enabled
 function_permitted features config function other is = is
 
 null_permitted : (features : Features) (config : Config) (heap_type other : HeapType) → is_permitted features config (instr.Reference (reference.Null heap_type)) ≡ true → is_permitted features config (instr.Reference (reference.Null other)) ≡ true
-unfolding is_permitted, is_enabled
+unfolding is_permitted is_enabled
 null_permitted features config heap_type other is = is
 
 struct_permitted : (features : Features) (config : Config) (ty other : ℕ) → is_permitted features config (instr.Aggregate (aggregate.StructNewDefault ty)) ≡ true → is_permitted features config (instr.Aggregate (aggregate.StructNewDefault other)) ≡ true
-unfolding is_permitted, is_enabled
+unfolding is_permitted is_enabled
 struct_permitted features config ty other is = is
 
 array_permitted : (features : Features) (config : Config) (ty other : ℕ) → is_permitted features config (instr.Aggregate (aggregate.ArrayNewFixed ty 0)) ≡ true → is_permitted features config (instr.Aggregate (aggregate.ArrayNewFixed other 0)) ≡ true
-unfolding is_permitted, is_enabled
+unfolding is_permitted is_enabled
 array_permitted features config ty other is = is
 
 -- the value of an instruction that has one type
@@ -183,7 +182,7 @@ no_constant config context wanted value result numeric none results below is =
     forbidden config context (constant_instr_at value []).0 none' is
 
 no_number : (config : Config) (context : BodyContext) (set : List ℕ) (wanted : ValType) → first_constant config context wanted ≡ None → (instruction : Instr) → IsNumber instruction → ¬ IsOther config context set wanted instruction
-unfolding is_permitted, is_enabled, constant_instr_at
+unfolding is_permitted is_enabled constant_instr_at
 no_number config context set wanted none (instr.I32Const value) number (is, leaf) = no_constant config context wanted I32 leaf.value tt none leaf.typed.1 leaf.below is
 no_number config context set wanted none (instr.I64Const value) number (is, leaf) = no_constant config context wanted I64 leaf.value tt none leaf.typed.1 leaf.below is
 no_number config context set wanted none (instr.F32Const bits) number (is, leaf) = no_constant config context wanted F32 leaf.value tt none leaf.typed.1 leaf.below is
@@ -224,7 +223,7 @@ no_array config context set wanted orderly none ty few (is, leaf) =
     let unmade = not_made config context (λ ty. instr.Aggregate (aggregate.ArrayNewFixed ty 0)) (first_created_array context wanted) none (λ other. array_permitted context.features config ty other is) in
     let inside : ty < length context.types = slice_get_within context.types ty there.0 there.1 in
     let below = typed_below context.types leaf.value (created_reference context ty) wanted results leaf.below in
-    none_offered (is_created_array context wanted field_use.New) (indexed (length context.types)) ty unmade (omega (arith, inside, few)) (array_is context wanted ty element orderly there below)
+    none_offered (is_created_empty context wanted) (indexed (length context.types)) ty unmade (omega (arith, inside, few)) (array_is context wanted ty element orderly there below)
 
 pub no_other : (config : Config) (context : BodyContext) (set : List ℕ) (wanted : ValType) (bytes : List ℕ) → IsOrderly context.types → config.disallow_traps ≡ true → (leaf_at config context set wanted bytes).0 ≡ instr.Unreachable → HasNoOther config context set wanted
 no_other config context set wanted bytes orderly trapless stop =

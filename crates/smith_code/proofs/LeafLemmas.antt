@@ -13,11 +13,10 @@ use Rattle.smith_instr.specs.declared.aggregate.AggregateInstr.TheVariants as ag
 use Rattle.smith_instr.specs.declared.instr.Instr.TheVariants as instr
 use Rattle.smith_instr.specs.declared.reference.ReferenceInstr.TheVariants as reference
 use Rattle.smith_code.specs.Drawn.{IsConstant, IsLeaf}
-use Rattle.smith_code_aggregates.specs.Aggregates.{is_array, is_creatable_in, is_created_array, is_created_below, is_created_struct}
+use Rattle.smith_code_aggregates.specs.Aggregates.{is_creatable_in, is_created_below, is_created_empty, is_created_struct}
 use Rattle.smith_code_aggregates.specs.Fields.{struct_in}
-use Rattle.smith_code_aggregates.specs.declared.fields.FieldUse.TheVariants as field_use
-use Rattle.smith_code_aggregates.proofs.AggregateLemmas.{array_tested}
 use Rattle.smith_code_aggregates.proofs.CreationLemmas.{default_there}
+use Rattle.smith_code_aggregates.proofs.FirstLemmas.{array_created}
 use Rattle.smith_code_nodes.specs.Scopes.{IsAllowedIn}
 use Rattle.smith_code_nodes.specs.Offered.{is_readable, is_global_below, IsReferenceTo}
 use Rattle.smith_code_nodes.specs.declared.scope.Scope.{Scope}
@@ -64,8 +63,7 @@ struct_leaf context set wanted ty orderly is =
     let (fields, there, defaults) = default_there context.types ty can in
     record { value = created_reference context ty; typed = (fields, there, defaults, (refl, refl)); below = tested context.types orderly (created_reference context ty) wanted below; sets_none = refl }
 
-pub array_leaf : (context : BodyContext) (set : List ℕ) (wanted : ValType) (ty : ℕ) → IsOrderly context.types → is_created_array context wanted field_use.New ty ≡ true → IsLeaf context set wanted (instr.Aggregate (aggregate.ArrayNewFixed ty 0))
+pub array_leaf : (context : BodyContext) (set : List ℕ) (wanted : ValType) (ty : ℕ) → IsOrderly context.types → is_created_empty context wanted ty ≡ true → IsLeaf context set wanted (instr.Aggregate (aggregate.ArrayNewFixed ty 0))
 array_leaf context set wanted ty orderly is =
-    let (below, may) = both (is_created_below context wanted ty) (is_array context field_use.New ty) is in
-    let (element, there) = array_tested context.types ty may in
+    let (below, (element, there)) = array_created context wanted ty is in
     record { value = created_reference context ty; typed = (element, there, (refl, refl)); below = tested context.types orderly (created_reference context ty) wanted below; sets_none = refl }

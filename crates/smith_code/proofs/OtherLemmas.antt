@@ -19,9 +19,9 @@ use Rattle.smith_types.specs.declared.value_type.ValType.TheVariants.{I32, I64, 
 use Rattle.smith_draw.specs.Below.{is_val_below}
 use Rattle.smith_draw.proofs.BelowLemmas.{val_decides}
 use Rattle.smith_instr.specs.Contexts.{BodyContext, IsLocalSet, created_reference, reference_to_function}
-use Rattle.smith_code_aggregates.specs.Aggregates.{is_created_array, is_created_struct, is_creatable_in}
-use Rattle.smith_code_aggregates.specs.Fields.{element_in, element_of, is_usable_in, struct_in, struct_of}
-use Rattle.smith_code_aggregates.specs.declared.fields.FieldUse.TheVariants as field_use
+use Rattle.smith_code_aggregates.specs.Aggregates.{is_creatable_in, is_created_empty, is_created_struct}
+use Rattle.smith_code_aggregates.specs.Fields.{struct_in, struct_of}
+use Rattle.smith_code_aggregates.proofs.FirstLemmas.{array_offered}
 use Rattle.smith_code_nodes.specs.Offered.{has_default, is_among, is_global_below, is_global_below_at, is_named, is_readable, is_readable_at, is_reference, is_reference_at, offered}
 
 both_are : (a b : Bool) → a ≡ true → b ≡ true → (a && b) ≡ true
@@ -97,12 +97,8 @@ struct_is context wanted ty fields orderly (t, at, is) defaults below =
     (subst (λ (o : Option SubType). is_creatable_in true (struct_in o) ≡ true) (sym at) there)
 
 -- an array without elements
-pub array_is : (context : BodyContext) (wanted : ValType) (ty : ℕ) (element : FieldType) → IsOrderly context.types → IsArrayAt context.types ty element → IsValBelow context.types (created_reference context ty) wanted → is_created_array context wanted field_use.New ty ≡ true
-array_is context wanted ty element orderly (t, at, is) below =
-    let there : is_usable_in context.types field_use.New (element_of t.composite_type.inner) ≡ true =
-    subst (λ (x : CompositeInnerType). is_usable_in context.types field_use.New (element_of x) ≡ true) (sym is) refl in
-    both_are (is_val_below context.types (created_reference context ty) wanted) (is_usable_in context.types field_use.New (element_in (slice_get context.types ty))) (below_is context.types (created_reference context ty) wanted orderly below)
-    (subst (λ (o : Option SubType). is_usable_in context.types field_use.New (element_in o) ≡ true) (sym at) there)
+pub array_is : (context : BodyContext) (wanted : ValType) (ty : ℕ) (element : FieldType) → IsOrderly context.types → IsArrayAt context.types ty element → IsValBelow context.types (created_reference context ty) wanted → is_created_empty context wanted ty ≡ true
+array_is context wanted ty element orderly there below = array_offered context wanted ty element there (below_is context.types (created_reference context ty) wanted orderly below)
 
 -- the first of the offered items passes the test
 first_of_more : (test : ℕ → Bool) (xs : List ℕ) (b : Bool) (n index : ℕ) → test n ≡ b → ((other : ℕ) → slice_get xs 0 ≡ Some other → test other ≡ true) → slice_get (xs ++ (if b then n ∷ [] else [])) 0 ≡ Some index → test index ≡ true

@@ -1,11 +1,21 @@
 -- The first of the offered items.
-use Rattle.std.proofs.Common.{◌≡◌, ℕ, ◌+◌, ◌-◌, ◌<◌, Bool, true, List, [], ◌∷◌, Option, Some, None, length, refl, sym, ap, ◌∙◌, arith}
-use Rattle.std.specs.Prelude.{slice_get}
+use Rattle.std.proofs.Common.{◌≡◌, ℕ, ◌+◌, ◌-◌, ◌<◌, Bool, true, false, List, [], ◌∷◌, Option, Some, None, length, refl, sym, subst, ap, ◌∙◌, arith}
+use Rattle.std.specs.Prelude.{◌&&◌, slice_get}
 use Rattle.std.proofs.Math.Nat.{zero-mod}
 use Rattle.std.proofs.Math.Seq.{take-nil}
 use Rattle.smith_bytes.specs.Draws.{big_endian, choose_at, digit_count, range_at}
-use Rattle.smith_code_aggregates.specs.Aggregates.{first_offered}
+use Rattle.smith_types.specs.Expressions.{IsArrayAt}
+use Rattle.smith_types.specs.declared.composite_type.CompositeInnerType.{CompositeInnerType}
+use Rattle.smith_types.specs.declared.composite_type.FieldType.{FieldType}
+use Rattle.smith_types.specs.declared.composite_type.SubType.{SubType}
+use Rattle.smith_types.specs.declared.value_type.ValType.{ValType}
+use Rattle.smith_instr.specs.Contexts.{BodyContext}
+use Rattle.smith_code_aggregates.specs.Aggregates.{first_offered, is_array, is_created_below, is_created_empty}
+use Rattle.smith_code_aggregates.specs.Fields.{element_in, element_of, is_usable_in}
+use Rattle.smith_code_aggregates.specs.declared.fields.FieldUse.TheVariants as field_use
+use Rattle.smith_code_aggregates.proofs.AggregateLemmas.{array_tested}
 use Rattle.smith_code_nodes.specs.Offered.{offered}
+use Rattle.smith_code_nodes.proofs.OfferLemmas.{both}
 use Rattle.smith_code_nodes.proofs.OfferedLemmas.{offered_place}
 
 -- without bytes the first number is drawn
@@ -27,3 +37,20 @@ nothing_first (item ∷ items) place index none at = cc
 -- without a first item no item is offered
 pub none_offered : (test : ℕ → Bool) (size index : ℕ) → first_offered test size ≡ None → index < size → test index ≡ true → ⊥
 none_offered test size index none inside is = nothing_first (offered test size) (length (offered test index)) index none (offered_place test size index inside is)
+
+-- an array type that is offered
+pub array_created : (context : BodyContext) (wanted : ValType) (ty : ℕ) → is_created_empty context wanted ty ≡ true → (is_created_below context wanted ty ≡ true) × ((element : FieldType) × IsArrayAt context.types ty element)
+array_created context wanted ty is =
+    let (below, may) = both (is_created_below context wanted ty) (is_array context field_use.New ty) is in
+    (below, array_tested context.types ty may)
+
+both_are : (a b : Bool) → a ≡ true → b ≡ true → (a && b) ≡ true
+both_are true b p q = q
+both_are false b p q = p
+
+pub array_offered : (context : BodyContext) (wanted : ValType) (ty : ℕ) (element : FieldType) → IsArrayAt context.types ty element → is_created_below context wanted ty ≡ true → is_created_empty context wanted ty ≡ true
+array_offered context wanted ty element (t, at, is) below =
+    let there : is_usable_in context.types field_use.New (element_of t.composite_type.inner) ≡ true =
+    subst (λ (x : CompositeInnerType). is_usable_in context.types field_use.New (element_of x) ≡ true) (sym is) refl in
+    both_are (is_created_below context wanted ty) (is_array context field_use.New ty) below
+    (subst (λ (o : Option SubType). is_usable_in context.types field_use.New (element_in o) ≡ true) (sym at) there)

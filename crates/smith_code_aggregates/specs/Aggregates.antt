@@ -61,6 +61,10 @@ abbrev pub created_struct_at : BodyContext → ValType → Bool → List ℕ →
 created_struct_at context wanted defaults bytes =
     chunk_at (is_created_struct context wanted defaults) (indexed (length context.types)) bytes
 
+-- an array type whose created values match the wanted type
+abbrev pub is_created_empty : BodyContext → ValType → ℕ → Bool
+is_created_empty context wanted index = is_created_array context wanted field_use.New index
+
 -- the first of the offered items
 abbrev pub first_offered : (ℕ → Bool) → ℕ → Option ℕ
 first_offered test size = slice_get (offered test size) 0
@@ -71,7 +75,7 @@ abbrev pub first_created_struct : BodyContext → ValType → Option ℕ
 first_created_struct context wanted = first_offered (is_created_struct context wanted true) (indexed (length context.types))
 
 abbrev pub first_created_array : BodyContext → ValType → Option ℕ
-first_created_array context wanted = first_offered (is_created_array context wanted field_use.New) (indexed (length context.types))
+first_created_array context wanted = first_offered (is_created_empty context wanted) (indexed (length context.types))
 
 -- a field that has a use
 abbrev pub is_field : List SubType → FieldUse → List FieldType → ℕ → Bool

@@ -7,11 +7,10 @@ ghost use Rattle.smith_code_aggregates.specs.Aggregates.{array_at, created_array
 ghost use Rattle.smith_code_aggregates.specs.Aggregates.{created_struct_at, field_at};
 ghost use Rattle.smith_code_aggregates.specs.Aggregates.{first_created_array, first_created_struct};
 ghost use Rattle.smith_code_aggregates.specs.Aggregates.{first_offered, is_array};
-ghost use Rattle.smith_code_aggregates.specs.Aggregates.{is_creatable, is_created_array};
-ghost use Rattle.smith_code_aggregates.specs.Aggregates.{is_created_below};
+ghost use Rattle.smith_code_aggregates.specs.Aggregates.{is_creatable, is_created_below};
+ghost use Rattle.smith_code_aggregates.specs.Aggregates.{is_created_empty};
 ghost use Rattle.smith_code_aggregates.specs.Aggregates.{is_created_struct, names_types};
 ghost use Rattle.smith_code_aggregates.specs.Fields.{AreFieldsValid, IsUse, is_usable};
-ghost use Rattle.smith_code_aggregates.specs.declared.fields.FieldUse.TheVariants as field_use;
 ghost use Rattle.smith_code_nodes.specs.Scopes.{IsScope, bare, indexed};
 
 use crate::fields::{FieldUse, element_at, is_usable, struct_type_at};
@@ -346,7 +345,7 @@ pub fn first_created_array(scope: &Scope<'_>, wanted: ValType) -> Option<u32>
     requires wanted { IsValid (bare scope.now) wanted }
     ensures exact { result ≡ first_created_array (bare scope.now) wanted }
     ensures offered { IfSome result (λ index.
-        is_created_array (bare scope.now) wanted field_use.New index ≡ true) }
+        is_created_empty (bare scope.now) wanted index ≡ true) }
 {
     let offer = CreatedArrayOffer {
         scope,

@@ -15,9 +15,9 @@ use Rattle.smith_code_examples.specs.ExampleBytes.{trapless}
 use Rattle.smith_code_examples.proofs.spare_leaves.others.Goals as goal
 
 pub returns-clause-exception : goal.returns-clause-exception
-unfolding any_leaf_at, constant_instr_at, first_leaf, leaf_at, leaf_choice_at, named_at, spare_leaf, is_permitted, is_enabled, is_heap_below, chosen_at, ancestors, chunk_at, offered, choose_at, digit_count, range_at
+unfolding any_leaf_at constant_instr_at first_leaf leaf_at leaf_choice_at named_at spare_leaf is_permitted is_enabled is_heap_below chosen_at ancestors chunk_at offered choose_at digit_count range_at
 returns-clause-exception c = no_other trapless unnamed [] (some_of heap.Exn) (4 ∷ []) c.orderly.ensures refl refl
 
 pub returns-clause-struct_of_default_values : goal.returns-clause-struct_of_default_values
-unfolding is_permitted, is_enabled, is_heap_below, ancestors
+unfolding is_permitted is_enabled is_heap_below ancestors
 returns-clause-struct_of_default_values c = λ none. none.no_struct 0 (omega arith) (refl, struct_leaf unnamed [] (some 0) 0 c.orderly.ensures refl)
