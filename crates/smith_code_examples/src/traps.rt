@@ -1,13 +1,16 @@
 ghost use Rattle.std.specs.Prelude.{◌≡◌, true, false, [], ◌∷◌, ◌++◌};
+ghost use Rattle.smith_types.specs.Flags.{funcref};
 ghost use Rattle.smith_types.specs.declared.instruction_kind.InstructionKind.TheVariants.{NumericInt};
 ghost use Rattle.smith_types.specs.declared.value_type.ValType.TheVariants.{I32};
 ghost use Rattle.smith_config.specs.Config.{default_config};
 ghost use Rattle.smith_instr.specs.declared.aggregate.AggregateInstr.TheVariants as aggregate;
+ghost use Rattle.smith_instr.specs.declared.aggregate.Extension.TheVariants as extension;
 ghost use Rattle.smith_instr.specs.declared.atomic.AtomicAccess.TheVariants as atomic;
 ghost use Rattle.smith_instr.specs.declared.control.BlockType.TheVariants as block;
 ghost use Rattle.smith_instr.specs.declared.instr.Instr.TheVariants as instr;
 ghost use Rattle.smith_instr.specs.declared.memory.Load.TheVariants as load;
 ghost use Rattle.smith_instr.specs.declared.memory.MemoryInstr.TheVariants as memory;
+ghost use Rattle.smith_instr.specs.declared.memory.Store.TheVariants as store;
 ghost use Rattle.smith_instr.specs.declared.numeric.Conversion.TheVariants as convert;
 ghost use Rattle.smith_instr.specs.declared.numeric.FloatBinary.TheVariants as float_binary;
 ghost use Rattle.smith_instr.specs.declared.numeric.IntBinary.TheVariants as int_binary;
@@ -15,6 +18,7 @@ ghost use Rattle.smith_instr.specs.declared.numeric.NumericInstr.TheVariants as 
 ghost use Rattle.smith_instr.specs.declared.numeric.SaturatingConversion.TheVariants as saturate;
 ghost use Rattle.smith_instr.specs.declared.reference.ReferenceInstr.TheVariants as reference;
 ghost use Rattle.smith_instr.specs.declared.table.TableInstr.TheVariants as table;
+ghost use Rattle.smith_instr.specs.declared.vector.VectorLoad.TheVariants as vector_load;
 ghost use Rattle.smith_instr_examples.specs.ExampleBodies.{aligned, function_of, kinds_of, number};
 ghost use Rattle.smith_instr_examples.specs.ExampleBodies.{some_func};
 ghost use Rattle.smith_code.specs.Bodies.{body_at};
@@ -33,6 +37,22 @@ fn numbers()
     ensures wrap { may_trap (instr.Numeric (numeric.Convert convert.I32WrapI64)) ≡ false }
 {}
 
+fn divisions_and_truncations()
+    ensures unsigned_division { may_trap (instr.Numeric (numeric.I64Binary int_binary.DivU))
+        ≡ true }
+    ensures signed_remainder { may_trap (instr.Numeric (numeric.I32Binary int_binary.RemS)) ≡ true }
+    ensures i32_from_f32 { may_trap (instr.Numeric (numeric.Convert convert.I32TruncF32S)) ≡ true }
+    ensures unsigned_i32_from_f32 { may_trap (instr.Numeric (numeric.Convert convert.I32TruncF32U))
+        ≡ true }
+    ensures i32_from_f64 { may_trap (instr.Numeric (numeric.Convert convert.I32TruncF64S)) ≡ true }
+    ensures i64_from_f32 { may_trap (instr.Numeric (numeric.Convert convert.I64TruncF32S)) ≡ true }
+    ensures unsigned_i64_from_f32 { may_trap (instr.Numeric (numeric.Convert convert.I64TruncF32U))
+        ≡ true }
+    ensures i64_from_f64 { may_trap (instr.Numeric (numeric.Convert convert.I64TruncF64S)) ≡ true }
+    ensures unsigned_i64_from_f64 { may_trap (instr.Numeric (numeric.Convert convert.I64TruncF64U))
+        ≡ true }
+{}
+
 fn memories_and_tables()
     ensures load { may_trap (instr.Load load.I32 (aligned 0 0)) ≡ true }
     ensures notify { may_trap (instr.Atomic atomic.Notify (aligned 0 2)) ≡ true }
@@ -44,7 +64,35 @@ fn memories_and_tables()
     ensures table_size { may_trap (instr.Table (table.Size 0)) ≡ false }
 {}
 
+fn more_accesses()
+    ensures store { may_trap (instr.Store store.I32 (aligned 0 0)) ≡ true }
+    ensures vector { may_trap (instr.VectorLoad vector_load.V128 (aligned 0 0)) ≡ true }
+    ensures vector_stored { may_trap (instr.VectorStore (aligned 0 0)) ≡ true }
+    ensures lane { may_trap (instr.VectorLoadLane 0 (aligned 0 0) 0) ≡ true }
+    ensures lane_stored { may_trap (instr.VectorStoreLane 0 (aligned 0 0) 0) ≡ true }
+    ensures copy { may_trap (instr.Memory (memory.Copy 0 0)) ≡ true }
+    ensures segment_copied { may_trap (instr.Memory (memory.Init 0 0)) ≡ true }
+    ensures element_set { may_trap (instr.Table (table.Set 0)) ≡ true }
+    ensures table_filled { may_trap (instr.Table (table.Fill 0)) ≡ true }
+    ensures table_copied { may_trap (instr.Table (table.Copy 0 0)) ≡ true }
+    ensures elements_copied { may_trap (instr.Table (table.Init 0 0)) ≡ true }
+{}
+
+fn structures_and_arrays()
+    ensures field { may_trap (instr.Aggregate (aggregate.StructGet 2 1 extension.Unpacked)) ≡ true }
+    ensures array_of_elements { may_trap (instr.Aggregate (aggregate.ArrayNewElem 3 0)) ≡ true }
+    ensures item { may_trap (instr.Aggregate (aggregate.ArrayGet 3 extension.Unpacked)) ≡ true }
+    ensures item_set { may_trap (instr.Aggregate (aggregate.ArraySet 3)) ≡ true }
+    ensures array_length { may_trap (instr.Aggregate aggregate.ArrayLen) ≡ true }
+    ensures array_filled { may_trap (instr.Aggregate (aggregate.ArrayFill 3)) ≡ true }
+    ensures array_copied { may_trap (instr.Aggregate (aggregate.ArrayCopy 3 3)) ≡ true }
+    ensures filled_from_data { may_trap (instr.Aggregate (aggregate.ArrayInitData 3 0)) ≡ true }
+    ensures filled_from_elements { may_trap (instr.Aggregate (aggregate.ArrayInitElem 3 0)) ≡ true }
+    ensures unsigned_small_number { may_trap (instr.Aggregate aggregate.I31GetU) ≡ true }
+{}
+
 fn references()
+    ensures cast_to_a_type { may_trap (instr.Reference (reference.Cast funcref)) ≡ true }
     ensures cast { may_trap (instr.Reference reference.AsNonNull) ≡ true }
     ensures test { may_trap (instr.Reference reference.IsNull) ≡ false }
     ensures branch { may_trap (instr.BrOnNull 0) ≡ false }
@@ -58,6 +106,8 @@ fn control()
     ensures stop { may_trap instr.Unreachable ≡ true }
     ensures call { may_trap (instr.Call 0) ≡ false }
     ensures call_through_a_table { may_trap (instr.CallIndirect 0 0) ≡ true }
+    ensures call_by_reference { may_trap (instr.CallRef 0) ≡ true }
+    ensures tail_call_through_a_table { may_trap (instr.ReturnCallIndirect 0 0) ≡ true }
     ensures tail_call_by_reference { may_trap (instr.ReturnCallRef 0) ≡ true }
     ensures thrown { may_trap (instr.Throw 0) ≡ false }
     ensures thrown_again { may_trap instr.ThrowRef ≡ true }

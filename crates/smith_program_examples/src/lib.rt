@@ -4,3 +4,4 @@
 
 mod bodies;
 mod contexts;
+mod counted;
