@@ -1,11 +1,10 @@
-ghost use Rattle.std.specs.Prelude.{◌≡◌, [], ◌∷◌, codes, pos, None, Some};
+ghost use Rattle.std.specs.Prelude.{◌≡◌, [], ◌∷◌, codes, false, pos, None, Some};
 ghost use Rattle.smith_types.specs.ExampleTypes.{func, giving};
 ghost use Rattle.smith_types.specs.Flags.{funcref};
 ghost use Rattle.smith_types.specs.Instructions.{no_kind};
 ghost use Rattle.smith_types.specs.declared.code.Instructions.TheVariants.{Unreachable};
 ghost use Rattle.smith_types.specs.declared.const_instr.ConstInstr.TheVariants.{RefFunc};
 ghost use Rattle.smith_types.specs.declared.composite_type.CompositeInnerType.TheVariants.{Func};
-ghost use Rattle.smith_types.specs.declared.const_instr.ConstInstr.TheVariants.{RefFunc};
 ghost use Rattle.smith_types.specs.declared.entity_type.ExportKind.TheVariants as kind;
 ghost use Rattle.smith_types.specs.declared.segments.Elements.TheVariants as elements;
 ghost use Rattle.smith_types.specs.declared.value_type.AbstractHeapType.TheVariants as heap;
