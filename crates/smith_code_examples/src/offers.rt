@@ -16,7 +16,8 @@ fn chunks()
     ensures as_among_all { chunk_at (λ index. true) 3 (2 ∷ 9 ∷ [])
         ≡ choose_at (offered (λ index. true) 3) (2 ∷ 9 ∷ []) }
     ensures second_of_two { chunk_at (λ index. true) 259 (1 ∷ 2 ∷ 9 ∷ []) ≡ (Some 258, 9 ∷ []) }
-    ensures third_of_four { chunk_at (λ index. index == 600) 1000 (2 ∷ 9 ∷ []) ≡ (Some 600, 9 ∷ []) }
+    ensures third_of_four { chunk_at (λ index. index == 600) 1000 (2 ∷ 9 ∷ [])
+        ≡ (Some 600, 9 ∷ []) }
     ensures offered_in_another { chunk_at (λ index. index == 3) 300 (1 ∷ 9 ∷ [])
         ≡ (None, 9 ∷ []) }
 {}
@@ -28,7 +29,8 @@ fn few_items()
 {}
 
 fn globals()
-    ensures in_the_first_chunk { leaf_choice_at many_globals [] I32 (2 ∷ 0 ∷ 7 ∷ []) ≡ (None, 7 ∷ []) }
+    ensures in_the_first_chunk { leaf_choice_at many_globals [] I32 (2 ∷ 0 ∷ 7 ∷ [])
+        ≡ (None, 7 ∷ []) }
     ensures in_the_second_chunk { leaf_choice_at many_globals [] I32 (2 ∷ 1 ∷ 7 ∷ [])
         ≡ (Some (instr.GlobalGet 256), 7 ∷ []) }
     ensures without_a_draw { first_leaf trapless many_globals [] I32 ≡ instr.GlobalGet 256 }

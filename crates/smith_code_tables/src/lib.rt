@@ -1,4 +1,4 @@
-//! Choices of instructions on tables and element segments, and of those on several bytes of a memory
+//! Choices of instructions on tables and element segments, and on several bytes of a memory
 //! or on a data segment. The standard is the WebAssembly Core Specification 3.0.
 #![tactic(auto)]
 

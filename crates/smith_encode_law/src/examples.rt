@@ -1,4 +1,5 @@
-ghost use Rattle.std.specs.Prelude.{ℕ, ◌^◌, ◌≤◌, ℤ, pos, negsuc, List, [], ◌∷◌, length, false, true, None};
+ghost use Rattle.std.specs.Prelude.{ℕ, ◌^◌, ◌≤◌, ℤ, pos, negsuc, List, [], ◌∷◌};
+ghost use Rattle.std.specs.Prelude.{length, false, true, None};
 ghost use Rattle.smith_binary.specs.Numbers.{IsUnsigned, IsSigned};
 ghost use Rattle.smith_types.specs.ExampleContexts.{context_with};
 ghost use Rattle.smith_types.specs.ExampleEntities.{memory, all_addresses, table};

@@ -161,7 +161,8 @@ fn references()
     ensures ref_as_non_null_off { IsOff (record every_feature { function_references = false })
         (instr.Reference reference.AsNonNull) }
     ensures ref_eq { IsOn (record no_features { gc = true }) (instr.Reference reference.Eq) }
-    ensures ref_eq_off { IsOff (record every_feature { gc = false }) (instr.Reference reference.Eq) }
+    ensures ref_eq_off { IsOff (record every_feature { gc = false })
+        (instr.Reference reference.Eq) }
     ensures ref_test { IsOn (record no_features { gc = true })
         (instr.Reference (reference.Test some_struct)) }
     ensures ref_test_off { IsOff (record every_feature { gc = false })
@@ -341,10 +342,12 @@ fn scalars()
     ensures ref_i31_shared_without_shared_everything_threads { IsOff
         (record every_feature { shared_everything_threads = false }) (instr.Aggregate
         aggregate.RefI31Shared) }
-    ensures i31_get_s { IsOn (record no_features { gc = true }) (instr.Aggregate aggregate.I31GetS) }
+    ensures i31_get_s { IsOn (record no_features { gc = true })
+        (instr.Aggregate aggregate.I31GetS) }
     ensures i31_get_s_off { IsOff (record every_feature { gc = false })
         (instr.Aggregate aggregate.I31GetS) }
-    ensures i31_get_u { IsOn (record no_features { gc = true }) (instr.Aggregate aggregate.I31GetU) }
+    ensures i31_get_u { IsOn (record no_features { gc = true })
+        (instr.Aggregate aggregate.I31GetU) }
     ensures i31_get_u_off { IsOff (record every_feature { gc = false })
         (instr.Aggregate aggregate.I31GetU) }
     ensures any_convert_extern { IsOn (record no_features { gc = true })

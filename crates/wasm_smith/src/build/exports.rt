@@ -44,8 +44,8 @@ pub(crate) fn make_exports(
     ensures exact { Returns is_lack
         (λ made. (record (module_so_far drawn.new) { exports = made.exports }, u.new)) result
         (exported_at config.now (module_so_far drawn.old) u.old) }
-    ensures size { IfOk result (λ made.
-        made ≡ exports_of config.now (record (module_so_far drawn.new) { exports = made.exports })) }
+    ensures size { IfOk result (λ made. made
+        ≡ exports_of config.now (record (module_so_far drawn.new) { exports = made.exports })) }
 
     // The parts so far and the exports.
     ensures drawn { OnOk result (AreExportsDrawn config.now drawn.new) }

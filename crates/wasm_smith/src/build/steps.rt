@@ -70,7 +70,8 @@ pub(crate) fn add_imports(
     ensures drawn { OnOk result (AreImportsDrawn config.now drawn.new) }
     ensures free { (FixesImports config.now → ⊥)
         → OnOk result (AreFreeImports distinct config.now drawn.new.imported) }
-    ensures beyond { OnOk result (IsBeyond config.now (module_so_far drawn.old) (module_so_far drawn.new)) }
+    ensures beyond { OnOk result (IsBeyond config.now (module_so_far drawn.old)
+        (module_so_far drawn.new)) }
 
     // Refusals and the source.
     ensures refusal { IfErr result (MayRefuse config.now) }
@@ -103,7 +104,8 @@ pub(crate) fn add_definitions(
     // The parts so far.
     ensures drawn { OnOk result (AreEntitiesDrawn config.now drawn.new) }
     ensures imports { OnOk result (HasSameImports drawn.old.imported drawn.new.imported) }
-    ensures beyond { OnOk result (IsBeyond config.now (module_so_far drawn.old) (module_so_far drawn.new)) }
+    ensures beyond { OnOk result (IsBeyond config.now (module_so_far drawn.old)
+        (module_so_far drawn.new)) }
 
     // Refusals and the source.
     ensures refusal { IfErr result (MayRefuse config.now) }
