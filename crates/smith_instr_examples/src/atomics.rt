@@ -302,11 +302,11 @@ fn at_other_addresses()
 {}
 
 fn waiting()
-    ensures notify { HasType (instr.Atomic atomic.Notify (aligned 1 2)) (I64 ∷ I32 ∷ []) (I32 ∷
-        []) }
+    ensures notify { HasType (instr.Atomic atomic.Notify (aligned 1 2)) (I64 ∷ I32 ∷ [])
+        (I32 ∷ []) }
     ensures notify_of_i64 { TakesNot (instr.Atomic atomic.Notify (aligned 0 2)) (I32 ∷ I64 ∷ []) }
-    ensures notify_without_a_count { TakesNot (instr.Atomic atomic.Notify (aligned 0 2)) (I32 ∷
-        []) }
+    ensures notify_without_a_count { TakesNot (instr.Atomic atomic.Notify (aligned 0 2))
+        (I32 ∷ []) }
     ensures notify_to_i64 { LeavesNot (instr.Atomic atomic.Notify (aligned 0 2)) (I64 ∷ []) }
     ensures notify_above_its_alignment { HasNoType (instr.Atomic atomic.Notify (aligned 0 3)) }
     ensures notify_below_its_alignment { HasNoType (instr.Atomic atomic.Notify (aligned 0 1)) }

@@ -198,8 +198,8 @@ fn vectors()
     ensures unary { (op : VectorUnary) → IsAmong kind.VectorInt (instr.Vector (vector.Unary op)) }
     ensures unary_barred { (op : VectorUnary) → IsBarred (all_but kind.VectorInt)
         (instr.Vector (vector.Unary op)) }
-    ensures binary { (op : VectorBinary) → IsAmong kind.VectorInt (instr.Vector
-        (vector.Binary op)) }
+    ensures binary { (op : VectorBinary) → IsAmong kind.VectorInt
+        (instr.Vector (vector.Binary op)) }
     ensures binary_barred { (op : VectorBinary) → IsBarred (all_but kind.VectorInt)
         (instr.Vector (vector.Binary op)) }
     ensures relaxed_binary { (op : RelaxedBinary) → IsAmong kind.VectorInt
@@ -217,8 +217,8 @@ fn vectors()
         (instr.Vector (vector.ExtractLane extract.I16x8U 0)) }
     ensures extract_lane_barred { IsBarred (all_but kind.VectorInt)
         (instr.Vector (vector.ExtractLane extract.I16x8U 0)) }
-    ensures replace_lane { IsAmong kind.VectorInt (instr.Vector
-        (vector.ReplaceLane shape.I32x4 0)) }
+    ensures replace_lane { IsAmong kind.VectorInt
+        (instr.Vector (vector.ReplaceLane shape.I32x4 0)) }
     ensures replace_lane_barred { IsBarred (all_but kind.VectorInt)
         (instr.Vector (vector.ReplaceLane shape.I32x4 0)) }
     ensures bitmask { (ty : IntShape) → IsAmong kind.VectorInt (instr.Vector (vector.Bitmask ty)) }

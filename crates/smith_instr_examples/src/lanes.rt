@@ -23,8 +23,8 @@ fn splats()
     ensures f64x2_splat { HasType (instr.Vector (vector.Splat shape.F64x2)) (F64 ∷ []) (V128 ∷ []) }
     ensures f64x2_splat_of_f32 { TakesNot (instr.Vector (vector.Splat shape.F64x2)) (F32 ∷ []) }
     ensures splat_of_none { (ty : LaneShape) → TakesNot (instr.Vector (vector.Splat ty)) [] }
-    ensures splat_to_i32 { (ty : LaneShape) → LeavesNot (instr.Vector (vector.Splat ty)) (I32 ∷
-        []) }
+    ensures splat_to_i32 { (ty : LaneShape) → LeavesNot (instr.Vector (vector.Splat ty))
+        (I32 ∷ []) }
 {}
 
 fn extracted()
@@ -38,12 +38,12 @@ fn extracted()
         (instr.Vector (vector.ExtractLane extract.I8x16U 16)) }
     ensures i16x8_extract_lane_s_7 { HasType (instr.Vector (vector.ExtractLane extract.I16x8S 7))
         (V128 ∷ []) (I32 ∷ []) }
-    ensures i16x8_extract_lane_s_8 { HasNoType (instr.Vector
-        (vector.ExtractLane extract.I16x8S 8)) }
+    ensures i16x8_extract_lane_s_8 { HasNoType
+        (instr.Vector (vector.ExtractLane extract.I16x8S 8)) }
     ensures i16x8_extract_lane_u_7 { HasType (instr.Vector (vector.ExtractLane extract.I16x8U 7))
         (V128 ∷ []) (I32 ∷ []) }
-    ensures i16x8_extract_lane_u_8 { HasNoType (instr.Vector
-        (vector.ExtractLane extract.I16x8U 8)) }
+    ensures i16x8_extract_lane_u_8 { HasNoType
+        (instr.Vector (vector.ExtractLane extract.I16x8U 8)) }
     ensures i32x4_extract_lane_3 { HasType (instr.Vector (vector.ExtractLane extract.I32x4 3))
         (V128 ∷ []) (I32 ∷ []) }
     ensures i32x4_extract_lane_4 { HasNoType (instr.Vector (vector.ExtractLane extract.I32x4 4)) }

@@ -14,20 +14,20 @@ fn of_their_alignments()
     ensures f64_load { HasType (instr.Load load.F64 (aligned 0 3)) (I32 ∷ []) (F64 ∷ []) }
     ensures i32_load8_s { HasType (instr.Load load.I32From8S (aligned 0 0)) (I32 ∷ []) (I32 ∷ []) }
     ensures i32_load8_u { HasType (instr.Load load.I32From8U (aligned 0 0)) (I32 ∷ []) (I32 ∷ []) }
-    ensures i32_load16_s { HasType (instr.Load load.I32From16S (aligned 0 1)) (I32 ∷ []) (I32 ∷
-        []) }
-    ensures i32_load16_u { HasType (instr.Load load.I32From16U (aligned 0 1)) (I32 ∷ []) (I32 ∷
-        []) }
+    ensures i32_load16_s { HasType (instr.Load load.I32From16S (aligned 0 1)) (I32 ∷ [])
+        (I32 ∷ []) }
+    ensures i32_load16_u { HasType (instr.Load load.I32From16U (aligned 0 1)) (I32 ∷ [])
+        (I32 ∷ []) }
     ensures i64_load8_s { HasType (instr.Load load.I64From8S (aligned 0 0)) (I32 ∷ []) (I64 ∷ []) }
     ensures i64_load8_u { HasType (instr.Load load.I64From8U (aligned 0 0)) (I32 ∷ []) (I64 ∷ []) }
-    ensures i64_load16_s { HasType (instr.Load load.I64From16S (aligned 0 1)) (I32 ∷ []) (I64 ∷
-        []) }
-    ensures i64_load16_u { HasType (instr.Load load.I64From16U (aligned 0 1)) (I32 ∷ []) (I64 ∷
-        []) }
-    ensures i64_load32_s { HasType (instr.Load load.I64From32S (aligned 0 2)) (I32 ∷ []) (I64 ∷
-        []) }
-    ensures i64_load32_u { HasType (instr.Load load.I64From32U (aligned 0 2)) (I32 ∷ []) (I64 ∷
-        []) }
+    ensures i64_load16_s { HasType (instr.Load load.I64From16S (aligned 0 1)) (I32 ∷ [])
+        (I64 ∷ []) }
+    ensures i64_load16_u { HasType (instr.Load load.I64From16U (aligned 0 1)) (I32 ∷ [])
+        (I64 ∷ []) }
+    ensures i64_load32_s { HasType (instr.Load load.I64From32S (aligned 0 2)) (I32 ∷ [])
+        (I64 ∷ []) }
+    ensures i64_load32_u { HasType (instr.Load load.I64From32U (aligned 0 2)) (I32 ∷ [])
+        (I64 ∷ []) }
 {}
 
 fn of_a_wide_memory()
@@ -37,20 +37,20 @@ fn of_a_wide_memory()
     ensures f64_load { HasType (instr.Load load.F64 (aligned 1 0)) (I64 ∷ []) (F64 ∷ []) }
     ensures i32_load8_s { HasType (instr.Load load.I32From8S (aligned 1 0)) (I64 ∷ []) (I32 ∷ []) }
     ensures i32_load8_u { HasType (instr.Load load.I32From8U (aligned 1 0)) (I64 ∷ []) (I32 ∷ []) }
-    ensures i32_load16_s { HasType (instr.Load load.I32From16S (aligned 1 0)) (I64 ∷ []) (I32 ∷
-        []) }
-    ensures i32_load16_u { HasType (instr.Load load.I32From16U (aligned 1 0)) (I64 ∷ []) (I32 ∷
-        []) }
+    ensures i32_load16_s { HasType (instr.Load load.I32From16S (aligned 1 0)) (I64 ∷ [])
+        (I32 ∷ []) }
+    ensures i32_load16_u { HasType (instr.Load load.I32From16U (aligned 1 0)) (I64 ∷ [])
+        (I32 ∷ []) }
     ensures i64_load8_s { HasType (instr.Load load.I64From8S (aligned 1 0)) (I64 ∷ []) (I64 ∷ []) }
     ensures i64_load8_u { HasType (instr.Load load.I64From8U (aligned 1 0)) (I64 ∷ []) (I64 ∷ []) }
-    ensures i64_load16_s { HasType (instr.Load load.I64From16S (aligned 1 0)) (I64 ∷ []) (I64 ∷
-        []) }
-    ensures i64_load16_u { HasType (instr.Load load.I64From16U (aligned 1 0)) (I64 ∷ []) (I64 ∷
-        []) }
-    ensures i64_load32_s { HasType (instr.Load load.I64From32S (aligned 1 0)) (I64 ∷ []) (I64 ∷
-        []) }
-    ensures i64_load32_u { HasType (instr.Load load.I64From32U (aligned 1 0)) (I64 ∷ []) (I64 ∷
-        []) }
+    ensures i64_load16_s { HasType (instr.Load load.I64From16S (aligned 1 0)) (I64 ∷ [])
+        (I64 ∷ []) }
+    ensures i64_load16_u { HasType (instr.Load load.I64From16U (aligned 1 0)) (I64 ∷ [])
+        (I64 ∷ []) }
+    ensures i64_load32_s { HasType (instr.Load load.I64From32S (aligned 1 0)) (I64 ∷ [])
+        (I64 ∷ []) }
+    ensures i64_load32_u { HasType (instr.Load load.I64From32U (aligned 1 0)) (I64 ∷ [])
+        (I64 ∷ []) }
 {}
 
 fn above_their_alignments()

@@ -16,16 +16,16 @@ fn unary()
         (I32 ∷ []) }
     ensures i32_unary_of_i64 { (op : IntUnary) → TakesNot (instr.Numeric (numeric.I32Unary op))
         (I64 ∷ []) }
-    ensures i32_unary_of_none { (op : IntUnary) → TakesNot (instr.Numeric (numeric.I32Unary op))
-        [] }
+    ensures i32_unary_of_none { (op : IntUnary) → TakesNot
+        (instr.Numeric (numeric.I32Unary op)) [] }
     ensures i32_unary_to_i64 { (op : IntUnary) → LeavesNot (instr.Numeric (numeric.I32Unary op))
         (I64 ∷ []) }
     ensures i64_unary { (op : IntUnary) → HasType (instr.Numeric (numeric.I64Unary op)) (I64 ∷ [])
         (I64 ∷ []) }
     ensures i64_unary_of_i32 { (op : IntUnary) → TakesNot (instr.Numeric (numeric.I64Unary op))
         (I32 ∷ []) }
-    ensures i64_unary_of_none { (op : IntUnary) → TakesNot (instr.Numeric (numeric.I64Unary op))
-        [] }
+    ensures i64_unary_of_none { (op : IntUnary) → TakesNot
+        (instr.Numeric (numeric.I64Unary op)) [] }
     ensures i64_unary_to_i32 { (op : IntUnary) → LeavesNot (instr.Numeric (numeric.I64Unary op))
         (I32 ∷ []) }
     ensures f32_unary { (op : FloatUnary) → HasType (instr.Numeric (numeric.F32Unary op))

@@ -39,17 +39,17 @@ fn conversions()
     ensures outwards { HasType (instr.Aggregate aggregate.ExternConvertAny)
         (nullable_to (Abstract true heap.Any) ∷ []) (nullable_to (Abstract true heap.Extern) ∷ []) }
     ensures inwards_unshared { ¬ HasType (instr.Aggregate aggregate.AnyConvertExtern)
-        (nullable_to (Abstract true heap.Extern) ∷ []) (nullable_to (Abstract false heap.Any) ∷
-        []) }
+        (nullable_to (Abstract true heap.Extern) ∷ [])
+        (nullable_to (Abstract false heap.Any) ∷ []) }
     ensures outwards_unshared { ¬ HasType (instr.Aggregate aggregate.ExternConvertAny)
-        (nullable_to (Abstract true heap.Any) ∷ []) (nullable_to (Abstract false heap.Extern) ∷
-        []) }
+        (nullable_to (Abstract true heap.Any) ∷ [])
+        (nullable_to (Abstract false heap.Extern) ∷ []) }
 {}
 
 fn others()
     ensures equality { HasType (instr.Reference reference.Eq)
-        (nullable_to (Abstract true heap.Eq) ∷ nullable_to (Abstract true heap.Eq) ∷ []) (I32 ∷
-        []) }
+        (nullable_to (Abstract true heap.Eq) ∷ nullable_to (Abstract true heap.Eq) ∷ [])
+        (I32 ∷ []) }
     ensures equality_of_either { HasType (instr.Reference reference.Eq)
         (nullable_to (Abstract true heap.Eq) ∷ nullable_to (Abstract false heap.Eq) ∷ [])
         (I32 ∷ []) }

@@ -10,8 +10,8 @@ fn elements()
     ensures get { HasType (instr.Table (table.Get 0)) (I32 ∷ []) (Ref funcref ∷ []) }
     ensures get_of_external_references { HasType (instr.Table (table.Get 1)) (I32 ∷ [])
         (Ref external ∷ []) }
-    ensures get_of_a_wide_table { HasType (instr.Table (table.Get 2)) (I64 ∷ []) (Ref funcref ∷
-        []) }
+    ensures get_of_a_wide_table { HasType (instr.Table (table.Get 2)) (I64 ∷ [])
+        (Ref funcref ∷ []) }
     ensures get_at_i64 { TakesNot (instr.Table (table.Get 0)) (I64 ∷ []) }
     ensures get_of_another_type { LeavesNot (instr.Table (table.Get 0)) (Ref external ∷ []) }
     ensures get_without_an_index { TakesNot (instr.Table (table.Get 0)) [] }
@@ -74,8 +74,8 @@ fn copies()
 {}
 
 fn segments()
-    ensures init_of_a_wide_table { HasType (instr.Table (table.Init 2 0)) (I64 ∷ I32 ∷ I32 ∷ [])
-        [] }
+    ensures init_of_a_wide_table { HasType (instr.Table (table.Init 2 0))
+        (I64 ∷ I32 ∷ I32 ∷ []) [] }
     ensures init_from_i64 { TakesNot (instr.Table (table.Init 2 0)) (I64 ∷ I64 ∷ I32 ∷ []) }
     ensures init_by_i64 { TakesNot (instr.Table (table.Init 2 0)) (I64 ∷ I32 ∷ I64 ∷ []) }
     ensures init_to_one { LeavesNot (instr.Table (table.Init 0 0)) (I32 ∷ []) }

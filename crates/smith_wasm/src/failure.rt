@@ -33,6 +33,10 @@ impl Failure {
     }
 }
 
+// The refusal of a binary for a terminal.
+const TERMINAL: &str =
+    "a binary is not written to a terminal: name a file by --output, or ask for text by --wat";
+
 impl fmt::Display for Failure {
     fn fmt<W: fmt::Write>(&self, f: &mut fmt::Formatter<W>) -> fmt::Result {
         match self {
@@ -41,9 +45,7 @@ impl fmt::Display for Failure {
             Failure::Config(path, refusal) => write!(f, "{path}: {refusal}"),
             Failure::Word(name, value) => write!(f, "{value:?} is no value of --{name}"),
             Failure::Output(fault) => write!(f, "{fault}"),
-            Failure::Terminal => f.write_str(
-                "a binary is not written to a terminal: name a file by --output, or ask for text by --wat",
-            ),
+            Failure::Terminal => f.write_str(TERMINAL),
             Failure::Memory => f.write_str("refused: Memory"),
         }
     }
