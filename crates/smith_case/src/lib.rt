@@ -1,4 +1,4 @@
-//! Cases, each a JSON object on a line: what a case asks for, and what it wants of the answer.
+//! Cases, each a JSON object on a line: the call of a case, and its expected answer.
 //!
 //! Each key occurs once, and a key that the call does not read is refused.
 //!
