@@ -8,7 +8,7 @@ use Rattle.std.proofs.Math.Nat.{pow-le-pow_right}
 use Rattle.smith_binary.specs.Numbers.{IsUnsigned, IsSigned, IsLastPositive, IsLastNegative, IsLittleEndian}
 use Rattle.smith_binary.specs.Pieces.{Shortest, Writes}
 
--- the seven lowest bits apart
+-- a power of two from 2^7 on, as a multiple of 128
 pub seven_apart : (k : ℕ) → 7 ≤ k → 2 ^ k ≡ 128 * 2 ^ (k - 7)
 seven_apart k h =
     let split : k ≡ 7 + (k - 7) = omega arith in
@@ -18,14 +18,14 @@ seven_apart k h =
 pub bits_above : (j k n : ℕ) → 2 ^ j ≤ n → n < 2 ^ k → j < k
 bits_above j k n low high = elim (cases_lt j k) [ inl h ↦ h | inr h ↦ absurd (let below : 2 ^ k ≤ 2 ^ j = pow-le-pow_right (omega arith) h in omega arith) ]
 
--- the rest of a number has seven bits less
+-- the rest of a number has seven bits fewer
 pub bits_left : (k n : ℕ) → 128 ≤ n → n < 2 ^ k → (7 < k) × (n / 128 < 2 ^ (k - 7))
 bits_left k n low high =
     let more : 7 < k = bits_above 7 k n low high in
     let split : 2 ^ k ≡ 128 * 2 ^ (k - 7) = seven_apart k (omega arith) in
     (more, omega arith)
 
--- a spelling has a byte
+-- a spelling is not empty
 unsigned_has : (bits n : ℕ) (piece : List ℕ) → IsUnsigned bits n piece → 1 ≤ length piece
 unfolding IsUnsigned
 unsigned_has bits n [] h = absurd h
@@ -124,7 +124,7 @@ signed_more {old = old} {between = between} {new = new} bits z m byte on pushed 
   whole = rest.whole ∙ ap (λ (bytes : List ℕ). bytes ++ rest.piece) pushed ∙ append_assoc old (byte ∷ []) rest.piece;
 }
 
--- the rest of an integer has seven bits less, its sign included
+-- the rest of an integer has seven bits fewer, its sign included
 pub signed_left : (bits n : ℕ) → 64 ≤ n → n < 2 ^ (bits - 1) → (7 < bits) × (n / 128 < 2 ^ ((bits - 7) - 1))
 signed_left bits n low high =
     let more : 6 < bits - 1 = bits_above 6 (bits - 1) n low high in
@@ -142,7 +142,7 @@ pub negative_more : {old between new : List ℕ} (bits n : ℕ) → 64 ≤ n →
 negative_more bits n low fits pushed rest =
     signed_more bits (negsuc n) (negsuc (n / 128)) (255 - n % 128) (record { value = omega (arith, ints); high = omega arith; low = omega arith; room = (signed_left bits n low fits).0; long = low }) pushed rest
 
--- a number without its lowest byte has one byte less
+-- a number without its lowest byte has one byte fewer
 pub digits_left : (count n : ℕ) → count ≢ 0 → n < 256 ^ count → n / 256 < 256 ^ (count - 1)
 digits_left zero n some fits = absurd (some refl)
 digits_left (suc count) n some fits =

@@ -7,7 +7,7 @@ use Rattle.smith_binary.specs.Pieces.{Is, Shortest, Writes}
 use Rattle.smith_binary.proofs.NumberLemmas.{bits_left, unsigned_last, unsigned_front}
 use Rattle.smith_binary.proofs.WrittenLemmas.{written_as}
 
--- the bytes of a small integer, and of another
+-- the bytes of an integer below 128, and of any other
 small_bytes : (most n : ℕ) → n < 128 → shortest_bytes (suc most) n ≡ n ∷ []
 unfolding shortest_bytes
 small_bytes most n small = rw (lt-ltb n 128 small) refl
@@ -16,7 +16,7 @@ large_bytes : (most n : ℕ) → 128 ≤ n → shortest_bytes (suc most) n ≡ (
 unfolding shortest_bytes
 large_bytes most n large = rw (le-ltb n 128 large) refl
 
--- the rest of an integer takes one byte less
+-- the rest of an integer takes one byte fewer
 byte_less : (most n : ℕ) → n < 128 ^ suc (suc most) → n / 128 < 128 ^ suc most
 byte_less most n fits =
     let split : 128 ^ (1 + suc most) ≡ 128 ^ 1 * 128 ^ suc most = pow-add 128 1 (suc most) in

@@ -6,7 +6,7 @@ use Rattle.std.proofs.lemmas.Result.{on_ok_weaker}
 use Rattle.smith_binary.specs.Numbers.{IsUnsigned}
 use Rattle.smith_binary.specs.Pieces.{Is, IsByte, Joined, Each, IsList, IsName, IsSized, Shortest, Writes}
 
--- no byte, if no byte spells the item
+-- no bytes are written if no bytes spell the item
 pub nothing_written : {Spells : List ℕ → Type 0} {old : List ℕ} → Spells [] → Writes Spells old old
 nothing_written {old = old} spelled = record { piece = []; spelled = spelled; whole = sym (append-nil old) }
 

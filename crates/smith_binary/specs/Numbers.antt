@@ -40,7 +40,7 @@ abbrev pub FitsBits : ℕ → ℤ → Type 0
 FitsBits bits (pos n) = n < 2 ^ (bits - 1)
 FitsBits bits (negsuc n) = n < 2 ^ (bits - 1)
 
--- the bits of a float or a vector in a number of bytes, the lowest first
+-- the bits of a float or a vector in a number of bytes, the least significant first
 unfoldable pub IsLittleEndian : ℕ → ℕ → List ℕ → Type 0
 IsLittleEndian zero n piece = (n ≡ 0) × (piece ≡ [])
 IsLittleEndian (suc count) n [] = ⊥

@@ -4,14 +4,14 @@ ghost use Rattle.smith_binary.specs.declared.error.EncodeError.TheVariants.{Memo
 use std::alloc::{AllocError, AllocFailed};
 use thiserror::Error;
 
-/// Error of a writer of bytes.
+/// An error of a writer of bytes.
 #[derive(Clone, Copy, Debug, PartialEq, Eq, Error)]
 pub enum EncodeError {
     /// The allocator refused memory.
     #[error("out of memory")]
     Memory,
-    /// A list has 2^32 items or more, or a content 2^32 bytes or more. The format counts both with
-    /// 32 bits.
+    /// A list has 2^32 items or more, or a content has 2^32 bytes or more. The format counts both
+    /// with 32 bits.
     #[error("a list or a section is too long")]
     TooLong,
 }

@@ -33,7 +33,7 @@ fn write_negative(value: u64, sink: &mut Sink) -> Result<(), EncodeError>
     write_negative(value / 128, sink)
 }
 
-// Writes `value` in `count` bytes, the lowest first.
+// Writes `value` in `count` bytes, least significant byte first.
 fn write_little_endian(value: u128, count: usize, sink: &mut Sink) -> Result<(), EncodeError>
     requires { value < 256 ^ count }
     ensures writes { OnOk result (Writes (IsLittleEndian count value) sink.old sink.new) }
@@ -47,8 +47,8 @@ fn write_little_endian(value: u128, count: usize, sink: &mut Sink) -> Result<(),
 }
 
 impl Sink {
-    /// Writes `value` without sign in LEB128, in as few bytes as possible, as an integer of any
-    /// number of bits that it fits.
+    /// Writes `value` in unsigned LEB128, in as few bytes as possible. The bytes spell it as an
+    /// integer of any number of bits that it fits in.
     pub fn write_unsigned(&mut self, value: u64) -> Result<(), EncodeError>
         ensures writes { OnOk result ((bits : ℕ) → value < 2 ^ bits
             → Writes (Shortest (IsUnsigned bits value)) self.old self.new) }
@@ -61,8 +61,8 @@ impl Sink {
         self.write_unsigned(value / 128)
     }
 
-    /// Writes `value` with its sign in LEB128, in as few bytes as possible, as an integer of any
-    /// number of bits that it fits.
+    /// Writes `value` in signed LEB128, in as few bytes as possible. The bytes spell it as an
+    /// integer of any number of bits that it fits in.
     pub fn write_signed(&mut self, value: i64) -> Result<(), EncodeError>
         ensures writes { OnOk result ((bits : ℕ) → FitsBits bits value
             → Writes (Shortest (IsSigned bits value)) self.old self.new) }
@@ -115,7 +115,7 @@ impl Sink {
         self.write_signed(value)
     }
 
-    /// Writes a float of 32 bits, by its bits.
+    /// Writes the 32-bit float whose bits are `bits`.
     pub fn write_f32(&mut self, bits: u32) -> Result<(), EncodeError>
         ensures writes { OnOk result (Writes (IsLittleEndian 4 bits) self.old self.new) }
         ensures memory { IfErr result (λ e. e ≡ Memory) }
@@ -123,7 +123,7 @@ impl Sink {
         write_little_endian(u128::from(bits), 4, self)
     }
 
-    /// Writes a float of 64 bits, by its bits.
+    /// Writes the 64-bit float whose bits are `bits`.
     pub fn write_f64(&mut self, bits: u64) -> Result<(), EncodeError>
         ensures writes { OnOk result (Writes (IsLittleEndian 8 bits) self.old self.new) }
         ensures memory { IfErr result (λ e. e ≡ Memory) }
@@ -131,7 +131,7 @@ impl Sink {
         write_little_endian(u128::from(bits), 8, self)
     }
 
-    /// Writes a vector of 128 bits, by its bits.
+    /// Writes the 128-bit vector whose bits are `bits`.
     pub fn write_vector(&mut self, bits: i128) -> Result<(), EncodeError>
         ensures writes { OnOk result (Writes (IsVector bits) self.old self.new) }
         ensures memory { IfErr result (λ e. e ≡ Memory) }

@@ -7,11 +7,11 @@ use crate::error::EncodeError;
 use crate::sink::Sink;
 
 impl Sink {
-    /// Writes the number of items of a list, or of bytes of a content.
+    /// Writes `count`, the number of items of a list or of bytes of a content.
     ///
     /// # Errors
     ///
-    /// `TooLong` if `count` is 2^32 or more.
+    /// Returns [`EncodeError::TooLong`] if `count` is 2^32 or more.
     pub fn write_length(&mut self, count: usize) -> Result<(), EncodeError>
         ensures writes { OnOk result (Writes (IsUnsigned 32 count) self.old self.new) }
         ensures fault { IfErr result (IsFault (2 ^ 32 ≤ count)) }
@@ -26,7 +26,7 @@ impl Sink {
     ///
     /// # Errors
     ///
-    /// `TooLong` if `text` has 2^32 bytes or more.
+    /// Returns [`EncodeError::TooLong`] if `text` has 2^32 bytes or more.
     pub fn write_name(&mut self, text: &str) -> Result<(), EncodeError>
         ensures writes { OnOk result (Writes (IsName text.now) self.old self.new) }
         ensures fault { IfErr result (IsFault (2 ^ 32 ≤ length text.now)) }
@@ -39,7 +39,7 @@ impl Sink {
     ///
     /// # Errors
     ///
-    /// `TooLong` if `content` has 2^32 bytes or more.
+    /// Returns [`EncodeError::TooLong`] if `content` has 2^32 bytes or more.
     pub fn write_sized(&mut self, content: &[u8]) -> Result<(), EncodeError>
         ensures writes { OnOk result (Writes (IsSized (Is content.now)) self.old self.new) }
         ensures fault { IfErr result (IsFault (2 ^ 32 ≤ length content.now)) }
@@ -52,7 +52,7 @@ impl Sink {
     ///
     /// # Errors
     ///
-    /// `TooLong` if `content` has 2^32 bytes or more.
+    /// Returns [`EncodeError::TooLong`] if `content` has 2^32 bytes or more.
     pub fn write_section(&mut self, id: u8, content: &[u8]) -> Result<(), EncodeError>
         ensures writes { OnOk result (Writes (IsSection id (Is content.now)) self.old self.new) }
         ensures fault { IfErr result (IsFault (2 ^ 32 ≤ length content.now)) }

@@ -6,8 +6,8 @@ use crate::error::EncodeError;
 use std::alloc::Global;
 use std::marker::Model;
 
-/// Bytes that are being written, in memory from an allocator. Contracts see the list of the bytes
-/// so far.
+/// A buffer of bytes being written, in memory from an allocator. Contracts see the list of the
+/// bytes so far.
 #[derive(Drop)]
 pub struct Sink {
     alloc: Global,
@@ -21,7 +21,7 @@ impl Model for Sink {
 }
 
 impl Sink {
-    /// Makes a sink without bytes. It takes memory from `alloc` once a byte is written.
+    /// Creates an empty sink. It does not allocate from `alloc` until a byte is written.
     pub fn new(alloc: Global) -> Self
         ensures { result ≡ [] }
     {
@@ -31,21 +31,21 @@ impl Sink {
         }
     }
 
-    /// Makes another sink without bytes, over the same allocator.
+    /// Creates an empty sink with the same allocator.
     pub fn fresh(&self) -> Self
         ensures { result ≡ [] }
     {
         Sink::new(self.alloc)
     }
 
-    /// Lends the bytes so far.
+    /// Returns the bytes written so far as a slice.
     pub fn as_slice(&self) -> &[u8]
         ensures { result.now ≡ self.now }
     {
         self.bytes.as_slice()
     }
 
-    /// Returns the bytes. Takes no memory.
+    /// Returns the bytes as a `Vec`. Does not allocate.
     pub fn into_vec(self) -> Vec<u8>
         ensures { result.items ≡ self }
     {
@@ -53,7 +53,7 @@ impl Sink {
         bytes
     }
 
-    // Adds a byte at the end.
+    // Appends `byte`.
     pub(crate) fn push(&mut self, byte: u8) -> Result<(), EncodeError>
         ensures ok { OnOk result (self.new ≡ self.old ++ byte ∷ []) }
         ensures memory { IfErr result (λ e. e ≡ Memory) }
