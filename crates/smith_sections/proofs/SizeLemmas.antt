@@ -45,7 +45,7 @@ sized_within n few piece h =
     let form : length piece ≤ 5 + length h.content = joined_within 5 (length h.content) (number_within (length h.content)) (bytes_within h.content) piece h.form in
     omega (arith, content, form)
 
--- what has few bytes is not too long
+-- a content of few bytes is not too long
 pub not_long : {Content : List ℕ → Type 0} (n : ℕ) → n < 2 ^ 32 → AtMost n Content → IsLongContent Content → ⊥
 not_long n low few h = omega (arith, low, few h.piece h.spelled, h.long)
 

@@ -18,7 +18,7 @@ IsRun run = Joined (IsUnsigned 32 run.0) (IsValType run.1)
 abbrev pub locals_of : List (ℕ × ValType) → List ValType
 locals_of runs = flat_map (λ (run : ℕ × ValType). replicate run.0 run.1) runs
 
--- locals: a list of runs, in any runs
+-- locals: a list of runs, however the locals are split
 pub record IsLocals (locals : List ValType) (piece : List ℕ) : Type 0 where
   pub runs : List (ℕ × ValType)
   pub cut : locals ≡ locals_of runs

@@ -29,7 +29,7 @@ IsImportGroup (Single imported) piece = IsImport imported piece
 IsImportGroup (Compact1 from items) piece = Joined (IsGroupHead from 0x7F) (IsList IsImportItem items) piece
 IsImportGroup (Compact2 from ty names) piece = Joined (IsGroupHead from 0x7E) (Joined (IsExternType ty) (IsList IsName names)) piece
 
--- a list of imports, in any groups
+-- a list of imports, however they are grouped
 pub record IsImports (imports : List Import) (piece : List ℕ) : Type 0 where
   pub groups : List Imports
   pub grouped : imports ≡ flattened groups

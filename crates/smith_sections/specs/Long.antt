@@ -69,8 +69,8 @@ IsLongExport item = IsLongText item.0
 abbrev pub IsLongElem : Elem → Type 0
 IsLongElem e = IsLongList IsNeverLong e.items
 
--- a body has too many locals, or too many bytes where each local is a run of its own: runs of no
--- locals would make any body long
+-- a body has too many locals, or too many bytes where each local is a run of its own; if empty runs
+-- counted, every body would be too long
 abbrev pub IsLongBody : List ValType × List ℕ → Type 0
 IsLongBody body = IsLongList IsNeverLong body.0 ⊎ IsLongContent (Joined (IsLocalsWritten body.0) (Is body.1))
 

@@ -50,7 +50,7 @@ IsStartSection None piece = piece ≡ []
 
 -- the number of data segments, which may be stated before the bodies (Data Count Section); the
 -- standard requires it if a body names a data segment, which this relation, over bytes of bodies,
--- does not say
+-- does not state
 abbrev pub IsDataCount : List Data → List ℕ → Type 0
 IsDataCount datas = IsOptionalSection 12 (Unit {0}) (IsUnsigned 32 (length datas))
 

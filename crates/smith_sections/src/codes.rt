@@ -10,7 +10,7 @@ use crate::lists::{Encode, EncodeItem, write_each};
 use smith_binary::{EncodeError, Sink};
 use smith_types::{Code, Instructions, ValType};
 
-// Writer of a local, as a run of its own.
+// A writer of a local, as a run of its own.
 #[derive(Clone, Copy)]
 struct Runs;
 
@@ -87,7 +87,7 @@ fn write_instructions(
     }
 }
 
-/// Writer of a body, in a module with counters of fuel. Each local is a run of its own.
+/// A writer of a body, in a module with counters of fuel. Each local is a run of its own.
 #[derive(Clone, Copy)]
 pub struct Bodies<'a> {
     /// The indices of the globals that count fuel. A body that is not raw begins with a check of

@@ -10,8 +10,8 @@ use crate::lists::{Encode, EncodeItem, EncodePair};
 use smith_binary::{EncodeError, Sink};
 use smith_types::{ConstInstr, GlobalType, Items, TableType};
 
-/// Writer of a table, by its type and its initialiser. A table without an initialiser is written as
-/// its type alone.
+/// A writer of a table, by its type and its initialiser. A table without an initialiser is written
+/// as its type alone.
 #[derive(Clone, Copy)]
 pub struct Tables;
 
@@ -35,7 +35,7 @@ impl EncodePair<TableType, Option<Items<ConstInstr>>> for Tables {
     }
 }
 
-/// Writer of a global, by its type and its definition.
+/// A writer of a global, by its type and its definition.
 #[derive(Clone, Copy)]
 pub struct Globals;
 
@@ -53,7 +53,7 @@ impl EncodePair<GlobalType, (u32, Items<ConstInstr>)> for Globals {
     }
 }
 
-/// Writer of a tag, by the index of its function type.
+/// A writer of a tag, by the index of its function type.
 #[derive(Clone, Copy)]
 pub struct Tags;
 

@@ -11,7 +11,7 @@ use crate::lists::{Encode, Plain, write_each};
 use smith_binary::{EncodeError, Sink};
 use smith_types::{ConstInstr, Items, Offset};
 
-// Writes the instruction of the prefix `prefix` and the number `number`.
+// Writes the instruction with the prefix `prefix` and the number `number`.
 fn write_prefixed(prefix: u8, number: u32, sink: &mut Sink) -> Result<(), EncodeError>
     ensures writes { OnOk result (Writes (IsPrefixed prefix number) sink.old sink.new) }
     ensures memory { IfErr result (λ e. e ≡ Memory) }
@@ -20,7 +20,7 @@ fn write_prefixed(prefix: u8, number: u32, sink: &mut Sink) -> Result<(), Encode
     sink.write_u32(number)
 }
 
-// Writes the instruction of the prefix `prefix` and the number `number`, then the index `index`.
+// Writes the instruction with the prefix `prefix` and the number `number`, then the index `index`.
 fn write_prefixed_index(
     prefix: u8,
     number: u32,
@@ -45,7 +45,7 @@ fn write_vector_const(value: i128, sink: &mut Sink) -> Result<(), EncodeError>
     sink.write_vector(value)
 }
 
-// Writes the instruction of the byte `byte`, then the index `index`.
+// Writes the instruction with the byte `byte`, then the index `index`.
 fn write_indexed(byte: u8, index: u32, sink: &mut Sink) -> Result<(), EncodeError>
     ensures writes { OnOk result (Writes (Joined (IsByte byte) (IsIndex index)) sink.old sink.new) }
     ensures memory { IfErr result (λ e. e ≡ Memory) }

@@ -7,7 +7,7 @@ ghost use Rattle.smith_sections.specs.Long.{IsLongList};
 
 use smith_binary::{EncodeError, Sink};
 
-/// Value that a production of the binary format spells.
+/// A value that has a spelling in the binary format.
 pub trait Encode {
     /// The bytes that spell a value.
     ghost spells: { Self → List ℕ → Type 0 };
@@ -15,17 +15,17 @@ pub trait Encode {
     /// The values with a list of too many items.
     ghost is_long: { Self → Type 0 };
 
-    /// Writes the value at the end of `sink`.
+    /// Appends the value to `sink`.
     ///
     /// # Errors
     ///
-    /// `TooLong` if a list of the value has 2^32 items or more, or a content 2^32 bytes or more.
+    /// Returns [`EncodeError::TooLong`] if a list has 2^32 items, or a content 2^32 bytes, or more.
     fn encode(&self, sink: &mut Sink) -> Result<(), EncodeError>
         ensures writes { OnOk result (Writes (Self.spells self.now) sink.old sink.new) }
         ensures fault { IfErr result (IsFault (Self.is_long self.now)) };
 }
 
-/// Writer of items, by their meaning in a module.
+/// A writer of items, by their meaning in a module.
 pub trait EncodeItem<T> {
     /// The bytes that spell an item.
     ghost spells: { Self → T → List ℕ → Type 0 };
@@ -33,29 +33,29 @@ pub trait EncodeItem<T> {
     /// The items with a list of too many items.
     ghost is_long: { Self → T → Type 0 };
 
-    /// Writes `item` at the end of `sink`.
+    /// Appends `item` to `sink`.
     ///
     /// # Errors
     ///
-    /// `TooLong` as for [`Encode::encode`].
+    /// Returns [`EncodeError::TooLong`] as [`Encode::encode`] does.
     fn encode_item(&self, item: &T, sink: &mut Sink) -> Result<(), EncodeError>
         ensures writes { OnOk result (Writes (Self.spells self.now item.now) sink.old sink.new) }
         ensures fault { IfErr result (IsFault (Self.is_long self.now item.now)) };
 }
 
-/// Writer of items in two lists, each of which has a part of each item.
+/// A writer of items in two lists, each of which has a part of each item.
 pub trait EncodePair<A, B> {
     /// The bytes that spell an item.
     ghost spells: { Self → A × B → List ℕ → Type 0 };
 
-    /// Writes the item of the parts `first` and `second` at the end of `sink`.
+    /// Appends the item with the parts `first` and `second` to `sink`.
     fn encode_pair(&self, first: &A, second: &B, sink: &mut Sink) -> Result<(), EncodeError>
         ensures writes { OnOk result
             (Writes (Self.spells self.now (first.now, second.now)) sink.old sink.new) }
         ensures memory { IfErr result (λ e. e ≡ Memory) };
 }
 
-/// Writer of items that mean the same in every module.
+/// A writer of items that mean the same in every module.
 #[derive(Clone, Copy)]
 pub struct Plain;
 

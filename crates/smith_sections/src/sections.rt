@@ -22,7 +22,7 @@ pub fn write_preamble(sink: &mut Sink) -> Result<(), EncodeError>
 ///
 /// # Errors
 ///
-/// `TooLong` if a list of `content` has 2^32 items or more, or `content` 2^32 bytes or more.
+/// Returns [`EncodeError::TooLong`] if a list has 2^32 items, or `content` 2^32 bytes, or more.
 pub fn write_section_if<C: Encode>(
     is_written: bool,
     id: u8,

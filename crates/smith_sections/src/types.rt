@@ -257,7 +257,7 @@ fn group_at<'a>(types: &'a [SubType], range: &Range<usize>) -> &'a [SubType]
     group
 }
 
-/// Writer of a recursive group, by the indices of its types.
+/// A writer of a recursive group, by the indices of its types.
 #[derive(Clone, Copy)]
 pub struct Groups<'a> {
     /// The types of the module.
