@@ -41,7 +41,7 @@ has_floats convert.I64ExtendI32S = false
 has_floats convert.I64ExtendI32U = false
 has_floats _ = true
 
--- a numeric instruction that concerns floats, and others (own rule)
+-- the kind of a numeric instruction: with or without floats (own rule)
 abbrev pub numeric_kind : NumericInstr → InstructionKind
 numeric_kind (numeric.F32Unary op) = kind.Numeric
 numeric_kind (numeric.F64Unary op) = kind.Numeric
@@ -53,13 +53,13 @@ numeric_kind (numeric.Convert op) = if has_floats op then kind.Numeric else kind
 numeric_kind (numeric.Saturate op) = kind.Numeric
 numeric_kind _ = kind.NumericInt
 
--- lanes of floats, and others (own rule)
+-- the kind of an instruction on lanes: of floats or of integers (own rule)
 abbrev pub lane_kind : LaneShape → InstructionKind
 lane_kind shape.F32x4 = kind.Vector
 lane_kind shape.F64x2 = kind.Vector
 lane_kind _ = kind.VectorInt
 
--- a vector instruction that concerns floats, and others (own rule)
+-- the kind of a vector instruction: with or without floats (own rule)
 abbrev pub vector_kind : VectorInstr → InstructionKind
 vector_kind (vector.FloatUnary op) = kind.Vector
 vector_kind (vector.FloatBinary op) = kind.Vector
@@ -71,7 +71,7 @@ vector_kind (vector.RelaxedFloatBinary op) = kind.Vector
 vector_kind (vector.RelaxedFloatTernary op) = kind.Vector
 vector_kind _ = kind.VectorInt
 
--- loads and stores of floats, and others (own rule)
+-- the kind of a load, and of a store: of a float or of an integer (own rule)
 abbrev pub load_kind : Load → InstructionKind
 load_kind load.F32 = kind.Memory
 load_kind load.F64 = kind.Memory

@@ -87,11 +87,11 @@ pub record IsBranchCast (context : BodyContext) (cast : BranchCast) (branches : 
   pub taken : IsLabel context cast.label (others ++ Ref wanted ∷ [])
   pub arrives : IsRefBelow context.types branches wanted
 
--- an instruction takes operands of these types, the last on top, and leaves results of those, if
--- these locals are set (Validation, Instructions). Blocks, loops, ifs and try_tables are typed with
--- their bodies (`AreTyped`). There is no bottom type, so br_table and select in unreachable code
--- are typed more strictly than in the standard, which has unreachable and nop among the parametric
--- instructions
+-- an instruction takes operands of the first list of types, the last on top, and leaves results of
+-- the second list, if the given locals are set (Validation, Instructions). Blocks, loops, ifs and
+-- try_tables are typed with their bodies (`AreTyped`). There is no bottom type, so br_table and
+-- select in unreachable code are typed more strictly than in the standard, which has unreachable
+-- and nop among the parametric instructions
 abbrev pub HasInstrType : BodyContext → List ℕ → Instr → List ValType → List ValType → Type 0
 HasInstrType context set instr.Unreachable operands results = Leaves context operands results []
 HasInstrType context set instr.Nop operands results = To operands results [] []

@@ -1,4 +1,4 @@
-/// Extension of the integer of a packed field: the standard's section Structure, Aggregate
+/// The extension of the integer of a packed field: the standard's section Structure, Aggregate
 /// Instructions.
 #[derive(Clone, Copy, Debug)]
 pub enum Extension {

@@ -10,7 +10,7 @@ pub enum AtomicWidth {
     I64Of32,
 }
 
-/// Update of a value by an atomic access: the threads proposal.
+/// An update of a value by an atomic access: the threads proposal.
 #[derive(Clone, Copy, Debug)]
 pub enum AtomicUpdate {
     Add,

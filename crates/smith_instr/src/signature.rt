@@ -63,7 +63,7 @@ impl NumericInstr {
     }
 }
 
-/// Returns the operand of a conversion.
+/// Returns the types of the operands of the conversion `op`.
 fn converted<'a>(op: Conversion) -> &'a [ValType]
     ensures { result.now ≡ (conversion op).operands }
 {
@@ -84,7 +84,7 @@ fn converted<'a>(op: Conversion) -> &'a [ValType]
     }
 }
 
-/// Returns the result of a conversion.
+/// Returns the types of the results of the conversion `op`.
 fn conversions<'a>(op: Conversion) -> &'a [ValType]
     ensures { result.now ≡ (conversion op).results }
 {
@@ -143,7 +143,7 @@ fn saturations<'a>(op: SaturatingConversion) -> &'a [ValType]
     }
 }
 
-/// Returns the operand of an extension of a sign, and its result.
+/// Returns the type of the operand and of the result of the sign extension `op`.
 fn extended<'a>(op: SignExtension) -> &'a [ValType]
     ensures operands { result.now ≡ (sign_extension op).operands }
     ensures results { result.now ≡ (sign_extension op).results }
