@@ -65,17 +65,18 @@ abbrev pub items_of_available_imports : Count → Shape → ℕ
 items_of_available_imports counts.Types shape = length (shape_types shape)
 items_of_available_imports count shape = 0
 
--- a number of a shape, 0 without a shape
+-- the number for a shape, or 0 if there is none
 abbrev pub where_given : (Shape → ℕ) → Option Shape → ℕ
 where_given of_shape given = unwrap_or (option_map of_shape given) 0
 
--- the number of items of a kind that the shapes may have past the maximum, and the number that they
--- add to it
+-- the number of items of a kind that a module may have even if the maximum is lower: those of a
+-- module shape and of available imports
 abbrev pub items_of_shapes : Config → Count → ℕ
 items_of_shapes config count =
     let used = shapes_of config in
     where_given (items_of_module_shape count) used.module_shape + where_given (items_of_available_imports count) used.available_imports
 
+-- the number of items of a kind that a module may have in addition: those of a shape for exports
 abbrev pub items_of_export_shape : Config → Count → ℕ
 items_of_export_shape config count = where_given (items_of_exports count) (shapes_of config).exports
 

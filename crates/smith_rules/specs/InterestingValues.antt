@@ -17,8 +17,8 @@ IsNearPower n = (i : ℕ) × (i < 64) × ((n ≡ 2 ^ i) ⊎ ((n + 1 ≡ 2 ^ i) �
 abbrev pub IsPattern : ℕ → Type 0
 IsPattern n = Any (λ byte. n ≡ byte * 72340172838076673) (1 ∷ 254 ∷ 17 ∷ 238 ∷ 85 ∷ 170 ∷ [])
 
--- the bits of a floating-point number, by its bits of exponent and fraction (Structure, Values,
--- Floating-Point)
+-- the bits of a floating-point number, given the widths of its exponent and fraction, its sign, and
+-- the values of its exponent and fraction (Structure, Values, Floating-Point)
 abbrev pub float_bits : ℕ → ℕ → Bool → ℕ → ℕ → ℕ
 float_bits exponent_bits fraction_bits negative exponent fraction =
     (if negative then 2 ^ (exponent_bits + fraction_bits) else 0) + exponent * 2 ^ fraction_bits + fraction

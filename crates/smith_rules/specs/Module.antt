@@ -1,5 +1,5 @@
 -- The parts of a module, and its validity: the section Validation, Modules, of the WebAssembly Core
--- Specification 3.0
+-- Specification 3.0.
 use Rattle.std.specs.Prelude.{◌≡◌, ℕ, ◌+◌, Bool, IsTrue, Option, Some, None, List, length, slice_get}
 use Rattle.std.specs.List.{All}
 use Rattle.std.specs.declared.ops.Range.{Range}
@@ -57,7 +57,7 @@ pub record ModuleParts : Type 0 where
   pub interesting_values32 : List ℕ
   pub interesting_values64 : List ℕ
 
--- the configuration that a module returns: the one of the caller, sanitised, and without its
+-- the configuration that a module returns: that of the caller, sanitised, and without its
 -- available imports (own rule)
 abbrev pub shown_config : Config → Config
 shown_config config = record (sanitized config) { available_imports = None }
@@ -141,8 +141,8 @@ pub record AreBodiesValid (m : ModuleParts) : Type 0 where
   pub fuel : All (IsFuel m.globals (length (module_imports m).globals)) m.fuel_globals
 
 -- a valid module, under the features of its configuration, except for raw bodies (Validation,
--- Modules); the rules for features, shared and exact types, and that equal groups are different
--- types, are own rules
+-- Modules); the rules for features and for shared and exact types are own rules, and so is the rule
+-- that equal groups are different types
 pub record IsValid (m : ModuleParts) : Type 0 where
   pub types : AreTypesValid (module_features m) (module_types m)
   pub imports : All (IsImportsValid (module_features m)) m.imports

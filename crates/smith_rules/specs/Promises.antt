@@ -68,7 +68,7 @@ ExportsEverything m = AreAllExported (module_spaces m) m.exports
 abbrev pub HasNoStart : ModuleParts → Type 0
 HasNoStart m = m.start ≡ None
 
--- each segment that is copied has a constant offset and lies within the minimum size of its table
+-- each segment that is copied has a constant offset and fits within the minimum size of its table
 -- or memory
 pub record IsInside (m : ModuleParts) : Type 0 where
   pub elements : All (IsElementInside m.tables) m.elems

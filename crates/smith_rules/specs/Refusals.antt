@@ -105,8 +105,8 @@ pub record MayGive (config : Config) : Type 0 where
   pub passes : Passes config
   pub shapes_valid : AreShapesValid config
 
--- only lack of memory refuses: a module can be produced, no minimum is set, not everything is
--- exported, and a shape holds only nullable references, with several tables and memories allowed
+-- the only refusal is lack of memory: a module can be produced, no minimum is set, not everything
+-- is exported, and a shape holds only nullable references, with several tables and memories allowed
 pub record AsksNothingImpossible (config : Config) : Type 0 where
   pub may_give : MayGive config
   pub no_minimums : HasNoMinimums config

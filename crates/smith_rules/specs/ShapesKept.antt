@@ -1,4 +1,4 @@
--- Properties that a module has from its shapes. Rules of this project.
+-- Properties of a module that its shapes imply. Rules of this project.
 use Rattle.std.specs.Prelude.{◌≡◌, ℕ, IsTrue, IfSome, List, [], None, Some, slice_get}
 use Rattle.std.specs.List.{AllZip}
 use Rattle.smith_types.specs.Grown.{Extends}

@@ -1,5 +1,5 @@
-//! Definitions of a module: its parts and validity, its properties from a configuration and its
-//! shapes, and the conditions of each refusal. Collects the interesting values of a module.
+//! Defines the parts and validity of a module, its properties from a configuration and its shapes,
+//! and the conditions of each refusal. Collects the interesting values of a module.
 #![tactic(auto)]
 
 mod interesting_values;
