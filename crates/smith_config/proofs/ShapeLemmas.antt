@@ -196,7 +196,7 @@ module _ (which : Which) (config : Config) (shape : Shape) where
   no_fault valid fault.NotPlain = λ wrong. wrong.1 (valid.plain wrong.0)
   no_fault valid fault.LeftOut = λ wrong. wrong valid.nothing_left_out
 
-  -- every feature suffices if types and limits are right
+  -- enabling every feature suffices if types and limits are right
   pub would_do : AreTypesRight shape → AreLimitsRight shape → AreFeaturesOn which every_feature shape
   would_do right limits =
       let values = entity_values (IsValTypeValid every_feature (length types)) shape right.values in

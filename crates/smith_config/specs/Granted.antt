@@ -16,7 +16,7 @@ abbrev pub IsNonNullable : ValType → Type 0
 IsNonNullable (Ref reference) = reference.nullable ≡ false
 IsNonNullable _ = ⊥
 
--- a non-nullable reference, which is not grounded either if `non_nullable_enabled` is on
+-- a non-nullable reference, unless `non_nullable_enabled` is on and it is grounded
 abbrev pub IsUngrounded : Config → Context → ValType → Type 0
 IsUngrounded config context (Ref reference) = (reference.nullable ≡ false) × (IsTrue config.non_nullable_enabled → ¬ IsGrounded context reference.heap_type)
 IsUngrounded config context _ = ⊥
@@ -34,7 +34,7 @@ HasGranted config context t = All (IsGranted config context) (values_of t.compos
 abbrev pub AreTypesGranted : Config → Context → Type 0
 AreTypesGranted config context = All (HasGranted config context) context.types
 
--- the elements of a table are nullable, or `non_nullable_enabled` is set and they are grounded
+-- the elements of a table are nullable, or `non_nullable_enabled` is on and they are grounded
 abbrev pub HasGroundedElements : Config → Context → TableType → Type 0
 HasGroundedElements config context table = ¬ IsUngrounded config context (Ref table.element_type)
 

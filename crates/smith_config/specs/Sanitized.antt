@@ -20,8 +20,8 @@ sanitized config =
       exports = if is_some config.module_shape then None else config.exports;
     }
 
--- no field is on that requires a field that is off; several tables require reference types; beside
--- a module shape there is no other shape
+-- no field is on that requires a field that is off; several tables require reference types; a
+-- module shape excludes the other shapes
 pub record IsSanitized (config : Config) : Type 0 where
   pub one_table : config.reference_types_enabled ≡ false → config.max_tables ≤ 1
   pub gc : IsTrue config.gc_enabled → IsTrue config.reference_types_enabled

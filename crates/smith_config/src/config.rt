@@ -122,7 +122,7 @@ pub struct Config {
     /// completed by the shortest means. Defaults to 50.
     pub const_expr_fuel: u32,
 
-    /// Whether the length of an array in a constant expression is a small number, paid for with
+    /// Whether the length of an array in a constant expression is a small number, charged to
     /// `const_expr_fuel`, instead of any i32 expression. Defaults to `false`.
     pub limit_arrays_in_const_exprs: bool,
 
@@ -137,11 +137,11 @@ pub struct Config {
     /// contain floats in any case.
     pub allow_floats: bool,
 
-    /// Whether active segments lie within their tables and memories, so that they never trap, and
-    /// no instruction of a generated body traps except `unreachable`, which is then used only if
-    /// fuel is exhausted or no other instruction without operands produces the type. Imported
-    /// functions and raw bytes may still trap. Defaults to `false`. If `true`, a table may have one
-    /// element and a memory one page even if `max_table_elements`, `max_memory32_bytes` or
+    /// Whether active segments fit in their tables and memories, so that they never trap, and no
+    /// instruction of a generated body traps except `unreachable`. That instruction is then used
+    /// only if fuel is exhausted or no other instruction without operands produces the type.
+    /// Imported functions and raw bytes may still trap. Defaults to `false`. If `true`, a table may
+    /// have one element and a memory one page even if `max_table_elements`, `max_memory32_bytes` or
     /// `max_memory64_bytes` is lower.
     pub disallow_traps: bool,
 
