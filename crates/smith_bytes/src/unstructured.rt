@@ -188,7 +188,7 @@ impl<'a> Unstructured<'a> {
     /// assert_eq!(rt; u.len(), 1);
     /// ```
     pub fn bytes(&mut self, n: usize) -> Result<&'a [u8], Error>
-        // What is taken.
+        // The bytes taken.
         ensures enough { IsOk result ↔ (n ≤ length self.old) }
         ensures lent { IfOk result (λ piece. piece.now ≡ take n self.old) }
         ensures rest { OnOk result (self.new ≡ drop n self.old) }
