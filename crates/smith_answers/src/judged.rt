@@ -130,12 +130,12 @@ fn check_steady(first: &str, second: &str) -> Result<(), Fault> {
     })
 }
 
-// Whether memory ran out in a call of an answer.
+// Returns whether memory ran out in a call of an answer.
 fn lacks_memory(answer: &str) -> bool {
     answer.contains("refused: Memory")
 }
 
-// Whether the answer is a checksum of many, which is made once.
+// Returns whether the answer to `case` is a checksum of many answers, which is made once.
 fn is_recorded(case: &Case) -> bool {
     case.call
         .as_ref()

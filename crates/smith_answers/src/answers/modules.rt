@@ -138,7 +138,7 @@ fn tell_whole(
     Ok(())
 }
 
-// Whether the arguments of `call` are fuel that is added to the module.
+// Returns whether the arguments of `call` are fuel that is added to the module.
 fn takes_fuel(call: ModuleCall) -> bool {
     matches!(call, ModuleCall::EnsureTermination | ModuleCall::Encode)
 }

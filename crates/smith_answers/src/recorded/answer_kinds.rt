@@ -3,14 +3,14 @@ use std::alloc::Global;
 use std::collections::BTreeMap;
 use std::fmt;
 
-/// Numbers of answers of each kind, in the order of their texts.
+/// The number of answers of each kind, in the order of their texts.
 #[derive(Drop)]
 pub(crate) struct AnswerKinds {
     counts: BTreeMap<String, u32>,
 }
 
 impl AnswerKinds {
-    /// Makes the counts of no answers.
+    /// Creates counts without answers.
     pub(crate) fn new(alloc: Global) -> Self {
         AnswerKinds {
             counts: BTreeMap::new(alloc),

@@ -11,7 +11,7 @@ pub(crate) enum Formula {
     Rich,
 }
 
-/// Finds the formula of the name `name`, if there is one.
+/// Finds the formula named `name`, if there is one.
 pub(crate) fn formula_named(name: &str) -> Option<Formula> {
     match name {
         "plain" => Some(Formula::Plain),
@@ -21,7 +21,7 @@ pub(crate) fn formula_named(name: &str) -> Option<Formula> {
 }
 
 impl Formula {
-    /// Makes the input of the number `number`.
+    /// Creates the input with the number `number`.
     pub(crate) fn input(self, alloc: Global, number: u32) -> Result<Vec<u8>, AllocError> {
         match self {
             Formula::Plain => plain_input(alloc, number),
