@@ -511,12 +511,12 @@ fn calls() -> &'static [(&'static str, Call)] {
     &CALLS
 }
 
-/// Finds the call of the name `name`, if there is one.
+/// Finds the call named `name`, if there is one.
 pub fn call_named(name: &str) -> Option<Call> {
     call_among(calls(), name)
 }
 
-// Finds the call of the name `name` among `calls`.
+// Finds the call named `name` among `calls`.
 fn call_among(calls: &[(&str, Call)], name: &str) -> Option<Call> {
     calls
         .iter()

@@ -23,7 +23,7 @@ pub struct Case {
     pub wanted: Wanted,
 }
 
-/// Names of the shapes of a case.
+/// The names of the shapes of a case.
 #[derive(Default, Drop)]
 pub struct ShapeNames {
     /// The value of `types`.
@@ -38,7 +38,7 @@ pub struct ShapeNames {
     pub module_shape: Option<String>,
 }
 
-/// Properties that a case wants of its answer.
+/// The properties that a case wants of its answer.
 #[derive(Default, Drop)]
 pub struct Wanted {
     /// The value of `answer`.
@@ -107,7 +107,7 @@ impl Wanted {
     }
 }
 
-/// Returns the texts of `texts`, or none if there is no list.
+/// Returns the texts of `texts`, or an empty slice if there is no list.
 pub(crate) fn list(texts: &Option<Vec<String>>) -> &[String] {
     match texts {
         Some(texts) => texts.as_slice(),
@@ -215,7 +215,7 @@ fn read_list(alloc: Global, reader: &mut Reader<'_>) -> Result<Vec<String>, Faul
 }
 
 /// Moves `reader`, which is at the start of a case of at most `most` keys, to the value of the key
-/// `config`. Returns false if the case has no such key.
+/// `config`. Returns `false` if the case has no such key.
 pub fn goes_to_config(reader: &mut Reader<'_>, most: usize) -> bool {
     let _ = reader.next();
     for _ in 0..most {

@@ -1,7 +1,7 @@
 use smith_bytes::Error;
 use std::alloc::{AllocError, AllocFailed};
 
-/// Reasons why a case cannot be answered.
+/// A reason why a case cannot be answered.
 #[derive(Clone, Copy, Debug, thiserror::Error)]
 pub enum Fault {
     /// The line is not a JSON object of strings and lists of strings, from this byte on.

@@ -2,7 +2,7 @@ use crate::call::{Call, ConfigCall, ModuleCall};
 use crate::case::Case;
 use crate::fault::Fault;
 
-/// Keys that a call reads, besides those of every case.
+/// The keys that a call reads, besides those of every case.
 #[derive(Clone, Copy)]
 struct Keys {
     config: bool,

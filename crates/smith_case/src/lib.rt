@@ -2,7 +2,7 @@
 //!
 //! Each key occurs once, and a key that the call does not read is refused.
 //!
-//! - `name` says what the case shows.
+//! - `name` describes the case.
 //! - `call` names the call as Rust does, such as `Module::new`, `spell` or `arbitrary_const_expr`.
 //!   `call.rt` lists them. `Module::new of Config::arbitrary` draws the configuration first and the
 //!   module from the bytes left. `encode` adds fuel to the module of `Module::new` for each

@@ -2,7 +2,7 @@ use crate::case::{Case, list};
 use crate::fault::Fault;
 use std::fmt;
 
-/// First difference of an answer from the wanted one.
+/// The first difference of an answer from the wanted one.
 #[derive(Clone, Copy, Drop)]
 pub enum Difference<'a> {
     /// The kind of the answer is none of those allowed.
