@@ -8,8 +8,8 @@ use smith_types::{
 };
 use std::alloc::Global;
 
-/// Makes a group of `count` structs without fields, each a subtype of the next, and the last of the
-/// first.
+/// Creates a group of `count` structs without fields, each a subtype of the next, and the last of
+/// the first.
 pub(crate) fn cycle_of(alloc: Global, count: u32) -> Result<Items<SubType>, Fault> {
     let mut types = Items::new(alloc);
     for index in 0..count {
@@ -40,7 +40,7 @@ fn struct_of(is_final: bool, supertype: Option<u32>, fields: Items<FieldType>) -
     }
 }
 
-/// Makes a group of a struct of `count` fields that refer to the first type.
+/// Creates a group of a struct of `count` fields that refer to the first type.
 pub(crate) fn wide_of(alloc: Global, count: u32) -> Result<Items<SubType>, Fault> {
     let mut fields = Items::new(alloc);
     for _ in 0..count {
@@ -51,16 +51,16 @@ pub(crate) fn wide_of(alloc: Global, count: u32) -> Result<Items<SubType>, Fault
     Ok(types)
 }
 
-// Makes a subtype of `supertype`, a struct of a field that refers to the type `to`.
+// Creates a subtype of `supertype`, a struct of a field that refers to the type `to`.
 fn referring(alloc: Global, to: u32, supertype: Option<u32>) -> Result<SubType, Fault> {
     let mut fields = Items::new(alloc);
     fields.push(field_of(to))?;
     Ok(struct_of(false, supertype, fields))
 }
 
-/// Makes a group of `count` structs that refer to the first type, each a subtype of the one before,
-/// and of `count` subtypes of the last of these that refer to it. A match of each of the latter
-/// follows the whole chain.
+/// Creates a group of `count` structs that refer to the first type, each a subtype of the one
+/// before, and of `count` subtypes of the last of these that refer to it. A match of each of the
+/// latter follows the whole chain.
 pub(crate) fn fan_of(alloc: Global, count: u32) -> Result<Items<SubType>, Fault> {
     let mut types = Items::new(alloc);
     for index in 0..count {

@@ -8,7 +8,7 @@ use smith_types::{
 };
 use std::alloc::Global;
 
-/// Adds to `shape` the part that `part` writes, which is one of:
+/// Adds to `shape` the part that `part` denotes, which is one of:
 ///
 /// - `group TYPE; TYPE`, a recursive group. A type is `struct FIELD,FIELD`, `array FIELD` or `func
 ///   PARAM,PARAM -> RESULT`, after `open` if it is not final and `below INDEX` if it has a
@@ -124,7 +124,7 @@ fn chain_of(alloc: Global, count: u32) -> Result<Items<SubType>, Fault> {
     Ok(types)
 }
 
-/// Makes an open struct without fields, a subtype of `supertype` if there is one.
+/// Creates an open struct without fields, a subtype of `supertype` if there is one.
 pub(crate) fn open_struct(alloc: Global, supertype: Option<u32>) -> SubType {
     SubType {
         is_final: false,
@@ -172,7 +172,7 @@ fn inner_of(alloc: Global, text: &str) -> Result<CompositeInnerType, Fault> {
     }
 }
 
-/// Reads the function type that `text` writes: `i32,f64 -> i64`.
+/// Reads the function type that `text` denotes: `i32,f64 -> i64`.
 pub fn function_of(alloc: Global, text: &str) -> Result<FuncType, Fault> {
     let Some((params, results)) = text.split_once("->") else {
         return Err(Fault::UnknownShape);
@@ -248,7 +248,7 @@ fn names_of(alloc: Global, text: &str) -> Result<Imports, Fault> {
     })
 }
 
-/// Reads the entity that `text` writes.
+/// Reads the entity that `text` denotes.
 pub fn entity_of(text: &str) -> Option<EntityType> {
     let (word, rest) = split_word(text);
     match word {
@@ -329,7 +329,7 @@ fn global_of(text: &str) -> Option<GlobalType> {
     })
 }
 
-// Adds to `shape` the entity that `part` writes.
+// Adds to `shape` the entity that `part` denotes.
 fn add_definition(part: &str, shape: &mut Shape) -> Result<(), Fault> {
     match entity_of(part) {
         Some(EntityType::Func(index)) => push(&mut shape.funcs, Ok(index)),

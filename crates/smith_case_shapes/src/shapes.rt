@@ -5,7 +5,7 @@ use smith_config::Shape;
 use smith_types::Items;
 use std::alloc::Global;
 
-/// Name of a shape, and its parts in the form that `add_part` reads.
+/// The name of a shape, and its parts in the form that `add_part` reads.
 pub(crate) type NamedShape = (&'static str, &'static [&'static str]);
 
 // Returns the shapes of this file.
@@ -244,7 +244,7 @@ static SHAPES: [NamedShape; 47] = [
     ),
 ];
 
-// Finds the parts of the shape of the name `name` among `shapes`.
+// Finds the parts of the shape named `name` among `shapes`.
 fn parts_among(shapes: &[NamedShape], name: &str) -> Option<&'static [&'static str]> {
     shapes
         .iter()
@@ -252,7 +252,7 @@ fn parts_among(shapes: &[NamedShape], name: &str) -> Option<&'static [&'static s
         .map(|(_, parts)| *parts)
 }
 
-// Finds the parts of the shape of the name `name`.
+// Finds the parts of the shape named `name`.
 fn parts_of(name: &str) -> Option<&'static [&'static str]> {
     match parts_among(own_shapes(), name) {
         Some(parts) => Some(parts),
@@ -260,7 +260,7 @@ fn parts_of(name: &str) -> Option<&'static [&'static str]> {
     }
 }
 
-/// Makes the shape of the name `name`.
+/// Creates the shape named `name`.
 pub fn shape_named(alloc: Global, name: &str) -> Result<Shape, Fault> {
     match parts_of(name) {
         Some(parts) => shape_of_parts(alloc, parts),

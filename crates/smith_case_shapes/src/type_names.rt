@@ -38,7 +38,7 @@ fn inside<'a>(text: &'a str, keyword: &str) -> Option<&'a str> {
     text.strip_prefix(keyword)?.strip_suffix(")")
 }
 
-/// Reads the heap type that `text` writes: `any`, `(shared any)`, `0`, `(exact 0)`.
+/// Reads the heap type that `text` denotes: `any`, `(shared any)`, `0`, `(exact 0)`.
 pub fn heap_type_of(text: &str) -> Option<HeapType> {
     if let Some(name) = inside(text, "(shared ") {
         return abstract_of(true, name);
@@ -52,7 +52,7 @@ pub fn heap_type_of(text: &str) -> Option<HeapType> {
     }
 }
 
-/// Reads the reference type that `text` writes: `(ref any)`, `(ref null 0)`.
+/// Reads the reference type that `text` denotes: `(ref any)`, `(ref null 0)`.
 pub fn ref_type_of(text: &str) -> Option<RefType> {
     let referred = inside(text, "(ref ")?;
     let (nullable, heap_type) = match referred.strip_prefix("null ") {
@@ -65,7 +65,7 @@ pub fn ref_type_of(text: &str) -> Option<RefType> {
     })
 }
 
-/// Reads the value type that `text` writes.
+/// Reads the value type that `text` denotes.
 pub fn val_type_of(text: &str) -> Option<ValType> {
     match text {
         "i32" => Some(ValType::I32),
@@ -77,7 +77,7 @@ pub fn val_type_of(text: &str) -> Option<ValType> {
     }
 }
 
-/// Reads the storage type that `text` writes.
+/// Reads the storage type that `text` denotes.
 pub fn storage_type_of(text: &str) -> Option<StorageType> {
     match text {
         "i8" => Some(StorageType::I8),
@@ -86,7 +86,7 @@ pub fn storage_type_of(text: &str) -> Option<StorageType> {
     }
 }
 
-/// Reads the field type that `text` writes: a storage type, or `(mut TYPE)`.
+/// Reads the field type that `text` denotes: a storage type, or `(mut TYPE)`.
 pub fn field_type_of(text: &str) -> Option<FieldType> {
     let (mutable, element_type) = match inside(text, "(mut ") {
         Some(element_type) => (true, element_type),
