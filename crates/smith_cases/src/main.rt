@@ -6,7 +6,7 @@
 //! the last line is `not ok: Memory while reading` and the status is 1 too. A case is answered
 //! twice, a case of checksums once; if the two answers differ, it is not ok. Blank lines, and lines
 //! that begin with `#`, are skipped. The crate's own cases are in `stdin`. In this folder, this
-//! command tries them in some four minutes, before any proof:
+//! command tries them in about four minutes, before any proof:
 //!
 //! ```sh
 //! rt try --seconds 600 < stdin
@@ -60,7 +60,7 @@ fn answered(rt: &HostRuntime) -> io::Result<ExitCode> {
     })
 }
 
-// Whether `line` has no case.
+// Returns whether `line` has no case.
 fn is_passed_over(line: &str) -> bool {
     line.trim().is_empty() || line.starts_with('#')
 }
