@@ -1,4 +1,4 @@
--- Where `unreachable` stands for a value, no other instruction without operands does.
+-- Where `unreachable` is drawn for a value, no other instruction without operands produces one.
 use Rattle.std.proofs.Common.{◌≡◌, ℕ, ◌-◌, ◌<◌, Bool, true, false, List, [], ◌∷◌, Option, Some, None, length, refl, sym, subst, ap, ◌∙◌, arith}
 use Rattle.std.specs.Prelude.{◌^◌, ◌&&◌, ◌||◌, not, option_and_then, option_map, slice_get, unwrap_or, if◌then◌else◌}
 use Rattle.std.proofs.lemmas.Option.{slice_get-get_or, slice_get_within}

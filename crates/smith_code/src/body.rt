@@ -17,7 +17,7 @@ use std::alloc::Global;
 /// The maximum depth of instructions that are operands of each other or nested in each other.
 const DEPTH: u32 = 40;
 
-/// Draws the body of a function over `scope`, without its last `end`. The standard's section
+/// Draws the body of a function over `scope`, without its last `end`. See the standard, section
 /// Structure, Functions.
 ///
 /// Most instructions take one unit of `budget` each. Constants, reads of locals and globals, and
@@ -30,7 +30,7 @@ const DEPTH: u32 = 40;
 ///
 /// # Errors
 ///
-/// `Memory` for lack of memory, and no other.
+/// Returns `Memory` if an allocation fails, and no other error.
 pub fn draw_body(
     alloc: Global,
     scope: &Scope<'_>,

@@ -34,7 +34,7 @@ use smith_instr::Instr;
 use smith_types::ValType;
 use std::alloc::Global;
 
-/// Chooses an allowed node that produces a value of the type `wanted`. Returns none if the choice
+/// Chooses an allowed node that produces a value of the type `wanted`. Returns `None` if the choice
 /// is a leaf, is not possible or is not allowed.
 pub(crate) fn choose_allowed(
     alloc: Global,

@@ -1,6 +1,6 @@
 ghost use Rattle.smith_code.specs.Laws.{TrapsOnlyForNoOther};
 
-/// Proves that, if traps are disallowed, a value is `unreachable` only if no other permitted
+/// States that, if traps are disallowed, a value is `unreachable` only if no other permitted
 /// instruction without operands produces one of its type.
 pub fn traps_only_for_no_other()
     ensures { TrapsOnlyForNoOther }
