@@ -19,7 +19,7 @@ use smith_instr::{BranchCast, Instr};
 use smith_types::{RefType, ValType};
 use std::alloc::Global;
 
-/// Label whose last value is a reference.
+/// A label whose last value is a reference.
 #[derive(Clone, Copy)]
 struct CastLabel {
     /// The index of the label.
@@ -176,7 +176,7 @@ fn draw_below(scope: &Scope<'_>, from: RefType, u: &mut Unstructured<'_>) -> Ref
     reference_or(scope.locals[index as usize], from)
 }
 
-/// Makes the node of `instruction`, a branch to a label of the values `taken`, whose last operand
+/// Creates the node of `instruction`, a branch to a label of the values `taken`, whose last operand
 /// is a reference of the type `from`. Drops the values that it leaves.
 fn dropping(
     alloc: Global,

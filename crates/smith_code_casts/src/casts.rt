@@ -210,7 +210,7 @@ fn choose_scalar(
     }
 }
 
-/// Makes the node of `op`, which takes a nullable reference to the abstract heap type `ty`.
+/// Creates the node of `op`, which takes a nullable reference to the abstract heap type `ty`.
 fn out_of(alloc: Global, ty: AbstractHeapType, op: AggregateInstr) -> Result<Option<Node>, Error>
     ensures exact { IfOk result (λ chosen.
         chosen ≡ Some (aggregate_of (nullable_to (HeapType.Abstract false ty) ∷ []) op)) }
@@ -456,7 +456,7 @@ fn abstract_reference(shared: bool, nullable: bool, ty: AbstractHeapType) -> Val
     })
 }
 
-/// Makes the node of `op`, which takes `from`.
+/// Creates the node of `op`, which takes `from`.
 fn converted(alloc: Global, from: ValType, op: AggregateInstr) -> Result<Option<Node>, Error>
     ensures exact { IfOk result (λ chosen. chosen ≡ Some (aggregate_of (from ∷ []) op)) }
     ensures memory { IfErr result (λ e. e ≡ Error.Memory) }
