@@ -115,8 +115,8 @@ fn atomic_widths<'a>() -> &'a [AtomicWidth]
     ]
 }
 
-/// Chooses an atomic access that produces a value of the type `wanted`. Returns none if there is no
-/// memory.
+/// Chooses an atomic access that produces a value of the type `wanted`. Returns `None` if there is
+/// no memory.
 pub fn choose_atomic(
     alloc: Global,
     scope: &Scope<'_>,
@@ -168,7 +168,7 @@ pub fn choose_atomic_store(
     atomic(alloc, op, access)
 }
 
-/// Makes the node of the access `op` to memory, whose alignment is that of its bytes.
+/// Creates the node of the access `op` to memory, whose alignment is that of its bytes.
 fn atomic(alloc: Global, op: AtomicAccess, access: Access) -> Result<Node, Error>
     ensures exact { IfOk result (λ node. node ≡ atomic_node op access) }
     ensures memory { IfErr result (λ e. e ≡ Error.Memory) }

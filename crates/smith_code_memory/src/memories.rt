@@ -67,7 +67,7 @@ fn stores<'a>() -> &'a [Store]
     ]
 }
 
-/// Memory, offset and alignment of an access, and whether its addresses have 64 bits.
+/// The memory, offset and alignment of an access, and whether its addresses have 64 bits.
 #[derive(Clone, Copy)]
 pub(crate) struct Access {
     pub at: MemArg,
@@ -75,7 +75,7 @@ pub(crate) struct Access {
 }
 
 /// Draws an access to one of the memories, with an alignment of at most `2 ^ log2_bytes`. Returns
-/// none if there is no memory.
+/// `None` if there is no memory.
 pub(crate) fn draw_access(
     scope: &Scope<'_>,
     log2_bytes: u32,

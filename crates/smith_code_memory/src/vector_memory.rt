@@ -19,7 +19,7 @@ use smith_instr::{Instr, VectorLoad};
 use smith_types::ValType;
 use std::alloc::Global;
 
-/// Chooses a load of a vector. Returns none if there is no memory.
+/// Chooses a load of a vector. Returns `None` if there is no memory.
 pub(crate) fn choose_vector_load(
     alloc: Global,
     scope: &Scope<'_>,
@@ -67,7 +67,7 @@ struct LaneAccess {
     lane: u8,
 }
 
-/// Draws a lane, and an access to one of the memories for it. Returns none if there is no memory.
+/// Draws a lane, and an access to one of the memories for it. Returns `None` if there is no memory.
 fn draw_lane_access(scope: &Scope<'_>, u: &mut Unstructured<'_>) -> Option<LaneAccess>
     requires scope { IsScope (bare scope.now) }
     ensures exact { lane_access_at scope.now.config.now scope.now.memories.now u.old
@@ -101,7 +101,7 @@ fn last_lane(log2_bytes: u32) -> u8
     }
 }
 
-/// Chooses a load into a lane. Returns none if there is no memory.
+/// Chooses a load into a lane. Returns `None` if there is no memory.
 pub(crate) fn choose_load_lane(
     alloc: Global,
     scope: &Scope<'_>,

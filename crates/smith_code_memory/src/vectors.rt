@@ -45,7 +45,7 @@ fn vector_families<'a>() -> &'a [VectorFamily]
     ]
 }
 
-/// Chooses a vector instruction that produces a value of the type `wanted`. Returns none without
+/// Chooses a vector instruction that produces a value of the type `wanted`. Returns `None` without
 /// vectors.
 pub fn choose_vector(
     alloc: Global,
