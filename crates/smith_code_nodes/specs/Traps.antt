@@ -1,7 +1,7 @@
 -- The instructions that may trap: the chapter Execution, Instructions, of the WebAssembly Core
 -- Specification 3.0. Atomic accesses are those of the threads proposal. A call is not counted as a
--- trap: the instructions of the called function are judged there. Nor are the limits of stacks and
--- memory.
+-- trap, since the instructions of the called function are judged by themselves; nor are the limits
+-- of stacks and memory.
 use Rattle.std.specs.Prelude.{◌≡◌, Bool, true, false, IsTrue}
 use Rattle.smith_instr.specs.declared.aggregate.AggregateInstr.{AggregateInstr}
 use Rattle.smith_instr.specs.declared.aggregate.AggregateInstr.TheVariants as aggregate

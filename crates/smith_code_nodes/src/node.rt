@@ -18,7 +18,7 @@ use smith_instr::{BlockType, Catch, Instr};
 use smith_types::{Items, ValType};
 use std::alloc::Global;
 
-/// Parameters and results of a block.
+/// The parameters and results of a block.
 #[derive(Drop)]
 pub struct Sides {
     /// The types of the parameters.
@@ -27,7 +27,7 @@ pub struct Sides {
     pub results: Items<ValType>,
 }
 
-/// Opening of a block without clauses in which instructions are drawn once. An `if` with an
+/// The opening of a block without clauses in which instructions are drawn once. An `if` with an
 /// `else` is no such block.
 #[derive(Clone, Copy)]
 pub enum Opening {
@@ -39,7 +39,7 @@ pub enum Opening {
     IfAlone,
 }
 
-/// Part of a node after its operands.
+/// The part of a node after its operands.
 #[derive(Drop)]
 pub enum Head {
     /// An instruction.
@@ -65,7 +65,7 @@ pub struct Node {
     pub drops: usize,
 }
 
-/// Makes the node of `instruction`, which takes `operands`. Drops `drops` of its results.
+/// Creates the node of `instruction`, which takes `operands`. Drops `drops` of its results.
 pub fn plain(
     alloc: Global,
     operands: &[ValType],
@@ -83,8 +83,8 @@ pub fn plain(
     })
 }
 
-/// Makes the node of `instruction`, which takes `operands` and then an `i32`. Drops `drops` of its
-/// results.
+/// Creates the node of `instruction`, which takes `operands` and then an `i32`. Drops `drops` of
+/// its results.
 pub fn conditional(
     alloc: Global,
     operands: &[ValType],
@@ -98,7 +98,7 @@ pub fn conditional(
     topped(alloc, operands, ValType::I32, instruction, drops)
 }
 
-/// Makes the node of `instruction`, which takes `operands` and then a `top`. Drops `drops` of its
+/// Creates the node of `instruction`, which takes `operands` and then a `top`. Drops `drops` of its
 /// results.
 pub fn topped(
     alloc: Global,
@@ -132,7 +132,7 @@ pub fn or_nop(alloc: Global, chosen: Option<Node>) -> Result<Node, Error>
     }
 }
 
-/// Makes the node of `instruction`, which sets the local `index` of the type `value`.
+/// Creates the node of `instruction`, which sets the local `index` of the type `value`.
 pub fn setter(alloc: Global, index: u32, value: ValType, instruction: Instr) -> Result<Node, Error>
     ensures exact { IfOk result (λ node. node ≡ setting index value instruction) }
     ensures memory { IfErr result (λ e. e ≡ Error.Memory) }
@@ -145,8 +145,8 @@ pub fn setter(alloc: Global, index: u32, value: ValType, instruction: Instr) -> 
     })
 }
 
-/// Makes the node of a block of the type `ty`, from `params` to `results`. Drops `drops` of its
-/// results. The block is an `if` with an `else` if `opening` is none or does not fit.
+/// Creates the node of a block of the type `ty`, from `params` to `results`. Drops `drops` of its
+/// results. The block is an `if` with an `else` if `opening` is `None` or does not fit.
 pub fn block(
     alloc: Global,
     opening: Option<Opening>,
@@ -182,7 +182,7 @@ pub fn block(
     })
 }
 
-/// Makes the node of a `try_table` of the type `ty`, from `params` to `results`, with `clauses`.
+/// Creates the node of a `try_table` of the type `ty`, from `params` to `results`, with `clauses`.
 /// Drops `drops` of its results.
 pub fn try_table(
     alloc: Global,

@@ -27,7 +27,7 @@ pub trait Offer {
         ensures { result ≡ Self.test self.now index };
 }
 
-/// Chooses one of the offered items, and returns its index. Returns none if no item is offered.
+/// Chooses one of the offered items, and returns its index. Returns `None` if no item is offered.
 pub fn choose_offered<O: Offer>(offer: &O, u: &mut Unstructured<'_>) -> Option<usize>
     requires { O.ready offer.now }
     ensures exact { choose_at (offered (O.test offer.now) (O.size offer.now)) u.old
@@ -50,7 +50,7 @@ pub enum Reach {
     Whole,
 }
 
-/// Chooses one of the offered items that `reach` covers, and returns its index. Returns none if
+/// Chooses one of the offered items that `reach` covers, and returns its index. Returns `None` if
 /// none of them is offered.
 pub fn choose_within<O: Offer>(offer: &O, reach: Reach, u: &mut Unstructured<'_>) -> Option<usize>
     requires { O.ready offer.now }
@@ -92,7 +92,7 @@ impl<'a, O: Offer> Offer for Chunk<'a, O> {
 }
 
 /// Draws a chunk of 256 items, chooses one of its offered items, and returns its index. Returns
-/// none if no item of the chunk is offered.
+/// `None` if no item of the chunk is offered.
 ///
 /// So a choice tests at most 256 items, however many there are. If there are at most 256, they are
 /// one chunk, and drawing it takes no byte.

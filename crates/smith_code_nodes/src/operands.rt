@@ -32,7 +32,7 @@ pub fn repeated(alloc: Global, value: ValType, count: u32) -> Result<Items<ValTy
     Ok(values)
 }
 
-/// Makes the node of `instruction`, which takes `operands`.
+/// Creates the node of `instruction`, which takes `operands`.
 pub fn taking(operands: Items<ValType>, instruction: Instr) -> Node
     ensures { result ≡ node_of operands instruction 0 }
 {

@@ -7,7 +7,7 @@ use smith_types::{
     GlobalType, Items, MemoryType, RefType, TableType, TypeSpace, ValType, WasmFeatures,
 };
 
-/// Context of a body without its labels: the standard's section Validation, Contexts. Imported
+/// The context of a body without its labels: the standard's section Validation, Contexts. Imported
 /// items come first.
 #[derive(Clone, Copy)]
 pub struct Scope<'a> {
@@ -44,7 +44,7 @@ pub struct Scope<'a> {
     pub results: &'a [ValType],
 }
 
-/// Body that is being drawn.
+/// A body that is being drawn.
 #[derive(Drop)]
 pub struct Draft {
     /// The instructions so far.
