@@ -213,7 +213,7 @@ fn choose_table_get(
     Ok(Some(node))
 }
 
-/// Chooses a table of a drawn chunk whose addresses have the type `wanted`. Returns none without
+/// Chooses a table of a drawn chunk whose addresses have the type `wanted`. Returns `None` without
 /// reference types.
 fn choose_table_addressed(
     scope: &Scope<'_>,
@@ -256,7 +256,7 @@ fn choose_table_growth(
     growth_of(alloc, scope, wanted, grown, index, draft)
 }
 
-/// Makes `table.grow` of the table `index` if `grown` is set, else `table.size`.
+/// Creates `table.grow` of the table `index` if `grown` is set, else `table.size`.
 fn growth_of(
     alloc: Global,
     scope: &Scope<'_>,
@@ -311,7 +311,7 @@ pub fn choose_table_change(
     }
 }
 
-/// Draws a table, and returns it with its index. Returns none without reference types.
+/// Draws a table, and returns it with its index. Returns `None` without reference types.
 fn draw_held_table(scope: &Scope<'_>, u: &mut Unstructured<'_>) -> Option<(u32, TableType)>
     requires scope { IsScope (bare scope.now) }
     ensures exact { held_table_at (bare scope.now) u.old ≡ (result, u.new) }
