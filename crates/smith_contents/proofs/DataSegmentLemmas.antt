@@ -25,7 +25,7 @@ use Rattle.smith_draw.proofs.ValueTypeLemmas.{drawn_is}
 use Rattle.smith_contents.specs.DataSegments.{Targets, Indexed, HasPages, no_memory, least_bytes, segment_at, segments_at}
 use Rattle.smith_contents.specs.DataTargets.{StandsIn, TellOffsets, IsDataFit}
 
--- a property of all memories that count is one of the chosen memory
+-- a property of all memories that count holds for the chosen memory
 pub chosen_keeps : (P : Indexed → Type 0) (items : List Indexed) (bytes : List ℕ) {after : List ℕ} {one : Indexed} → 0 < length items → All P items → chosen_at no_memory items bytes ≡ (one, after) → P one
 chosen_keeps P items bytes some all chosen = drawn_is P _ (chosen_of P no_memory items bytes some all) chosen
 

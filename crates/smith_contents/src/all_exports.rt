@@ -53,8 +53,8 @@ fn item_at(spaces: &EntitySpaces, place: usize) -> (ExportKind, u32)
     (ExportKind::Tag, (place - tags) as u32)
 }
 
-/// Draws an export of each item of `spaces`, in order. Refuses if imports and exports together
-/// exceed the maximum type size.
+/// Draws an export of each item of `spaces`, in order. Fails if imports and exports together exceed
+/// the maximum type size.
 #[tactic(auto, unfolding(crate::specs::AllExports::everything_at))]
 fn push_exports(
     alloc: Global,
@@ -104,7 +104,7 @@ pub(crate) fn export_everything(
     requires may { MayExport types.now.types (spaces_in spaces.now) }
     requires within { imports_size ≤ config.now.max_type_size }
 
-    // What is drawn.
+    // The draw.
     ensures exact { ReturnsWhy (λ made. (made.exports, u.new)) result
         (everything_at config.now types.now.types (spaces_in spaces.now) imports_size u.old) }
     ensures valid { IfOk result (λ made. AreExportsValid (spaces_in spaces.now) made.exports) }

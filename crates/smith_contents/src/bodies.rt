@@ -28,7 +28,7 @@ fn draw_raw_bytes(alloc: Global, u: &mut Unstructured<'_>) -> Result<Instruction
     Ok(Instructions::Arbitrary(Items::from_slice(alloc, bytes)?))
 }
 
-/// Draws whether a body is raw bytes. Returns false without a draw if `config` does not allow
+/// Draws whether a body is raw bytes. Returns `false` without a draw if `config` does not allow
 /// invalid bodies.
 #[tactic(auto, unfolding(crate::specs::DrawnBodies::is_raw_at))]
 fn is_raw(config: &Config, u: &mut Unstructured<'_>) -> bool
@@ -122,7 +122,7 @@ fn draw_bodies(
 /// Draws the bodies of `count` functions. Each has locals over the types and functions of `spaces`,
 /// then `unreachable`, or raw bytes if `config` allows invalid bodies.
 ///
-/// `config` is sanitised.
+/// Requires `config` to be sanitised.
 pub fn arbitrary_bodies(
     alloc: Global,
     config: &Config,
@@ -132,7 +132,7 @@ pub fn arbitrary_bodies(
 ) -> Result<Items<Code>, Error>
     requires { IsSanitized config.now }
 
-    // What is drawn.
+    // The draw.
     ensures draws { Draws (bodies_at config.now (standing_in config.now spaces.now) count u.old)
         result u.old u.new }
     ensures each { IfOk result (λ bodies. length bodies ≡ count) }

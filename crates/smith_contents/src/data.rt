@@ -241,7 +241,7 @@ fn draw_data(
         spaces.now.entities.memories.now }
     requires few { length spaces.now.entities.memories.now < 2 ^ 32 }
 
-    // What is drawn.
+    // The draw.
     ensures exact { ReturnsWhy (λ segments. (segments, u.new)) result (data_at config.now
         (seen_by config.now spaces.now true) spaces.now.entities.memories.now u.old) }
     ensures fit { IfOk result (All (IsDataFit config.now
@@ -269,14 +269,14 @@ fn draw_data(
 
 /// Draws the data segments: at least `min_data_segments` and at most `max_data_segments` of
 /// `config`. Active segments are copied into memories of `spaces`, at constant offsets or at the
-/// values of globals. The standard's section Validation, Data Segments.
+/// values of globals. See the standard, section Validation, Data Segments.
 ///
-/// `config` passes its check. The types of `spaces` are valid, and its functions, globals and
-/// memories are valid over them, each fewer than 2^32. The imported globals are among its globals.
+/// Requires `config` to pass its check, and `spaces` to have valid types, no more imported globals
+/// than globals, and fewer than 2^32 functions, globals and memories each, valid over its types.
 ///
 /// # Errors
 ///
-/// `Unmet(DataSegments)` if `config` requires segments, bulk memory is off, and no memory may be
+/// Returns `Unmet(DataSegments)` if segments are required, bulk memory is off, and no memory may be
 /// copied into. Whether a memory with a minimum of 0 may be copied into depends on a drawn number.
 pub fn arbitrary_data(
     alloc: Global,
@@ -290,7 +290,7 @@ pub fn arbitrary_data(
         spaces.now.entities.memories.now }
     requires few { length spaces.now.entities.memories.now < 2 ^ 32 }
 
-    // What is drawn.
+    // The draw.
     ensures exact { ReturnsWhy (λ segments. (segments, u.new)) result (data_at config.now
         (seen_by config.now spaces.now true) spaces.now.entities.memories.now u.old) }
 

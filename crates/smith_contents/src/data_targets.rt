@@ -16,15 +16,15 @@ use smith_types::MemoryType;
 use std::alloc::Global;
 use std::marker::Model;
 
-/// Memories that segments may be copied into, and globals that offsets may be read from.
+/// The memories that segments may be copied into, and the globals that offsets may be read from.
 #[derive(Drop)]
 pub(crate) struct Targets<'a> {
     memories: &'a [MemoryType],
-    /// Indices of those of `memories` that segments may be copied into.
+    /// The indices of those of `memories` that segments may be copied into.
     offered: OfferedIndices,
-    /// Globals whose value may be the offset into a memory of 32-bit addresses.
+    /// The globals whose value may be the offset into a memory with 32-bit addresses.
     globals32: OffsetGlobals<'a>,
-    /// Globals whose value may be the offset into a memory of 64-bit addresses.
+    /// The globals whose value may be the offset into a memory with 64-bit addresses.
     globals64: OffsetGlobals<'a>,
 }
 

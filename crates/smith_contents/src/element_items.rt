@@ -96,7 +96,7 @@ fn is_unshared_type(types: &[SubType], index: u32) -> bool
     }
 }
 
-/// Offers the indices of the functions of `funcs` whose types are not shared. There are fewer than
+/// Offers the indices of the functions of `funcs` whose types are not shared. Requires fewer than
 /// 2^32 functions.
 fn offer_unshared(alloc: Global, types: &[SubType], funcs: &[u32]) -> Result<OfferedIndices, Error>
     requires few { length funcs.now < 2 ^ 32 }
@@ -131,7 +131,7 @@ fn are_functions(config: &Config, ty: RefType, u: &mut Unstructured<'_>) -> bool
     false
 }
 
-/// Refuses if `most` items are fewer than `config` requires in a segment.
+/// Fails if `most` items are fewer than `config` requires in a segment.
 fn ask_enough(config: &Config, most: usize) -> Result<(), Error>
     ensures enough { OnOk result (config.now.min_elements ≤ most) }
     ensures unmet { IfErr result (λ e.
@@ -223,7 +223,7 @@ fn draw_expression_item(
     requires may { MayHoldItems config.now spaces.now ty }
     requires kept { AreKeptOffers (seen_by config.now spaces.now true) kept.old }
 
-    // What is drawn.
+    // The draw.
     ensures exact { IfOk result (λ drawn.
         expression_item_at config.now (seen_by config.now spaces.now true) ty u.old
         ≡ (drawn, u.new)) }

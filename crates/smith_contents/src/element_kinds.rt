@@ -15,7 +15,7 @@ use smith_draw::Spaces;
 use smith_types::{AbstractHeapType, HeapType, RefType, TableType};
 use std::alloc::Global;
 
-/// Kind of element segment that may be drawn.
+/// A kind of element segment that may be drawn.
 #[derive(Clone, Copy)]
 pub(crate) enum KindChoice {
     /// Available to instructions that name the segment.

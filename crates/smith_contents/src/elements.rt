@@ -126,7 +126,7 @@ fn draw_segments(
     Ok(segments)
 }
 
-/// Returns no segment. Refuses if `config` requires segments.
+/// Returns an empty list of segments. Fails if `config` requires segments.
 fn none(alloc: Global, config: &Config) -> Result<Items<ElementSegment>, Error>
     ensures none { IfOk result (λ segments.
         (segments ≡ []) × (config.now.min_element_segments ≡ 0)) }
@@ -170,11 +170,11 @@ fn draw_elements(
 /// Draws the element segments: at least `min_element_segments` and at most `max_element_segments`
 /// of `config`. Each has at least `min_elements` items, and together they have at most
 /// `max_elements`. A segment that lists functions is empty if all functions of `spaces` have shared
-/// types. The standard's section Validation, Element Segments.
+/// types. See the standard, section Validation, Element Segments.
 ///
-/// `config` is sanitised and passes its check. The types of `spaces` are valid, and its functions,
-/// tables and globals are valid over them, each fewer than 2^32. The imported globals are among its
-/// globals.
+/// Requires `config` to be sanitised and to pass its check. Requires `spaces` to have valid types,
+/// no more imported globals than globals, and fewer than 2^32 functions, tables and globals each,
+/// valid over its types.
 ///
 /// # Errors
 ///
@@ -192,7 +192,7 @@ pub fn arbitrary_elements(
 ) -> Result<Items<ElementSegment>, Error>
     requires may { MayDrawElements config.now spaces.now }
 
-    // What is drawn.
+    // The draw.
     ensures exact { ReturnsWhy (λ segments. (segments, u.new)) result (elements_at config.now
         (seen_by config.now spaces.now true) spaces.now.entities.tables.now u.old) }
 

@@ -5,7 +5,7 @@ ghost use Rattle.smith_contents.specs.Exported.{MayExport};
 
 use smith_types::{EntitySpaces, EntityType, ExportKind, Items, Name, TypeSpace};
 
-/// Exports of a module, and its type size with them.
+/// The exports of a module, and its type size with them.
 #[derive(Drop)]
 pub struct Exports {
     /// The name of each export, and the kind and the index of its item.

@@ -40,7 +40,7 @@ fn draw_export(
     requires may { MayOffer types.now.types (spaces_in spaces.now) most }
     requires some { 0 < length (offered_kinds types.now.types (spaces_in spaces.now) left) }
 
-    // What is drawn.
+    // The draw.
     ensures exact { (exports : List Export) → HasNames names.old exports → length exports < 2 ^ 64
         → IfOk result (λ one.
         export_at types.now.types (spaces_in spaces.now) left exports u.old ≡ (one, u.new)) }
@@ -142,7 +142,7 @@ fn draw_free_exports(
 ) -> Result<Exports, Error>
     requires may { MayExportFreely config.now types.now.types (spaces_in spaces.now) imports_size }
 
-    // What is drawn.
+    // The draw.
     ensures exact { ReturnsWhy (λ made. (made.exports, u.new)) result
         (free_exports_at config.now types.now.types (spaces_in spaces.now) imports_size u.old) }
     ensures valid { IfOk result (λ made. AreExportsValid (spaces_in spaces.now) made.exports) }
@@ -169,14 +169,14 @@ fn draw_free_exports(
 /// everything, else at least `min_exports` and at most `max_exports`. The imports add
 /// `imports_size` to the type size.
 ///
-/// No shape of `config` fixes the exports, and `imports_size` is at most `max_type_size`. Each
-/// index space of `spaces` has fewer than 2^32 items, its functions have function types of `types`,
-/// and a function type has fewer than 2^32 - 2 parameters and results together.
+/// Requires `imports_size` to be at most `max_type_size`, and no shape of `config` to fix the
+/// exports. Requires the functions of `spaces` to have function types of `types`, an index space
+/// fewer than 2^32 items, and a function type fewer than 2^32 - 2 parameters and results together.
 ///
-/// Unless everything is exported, `min_exports` is at most `max_exports`, and `spaces` has at least
-/// the minimum number of tables, memories and globals of `config`. If `config` has no shape either,
-/// a function type has at most 20 parameters and 20 results, and `imports_size` is at most 42 for
-/// each import that `config` allows.
+/// Unless everything is exported, requires `min_exports` to be at most `max_exports`, and `spaces`
+/// to have the minimum number of tables, memories and globals. If `config` has no shape either,
+/// requires a function type to have at most 20 parameters and 20 results, and `imports_size` to be
+/// at most 42 for each import that `config` allows.
 ///
 /// # Errors
 ///
@@ -192,7 +192,7 @@ pub fn arbitrary_exports(
 ) -> Result<Exports, Error>
     requires may { MayDrawExports config.now types.now.types (spaces_in spaces.now) imports_size }
 
-    // What is drawn.
+    // The draw.
     ensures exact { ReturnsWhy (λ made. (made.exports, u.new)) result
         (exports_at config.now types.now.types (spaces_in spaces.now) imports_size u.old) }
     ensures valid { IfOk result (λ made. AreExportsValid (spaces_in spaces.now) made.exports) }

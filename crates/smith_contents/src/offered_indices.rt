@@ -8,9 +8,9 @@ use smith_types::Items;
 use std::alloc::Global;
 use std::marker::Model;
 
-/// Offered indices, in order: all indices below an end, except those left out.
+/// The offered indices, in order: all indices below an end, except those left out.
 ///
-/// Only an index that is left out takes memory.
+/// Memory is allocated only for indices that are left out.
 #[derive(Drop)]
 pub(crate) struct OfferedIndices {
     /// The number of offered indices.
@@ -30,7 +30,7 @@ impl Model for OfferedIndices {
 }
 
 impl OfferedIndices {
-    /// Makes an empty list of indices. Takes no memory.
+    /// Creates an empty list of indices. Does not allocate.
     pub(crate) fn new(alloc: Global) -> Self
         ensures { result ≡ record { end = 0; offered = [] } }
     {

@@ -11,13 +11,13 @@ use smith_config::Config;
 use smith_types::TableType;
 use std::marker::Model;
 
-/// Kinds of element segments that are offered, in order: those without a table, the first table
+/// The kinds of element segments that are offered, in order: those without a table, the first table
 /// without its index, and tables by their indices.
 #[derive(Drop)]
 pub(crate) struct OfferedKinds<'a> {
     config: &'a Config,
     tables: &'a [TableType],
-    /// Indices of those of `tables` that segments may be copied into.
+    /// The indices of those of `tables` that segments may be copied into.
     offered: OfferedIndices,
 }
 

@@ -13,9 +13,9 @@ use smith_draw::Spaces;
 use smith_types::{GlobalType, ValType};
 use std::marker::Model;
 
-/// Indices of the globals that an offset may be read from, in order.
+/// The indices of the globals that an offset may be read from, in order.
 ///
-/// Takes no memory: the globals are counted, and each search passes over them again.
+/// Does not allocate: the globals are counted, and each search passes over them again.
 #[derive(Drop)]
 pub(crate) struct OffsetGlobals<'a> {
     /// The globals that a segment may read, of any type.

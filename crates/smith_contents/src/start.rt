@@ -55,8 +55,8 @@ fn start_func_at(types: &[SubType], funcs: &[u32], mut place: usize) -> u32
     0
 }
 
-/// Draws whether one of `count` functions starts the module. Returns false without a draw if there
-/// is none or `config` allows no start function.
+/// Draws whether one of `count` functions starts the module. Returns `false` without a draw if
+/// there is none or `config` allows no start function.
 #[tactic(auto, unfolding(crate::specs::Start::start_wanted_at))]
 fn is_start_wanted(config: &Config, count: usize, u: &mut Unstructured<'_>) -> bool
     ensures draws { AlwaysDraws (start_wanted_at config.now count u.old) result u.old u.new }
@@ -86,10 +86,10 @@ fn draw_start(
     Some(start_func_at(types, funcs, place))
 }
 
-/// Draws the index of the start function, or none. It is an imported or defined function of `funcs`
-/// without parameters and results. The standard's section Validation, Start Function.
+/// Draws the index of the start function, or `None`. It is an imported or defined function of
+/// `funcs` without parameters and results. See the standard, section Validation, Start Function.
 ///
-/// `funcs` holds the type index of each function, over `types`. There are fewer than 2^32
+/// `funcs` holds the type index of each function, over `types`. Requires fewer than 2^32
 /// functions.
 pub fn arbitrary_start(
     config: &Config,
