@@ -29,7 +29,7 @@ defined_least draw least most imported bytes le =
     let added = grow_least draw (least - imported) (most - imported) [] bytes (omega arith) in
     rw (defined_items draw least most imported bytes) (omega (arith, added))
 
--- a property of each drawn item is one of all defined items
+-- a property of each drawn item holds for all defined items
 pub defined_all : {A : Type 0} (P : A → Type 0) (draw : List A → List ℕ → A × List ℕ) → ((made : List A) (bytes : List ℕ) → P (draw made bytes).0) → (least most imported : ℕ) (bytes : List ℕ) → All P (items_defined_at draw least most imported bytes).0
 defined_all P draw each least most imported bytes =
     rw (defined_items draw least most imported bytes) (grow_all P draw each (least - imported) (most - imported) [] bytes (All-nil P))
@@ -56,7 +56,7 @@ pub several_so : (on : Bool) (most before n : ℕ) → (on ≡ false → most �
 several_so true most before n one within stood several = refl
 several_so false most before n one within stood several = stood (omega (arith, one refl))
 
--- a property of the items before and of the added ones is one of all
+-- a property of the items before and of the added ones holds for all
 pub all_behind : {A : Type 0} (Holds : A → Type 0) {before space : List A} → All Holds before → AreAdded Holds before space → All Holds space
 all_behind Holds {before = before} stood added = rw added.parts (All-append Holds before added.more stood added.each)
 

@@ -89,7 +89,7 @@ table_fit config spaces table (Some expression) all valid within grounded needed
   floats = λ calm. All-cons (All GivesNoFloat) expression [] (floats calm) (All-nil (All GivesNoFloat));
 }
 
--- a property of the drawn tables is one of the added ones and, with the imported ones, of all
+-- a property of the drawn tables holds for the added ones and, with the imported ones, for all
 pub tables_added : (P : TableType → Type 0) {config : Config} {standing : InitialiserScope} {imported space : List TableType} {old initials : List (Option (List ConstInstr))}
     → ((one : Table) → IsTableFit config standing one → P one.0) → AreTablesDrawn config standing imported space old initials → AreAdded P imported space
 tables_added P {config = config} {standing = standing} {imported = imported} fits so_far =

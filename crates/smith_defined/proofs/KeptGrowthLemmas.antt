@@ -1,4 +1,4 @@
--- The kept globals and functions stay right, as types, globals and functions are added.
+-- The kept globals and functions stay correct, as types, globals and functions are added.
 use Rattle.std.proofs.Common.{◌≡◌, ℕ, ◌+◌, ◌<◌, ◌≤◌, Bool, List, [], ◌∷◌, ◌++◌, take, length, refl, sym, ap, ◌∙◌, subst, arith}
 use Rattle.std.specs.Prelude.{All, not, ◌&&◌, nat_le, if◌then◌else◌}
 use Rattle.std.proofs.lemmas.List.{length-append, take-append-le}
@@ -91,6 +91,6 @@ module _ (old new : Context) (valid : AreValidOver old) (more : HasMore old new)
         ∙ ap (λ (xs : List ℕ). each_from (function_offers new offer.wanted) 0 xs) (seen_same offer.funcs_seen old.funcs new.funcs more.funcs kept.funcs_seen);
   }
 
-  -- the kept globals and functions are right
+  -- the kept globals and functions are correct
   pub kept_grown : (offers : List KeptOffer) → All (IsKeptOffer old) offers → All (IsKeptOffer new) offers
   kept_grown offers all = All-weaker (IsKeptOffer old) (IsKeptOffer new) offer_grown offers all

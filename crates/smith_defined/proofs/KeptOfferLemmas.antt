@@ -1,4 +1,4 @@
--- The kept globals and functions are right for later initialisers.
+-- The kept globals and functions are correct for later initialisers.
 use Rattle.std.proofs.Common.{◌≡◌, Bool, List, [], ◌∷◌, ◌++◌, refl}
 use Rattle.std.specs.Prelude.{All}
 use Rattle.std.proofs.lemmas.List.Elements.{All-weaker}
@@ -24,7 +24,7 @@ use Rattle.smith_defined.proofs.KeptGrowthLemmas.{AreValidOver, HasMore, kept_gr
 use Rattle.smith_defined.proofs.RequiredExportLemmas.{still_imported}
 use Rattle.smith_defined.proofs.StandsBehindLemmas.{spaces_grown}
 
--- the kept globals and functions stay right with one more defined global
+-- the kept globals and functions stay correct with one more defined global
 pub kept_pushed : (config : Config) (standing : InitialiserScope) (globals more : List GlobalType) (one : GlobalType) (offers : List KeptOffer) → IsOrderly standing.types → All (IsFuncTypeIndex standing.types) standing.funcs → All (IsGlobalValid (features_of config) standing.types) globals → more ≡ globals ++ one ∷ []
     → All (IsKeptOffer (global_scope config standing globals)) offers → All (IsKeptOffer (global_scope config standing more)) offers
 kept_pushed config standing globals more one offers orderly funcs valid longer =
@@ -38,7 +38,7 @@ kept_pushed config standing globals more one offers orderly funcs valid longer =
     } in
     kept_grown (global_scope config standing globals) (global_scope config standing more) sound grown offers
 
--- they are right for the initialisers of tables and of globals alike, since they do not depend on
+-- they are correct for the initialisers of tables and of globals alike, since they do not depend on
 -- the globals that an initialiser may read
 pub kept_alike : (config : Config) (types : List SubType) (spaces : EntitySpaces) (defined : Definitions) (one other : Bool) (offers : List KeptOffer) → All (IsKeptOffer (scope_beside config types spaces defined one)) offers
     → All (IsKeptOffer (scope_beside config types spaces defined other)) offers
@@ -50,7 +50,7 @@ module _ (config : Config) (space : GroupedTypes) (spaces : EntitySpaces) (defin
   sound : AreValidOver (scope_beside config space.types spaces defined allow)
   sound = record { orderly = may.valid.orderly; funcs = may.entities.funcs; globals = may.entities.globals }
 
-  -- they stay right with one more entity, which an export of a shape adds
+  -- they stay correct with one more entity, which an export of a shape adds
   pub kept_beside : (later : EntitySpaces) (fuller : Definitions) (added : EntityType) (offers : List KeptOffer) → IsInitialised config space.types spaces defined fuller added → later ≡ with_entity spaces added
       → All (IsKeptOffer (scope_beside config space.types spaces defined allow)) offers → All (IsKeptOffer (scope_beside config space.types later fuller allow)) offers
   kept_beside later fuller added offers initialised longer =
@@ -63,7 +63,7 @@ module _ (config : Config) (space : GroupedTypes) (spaces : EntitySpaces) (defin
       } in
       kept_grown (scope_beside config space.types spaces defined allow) (scope_beside config space.types later fuller allow) sound grown offers
 
-  -- they stay right with the types that the export adds
+  -- they stay correct with the types that the export adds
   pub kept_over : (types : List SubType) (offers : List KeptOffer) → Extends space.types types
       → All (IsKeptOffer (scope_beside config space.types spaces defined allow)) offers → All (IsKeptOffer (scope_beside config types spaces defined allow)) offers
   kept_over types offers longer =

@@ -21,7 +21,7 @@ use Rattle.smith_types.proofs.SpaceLemmas.{IsOrderly-push}
 use Rattle.smith_types.proofs.ValidityLemmas.{AreTypesValid-at, AreTypesValid-single}
 use Rattle.smith_config.specs.Shapes.{IsHeapTypeIncluded, IsValTypeIncluded, IsNotConcrete, HasNoConcrete, IsTypePlain, IsNothingLeftOut, ArePlain}
 
--- a property of each item of a list is one of the item at a place
+-- a property of each item of a list holds for the item at a place
 pub all_at : {A : Type 0} (P : A → Type 0) (xs : List A) (i : ℕ) (x : A) → All P xs → slice_get xs i ≡ Some x → P x
 all_at P xs i x all at = subst P (get_or_from_slice_get xs i x x at) (all i x (slice_get_within xs i x at))
 

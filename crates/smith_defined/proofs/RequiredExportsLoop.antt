@@ -81,7 +81,7 @@ refused_part : {X Y A B : Type 0} (of_part : X → A) (of_whole : Y → B) (e : 
 refused_part of_part of_whole errors.Memory part whole given passes = tt
 refused_part of_part of_whole e part whole given passes = passes e given
 
--- a refusal of a part is one of the whole
+-- a refusal of a part is a refusal of the whole
 pub refused_by : {X Y A B : Type 0} (of_part : X → A) (of_whole : Y → B) (e : Error) (part : Result A Error) (whole : Result B Error) (result : Result Y Error) → Returns is_memory of_part (Err e) part → ((one : Error) → part ≡ Err one → whole ≡ Err one)
     → IsErrAnd result (λ y. y ≡ e) → Returns is_memory of_whole result whole
 refused_by of_part of_whole e part whole (Ok y) given passes h = absurd h

@@ -19,15 +19,15 @@ use smith_draw::KeptGrounds;
 use smith_types::{ConstInstr, EntitySpaces, Items, TypeSpace};
 use std::alloc::Global;
 
-/// Definitions of a module: the numbers of tags, functions and memories, and the initialisers of
-/// tables and globals.
+/// The definitions of a module: the numbers of tags, functions and memories, and the initialisers
+/// of tables and globals.
 #[derive(Drop)]
 pub struct Definitions {
     /// The number of defined tags.
     pub num_tags: usize,
     /// The number of defined functions.
     pub num_funcs: usize,
-    /// The initialiser of each defined table, or none.
+    /// The initialiser of each defined table, or `None`.
     pub tables: Items<Option<Items<ConstInstr>>>,
     /// The number of defined memories.
     pub num_memories: usize,
@@ -36,7 +36,7 @@ pub struct Definitions {
 }
 
 impl Definitions {
-    /// Makes empty definitions. Takes no memory.
+    /// Creates empty definitions. Does not allocate.
     pub fn none(alloc: Global) -> Self
         ensures { result ≡ nothing_defined }
     {
@@ -53,12 +53,12 @@ impl Definitions {
 /// Defines tags, functions, tables, memories and globals, in this order, after the entities of
 /// `spaces`. Of each kind there are then at least the minimum of `config`, and at most the maximum
 /// of `config` or the number before, whichever is greater. An entity of `spaces` that `definitions`
-/// does not count is imported. The standard's section Validation, Modules.
+/// does not count is imported. See the standard, section Validation, Modules.
 ///
-/// `config` is sanitised and passes its check. `types` are valid, at least `min_types` and fewer
-/// than 2^32. The entities of `spaces` are valid over `types`, fewer than 2^32 of each kind, and
-/// the features that their numbers require are on. `definitions` counts no more entities than exist
-/// in `spaces`.
+/// Requires `config` to be sanitised and to pass its check. Requires `types` to be valid, at least
+/// `min_types` and fewer than 2^32. Requires the entities of `spaces` to be valid over `types`,
+/// fewer than 2^32 of each kind, and to need only enabled features for their numbers. Requires
+/// `definitions` to count no more entities than exist in `spaces`.
 ///
 /// # Errors
 ///

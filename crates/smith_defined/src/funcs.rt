@@ -63,7 +63,7 @@ pub(crate) fn define_funcs(
     requires least { config.now.min_types ≤ length types.now.types }
     requires few_types { length types.now.types < 2 ^ 32 }
 
-    // What is drawn.
+    // The draw.
     ensures exact { ReturnsWhy (λ _. (funcs.new, u.new)) result
         (funcs_at config.now types.now.types funcs.old u.old) }
 

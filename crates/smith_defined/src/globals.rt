@@ -40,7 +40,7 @@ fn draw_initialised_global(
     requires standing { standing.now ≡ standing_in config.now spaces.now }
     requires kept { AreKeptOffers (seen_by config.now spaces.now true) kept.old }
 
-    // What is drawn.
+    // The draw.
     ensures exact { IfOk result (λ drawn.
         initialised_at config.now (seen_by config.now spaces.now true) u.old ≡ (drawn, u.new)) }
 
@@ -90,7 +90,7 @@ fn push_globals<'a>(
     requires imported { imported_globals ≤ length globals.old }
     requires few { length globals.old < 2 ^ 32 }
 
-    // What is drawn.
+    // The draw.
     ensures exact { OnOk result (globals_at config.now (scope_among types.now.types funcs.now
         imported_funcs imported_globals globals.old) globals.old initials.old u.old
         ≡ ((globals.new, initials.new), u.new)) }
@@ -173,7 +173,7 @@ pub(crate) fn define_globals<'a>(
     requires imported { imported_globals ≤ length globals.old }
     requires few { length globals.old < 2 ^ 32 }
 
-    // What is drawn.
+    // The draw.
     ensures exact { OnOk result (globals_at config.now (scope_among types.now.types funcs.now
         imported_funcs imported_globals globals.old) globals.old initials.old u.old
         ≡ ((globals.new, initials.new), u.new)) }

@@ -52,7 +52,7 @@ pub(crate) fn define_memories(
 ) -> Result<(), Error>
     requires passes { Passes config.now }
 
-    // What is drawn.
+    // The draw.
     ensures draws { DrawsInto (memories_at config.now memories.old u.old) memories.new
         result u.old u.new }
 

@@ -77,7 +77,7 @@ fn scope<'a>(
     )
 }
 
-/// Draws the initialiser of `table`, or none. Adds it to `definitions`.
+/// Draws the initialiser of `table`, or `None`, and adds it to `definitions`.
 fn define_table(
     alloc: Global,
     config: &Config,
@@ -184,7 +184,7 @@ fn define_initial(
     Ok(())
 }
 
-/// Defines the entity `added` at the end of its index space in `spaces`. Refuses if it may not
+/// Defines the entity `added` at the end of its index space in `spaces`. Fails if it may not
 /// follow the entities there.
 #[tactic(auto, unfolding(crate::specs::RequiredExports::entity_required_at))]
 pub(crate) fn define_entity(

@@ -133,9 +133,9 @@ fn push_exports(
 /// type. A function or a tag has a type of its own, which is added to `types` in a group of its
 /// own.
 ///
-/// `shape` passes [`Shape::check`] as exports for `config`, which is sanitised. `types` and the
-/// entities of `spaces` are valid, and each kind has room for one more for each export of `shape`:
-/// fewer than 2^32 in all. `definitions` counts no more entities than exist in `spaces`.
+/// Requires `config` to be sanitised, and `shape` to pass [`Shape::check`] as exports for `config`.
+/// Requires valid `types` and entities of `spaces`, fewer than 2^32 of each kind even with one more
+/// for each export, and `definitions` to count no more entities than exist in `spaces`.
 ///
 /// # Errors
 ///
@@ -157,7 +157,7 @@ pub fn make_required_exports(
         (length shape.now.exports) }
     requires room { length types.old.types + length shape.now.exports < 2 ^ 32 }
 
-    // What is made.
+    // The exports.
     ensures exact { Returns is_memory
         (λ exports. (standing_with types.new (spaces_in spaces.new) definitions.new exports, u.new))
         result (required_at true config.now shape.now types.old
@@ -209,8 +209,8 @@ pub fn make_required_exports(
 
 /// Makes the exports of the module shape `shape`, and defines for each an entity of the same type.
 ///
-/// `shape` passes [`Shape::check`] as a module shape for `config`, and `types` begin with the types
-/// of `shape`. All other conditions, and the errors, are those of [`make_required_exports`].
+/// Requires `shape` to pass [`Shape::check`] as a module shape for `config`, and `types` to begin
+/// with its types. All other conditions, and the errors, are those of [`make_required_exports`].
 pub fn make_shape_exports(
     alloc: Global,
     config: &Config,
@@ -226,7 +226,7 @@ pub fn make_shape_exports(
         (length shape.now.exports) }
     requires room { length types.old.types + length shape.now.exports < 2 ^ 32 }
 
-    // What is made.
+    // The exports.
     ensures exact { Returns is_memory
         (λ exports. (standing_with types.new (spaces_in spaces.new) definitions.new exports, u.new))
         result (required_at false config.now shape.now types.old

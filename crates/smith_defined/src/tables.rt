@@ -23,7 +23,7 @@ use smith_draw::{KeptOffers, Spaces, Standing, draw_table_init, draw_table_type}
 use smith_types::{ConstInstr, Items, TableType};
 use std::alloc::Global;
 
-/// Draws a table and its initialiser, or none.
+/// Draws a table and its initialiser, if it has one.
 fn draw_initialised_table(
     alloc: Global,
     config: &Config,
@@ -50,7 +50,7 @@ fn draw_initialised_table(
     Ok((table, initial))
 }
 
-/// Adds tables to the end of `tables`, and the initialiser of each, or none, to `initials`.
+/// Adds tables to the end of `tables`, and the initialiser of each, or `None`, to `initials`.
 fn push_tables(
     alloc: Global,
     config: &Config,
@@ -92,7 +92,7 @@ fn push_tables(
 }
 
 /// Adds tables to the end of `tables`, until there are at least `min_tables` and at most
-/// `max_tables`. Adds the initialiser of each, or none, to `initials`.
+/// `max_tables`. Adds the initialiser of each, or `None`, to `initials`.
 pub(crate) fn define_tables(
     alloc: Global,
     config: &Config,
@@ -107,7 +107,7 @@ pub(crate) fn define_tables(
     requires imported_globals { spaces.now.entities.imported_globals
         ≡ length spaces.now.entities.globals.now }
 
-    // What is drawn.
+    // The draw.
     ensures exact { OnOk result
         (tables_at config.now (scope_of_spaces spaces.now) tables.old initials.old u.old
         ≡ ((tables.new, initials.new), u.new)) }

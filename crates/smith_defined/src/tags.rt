@@ -17,8 +17,8 @@ use smith_draw::{TypeUse, list_types};
 use smith_types::{Items, SubType, TypeSpace};
 use std::alloc::Global;
 
-/// Lists the indices of the types that tags may have. Returns none, without reading `types`, if
-/// `config` has no exceptions.
+/// Lists the indices of the types that tags may have. Returns an empty list, without reading
+/// `types`, if `config` has no exceptions.
 fn tag_types(alloc: Global, config: &Config, types: &[SubType]) -> Result<Items<u32>, Error>
     requires few { length types.now < 2 ^ 32 }
     ensures exact { IfOk result (λ indices. indices ≡ tag_types config.now types.now) }
@@ -68,7 +68,7 @@ pub(crate) fn define_tags(
     requires passes { Passes config.now }
     requires few_types { length types.now.types < 2 ^ 32 }
 
-    // What is drawn.
+    // The draw.
     ensures exact { ReturnsWhy (λ _. (tags.new, u.new)) result
         (tags_at config.now types.now.types tags.old u.old) }
 

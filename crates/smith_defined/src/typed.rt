@@ -36,7 +36,7 @@ fn choose_types(
 }
 
 /// Adds items to the end of `items`, each as the index of its type, which is one of `choices`. If
-/// `choices` is empty, adds no item, and refuses if `least` items are required.
+/// `choices` is empty, adds no item, and fails if `least` items are required.
 #[tactic(auto, unfolding(crate::specs::Definitions::type_indices_at))]
 pub(crate) fn define_typed(
     count: Count,
