@@ -78,7 +78,7 @@ within_above : (types : List SubType) (n i : ℕ) → ByRecursion (λ (h : HeapT
 within_above types zero i = tt
 within_above types (suc n) i = above_turn types n i (supertype_at types i) refl (λ s. within_above types n s)
 
--- a type is a subtype of each of them
+-- a type is a subtype of each of its proper supertypes
 pub ancestors_above : (types : List SubType) (i : ℕ) → ByRecursion (λ (h : HeapType). IsBelow types (Concrete i) h) (ancestors types i)
 unfolding ancestors
 ancestors_above types i = within_above types (length types) i
@@ -91,7 +91,7 @@ within_each : (P : HeapType → Type 0) (types : List SubType) → ((j s : ℕ) 
 within_each P types each zero i = tt
 within_each P types each (suc n) i = each_turn P types n i each (λ s. within_each P types each n s) (supertype_at types i) refl
 
--- a property of each declared supertype holds for all of them
+-- a property of each declared supertype holds for all proper supertypes
 pub ancestors_each : (P : HeapType → Type 0) (types : List SubType) → ((j s : ℕ) → supertype_at types j ≡ Some s → P (Concrete s)) → (i : ℕ) → ByRecursion P (ancestors types i)
 unfolding ancestors
 ancestors_each P types each i = within_each P types each (length types) i

@@ -188,14 +188,14 @@ fields_where config old new stays same holds =
     (λ t h. any_weaker (IsUngrounded config new) (IsUngrounded config old) (ungrounded_where config old new stays) (field_values (fields_of t.composite_type.inner)) h)
     old.types (subst (Any (Held new)) same holds)
 
--- this holds as a context grows
+-- an ungrounded value of a grown context was ungrounded before
 pub ungrounded_before : (config : Config) (old new : Context) → IsContextGrown old new → (value : ValType) → IsUngrounded config new value → IsUngrounded config old value
 ungrounded_before config old new growth = ungrounded_where config old new (λ ty. context_grounded old new ty growth)
 
 pub fields_before : (config : Config) (old new : Context) → IsContextGrown old new → new.types ≡ old.types → HoldsUngroundedField config new → HoldsUngroundedField config old
 fields_before config old new growth = fields_where config old new (λ ty. context_grounded old new ty growth)
 
--- this holds as functions are imported
+-- the same for fields as functions are imported
 pub fields_imported : (config : Config) (old new : Context) → AreImportsGrown old new → new.types ≡ old.types → HoldsUngroundedField config new → HoldsUngroundedField config old
 fields_imported config old new growth = fields_where config old new (λ ty. imports_grounded old new ty growth)
 

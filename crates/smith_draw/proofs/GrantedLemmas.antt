@@ -39,7 +39,7 @@ use Rattle.smith_draw.proofs.MatchingCompositeLemmas.{fields_of_values}
 use Rattle.smith_draw.proofs.FilledLemmas.{IsFilledField, val_type_filled, storage_of_number, field_drawn, struct_drawn, matching_value, matching_storage, matching_field, matching_struct, later_ungrounded}
 use Rattle.smith_draw.proofs.KeptTypeLemmas.{sub_type_of_has, sub_type_has, cloned, rec_group_has, types_have}
 
--- a property of each drawn item, for whatever item it is drawn, holds for all
+-- a property of an item drawn in place of any item holds for all drawn items
 each_drawn : {A : Type 0} (P : A → Type 0) (draw : A → List ℕ → A × List ℕ) → ((x : A) (bytes : List ℕ) → P (draw x bytes).0) → (xs : List A) (bytes : List ℕ) → Each P (each_at draw xs bytes).0
 unfolding each_at
 each_drawn P draw has [] bytes = tt

@@ -36,7 +36,7 @@ size_by true true most bytes some = (range_within 0 most bytes (omega arith), λ
 size_by true false most bytes some = (range_within 1 most bytes (omega arith), λ e. range_above 1 most bytes)
 size_by false allow_empty most bytes some = (omega arith, λ e. omega arith)
 
--- types drawn up to `limit` types are `limit` types
+-- extending types to `limit` types makes `limit` types
 pub types_until_length : (config : Config) (context : Context) (limit : ℕ) (types : List SubType) (bytes : List ℕ) → length types ≤ limit → length (types_until_at config context limit types bytes).0 ≡ limit
 unfolding types_until_at
 types_until_length config context limit types bytes le =

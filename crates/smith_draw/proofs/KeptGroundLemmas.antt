@@ -1,4 +1,4 @@
--- The record of functions, as those of spaces are noted in turn.
+-- The record of functions, as the functions of spaces are noted in turn.
 use Rattle.std.proofs.Common.{◌≡◌, ℕ, ◌+◌, ◌<◌, ◌≤◌, Bool, true, false, List, take, get_or, length, refl, subst, arith, add-one}
 use Rattle.std.specs.Prelude.{◌&&◌, nat_le, if◌then◌else◌}
 use Rattle.std.proofs.Math.Seq.{take-suc}

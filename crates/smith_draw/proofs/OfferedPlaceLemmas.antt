@@ -56,7 +56,7 @@ picked_indices f g one start (t ∷ types) = pick_turn (f t) (g t) start _ _ (on
 kind_indices : (types : List SubType) (s : Bool) (kind : AbstractHeapType) → picked_from (is_kind s kind) 0 types ≡ map Concrete (indices_of_kind types s kind)
 kind_indices types s kind = picked_indices (is_kind s kind) (kinds.is_of_kind s kind) (same_kind s kind) 0 types
 
--- one kind more
+-- one more kind
 kinds_turn : (types : List SubType) (s : Bool) (ks : List AbstractHeapType) (i : ℕ) (d : AbstractHeapType) → i < length ks → of_kinds types s (drop i ks) ≡ map Concrete (indices_of_kind types s (get_or ks i d)) ++ of_kinds types s (drop (i + 1) ks)
 kinds_turn types s ks i d inside =
     let next : suc i ≡ i + 1 = omega arith in

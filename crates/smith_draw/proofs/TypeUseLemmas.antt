@@ -62,7 +62,7 @@ any_turn : (b : Bool) (n : ℕ) (places : List ℕ) (any : Bool) → ltb 0 (leng
 any_turn true n places any e = lt-ltb 0 (length (n ∷ places)) (omega arith)
 any_turn false n places any e = e
 
--- a test holds at some place exactly if it holds of some item
+-- a test holds at some place exactly if it holds for some item
 pub places_any : {A : Type 0} (test : A → Bool) (n : ℕ) (xs : List A) → ltb 0 (length (places_from test n xs)) ≡ list_any test xs
 places_any test n [] = refl
 places_any test n (x ∷ xs) = any_turn (test x) n (places_from test (suc n) xs) (list_any test xs) (places_any test (suc n) xs)

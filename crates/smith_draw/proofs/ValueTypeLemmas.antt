@@ -50,7 +50,7 @@ must_be_shared : (must : Bool) (other : Bool × List ℕ) (bytes : List ℕ) →
 must_be_shared true other bytes h = refl
 must_be_shared false other bytes h = cc
 
--- a type that must be shared is
+-- a type that must be shared is shared
 sharedness_must : (config : Config) (must_share : Bool) (bytes : List ℕ) → IsTrue must_share → IsTrue (sharedness_at config must_share bytes).0
 unfolding sharedness_at
 sharedness_must config must_share bytes must = must_be_shared must_share _ bytes must

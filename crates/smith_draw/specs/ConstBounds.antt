@@ -32,7 +32,7 @@ most_instructions config types = 23 * (1 + config.const_expr_fuel * widest types
 abbrev pub HoldsNonNullableField : List SubType → Type 0
 HoldsNonNullableField types = Any (λ (t : SubType). Any IsNonNullable (field_values (fields_of t.composite_type.inner))) types
 
--- a field of a struct, or the element of an array, is such a reference
+-- a field of a struct, or the element of an array, is an ungrounded non-nullable reference
 abbrev pub HoldsUngroundedField : Config → Context → Type 0
 HoldsUngroundedField config context = Any (λ (t : SubType). Any (IsUngrounded config context) (field_values (fields_of t.composite_type.inner))) context.types
 

@@ -16,7 +16,7 @@ pub record Draws {A : Type 0} (drawn : A × List ℕ) (result : Result A Error) 
   pub memory : IfErr result (λ e. e ≡ Memory)
   pub left : KeepsPieces old new
 
--- as above, for a call that leaves the drawn value in a state behind a reference
+-- as above, for a call that leaves the drawn value in a state passed by reference
 pub record DrawsInto {A : Type 0} (drawn : A × List ℕ) (state : A) (result : Result (Unit {0}) Error) (old new : List ℕ) : Type 0 where
   pub exact : OnOk result (drawn ≡ (state, new))
   pub memory : IfErr result (λ e. e ≡ Memory)

@@ -1,4 +1,4 @@
--- Contexts of constant expressions, and laws about them, on which the definitions are tried.
+-- Contexts of constant expressions, and laws about them, used by the examples.
 use Rattle.std.specs.Prelude.{◌≡◌, true, false, List, [], ◌∷◌, All}
 use Rattle.smith_types.specs.Expressions.{Context}
 use Rattle.smith_types.specs.declared.value_type.ValType.{ValType}

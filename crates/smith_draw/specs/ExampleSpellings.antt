@@ -1,4 +1,4 @@
--- A piece of bytes that spells a list of groups, on which the definitions are tried.
+-- A piece of bytes that spells a list of groups, used by the examples.
 use Rattle.std.specs.Prelude.{◌≡◌, ◌<◌, true, false, None, [], ◌∷◌}
 use Rattle.smith_types.specs.declared.composite_type.CompositeInnerType.TheVariants.{Func}
 use Rattle.smith_types.specs.declared.composite_type.SubType.{SubType}

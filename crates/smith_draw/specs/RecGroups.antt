@@ -51,14 +51,14 @@ may_be_cloned config allow_empty space group =
 abbrev pub with_clone : GroupedTypes → Range ℕ → GroupedTypes
 with_clone space group = with_group (space.types ++ members space.types group) space.groups
 
--- a chosen group is cloned, if it may be: whether it is, and the space (own rule)
+-- a chosen group is cloned if it may be: whether it was, and the space (own rule)
 unfoldable pub clone_rec_group_at : Config → Bool → GroupedTypes → List ℕ → Bool × (GroupedTypes × List ℕ)
 clone_rec_group_at config allow_empty space bytes =
     let group = chosen_at (record { start = 0; end = 0 }) space.groups bytes in
     let cloned = may_be_cloned config allow_empty space group.0 in
     (cloned, ((if cloned then with_clone space group.0 else space), group.1))
 
--- whether to clone a group: with garbage collection, if there is a group, in one case of 255 (own
+-- whether to clone a group: with garbage collection, if there is a group, in one of 255 cases (own
 -- rule)
 abbrev pub clone_wanted_at : Config → GroupedTypes → List ℕ → Bool × List ℕ
 clone_wanted_at config space bytes =

@@ -75,7 +75,7 @@ sub_type_of_at config context limit indices bytes =
     sub_type_below_at config context limit index.0 (slice_get context.types index.0) index.1
 
 -- whether to choose a supertype, given the number of types that may have subtypes: with garbage
--- collection, if some type may, in one case of 32 (own rule)
+-- collection, if some type may, in one of 32 cases (own rule)
 abbrev pub supertype_wanted_at : Config → ℕ → List ℕ → Bool × List ℕ
 supertype_wanted_at config count bytes =
     if config.gc_enabled && nat_lt 0 count then ratio_at 1 32 bytes else (false, bytes)

@@ -22,8 +22,8 @@ drawn_elements config table64 = min (max (least_elements config) config.max_tabl
 abbrev pub likely_elements : Config → Bool → ℕ
 likely_elements config table64 = min 10000 (drawn_elements config table64)
 
--- the width of its addresses, drawn as for a memory, its limits, and its element type, which also
--- determines whether it is shared (own rule)
+-- a table type: the width of its addresses, drawn as for a memory, its limits, and its element
+-- type, which also determines whether it is shared (own rule)
 unfoldable pub table_type_at : Config → Context → List ℕ → TableType × List ℕ
 table_type_at config context bytes =
     let table64 = memory64_at config bytes in

@@ -33,8 +33,8 @@ abstract_heap_types config =
     (heap.Eq, config.gc_enabled) ∷ (heap.Struct, config.gc_enabled) ∷
     (heap.Array, config.gc_enabled) ∷ (heap.I31, config.gc_enabled) ∷ []
 
--- whether a type is shared: always if it must be, and in one case of four if there is a choice (own
--- rule)
+-- whether a type is shared: always if it must be, and in one of four cases if there is a choice
+-- (own rule)
 unfoldable pub sharedness_at : Config → Bool → List ℕ → Bool × List ℕ
 sharedness_at config must_share bytes =
     if must_share then (true, bytes)

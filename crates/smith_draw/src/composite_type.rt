@@ -189,7 +189,7 @@ pub fn arbitrary_func_type(
     requires sanitized { IsSanitized config.now }
     requires may_share { IsTrue must_share → IsTrue config.now.shared_everything_threads_enabled }
 
-    // What is drawn.
+    // The draw.
     ensures draws { Draws
         (func_type_at config.now (standing_in config.now spaces.now) must_share limit u.old)
         result u.old u.new }
@@ -230,7 +230,7 @@ pub fn arbitrary_struct_type(
     requires sanitized { IsSanitized config.now }
     requires may_share { IsTrue must_share → IsTrue config.now.shared_everything_threads_enabled }
 
-    // What is drawn.
+    // The draw.
     ensures draws { Draws
         (struct_type_at config.now (standing_in config.now spaces.now) must_share limit u.old)
         result u.old u.new }
@@ -272,7 +272,7 @@ pub fn arbitrary_composite_type(
 ) -> Result<CompositeType, Error>
     requires sanitized { IsSanitized config.now }
 
-    // What is drawn.
+    // The draw.
     ensures draws { Draws
         (composite_type_at config.now (standing_in config.now spaces.now) limit u.old)
         result u.old u.new }

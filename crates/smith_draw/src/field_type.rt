@@ -75,7 +75,7 @@ pub fn arbitrary_storage_type(
     requires sanitized { IsSanitized config.now }
     requires may_share { IsTrue must_share → IsTrue config.now.shared_everything_threads_enabled }
 
-    // What is drawn.
+    // The draw.
     ensures ok { IsOk result }
     ensures draws { Draws
         (storage_type_at config.now (standing_in config.now spaces.now) must_share limit u.old)
@@ -120,7 +120,7 @@ pub fn arbitrary_field_type(
     requires sanitized { IsSanitized config.now }
     requires may_share { IsTrue must_share → IsTrue config.now.shared_everything_threads_enabled }
 
-    // What is drawn.
+    // The draw.
     ensures ok { IsOk result }
     ensures draws { Draws
         (field_type_at config.now (standing_in config.now spaces.now) must_share limit u.old)

@@ -61,7 +61,7 @@ pub fn draw_global_type(
 ) -> GlobalType
     requires { IsSanitized config.now }
 
-    // What is drawn.
+    // The draw.
     ensures draws { AlwaysDraws (global_type_at config.now standing.now u.old) result u.old u.new }
 
     // Validity, floats and references.
@@ -98,7 +98,7 @@ pub fn arbitrary_global_type(
 ) -> Result<GlobalType, Error>
     requires { IsSanitized config.now }
 
-    // What is drawn.
+    // The draw.
     ensures ok { IsOk result }
     ensures draws { Draws (global_type_at config.now (standing_in config.now spaces.now) u.old)
         result u.old u.new }

@@ -42,7 +42,7 @@ pub fn arbitrary_locals(
 ) -> Result<Items<ValType>, Error>
     requires { IsSanitized config.now }
 
-    // What is drawn.
+    // The draw.
     ensures draws { Draws (locals_at config.now (standing_in config.now spaces.now) u.old)
         result u.old u.new }
 

@@ -123,7 +123,7 @@ fn draw_concrete_subtype(
     offered_concrete_subtype(config, space, index, place)
 }
 
-/// Draws `ty`, or a grounded one among the other offered subtypes of it.
+/// Draws `ty` or one of its other offered subtypes that are grounded.
 fn draw_grounded_heap_type(
     config: &Config,
     standing: &Standing<'_>,
@@ -350,7 +350,7 @@ pub fn arbitrary_matching_heap_type(
     ty: HeapType,
     u: &mut Unstructured<'_>,
 ) -> Result<HeapType, Error>
-    // What is drawn.
+    // The draw.
     ensures draws { Draws (matching_heap_type_at config.now spaces.now.types.now.types ty u.old)
         result u.old u.new }
     ensures offered { IfOk result (λ drawn.
@@ -386,7 +386,7 @@ pub fn arbitrary_matching_ref_type(
     ty: RefType,
     u: &mut Unstructured<'_>,
 ) -> Result<RefType, Error>
-    // What is drawn.
+    // The draw.
     ensures draws { Draws
         (matching_ref_type_at config.now (standing_in config.now spaces.now) ty u.old)
         result u.old u.new }
@@ -422,7 +422,7 @@ pub fn arbitrary_matching_val_type(
     ty: ValType,
     u: &mut Unstructured<'_>,
 ) -> Result<ValType, Error>
-    // What is drawn.
+    // The draw.
     ensures draws { Draws
         (matching_val_type_at config.now (standing_in config.now spaces.now) ty u.old)
         result u.old u.new }
@@ -455,7 +455,7 @@ pub fn arbitrary_matching_storage_type(
     ty: StorageType,
     u: &mut Unstructured<'_>,
 ) -> Result<StorageType, Error>
-    // What is drawn.
+    // The draw.
     ensures draws { Draws
         (matching_storage_type_at config.now (standing_in config.now spaces.now) ty u.old)
         result u.old u.new }
@@ -490,7 +490,7 @@ pub fn arbitrary_matching_field_type(
     field: FieldType,
     u: &mut Unstructured<'_>,
 ) -> Result<FieldType, Error>
-    // What is drawn.
+    // The draw.
     ensures draws { Draws
         (matching_field_type_at config.now (standing_in config.now spaces.now) field u.old)
         result u.old u.new }
@@ -526,7 +526,7 @@ pub fn arbitrary_matching_func_type(
     function: &FuncType,
     u: &mut Unstructured<'_>,
 ) -> Result<FuncType, Error>
-    // What is drawn.
+    // The draw.
     ensures draws { Draws
         (matching_func_type_at config.now (standing_in config.now spaces.now) function.now u.old)
         result u.old u.new }

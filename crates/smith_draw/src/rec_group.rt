@@ -309,7 +309,7 @@ pub fn clone_rec_group(
     requires room { length types.old.types < config.now.max_types }
     requires some { 0 < length types.old.groups }
 
-    // What is drawn.
+    // The draw.
     ensures exact { IfOk result (λ added.
         clone_rec_group_at config.now allow_empty types.old u.old ≡ (added, (types.new, u.new))) }
 
@@ -330,7 +330,7 @@ pub fn clone_rec_group(
     clone_group(alloc, config, types, allow_empty, u)
 }
 
-/// Adds a group to `types`: with garbage collection a clone in one case of 255, otherwise a new
+/// Adds a group to `types`: with garbage collection a clone in one of 255 cases, otherwise a new
 /// group. See the standard, section Structure, Recursive Types.
 ///
 /// A new group is empty only if `allow_empty` is `true`, and has one type without garbage
@@ -351,7 +351,7 @@ pub fn arbitrary_rec_group(
     requires sanitized { IsSanitized config.now }
     requires room { length types.old.types < config.now.max_types }
 
-    // What is drawn.
+    // The draw.
     ensures draws { DrawsInto
         (rec_group_at config.now (functions_in config.now entities.now) allow_empty types.old u.old)
         types.new result u.old u.new }
@@ -393,7 +393,7 @@ pub fn arbitrary_types(
     requires passes { PassesButImports config.now }
     requires sanitized { IsSanitized config.now }
 
-    // What is drawn.
+    // The draw.
     ensures draws { DrawsInto
         (types_at config.now (functions_in config.now entities.now) types.old u.old) types.new
         result u.old u.new }

@@ -40,8 +40,8 @@ impl<'a> Model for Standing<'a> {
 }
 
 impl<'a> Standing<'a> {
-    /// Returns the types and functions of `spaces`. Every query whether a function grounds a heap
-    /// type reads all functions.
+    /// Returns the types and functions of `spaces`. Each check of whether a function grounds a
+    /// heap type reads all functions.
     pub(crate) fn over(config: &'a Config, spaces: &Spaces<'a>) -> Standing<'a>
         ensures { result ≡ standing_in config.now spaces.now }
     {
@@ -71,8 +71,8 @@ impl<'a> Standing<'a> {
         }
     }
 
-    /// Returns the types and functions of `spaces`. Queries whether a function grounds a heap type
-    /// use the record `grounds`, if given.
+    /// Returns the types and functions of `spaces`. Checks of whether a function grounds a heap
+    /// type use the record `grounds`, if given.
     pub(crate) fn kept(
         config: &'a Config,
         spaces: &Spaces<'a>,

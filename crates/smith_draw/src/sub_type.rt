@@ -187,8 +187,8 @@ pub fn arbitrary_sub_type(
 ///
 /// The result is valid in a group that ends at `limit`, if the types of `spaces` are valid so far.
 ///
-/// Requires `config` to be sanitised and to enable garbage collection. Requires some type of
-/// `spaces` to be allowed subtypes: it is not final and its depth is less than 60, so that
+/// Requires `config` to be sanitised and to enable garbage collection. Requires `spaces` to have a
+/// type that may have subtypes: one that is not final and has a depth less than 60, so that
 /// [`TypeSpace::extensible`] lists it.
 pub fn arbitrary_sub_type_of_super_type(
     alloc: Global,

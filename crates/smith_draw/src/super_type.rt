@@ -98,7 +98,7 @@ pub fn arbitrary_super_type_of_heap_type(
     ty: HeapType,
     u: &mut Unstructured<'_>,
 ) -> Result<HeapType, Error>
-    // What is drawn.
+    // The draw.
     ensures draws { Draws (super_heap_type_at config.now spaces.now.types.now.types ty u.old)
         result u.old u.new }
     ensures offered { IfOk result (λ drawn.
@@ -130,7 +130,7 @@ pub fn arbitrary_super_type_of_ref_type(
     ty: RefType,
     u: &mut Unstructured<'_>,
 ) -> Result<RefType, Error>
-    // What is drawn.
+    // The draw.
     ensures draws { Draws (super_ref_type_at config.now spaces.now.types.now.types ty u.old)
         result u.old u.new }
 

@@ -88,7 +88,7 @@ pub fn arbitrary_table_type(
 ) -> Result<TableType, Error>
     requires { IsSanitized config.now }
 
-    // What is drawn.
+    // The draw.
     ensures ok { IsOk result }
     ensures draws { Draws (table_type_at config.now (standing_in config.now spaces.now) u.old)
         result u.old u.new }

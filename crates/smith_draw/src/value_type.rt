@@ -303,7 +303,7 @@ pub fn arbitrary_heap_type(
     requires sanitized { IsSanitized config.now }
     requires may_share { IsTrue must_share → IsTrue config.now.shared_everything_threads_enabled }
 
-    // What is drawn.
+    // The draw.
     ensures ok { IsOk result }
     ensures draws { Draws
         (heap_type_at config.now spaces.now.types.now.types must_share limit u.old)
@@ -346,7 +346,7 @@ pub fn arbitrary_ref_type(
     requires sanitized { IsSanitized config.now }
     requires may_share { IsTrue must_share → IsTrue config.now.shared_everything_threads_enabled }
 
-    // What is drawn.
+    // The draw.
     ensures ok { IsOk result }
     ensures draws { Draws
         (ref_type_at config.now (standing_in config.now spaces.now) must_share limit u.old)
@@ -389,7 +389,7 @@ pub fn arbitrary_valtype(
     requires sanitized { IsSanitized config.now }
     requires may_share { IsTrue must_share → IsTrue config.now.shared_everything_threads_enabled }
 
-    // What is drawn.
+    // The draw.
     ensures ok { IsOk result }
     ensures draws { Draws
         (val_type_at config.now (standing_in config.now spaces.now) must_share limit u.old)

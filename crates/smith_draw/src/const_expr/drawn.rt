@@ -37,7 +37,7 @@ pub(super) fn draw_whole_expression(
         (length (context_of scope.now).types) wanted }
     requires kept { AreKeptOffers (context_of scope.now) kept.old }
 
-    // What is drawn.
+    // The draw.
     ensures exact { IfOk result (λ drawn. expression_alone_at (context_of scope.now)
         scope.now.config.now scope.now.config.now.const_expr_fuel wanted u.old
         ≡ Some (drawn, u.new)) }

@@ -45,7 +45,7 @@ pub(super) fn choose_offer(
         (length (context_of scope.now).types) wanted }
     requires kept { AreKeptOffers (context_of scope.now) kept.old }
 
-    // What is drawn.
+    // The draw.
     ensures exact { IfOk result (λ choice.
         choose_at (offers scope.now.config.now (context_of scope.now) wanted fuel) u.old
         ≡ (Some choice, u.new)) }

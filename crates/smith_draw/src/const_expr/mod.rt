@@ -69,7 +69,7 @@ pub fn arbitrary_const_expr(
     requires wanted { IsValTypeValid (features_of config.now)
         (length spaces.now.types.now.types) wanted }
 
-    // What is drawn.
+    // The draw.
     ensures exact { IfOk result (λ drawn.
         const_expr_at config.now (seen_by config.now spaces.now allow_defined) wanted u.old
         ≡ Some (drawn, u.new)) }
@@ -112,7 +112,7 @@ pub fn draw_const_expr(
         (length spaces.now.types.now.types) wanted }
     requires kept { AreKeptOffers (seen_by config.now spaces.now allow_defined) kept.old }
 
-    // What is drawn.
+    // The draw.
     ensures exact { IfOk result (λ drawn.
         const_expr_at config.now (seen_by config.now spaces.now allow_defined) wanted u.old
         ≡ Some (drawn, u.new)) }
@@ -148,7 +148,7 @@ pub fn draw_const_expr(
 }
 
 /// Draws the initialiser of a table with elements of the type `element`, or `None` if null serves
-/// as initial value. See the standard, section Validation, Tables.
+/// as the initial value. See the standard, section Validation, Tables.
 ///
 /// The initialiser may read imported immutable globals only. If no type of `spaces` contains a
 /// float, it has no float constants. Without garbage collection the result is always `None`, and
@@ -174,7 +174,7 @@ pub fn arbitrary_table_init(
     requires created { element.nullable ≡ false → IsTrue config.now.gc_enabled }
     requires references { IsTrue config.now.gc_enabled → IsTrue config.now.reference_types_enabled }
 
-    // What is drawn.
+    // The draw.
     ensures exact { IfOk result (λ initial.
         table_init_at config.now (seen_by config.now spaces.now false) element u.old
         ≡ Some (initial, u.new)) }
@@ -221,7 +221,7 @@ pub fn draw_table_init(
     requires references { IsTrue config.now.gc_enabled → IsTrue config.now.reference_types_enabled }
     requires kept { AreKeptOffers (seen_by config.now spaces.now false) kept.old }
 
-    // What is drawn.
+    // The draw.
     ensures exact { IfOk result (λ initial.
         table_init_at config.now (seen_by config.now spaces.now false) element u.old
         ≡ Some (initial, u.new)) }

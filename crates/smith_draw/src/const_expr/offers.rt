@@ -28,7 +28,7 @@ ghost use Rattle.smith_draw.specs.KeptOffers.{IsWhole};
 
 // Each of these functions searches the choices of one kind for the one at `place`, counted from the
 // first of them. It returns that choice as an `Err`, so that `?` ends the search. If there are too
-// few choices, it returns as `Ok` the place counted from the end of them.
+// few choices, it returns the place, counted from the end of them, as an `Ok`.
 
 use super::kept_offers::KeptOffer;
 use super::node_choice::Choice;
