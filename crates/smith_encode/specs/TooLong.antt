@@ -13,8 +13,8 @@ use Rattle.smith_sections.specs.Long.{IsLongSection, IsNeverLong, IsLongGroup, I
 use Rattle.smith_encode.specs.Contents.{contents_of}
 
 -- a section is too long: a list in it has 2^32 items or more, or it or a body of it has a spelling
--- of 2^32 bytes or more. In bodies each local is a run of its own: runs of no locals would make any
--- body long
+-- of 2^32 bytes or more. In bodies each local is a run of its own, since runs of no locals could
+-- make any body long
 pub data IsTooLong (m : ModuleParts) : Type 0 where
   types : IsLongSection IsRecGroup IsLongGroup (contents_of m).types → IsTooLong m
   imports : IsLongSection IsImportGroup IsLongImportGroup m.imports → IsTooLong m

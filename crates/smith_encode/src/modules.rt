@@ -57,7 +57,7 @@ fn write_back<B: Encode>(module: &Module, bodies: &B, sink: &mut Sink) -> Result
 }
 
 /// Encodes `module` in the binary format of the WebAssembly Core Specification 3.0 (chapter Binary
-/// Format), in new memory from `alloc`.
+/// Format), into memory allocated from `alloc`.
 ///
 /// A type or import section is written if the module's flag is set or the section isn't empty
 /// (groups without types count). The number of data segments is stated before the bodies if there
@@ -71,8 +71,8 @@ fn write_back<B: Encode>(module: &Module, bodies: &B, sink: &mut Sink) -> Result
 ///
 /// # Errors
 ///
-/// `TooLong` if a list has 2^32 items or more, or a section or a body 2^32 bytes or more; `Memory`
-/// for lack of memory.
+/// Returns `TooLong` if a list has 2^32 items or more, or a section or a body 2^32 bytes or more,
+/// and `Memory` if an allocation fails.
 pub fn encode(alloc: Global, module: &Module) -> Result<Vec<u8>, EncodeError>
     ensures spelled { IfOk result (λ bytes. IsModule (contents_of «module».now) bytes.items) }
     ensures sections { IfOk result (λ bytes. HasSections (section_ids «module».now) bytes.items) }
@@ -94,8 +94,8 @@ pub fn encode(alloc: Global, module: &Module) -> Result<Vec<u8>, EncodeError>
 ///
 /// # Errors
 ///
-/// `TooLong` as for [`encode`], or if `bodies` have a list of 2^32 items or more, or 2^32 bytes or
-/// more; `Memory` for lack of memory.
+/// Returns `TooLong` as [`encode`] does, or if `bodies` have a list of 2^32 items or more, or 2^32
+/// bytes or more, and `Memory` if an allocation fails.
 pub fn encode_with_bodies<B: Encode>(
     alloc: Global,
     module: &Module,
