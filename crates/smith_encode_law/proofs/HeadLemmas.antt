@@ -22,7 +22,7 @@ joined_begins Test First Second piece begins h =
 pub begins_as : (Test Other : ℕ → Type 0) (piece : List ℕ) → ((byte : ℕ) → Test byte → Other byte) → Begins Test piece → Begins Other piece
 begins_as Test Other piece weaker h = record { head = h.head; tail = h.tail; whole = h.whole; test = weaker h.head h.test }
 
--- pieces that begin with different bytes are not in one place
+-- pieces that begin with different bytes are not at the same place
 pub apart : (Test Other : ℕ → Type 0) (piece more rest other : List ℕ) → Begins Test piece → Begins Other more → piece ++ rest ≡ more ++ other → ((byte : ℕ) → Test byte → Other byte → ⊥) → ⊥
 apart Test Other piece more rest other h k e never =
     let heads : h.head ≡ k.head = same_head (ap (λ (bytes : List ℕ). bytes ++ rest) (sym h.whole) ∙ e ∙ ap (λ (bytes : List ℕ). bytes ++ other) k.whole) in

@@ -15,21 +15,21 @@ ghost use Rattle.smith_sections.specs.Modules.{Contents, IsModule};
 ghost use Rattle.smith_encode_law.specs.Checks.{IsChecked};
 ghost use Rattle.smith_encode_law.specs.Segments.{IsElemTyped, IsDataTyped, AreListedAsFuncref};
 
-/// Proves that bytes are a module in the binary format for at most one module in the abstract
+/// States that bytes are a module in the binary format for at most one module in the abstract
 /// syntax. So a decoder that follows the grammar reads back the module that was written, with
 /// nothing after it.
 pub fn modules_are_unambiguous()
     ensures { (m n : Contents) (bytes : List ℕ) → IsModule m bytes → IsModule n bytes → m ≡ n }
 {}
 
-/// Proves that the bytes of a body that is not raw are the instructions that check its counters of
+/// States that the bytes of a body that is not raw are the instructions that check its counters of
 /// fuel, then `unreachable`.
 pub fn bodies_are_checked()
     ensures { (counters : List ℕ) → All (λ (counter : ℕ). counter < 2 ^ 32) counters
         → IsChecked counters (body_bytes counters Unreachable) }
 {}
 
-/// Proves that a valid element segment is valid in the abstract syntax, if functions are listed
+/// States that a valid element segment is valid in the abstract syntax, if functions are listed
 /// only for the type `funcref`. Its type there matches its own.
 pub fn valid_elements_stay_valid()
     ensures typed { (context : Context) (tables : List TableType) (segment : ElementSegment)
@@ -40,7 +40,7 @@ pub fn valid_elements_stay_valid()
         → IsRefBelow types (elem_of segment).ty segment.ty }
 {}
 
-/// Proves that a valid data segment is valid in the abstract syntax.
+/// States that a valid data segment is valid in the abstract syntax.
 pub fn valid_data_segments_stay_valid()
     ensures { (context : Context) (memories : List MemoryType) (segment : DataSegment)
         → IsDataValid context memories segment → IsDataTyped context memories (data_of segment) }

@@ -4,5 +4,5 @@
 // Examples: functions without effect, whose clauses state the examples of the standard's section
 // Binary Format, Integers, and the empty module.
 mod examples;
-/// Laws: functions without effect, whose clauses state properties.
+/// Laws: functions with empty bodies whose clauses state theorems.
 pub mod laws;
