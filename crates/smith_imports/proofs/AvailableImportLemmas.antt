@@ -66,7 +66,7 @@ picked_is_taken config types bytes place taken (one ∷ more) =
 pub drawn_is_taken : (config : Config) (types : List SubType) (bytes after : List ℕ) (imports made : List Import) → picked_at config types [] imports bytes ≡ (made, after) → made ≡ taken_from config types bytes 0 [] imports
 drawn_is_taken config types bytes after imports made drawn = sym (ap (λ (d : List Import × List ℕ). d.0) drawn) ∙ picked_is_taken config types bytes 0 [] imports
 
--- a property that offered imports keep, as one more that fits is taken, holds of the taken imports
+-- a property of imports that one more fitting import preserves holds for the taken imports
 module _ (config : Config) (types : List SubType) (bytes : List ℕ) (P : List Import → Type 0) (Q : Import → Type 0) (grows : (taken : List Import) (one : Import) → P taken → Q one → is_fitting config types taken one ≡ true → P (taken ++ one ∷ [])) where
   picked_or_not : (picked fit : Bool) (taken : List Import) (one : Import) → P taken → (fit ≡ true → P (taken ++ one ∷ [])) → P (if picked && fit then taken ++ one ∷ [] else taken)
   picked_or_not true true taken one old new = new refl
@@ -79,7 +79,7 @@ module _ (config : Config) (types : List SubType) (bytes : List ℕ) (P : List I
       taken_keeps (suc place) (if is_picked bytes place && is_fitting config types taken one then taken ++ one ∷ [] else taken) more
       (picked_or_not (is_picked bytes place) (is_fitting config types taken one) taken one old (λ fit. grows taken one old (All-head Q one more each) fit)) (All-tail Q one more each)
 
--- a property of each offered entity of a kind holds of each taken one
+-- a property of each offered entity of a kind holds for each taken one
 kept_of_kind : (config : Config) (types : List SubType) (bytes : List ℕ) (imports : List Import) {A : Type 0} (of_kind : EntityType → List A) (P : A → Type 0) → All P (imported of_kind imports) → All P (imported of_kind (taken_from config types bytes 0 [] imports))
 kept_of_kind config types bytes imports of_kind P all =
     let Here = λ (one : Import). All P (of_kind one.entity_type) in
@@ -177,6 +177,6 @@ offered_sized config shape valid =
     All-weaker Here (IsImportSized types) (λ one here. let both = sized types one.entity_type valid.short.inner here in record { typed = both.0; few = both.1 }) imports
     (All-from_recursion Here imports (parts_of_all (IsFuncTypeIndex types) (λ (one : Import). func_of one.entity_type) imports offered.funcs))
 
--- the counts stay as groups are put in place
+-- the counts stay the same as imports are put into groups
 pub counts_grouped : {types : List SubType} {counted : Imported} {taken : List Import} (made : List Imports) → CountsTaken types counted taken → flattened made ≡ taken → CountsTaken types (record counted { groups = made }) (flattened made)
 counts_grouped made counts same = rw same (record { spaces = counts.spaces; count = counts.count; type_size = counts.type_size })

@@ -54,7 +54,7 @@ pub second_holds : (a b : Bool) → (a && b) ≡ true → b ≡ true
 second_holds true b both = both
 second_holds false b both = absurd cc
 
--- a type chosen for a use is right for it
+-- a type chosen for a use is suitable for it
 pub chosen_usable : (for_use : TypeUse) (types : List SubType) (bytes : List ℕ) → 0 < length (types_for for_use types) → IsUsable for_use types (chosen_at 0 (types_for for_use types) bytes).0
 chosen_usable for_use types bytes some = chosen_of (IsUsable for_use types) 0 (types_for for_use types) bytes some (types_usable for_use types)
 

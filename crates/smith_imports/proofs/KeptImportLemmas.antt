@@ -1,4 +1,4 @@
--- The imports that a module has of its shape are those of the shape, one by one, in valid groups.
+-- The imports that a module takes from its shape are the shape's, one by one, in valid groups.
 use Rattle.std.proofs.Common.{◌≡◌, ◌∙◌, ℕ, ◌+◌, ◌<◌, Bool, true, false, cond, nat_lt, lt-ltb, List, [], ◌∷◌, ◌++◌, length, map, take, get_or, refl, sym, ap, arith, append-nil, length-append}
 use Rattle.std.specs.Prelude.{IsTrue, All}
 use Rattle.std.specs.List.{flat_map, filter}
@@ -29,7 +29,7 @@ kept_more compact all place group groups longer inside is now pushed =
     let front : take (place + 1) all ≡ take place all ++ group ∷ [] = take_more all place group inside ∙ ap (λ (one : Imports). take place all ++ one ∷ []) (sym is) in
     rw (pushed, now, front) (sym (flat_map-append (kept_of compact) (take place all) (group ∷ []) ∙ ap (λ (l : List Imports). flat_map (kept_of compact) (take place all) ++ l) (append-nil (kept_of compact group))))
 
--- the groups of a shape in the form that a module has them
+-- the groups of a shape in the form in which a module has them
 abbrev kept : Bool → List Imports → List Imports
 kept compact groups = cond compact (filter is_filled groups) (map Single (flattened groups))
 

@@ -1,4 +1,4 @@
--- The bytes left of a source after no import, and the kind of a group.
+-- The bytes left of a source if nothing is imported, and the kind of a group.
 use Rattle.std.proofs.Common.{◌≡◌, ℕ, zero, suc, ◌+◌, ◌<◌, Bool, false, List, [], ◌∷◌, ◌++◌, length, refl, ap, arith, lt-ltb, drop, length-drop}
 use Rattle.std.specs.Prelude.{Result, Ok, OnOk}
 use Rattle.smith_bytes.specs.Draws.{whole_at}

@@ -1,4 +1,4 @@
--- The imports that a module has of its shape. Rules of this project.
+-- The imports that a module takes from its shape. Rules of this project.
 use Rattle.std.specs.Prelude.{◌≡◌, Bool, List, [], ◌∷◌, map, length, All, if◌then◌else◌}
 use Rattle.smith_types.specs.Entities.{AreEntitiesValid, AreCountsEnabled}
 use Rattle.smith_types.specs.Imports.{IsImportsValid, imports_of, flattened, imported_spaces}
@@ -12,8 +12,8 @@ use Rattle.smith_imports.specs.Imported.{spaces_of}
 use Rattle.smith_rules.specs.ShapeImports.{is_filled, kept_groups}
 use Rattle.smith_imports.specs.declared.imported.Imported.{Imported}
 
--- a group in the form that a module has it: unless empty, whole if imports are compact, else one by
--- one
+-- a group in the form in which a module has it: unless empty, whole if imports are compact, else
+-- one by one
 abbrev pub kept_of : Bool → Imports → List Imports
 kept_of compact group = if compact then (if is_filled group then group ∷ [] else []) else map Single (imports_of group)
 

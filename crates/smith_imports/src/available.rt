@@ -20,8 +20,8 @@ use std::alloc::Global;
 /// Takes the types of `shape`, and those of its imports that fit and for which a drawn bool is
 /// true. Puts the imports taken into groups of drawn kinds.
 ///
-/// An import fits if it stays within the maximums and the type size of `config`. A tag also
-/// requires exceptions. `shape` passes [`Shape::check`] as available imports for `config`.
+/// An import fits if it stays within the maximums and the type size of `config`. A tag also needs
+/// exceptions. Requires `shape` to pass [`Shape::check`] as available imports for `config`.
 #[tactic(auto, unfolding(crate::specs::AvailableImports::available_at))]
 pub fn take_available_imports(
     alloc: Global,
@@ -31,7 +31,7 @@ pub fn take_available_imports(
 ) -> Result<(TypeSpace, Imported), Error>
     requires valid { IsShapeValid AvailableImports config.now shape.now }
 
-    // What is drawn.
+    // The draw.
     ensures exact { IfOk result (λ given.
         available_at config.now shape.now u.old ≡ (given.1.groups, u.new)) }
     ensures types { IfOk result (λ given. given.0 ≡ space_of shape.now.groups) }

@@ -63,7 +63,7 @@ fn push_group(alloc: Global, flat: &mut Items<Import>, group: &Imports) -> Resul
     }
 }
 
-/// Lists the imports of `groups` one by one, in new memory from `alloc`.
+/// Lists the imports of `groups` one by one, in a list allocated from `alloc`.
 pub(crate) fn flat_imports(alloc: Global, groups: &[Imports]) -> Result<Items<Import>, Error>
     ensures ok { IfOk result (λ flat. flat ≡ flattened groups.now) }
     ensures memory { IfErr result (λ e. e ≡ Error.Memory) }

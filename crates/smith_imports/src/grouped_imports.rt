@@ -29,7 +29,7 @@ fn may_join(group: &Imports, next: &Import) -> bool
     }
 }
 
-/// Makes a group of the kind `kind` with the one import `first`, in new memory from `alloc`.
+/// Creates a group of the kind `kind` with the one import `first`, allocated from `alloc`.
 fn begun(alloc: Global, kind: GroupKind, first: &Import) -> Result<Imports, Error>
     ensures group { IfOk result (λ group. group ≡ group_begun kind first.now) }
     ensures memory { IfErr result (λ e. e ≡ Error.Memory) }
@@ -78,7 +78,7 @@ fn begin(
     begun(alloc, kind, first)
 }
 
-/// Draws whether the import `next` joins `group`. Returns false without a draw if it may not join.
+/// Draws whether the import `next` joins `group`. Without a draw, returns `false` if it may not.
 #[tactic(auto, unfolding(crate::specs::AvailableImports::joins_at))]
 fn joins(group: &Imports, next: &Import, u: &mut Unstructured<'_>) -> bool
     ensures draws { AlwaysDraws (joins_at group.now next.now u.old) result u.old u.new }
@@ -135,7 +135,7 @@ fn put_in_groups(
     Ok(made)
 }
 
-/// Puts `imports` into groups of drawn kinds, in new memory from `alloc`.
+/// Puts `imports` into groups of drawn kinds, allocated from `alloc`.
 #[tactic(auto, unfolding(crate::specs::AvailableImports::grouped_at))]
 pub(crate) fn group_imports(
     alloc: Global,

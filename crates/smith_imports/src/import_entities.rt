@@ -96,7 +96,7 @@ fn fits(config: &Config, types: &TypeSpace, size: u32, added: &EntityType) -> bo
     u64::from(size) + u64::from(types.size_of(added)) + 1 <= u64::from(most)
 }
 
-/// Returns the entity `added` if an import of it fits after `imported`, else none.
+/// Returns the entity `added` if an import of it fits after `imported`, or `None`.
 fn if_fits(
     config: &Config,
     types: &TypeSpace,
@@ -119,8 +119,8 @@ fn if_fits(
     }
 }
 
-/// Draws an entity of a kind with room, for an import after `imported`. Returns none if no kind has
-/// room, or if the drawn entity is too large.
+/// Draws an entity of a kind with room, for an import after `imported`. Returns `None` if no kind
+/// has room, or if the drawn entity is too large.
 #[tactic(auto, unfolding(crate::specs::ImportedEntities::entity_at))]
 pub(crate) fn draw_entity(
     config: &Config,
@@ -147,8 +147,8 @@ pub(crate) fn draw_entity(
     Ok(if_fits(config, types.space(), imported, added))
 }
 
-/// Returns the entity `added` if its kind has room and an import of it fits after `imported`, else
-/// none.
+/// Returns the entity `added` if its kind has room and an import of it fits after `imported`, or
+/// `None`.
 pub(crate) fn again(
     config: &Config,
     types: &TypeSpace,

@@ -8,7 +8,7 @@ use smith_bytes::{Error, Unstructured};
 use smith_config::Config;
 use smith_types::{EntityType, ImportItem, Imports, Name};
 
-/// Form in which a group of imports is written.
+/// The form in which a group of imports is written.
 #[derive(Clone, Copy)]
 pub(crate) enum GroupKind {
     /// A single import.

@@ -14,8 +14,8 @@ use std::alloc::Global;
 use std::collections::HashSet;
 use std::fmt::Write;
 
-/// Makes a pair of `from` and a name that is not in `pairs`. The name is `text`, followed by the
-/// decimal number of `pairs`, repeated as often as needed.
+/// Creates a pair of `from` and a name that is not in `pairs`. The name is `text`, followed by the
+/// number of `pairs` in decimal digits, repeated as often as needed.
 fn new_pair(
     pairs: &HashSet<(String, String)>,
     from: String,
@@ -34,7 +34,7 @@ fn new_pair(
     Ok(pair)
 }
 
-/// Makes a name of `text` whose pair with `from` is not in `pairs`, and adds the pair.
+/// Creates a name from `text` whose pair with `from` is not in `pairs`, and adds the pair.
 fn distinct_name(
     alloc: Global,
     from: &str,

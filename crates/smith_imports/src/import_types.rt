@@ -8,7 +8,7 @@ use smith_types::{Items, TypeSpace};
 use std::alloc::Global;
 use std::marker::Model;
 
-/// Types of a module, with lists of those that an import may have.
+/// The types of a module, with lists of those that an import may have.
 #[derive(Drop)]
 pub(crate) struct ImportTypes<'a> {
     space: &'a TypeSpace,
@@ -31,7 +31,7 @@ impl<'a> Model for ImportTypes<'a> {
 }
 
 impl<'a> ImportTypes<'a> {
-    /// Lists the types of `space` that an import may have. `space` has fewer than 2^32 types.
+    /// Lists the types of `space` that an import may have. Requires fewer than 2^32 types.
     pub(crate) fn new(alloc: Global, space: &'a TypeSpace) -> Result<ImportTypes<'a>, Error>
         requires few { length space.now.types < 2 ^ 32 }
         ensures exact { IfOk result (λ types. types ≡ space.now) }

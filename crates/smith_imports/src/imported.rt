@@ -7,7 +7,7 @@ use smith_types::{EntitySpaces, EntityType, Imports, Items, TypeSpace};
 use std::alloc::Global;
 use std::collections::HashSet;
 
-/// Imports of a module so far, with their counts.
+/// The imports of a module so far, with their counts.
 #[derive(Drop)]
 pub struct Imported {
     /// The imports, in groups.
@@ -24,7 +24,7 @@ pub struct Imported {
 }
 
 impl Imported {
-    /// Makes an empty list of imports. Takes no memory.
+    /// Creates an empty list of imports. Does not allocate.
     pub fn new(alloc: Global) -> Self
         ensures { HasNoImports result }
     {

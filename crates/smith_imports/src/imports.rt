@@ -51,7 +51,7 @@ fn note_import(types: &TypeSpace, grounds: &mut KeptGrounds, added: EntityType)
     grounds.note(types, index, false);
 }
 
-/// Draws the entity that the compact group `group` imports next. Returns none if it does not fit
+/// Draws the entity that the compact group `group` imports next. Returns `None` if it does not fit
 /// after `imported`, or no kind has room.
 fn draw_next_entity(
     config: &Config,
@@ -105,7 +105,7 @@ fn fill(
     requires fit { AreImportsFit config.now types.now.types distinct
         (flattened imported.old.groups ++ imports_of group.old) }
 
-    // What is drawn.
+    // The draw.
     ensures exact { IfOk result (λ goes_on.
         fill_at config.now types.now.types distinct (flattened imported.old.groups)
         (config.now.max_imports - imported.old.count) group.old u.old
@@ -166,7 +166,7 @@ fn add_filled(
     requires ready { IsOpen config.now types.now.types (spaces_of imported.old) group }
     requires empty { imports_of group ≡ [] }
 
-    // What is drawn.
+    // The draw.
     ensures exact { IfOk result (λ goes_on.
         filled_at config.now types.now.types distinct imported.old.groups group u.old
         ≡ (goes_on, (imported.new.groups, u.new))) }
@@ -212,7 +212,7 @@ fn add_single(
     requires so_far { IsImported config.now types.now.types distinct imported.old }
     requires room { imported.old.count < config.now.max_imports }
 
-    // What is drawn.
+    // The draw.
     ensures exact { IfOk result (λ goes_on. group_of_kind_at config.now types.now.types distinct
         imported.old.groups «module» GroupKind.Single u.old
         ≡ (goes_on, (imported.new.groups, u.new))) }
@@ -265,7 +265,7 @@ fn add_of_one_type(
     requires so_far { IsImported config.now types.now.types distinct imported.old }
     requires enabled { IsTrue config.now.compact_imports_enabled }
 
-    // What is drawn.
+    // The draw.
     ensures exact { IfOk result (λ goes_on. group_of_kind_at config.now types.now.types distinct
         imported.old.groups «module» GroupKind.OfOneType u.old
         ≡ (goes_on, (imported.new.groups, u.new))) }
@@ -312,7 +312,7 @@ fn add_group(
     requires so_far { IsImported config.now types.now.types distinct imported.old }
     requires room { imported.old.count < config.now.max_imports }
 
-    // What is drawn.
+    // The draw.
     ensures exact { IfOk result (λ goes_on.
         group_at config.now types.now.types distinct imported.old.groups u.old
         ≡ (goes_on, (imported.new.groups, u.new))) }
@@ -365,7 +365,7 @@ fn add_groups(
         (import_scope config.now types.now.types (spaces_of imported.old)) grounds.old }
     requires so_far { IsImported config.now types.now.types distinct imported.old }
 
-    // What is drawn.
+    // The draw.
     ensures exact { OnOk result (groups_at config.now types.now.types distinct
         (config.now.max_imports + length u.old + 1) imported.old.groups u.old
         ≡ (imported.new.groups, u.new)) }
@@ -423,7 +423,7 @@ fn add_all_groups(
     add_groups(alloc, config, distinct, &types, imported, &mut grounds, u)
 }
 
-/// Draws imports into `imported`, which is empty. Refuses if there are fewer than `config`
+/// Draws imports into `imported`, which is empty. Fails if there are fewer than `config`
 /// requires.
 #[tactic(auto, unfolding(crate::specs::Importing::imports_at))]
 fn draw_imports(
@@ -454,14 +454,14 @@ fn draw_imports(
 /// `config`, and at most `max_imports`. If `distinct` is set, no two imports have the same pair of
 /// names.
 ///
-/// `config` is sanitised, passes its check, and has no shape that fixes the imports. `types` are
-/// valid and fewer than 2^32, and each function type among them has at most 20 parameters and 20
-/// results.
+/// Requires `config` to be sanitised, to pass its check, and to have no shape that fixes the
+/// imports. Requires `types` to be valid and fewer than 2^32, and each function type among them to
+/// have at most 20 parameters and 20 results.
 ///
 /// # Errors
 ///
-/// `Unmet(Imports)` if the imports end below the minimum, because a kind is full or the next import
-/// would exceed the maximum type size.
+/// Returns `Unmet(Imports)` if the imports end below the minimum, because a kind is full or the
+/// next import would exceed the maximum type size.
 pub fn arbitrary_imports(
     alloc: Global,
     config: &Config,
@@ -473,7 +473,7 @@ pub fn arbitrary_imports(
     requires may { MayImport config.now types.now }
     requires none { HasNoImports imported.old }
 
-    // What is drawn.
+    // The draw.
     ensures exact { ReturnsWhy (λ _. (imported.new.groups, u.new)) result
         (imports_at config.now types.now.types distinct u.old) }
 

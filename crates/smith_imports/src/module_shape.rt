@@ -72,7 +72,7 @@ fn push_singles(alloc: Global, group: &Imports, groups: &mut Items<Imports>) -> 
     }
 }
 
-/// Adds `group` to `groups` in the form that a module has it: whole unless it is empty, or as
+/// Adds `group` to `groups` in the form in which a module has it: whole unless it is empty, or as
 /// single imports if `config` has no compact imports.
 fn push_kept(
     alloc: Global,
@@ -93,7 +93,7 @@ fn push_kept(
     groups.push(group.clone(alloc)?)
 }
 
-/// Lists the groups of the imports of `shape` in the form that a module has them.
+/// Lists the groups of the imports of `shape` in the form in which a module has them.
 fn kept_groups_of(alloc: Global, config: &Config, shape: &Shape) -> Result<Items<Imports>, Error>
     ensures kept { IfOk result (λ groups. groups ≡ kept_groups config.now shape.now) }
     ensures memory { IfErr result (λ e. e ≡ Error.Memory) }
@@ -130,7 +130,7 @@ fn count_imports(groups: &[Imports]) -> usize
 /// Copies the imports of the module shape `shape`: its groups without the empty ones, or single
 /// imports if `config` has no compact imports. They add nothing to the type size.
 ///
-/// `shape` passes [`Shape::check`] as a module shape for `config`.
+/// Requires `shape` to pass [`Shape::check`] as a module shape for `config`.
 pub fn imports_of_shape(alloc: Global, config: &Config, shape: &Shape) -> Result<Imported, Error>
     requires valid { IsShapeValid ModuleShape config.now shape.now }
     ensures kept { IfOk result (AreKept config.now shape.now) }

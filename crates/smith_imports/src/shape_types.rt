@@ -9,8 +9,8 @@ use std::alloc::Global;
 
 /// Copies the types of `shape`, in their groups.
 ///
-/// Each list of `shape` has at most 2^29 items, as have the types of all groups together, and the
-/// imports. Each declared supertype comes before its subtype, and has the same kind and sharedness.
+/// Requires each list of `shape`, and the types and imports of all groups together, to have at most
+/// 2^29 items, and each declared supertype to precede its subtype, of the same kind and sharedness.
 pub fn types_of_shape(alloc: Global, shape: &Shape) -> Result<TypeSpace, Error>
     requires short { IsShort shape.now }
     requires following { AreFollowing (shape_types shape.now) }
