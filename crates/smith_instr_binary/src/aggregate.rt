@@ -19,7 +19,7 @@ fn get_number(first: u32, extension: Extension) -> u32
     }
 }
 
-// Writes the aggregate instruction of the number `number`, then the index `index`.
+// Writes the aggregate instruction with the number `number`, then the index `index`.
 fn write_on(number: u32, index: u32, sink: &mut Sink) -> Result<(), EncodeError>
     ensures writes { OnOk result (Writes (IsOn number index) sink.old sink.new) }
     ensures memory { IfErr result (λ e. e ≡ Memory) }
@@ -27,7 +27,7 @@ fn write_on(number: u32, index: u32, sink: &mut Sink) -> Result<(), EncodeError>
     write_prefixed_index(0xFB, number, index, sink)
 }
 
-// Writes the aggregate instruction of the number `number`, then the indices `first` and `second`.
+// Writes the aggregate instruction with the number `number`, then the indices `first` and `second`.
 fn write_on_two(number: u32, first: u32, second: u32, sink: &mut Sink) -> Result<(), EncodeError>
     ensures writes { OnOk result (Writes (IsOnTwo number first second) sink.old sink.new) }
     ensures memory { IfErr result (λ e. e ≡ Memory) }

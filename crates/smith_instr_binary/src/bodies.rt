@@ -12,7 +12,7 @@ use smith_instr::Instr;
 use smith_sections::{Encode, EncodeItem, Listed};
 use smith_types::ValType;
 
-// Writer of a local, as a run of its own.
+// A writer of a local, as a run of its own.
 #[derive(Clone, Copy)]
 struct Runs;
 
@@ -31,7 +31,7 @@ impl EncodeItem<ValType> for Runs {
 ///
 /// # Errors
 ///
-/// `TooLong` if there are 2^32 locals or more.
+/// Returns `TooLong` if there are 2^32 locals or more.
 pub fn encode_locals(sink: &mut Sink, locals: &[ValType]) -> Result<(), EncodeError>
     ensures writes { OnOk result (Writes (IsLocals locals.now) sink.old sink.new) }
     ensures written { OnOk result (Writes (IsLocalsWritten locals.now) sink.old sink.new) }
@@ -50,8 +50,8 @@ pub fn encode_locals(sink: &mut Sink, locals: &[ValType]) -> Result<(), EncodeEr
 ///
 /// # Errors
 ///
-/// `TooLong` if there are 2^32 locals or more, if the body would have 2^32 bytes or more, or as for
-/// [`encode_instr`](crate::encode_instr).
+/// Returns `TooLong` if there are 2^32 locals or more, if the body would have 2^32 bytes or more,
+/// or as [`encode_instr`](crate::encode_instr) does.
 pub fn encode_body(
     sink: &mut Sink,
     locals: &[ValType],

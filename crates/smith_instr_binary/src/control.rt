@@ -35,7 +35,7 @@ pub(crate) fn write_block(opcode: u8, ty: BlockType, sink: &mut Sink) -> Result<
     write_block_type(ty, sink)
 }
 
-// Writer of a clause of `try_table`.
+// A writer of a clause of `try_table`.
 #[derive(Clone, Copy)]
 struct Catches;
 
@@ -106,7 +106,7 @@ fn cast_byte(from: bool, to: bool) -> u8
     }
 }
 
-// Writes the branch on a cast of the number `number`.
+// Writes the branch on a cast with the number `number`.
 pub(crate) fn write_branch_cast(
     number: u32,
     cast: BranchCast,

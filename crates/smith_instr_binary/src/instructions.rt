@@ -79,8 +79,8 @@ fn write_fence(sink: &mut Sink) -> Result<(), EncodeError>
 ///
 /// # Errors
 ///
-/// `TooLong` if a list of `instruction` has 2^32 items or more, if its alignment needs more than
-/// the six bits of the format, or if it accesses a lane of more than eight bytes. Of these
+/// Returns `TooLong` if a list of `instruction` has 2^32 items or more, if its alignment needs more
+/// than the six bits of the format, or if it accesses a lane of more than eight bytes. Of these
 /// instructions, only those with long lists can be valid.
 pub fn encode_instr(sink: &mut Sink, instruction: &Instr) -> Result<(), EncodeError>
     ensures writes { OnOk result (Writes (IsInstr instruction.now) sink.old sink.new) }
@@ -157,7 +157,7 @@ pub fn encode_instr(sink: &mut Sink, instruction: &Instr) -> Result<(), EncodeEr
 ///
 /// # Errors
 ///
-/// `TooLong` as for [`encode_instr`].
+/// Returns `TooLong` as [`encode_instr`] does.
 pub fn encode_instrs(sink: &mut Sink, instructions: &[Instr]) -> Result<(), EncodeError>
     ensures writes { OnOk result (Writes (IsInstrs instructions.now) sink.old sink.new) }
     ensures fault { IfErr result (IsFault (Any IsLongInstr instructions.now)) }
@@ -172,7 +172,7 @@ pub fn encode_instrs(sink: &mut Sink, instructions: &[Instr]) -> Result<(), Enco
 ///
 /// # Errors
 ///
-/// `TooLong` as for [`encode_instr`].
+/// Returns `TooLong` as [`encode_instr`] does.
 pub fn encode_expr(sink: &mut Sink, instructions: &[Instr]) -> Result<(), EncodeError>
     ensures writes { OnOk result (Writes (IsExpr instructions.now) sink.old sink.new) }
     ensures fault { IfErr result (IsFault (Any IsLongInstr instructions.now)) }

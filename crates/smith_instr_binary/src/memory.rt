@@ -33,7 +33,7 @@ fn write_mem_arg(at: MemArg, sink: &mut Sink) -> Result<(), EncodeError>
     sink.write_u64(at.offset)
 }
 
-// Writes the access to memory of the opcode `opcode`.
+// Writes the access to memory with the opcode `opcode`.
 pub(crate) fn write_access(opcode: u8, at: MemArg, sink: &mut Sink) -> Result<(), EncodeError>
     ensures writes { OnOk result (Writes (Joined (IsByte opcode) (IsMemArg at)) sink.old sink.new) }
     ensures fault { IfErr result (IsFault (2 ^ 6 ≤ at.align)) }
@@ -42,7 +42,7 @@ pub(crate) fn write_access(opcode: u8, at: MemArg, sink: &mut Sink) -> Result<()
     write_mem_arg(at, sink)
 }
 
-// Writes the access to memory of the prefix `prefix` and the number `number`.
+// Writes the access to memory with the prefix `prefix` and the number `number`.
 pub(crate) fn write_prefixed_access(
     prefix: u8,
     number: u32,

@@ -5,7 +5,7 @@ ghost use Rattle.smith_sections.specs.Instructions.{IsIndex, IsPrefixed};
 
 use smith_binary::{EncodeError, Sink};
 
-// Writes the opcode of the prefix `prefix` and the number `number`.
+// Writes the opcode with the prefix `prefix` and the number `number`.
 pub(crate) fn write_prefixed(prefix: u8, number: u32, sink: &mut Sink) -> Result<(), EncodeError>
     ensures writes { OnOk result (Writes (IsPrefixed prefix number) sink.old sink.new) }
     ensures memory { IfErr result (λ e. e ≡ Memory) }
@@ -40,7 +40,7 @@ pub(crate) fn write_two_indices(
     sink.write_u32(second)
 }
 
-// Writes the opcode of the prefix `prefix` and the number `number`, then the index `index`.
+// Writes the opcode with the prefix `prefix` and the number `number`, then the index `index`.
 pub(crate) fn write_prefixed_index(
     prefix: u8,
     number: u32,
@@ -55,7 +55,7 @@ pub(crate) fn write_prefixed_index(
     sink.write_u32(index)
 }
 
-// Writes the opcode of the prefix `prefix` and the number `number`, then the indices `first` and
+// Writes the opcode with the prefix `prefix` and the number `number`, then the indices `first` and
 // `second`.
 pub(crate) fn write_prefixed_indices(
     prefix: u8,

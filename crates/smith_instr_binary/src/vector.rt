@@ -14,7 +14,7 @@ use crate::vector_numbers::{
 use smith_binary::{EncodeError, Sink};
 use smith_instr::VectorInstr;
 
-// Writes the vector instruction of the number `number`.
+// Writes the vector instruction with the number `number`.
 fn write_numbered(number: u32, sink: &mut Sink) -> Result<(), EncodeError>
     ensures writes { OnOk result (Writes (IsNumbered number) sink.old sink.new) }
     ensures memory { IfErr result (λ e. e ≡ Memory) }
@@ -22,7 +22,7 @@ fn write_numbered(number: u32, sink: &mut Sink) -> Result<(), EncodeError>
     write_prefixed(0xFD, number, sink)
 }
 
-// Writes the vector instruction of the number `number`, then the lane `lane`.
+// Writes the vector instruction with the number `number`, then the lane `lane`.
 fn write_on_lane(number: u32, lane: u8, sink: &mut Sink) -> Result<(), EncodeError>
     ensures writes { OnOk result
         (Writes (Joined (IsNumbered number) (IsByte lane)) sink.old sink.new) }
