@@ -2,5 +2,5 @@
 #![tactic(auto)]
 
 mod examples;
-/// Laws: functions without effect, whose clauses state properties.
+/// Laws: functions with empty bodies whose clauses state theorems.
 pub mod laws;
