@@ -1,4 +1,4 @@
--- A text of digits is read as the number that they write.
+-- A text of digits is read as the number that it denotes.
 use Rattle.std.proofs.Common.{◌≡◌, ℕ, ◌+◌, ◌<◌, ◌≤◌, ◌^◌, List, [], ◌∷◌, Bool, true, false, ◌&&◌, ◌==◌, cond, nat_lt, Ok, Err, length, refl, sym, arith}
 use Rattle.std.specs.List.{list_all}
 use Rattle.std.specs.Int.{IsInRange}

@@ -41,7 +41,7 @@ unwanted bad = NotAnObject
 abbrev pub are_digits : List ℕ → Bool
 are_digits text = if length text == 0 then false else list_all is_ascii_digit text
 
--- the number that digits write, if it is at most `most`
+-- the number that digits denote, if it is at most `most`
 abbrev pub number_of : ℕ → List ℕ → Result ℕ Fault
 number_of most text = if are_digits text then (if nat_lt most (digits_value 10 text) then Err OutOfRange else Ok (digits_value 10 text)) else Err WrongType
 

@@ -5,7 +5,7 @@ ghost use Rattle.smith_json.specs.Places.{field_of, fields_in};
 use crate::place::{Flag, Long, Place, Size, Word};
 use std::fmt;
 
-/// Kind of value that a field takes. Each field also takes `null`, which leaves it unchanged.
+/// The kind of value that a field takes. Each field also takes `null`, which leaves it unchanged.
 #[derive(Clone, Copy, Debug, PartialEq, Eq)]
 pub enum FieldKind {
     /// A whole number below `2^bits`, written in digits alone.
@@ -35,7 +35,7 @@ impl fmt::Display for FieldKind {
     }
 }
 
-/// Field of a configuration, by its name in a text.
+/// A field of a configuration, by its name in a text.
 #[derive(Clone, Copy, Debug)]
 pub struct Field {
     /// The name, in lower case and with hyphens.

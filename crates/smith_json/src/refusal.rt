@@ -5,7 +5,7 @@ use crate::field::Field;
 use std::error::Error;
 use std::fmt;
 
-/// Fault of the text of a configuration.
+/// A fault of the text of a configuration.
 #[derive(Clone, Copy, Debug, PartialEq, Eq)]
 pub enum Fault {
     /// There is no JSON object, or the text stops being JSON.
@@ -24,7 +24,7 @@ pub enum Fault {
     OutOfMemory,
 }
 
-/// Reason why an object within a longer text is not a configuration, and its place.
+/// The reason why an object within a longer text is not a configuration, and its place.
 #[derive(Debug, Drop)]
 pub struct Refusal {
     /// The fault.
@@ -35,7 +35,7 @@ pub struct Refusal {
     pub offset: usize,
 }
 
-/// Reason why a text is not a configuration, and its place.
+/// The reason why a text is not a configuration, and its place.
 #[derive(Debug, Drop)]
 pub struct ConfigRefusal {
     /// The fault.

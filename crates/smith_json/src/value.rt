@@ -80,7 +80,7 @@ fn number(text: &str, most: u128) -> Result<u128, Fault>
     }
 }
 
-/// Returns the whole number, at most `most`, that a token denotes, or none at `null`.
+/// Returns the whole number, at most `most`, that a token denotes, or `None` for `null`.
 fn whole(token: Token<'_>, most: u128) -> Result<Option<u128>, Fault>
     ensures exact { result ≡ whole_value most (token_of token.entry) }
     ensures bounded { IfOk result (λ value. IfSome value (λ n. n ≤ most)) }
@@ -92,7 +92,7 @@ fn whole(token: Token<'_>, most: u128) -> Result<Option<u128>, Fault>
     }
 }
 
-/// Returns the truth value that a token denotes, or none at `null`.
+/// Returns the truth value that a token denotes, or `None` for `null`.
 fn truth(token: Token<'_>) -> Result<Option<bool>, Fault>
     ensures { result ≡ truth_value (token_of token.entry) }
 {
@@ -113,7 +113,7 @@ fn no_file(token: Token<'_>) -> Result<(), Fault>
     }
 }
 
-/// Returns the set of kinds of instructions that a token denotes, or none at `null`.
+/// Returns the set of kinds of instructions that a token denotes, or `None` for `null`.
 fn kinds(token: Token<'_>) -> Result<Option<InstructionKinds>, Fault>
     ensures { AreKinds (token_of token.entry) result }
 {
