@@ -1,6 +1,6 @@
 //! Reads texts of configurations from standard input, with an empty line between them. Prints each
-//! configuration, or the refusal of the text. First tries an object for each field, which no field
-//! takes.
+//! configuration, or the refusal of the text. First tries an object as the value of each field,
+//! which no field takes.
 #![tactic(auto)]
 
 use smith_json::{FIELDS, config};
