@@ -22,7 +22,7 @@ const MOST_KEPT: usize = 500_000;
 // the same size.
 const LARGEST_APART: usize = 1024;
 
-// Returns the bytes of the blocks that are taken after all of `size` bytes: half as many, or the
+// Returns the bytes of the blocks that are taken after all of `size` bytes: half of `size`, or the
 // next smaller size that is kept apart.
 fn next_size(size: usize) -> usize {
     if size > LARGEST_APART {
@@ -42,7 +42,7 @@ pub struct Hoard {
 }
 
 impl Hoard {
-    /// Takes all memory of the process except `slots` slots. Returns none if more than 30,000
+    /// Takes all memory of the process except `slots` slots. Returns `None` if more than 30,000
     /// blocks would be needed.
     pub fn new(alloc: Global, slots: usize) -> Result<Option<Hoard>, AllocError> {
         let mut hoard = Hoard {
@@ -63,7 +63,7 @@ impl Hoard {
         Ok(())
     }
 
-    // Takes all memory, in blocks of at most `size` bytes, the largest first. Returns false if
+    // Takes all memory, in blocks of at most `size` bytes, the largest first. Returns `false` if
     // there are too many blocks.
     fn take(&mut self, alloc: Global, size: usize) -> bool {
         let mut size = size;
@@ -85,7 +85,7 @@ impl Hoard {
     }
 
     /// Takes the memory that was freed since, and leaves one piece of at most `bytes` bytes, at
-    /// most 64 KiB. Returns false if no slot is left, or if there are too many blocks.
+    /// most 64 KiB. Returns `false` if no slot is left, or if there are too many blocks.
     pub fn leave(&mut self, alloc: Global, bytes: usize) -> bool {
         if !self.take(alloc, SLOT) {
             return false;

@@ -1,4 +1,4 @@
-//! The memory of a process, used up, and calls that are tried with more and more of it.
+//! Uses up the memory of a process, and tries calls with more and more of it.
 //!
 //! The standard allocator refuses nothing while there is memory, so a test of lack of memory first
 //! takes all memory that the process can have. Blocks that nobody touches take only address space.

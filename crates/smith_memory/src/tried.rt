@@ -2,7 +2,7 @@ use crate::hoard::Hoard;
 use std::alloc::Global;
 use std::test::Fail;
 
-/// Outcome of a call.
+/// The outcome of a call.
 #[derive(Clone, Copy, Debug, PartialEq, Eq)]
 pub enum Ended {
     /// The call was refused for lack of memory, and left its arguments in the required state.
@@ -13,7 +13,7 @@ pub enum Ended {
     Wrong(&'static str),
 }
 
-/// Call that is tried with more and more memory. A try takes no other memory than the call.
+/// A call that is tried with more and more memory. A try takes no other memory than the call.
 pub trait Tried {
     /// Makes the call, and returns its outcome.
     fn ended(&mut self, alloc: Global) -> Ended;
