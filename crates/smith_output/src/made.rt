@@ -10,7 +10,7 @@ use smith_program_binary::{EncodeError, encode};
 use smith_program_text::text;
 use std::alloc::Global;
 
-/// Format of a written module.
+/// The format of a written module.
 #[derive(Clone, Copy, Debug, PartialEq, Eq)]
 pub enum Form {
     /// The binary format.
@@ -19,7 +19,7 @@ pub enum Form {
     Text,
 }
 
-/// Manner of writing a module.
+/// The manner of writing a module.
 #[derive(Clone, Copy, Debug, PartialEq, Eq)]
 pub struct Manner {
     /// The format.
@@ -29,7 +29,7 @@ pub struct Manner {
     pub fuel: Option<u32>,
 }
 
-/// Reason why no module was written.
+/// The reason why no module was written.
 #[derive(Clone, Copy, Debug, PartialEq, Eq, thiserror::Error)]
 pub enum OutputFault {
     /// No module was made, for this reason.
@@ -56,8 +56,8 @@ impl From<Error> for OutputFault {
 ///
 /// # Errors
 ///
-/// `Refused` with the refusal of [`Program::new`]; `TooLong` if the program is too long for the
-/// binary format.
+/// Returns `Refused` with the refusal of [`Program::new`], or `TooLong` if the program is too long
+/// for the binary format.
 pub fn binary(
     alloc: Global,
     config: Config,
@@ -91,9 +91,9 @@ fn encoded(alloc: Global, program: &Program) -> Result<Vec<u8>, OutputFault>
 ///
 /// # Errors
 ///
-/// `Refused` with the refusal of [`Program::new`], or with `IncorrectFormat(RawBody)` if calls are
-/// to be counted and a body is raw bytes; `TooLong` if the program is too long for the binary
-/// format.
+/// Returns `Refused` with the refusal of [`Program::new`], or with `IncorrectFormat(RawBody)` if
+/// calls are to be counted and a body is raw bytes. Returns `TooLong` if the program is too long
+/// for the binary format.
 pub fn output(
     alloc: Global,
     config: Config,
