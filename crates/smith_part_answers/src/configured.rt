@@ -97,7 +97,7 @@ fn set_module_shape(
     set_shape(alloc, name, &mut config.module_shape)
 }
 
-// Puts the shape of the name `name` into `slot`, if there is a name.
+// Puts the shape named `name` into `slot`, if there is a name.
 fn set_shape(alloc: Global, name: &Option<String>, slot: &mut Option<Shape>) -> Result<(), Fault> {
     if let Some(name) = name {
         *slot = Some(shape_named(alloc, name.as_str())?);

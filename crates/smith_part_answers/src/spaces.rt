@@ -8,7 +8,7 @@ use smith_draw::{Entities, Spaces};
 use smith_types::{GlobalType, Items, SubType, TypeSpace, ValType};
 use std::alloc::Global;
 
-/// Context of a draw of a case.
+/// The context of a draw of a case.
 #[derive(Clone, Copy)]
 pub(crate) struct Over<'a> {
     /// The allocator.
@@ -63,7 +63,7 @@ pub(crate) fn with_globals<'a>(types: &'a TypeSpace, globals: &'a [GlobalType]) 
     }
 }
 
-/// Returns the types under the key `types` of `case`: those of a shape, or none without the key.
+/// Returns the types under the key `types` of `case`: those of a shape, or no types.
 pub(crate) fn types_of(alloc: Global, case: &Case) -> Result<TypeSpace, Fault> {
     let Some(name) = &case.shapes.types else {
         return Ok(TypeSpace::new(alloc));

@@ -31,7 +31,7 @@ fn answer_over(
     Ok(())
 }
 
-// Whether the first argument is a subtype of the second.
+// Returns whether the first argument is a subtype of the second.
 fn is_below(types: &TypeSpace, case: &Case, call: SubtypeCall) -> Result<bool, Fault> {
     match call {
         SubtypeCall::HeapType => is_heap_below(types, case),
@@ -40,7 +40,7 @@ fn is_below(types: &TypeSpace, case: &Case, call: SubtypeCall) -> Result<bool, F
     }
 }
 
-// Whether the type that `heap_type` names exists.
+// Returns whether the type that `heap_type` names exists.
 fn is_standing(types: &TypeSpace, heap_type: HeapType) -> bool
     ensures { IsTrue result ↔ IsInRange types.now.types heap_type }
 {
@@ -51,7 +51,7 @@ fn is_standing(types: &TypeSpace, heap_type: HeapType) -> bool
     }
 }
 
-// Whether the type that `value` refers to exists.
+// Returns whether the type that `value` refers to exists.
 fn is_value_standing(types: &TypeSpace, value: ValType) -> bool
     ensures { IsTrue result → IsValInRange types.now.types value }
 {

@@ -73,7 +73,7 @@ fn answer_size(types: &TypeSpace, case: &Case, answer: &mut String) -> Result<()
 // The greatest number of parameters, and of results, of a function whose size is written.
 const MOST_VALUES: usize = 1000;
 
-// Whether the type of `entity` exists and has few values.
+// Returns whether the type of `entity` exists and has few values.
 fn is_small(types: &TypeSpace, entity: &EntityType) -> bool
     ensures typed { IsTrue result → IsTyped types.now.types entity.now }
     ensures fits { IsTrue result → size_in types.now.types entity.now < 2 ^ 32 }
