@@ -45,7 +45,7 @@ one_drawn m place bodies body bytes left whole inside drawn before =
     ap (λ (codes : List Code). after bodies (bodies_from m place codes bytes)) first ∙ ap (λ (r : List Body × List ℕ). after bodies r) step ∙ ap (λ (l : List Body). (l, rest.1)) (sym (append_assoc bodies (body ∷ []) rest.0)) in
     rw next (sym same ∙ before)
 
--- a property of each body, and of one more, is one of all
+-- a property of each body, and of one more, holds for all
 pub still_held : (Holds : ℕ → Body → Type 0) (bodies : List Body) (body : Body) (place : ℕ) → length bodies ≡ place → ((k : ℕ) (one : Body) → slice_get bodies k ≡ Some one → Holds k one) → Holds place body
     → (k : ℕ) (one : Body) → slice_get (bodies ++ body ∷ []) k ≡ Some one → Holds k one
 still_held Holds bodies body place each before last k one at = elim (slice_get-push bodies body k one at) [

@@ -29,11 +29,11 @@ use wasm_smith::Module;
 /// With `disallow_traps` of the configuration, only `unreachable` may trap, as for [`draw_body`].
 /// Raw bytes stay as they are.
 ///
-/// `module` is valid.
+/// Requires `module` to be valid.
 ///
 /// # Errors
 ///
-/// `Memory` for lack of memory, and no other.
+/// Returns `Memory` if an allocation fails, and no other error.
 pub fn draw_bodies(
     alloc: Global,
     module: &Module,
@@ -52,7 +52,7 @@ pub fn draw_bodies(
     draw_each(alloc, module, &named, u)
 }
 
-/// Parts of the context of bodies that are computed from a module.
+/// The parts of the context of bodies that are computed from a module.
 #[derive(Drop)]
 pub(crate) struct Named {
     /// The type of each element segment.
@@ -157,7 +157,7 @@ fn draw_instructions(
     ensures short { IfOk result (λ body. length body ≤ 1 + length function.now.results
         + most «module».now.types * «module».now.config.max_instructions) }
 
-    // What is drawn.
+    // The draw.
     ensures exact { IfOk result (λ body.
         body_at «module».now.config (function_context «module».now function.now code.now.locals)
         «module».now.config.max_instructions u.old ≡ (body, u.new)) }

@@ -6,7 +6,7 @@ use smith_types::Items;
 use std::alloc::Global;
 use wasm_smith::Module;
 
-/// Body of a function that a module defines.
+/// The body of a function that a module defines.
 #[derive(Debug, Drop)]
 pub enum Body {
     /// The instructions, without the last `end`.
@@ -33,7 +33,7 @@ impl Program {
     ///
     /// # Errors
     ///
-    /// Those of [`Module::new`]. The bodies add only `Memory`.
+    /// Returns the errors of [`Module::new`]. The bodies add only `Memory`.
     pub fn new(alloc: Global, config: Config, u: &mut Unstructured<'_>) -> Result<Program, Error>
         ensures { IsProgram config u.old result u.new }
     {

@@ -9,19 +9,19 @@ use smith_bytes::Error;
 use std::alloc::Global;
 
 impl Program {
-    /// Adds a global to the module that counts down from `default_fuel`, and returns its index, as
+    /// Adds a global that counts down from `default_fuel` to the module, and returns its index, as
     /// [`Module::ensure_termination`] does. An encoder makes each call of a defined function, and
     /// each iteration of a loop, subtract 1 from the counter, or trap at 0.
     ///
     /// The bodies are unchanged. They stay typed with the checks, which an encoder writes at their
     /// starts and after each `loop`.
     ///
-    /// The module has fewer than 2^32 - 1 globals.
+    /// Requires the module to have fewer than 2^32 - 1 globals.
     ///
     /// # Errors
     ///
-    /// `IncorrectFormat(RawBody)` if a body is raw bytes, before which no check can be placed. The
-    /// module is unchanged after any error.
+    /// Returns `IncorrectFormat(RawBody)` if a body is raw bytes, before which no check can be
+    /// placed. The module is unchanged after any error.
     ///
     /// [`Module::ensure_termination`]: wasm_smith::Module::ensure_termination
     pub fn ensure_termination(&mut self, alloc: Global, default_fuel: u32) -> Result<u32, Error>
