@@ -12,8 +12,8 @@ use smith_encode::encode_with_bodies;
 use smith_program::Program;
 use std::alloc::Global;
 
-/// Encodes `program` in the binary format of the WebAssembly Core Specification 3.0, in new memory
-/// from `alloc`.
+/// Encodes `program` in the binary format of the WebAssembly Core Specification 3.0, into memory
+/// allocated from `alloc`.
 ///
 /// All parts but the bodies are written as [`smith_encode::encode`] writes the module. The checks
 /// of its counters of fuel are written at the start of each drawn body, and after each `loop` in
@@ -21,8 +21,8 @@ use std::alloc::Global;
 ///
 /// # Errors
 ///
-/// `TooLong` if a list has 2^32 items or more, or a section or a body 2^32 bytes or more; `Memory`
-/// for lack of memory.
+/// Returns `TooLong` if a list has 2^32 items or more, or a section or a body 2^32 bytes or more,
+/// and `Memory` if an allocation fails.
 pub fn encode(alloc: Global, program: &Program) -> Result<Vec<u8>, EncodeError>
     ensures spelled { IfOk result (λ bytes.
         IsProgramBinary program.now.«module» program.now.bodies bytes.items) }
