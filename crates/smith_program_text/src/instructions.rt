@@ -13,7 +13,7 @@ use smith_text::{Sink, TextForm};
 use smith_types::ConstInstr;
 use std::fmt;
 
-/// Writes `instruction` in its plain form, without a line's end: the standard's section Text
+/// Writes `instruction` in its plain form, without a line break: the standard's section Text
 /// Format, Instructions.
 ///
 /// Indices are numbers, and blocks have no labels of their own.

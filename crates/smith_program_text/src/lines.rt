@@ -48,12 +48,12 @@ fn write_line<S: Sink>(instruction: &Instr, depth: usize, sink: &mut S) -> Resul
     Ok(depth_after(instruction, level))
 }
 
-/// Writes `instructions` in their plain form, a line each. The first is at the depth `depth`, at
-/// two spaces a level, and those of a block are one level deeper than its start and its end.
+/// Writes `instructions` in their plain form, one line each. The first is at the depth `depth`, at
+/// two spaces per level, and those of a block are one level deeper than its start and its end.
 ///
 /// # Errors
 ///
-/// The error of the first write that fails. Nothing is written after it.
+/// Returns the error of the first write that fails. Nothing is written after it.
 pub fn write_instrs<S: Sink>(instructions: &[Instr], depth: usize, sink: &mut S) -> fmt::Result
     requires open { S.failed sink.old ≡ false }
     ensures fault { S.failed sink.new ≡ is_err result }
@@ -100,7 +100,7 @@ fn write_check<S: Sink>(counter: u32, depth: usize, sink: &mut S) -> fmt::Result
 ///
 /// # Errors
 ///
-/// The error of the first write that fails. Nothing is written after it.
+/// Returns the error of the first write that fails. Nothing is written after it.
 pub fn write_counted_instrs<S: Sink>(
     instructions: &[Instr],
     counters: &[u32],

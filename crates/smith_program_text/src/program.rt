@@ -41,7 +41,7 @@ impl<'a> BodyText for Bodies<'a> {
 ///
 /// # Errors
 ///
-/// The error of the first write that fails. Nothing is written after it.
+/// Returns the error of the first write that fails. Nothing is written after it.
 pub fn write_program<S: Sink>(program: &Program, sink: &mut S) -> fmt::Result
     requires open { S.failed sink.old ≡ false }
     ensures fault { S.failed sink.new ≡ is_err result }
@@ -52,11 +52,11 @@ pub fn write_program<S: Sink>(program: &Program, sink: &mut S) -> fmt::Result
     write_with_bodies(&program.module, &bodies, sink)
 }
 
-/// Returns the text of `program`, as [`write_program`] writes it, in new memory from `alloc`.
+/// Returns the text of `program`, as [`write_program`] writes it, allocated from `alloc`.
 ///
 /// # Errors
 ///
-/// `Memory` for lack of memory.
+/// Returns `Memory` if an allocation fails.
 pub fn text(alloc: Global, program: &Program) -> Result<String, Error>
     ensures memory { IfErr result (λ e. e ≡ Error.Memory) }
 {

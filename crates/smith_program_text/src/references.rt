@@ -59,7 +59,7 @@ fn extended(extension: Extension) -> &'static str {
     }
 }
 
-/// Writes an aggregate instruction; `ref.i31_shared` as the shared-everything-threads proposal
+/// Writes an aggregate instruction, and `ref.i31_shared` as the shared-everything-threads proposal
 /// does.
 pub(crate) fn write_aggregate<S: Sink>(instruction: AggregateInstr, sink: &mut S) -> fmt::Result
     requires open { S.failed sink.old ≡ false }
