@@ -6,7 +6,7 @@ use smith_bytes::Error;
 use smith_json::{ConfigRefusal, Fault};
 use std::fmt;
 
-/// Reason why there is no program.
+/// The reason why there is no program.
 #[derive(Debug, Drop)]
 pub enum Refusal {
     /// The text of the configuration isn't UTF-8.
