@@ -4,7 +4,7 @@ use std::fmt;
 use std::test::Fail;
 use wasm_smith::{Config, Error, Module, Unstructured};
 
-/// Writer that fails at the write number `fails_at`, and counts all writes.
+/// A writer that fails at the write number `fails_at`, and counts all writes.
 #[derive(Drop)]
 struct FailingWriter {
     writes: usize,

@@ -8,7 +8,7 @@ use std::alloc::Global;
 use std::test::Fail;
 use wasm_smith::Module;
 
-// Counter of fuel that is added to `module`. `text` is the text of the whole module before.
+// A counter of fuel that is added to `module`. `text` is the text of the whole module before.
 #[derive(Drop)]
 struct Counting {
     module: Module,

@@ -3,7 +3,7 @@ use smith_bytes::Error;
 use smith_config::{Config, Shape};
 use std::alloc::Global;
 
-/// Makes a configuration that allows three memories, otherwise the default.
+/// Creates a configuration that allows three memories, otherwise the default.
 pub(crate) fn config_of_memories() -> Config {
     let mut config = Config::default();
     config.max_memories = 3;
@@ -37,7 +37,7 @@ pub(crate) fn set_available_imports(alloc: Global, config: &mut Config) -> Resul
     Ok(())
 }
 
-/// Sets the module shape to three memories that are imported, and allows as many.
+/// Sets the module shape to three memories that are imported, and allows that many.
 pub(crate) fn set_module_shape(alloc: Global, config: &mut Config) -> Result<(), Error> {
     config.max_memories = 3;
     put(&mut config.module_shape, three_memories(alloc)?);

@@ -15,7 +15,7 @@ fn config_of_parts() -> Config {
     config
 }
 
-/// Makes a module with some of each part.
+/// Creates a module with some of each part.
 pub(crate) fn module_of_parts(alloc: Global) -> Result<Module, Error> {
     Module::new(alloc, config_of_parts(), &mut Unstructured::new(PARTS))
 }

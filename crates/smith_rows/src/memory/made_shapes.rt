@@ -49,7 +49,7 @@ fn constant(val_type: ValType) -> GlobalType {
     }
 }
 
-// Makes a shape of these groups and imports, which defines and exports nothing.
+// Creates a shape of these groups and imports, which defines and exports nothing.
 fn shape_of(alloc: Global, groups: Items<Items<SubType>>, imports: Items<Imports>) -> Shape {
     Shape {
         groups,
@@ -63,7 +63,7 @@ fn shape_of(alloc: Global, groups: Items<Items<SubType>>, imports: Items<Imports
     }
 }
 
-// Makes a single import from `env` with the name `name`.
+// Creates a single import from `env` with the name `name`.
 fn import_of(alloc: Global, name: &str, entity_type: EntityType) -> Result<Imports, Error> {
     Ok(Imports::Single(Import {
         module: Name::from_text(alloc, "env")?,
@@ -72,8 +72,8 @@ fn import_of(alloc: Global, name: &str, entity_type: EntityType) -> Result<Impor
     }))
 }
 
-// Makes a compact group of imports from `module` with the names `texts`, each a memory of one page
-// with a type of its own.
+// Creates a compact group of imports from `module` with the names `texts`, each a memory of one
+// page with a type of its own.
 fn items_of(alloc: Global, module: &str, texts: &[&str]) -> Result<Imports, Error> {
     let mut items = Items::new(alloc);
     for text in texts {
@@ -88,8 +88,8 @@ fn items_of(alloc: Global, module: &str, texts: &[&str]) -> Result<Imports, Erro
     })
 }
 
-// Makes a compact group of imports from `module` with the names `texts`, memories of one page that
-// share their type.
+// Creates a compact group of imports from `module` with the names `texts`, memories of one page
+// that share their type.
 fn names_of(alloc: Global, module: &str, texts: &[&str]) -> Result<Imports, Error> {
     let mut names = Items::new(alloc);
     for text in texts {
@@ -102,7 +102,7 @@ fn names_of(alloc: Global, module: &str, texts: &[&str]) -> Result<Imports, Erro
     })
 }
 
-// Adds the group that `items_of` makes.
+// Adds the group that `items_of` creates.
 fn with_items(
     alloc: Global,
     imports: Items<Imports>,
@@ -112,7 +112,7 @@ fn with_items(
     with(imports, items_of(alloc, module, texts)?)
 }
 
-// Adds the group that `names_of` makes.
+// Adds the group that `names_of` creates.
 fn with_names(
     alloc: Global,
     imports: Items<Imports>,
@@ -122,7 +122,7 @@ fn with_names(
     with(imports, names_of(alloc, module, texts)?)
 }
 
-// Makes a group of each form with imports, and one of each form without.
+// Creates a group of each form with imports, and one of each form without.
 fn groups_of_memories(alloc: Global) -> Result<Items<Imports>, Error> {
     let one = with_items(alloc, Items::new(alloc), "env", &["one"])?;
     let none = with_items(alloc, one, "a", &[])?;
@@ -130,13 +130,13 @@ fn groups_of_memories(alloc: Global) -> Result<Items<Imports>, Error> {
     with_names(alloc, three, "env", &[])
 }
 
-/// Makes a shape that imports three memories, one and two in a group, with empty groups between
+/// Creates a shape that imports three memories, one and two in a group, with empty groups between
 /// them.
 pub(crate) fn three_memories(alloc: Global) -> Result<Shape, Error> {
     Ok(shape_of(alloc, Items::new(alloc), groups_of_memories(alloc)?))
 }
 
-// Makes the type of the function `foo`, and that of the tag `quux`.
+// Creates the type of the function `foo`, and that of the tag `quux`.
 fn types_of_each(alloc: Global) -> Result<Items<Items<SubType>>, Error> {
     let foo = function(alloc, true, &[ValType::I32], &[ValType::I64])?;
     let groups = with_type(alloc, Items::new(alloc), foo)?;
@@ -161,8 +161,8 @@ fn exports_of_each(alloc: Global) -> Result<Items<(Name, ExportKind, u32)>, Erro
     Ok(exports)
 }
 
-/// Makes a shape of an export of each kind: a function from i32 to i64, a constant f32, a memory, a
-/// table, and a tag of an f32.
+/// Creates a shape of an export of each kind: a function from i32 to i64, a constant f32, a memory,
+/// a table, and a tag of an f32.
 pub(crate) fn one_of_each(alloc: Global) -> Result<Shape, Error> {
     Ok(Shape {
         groups: types_of_each(alloc)?,
@@ -176,20 +176,20 @@ pub(crate) fn one_of_each(alloc: Global) -> Result<Shape, Error> {
     })
 }
 
-// Makes the type of the function `ping`.
+// Creates the type of the function `ping`.
 fn type_of_ping(alloc: Global) -> Result<Items<Items<SubType>>, Error> {
     let ping = function(alloc, true, &[ValType::I32], &[])?;
     with_type(alloc, Items::new(alloc), ping)
 }
 
-// Makes the imports `ping` and `memory`.
+// Creates the imports `ping` and `memory`.
 fn ping_and_memory_imports(alloc: Global) -> Result<Items<Imports>, Error> {
     let ping = import_of(alloc, "ping", EntityType::Func(0))?;
     let imports = with(Items::new(alloc), ping)?;
     with(imports, import_of(alloc, "memory", MEMORY)?)
 }
 
-/// Makes a shape that imports a function with a parameter i32, and a memory.
+/// Creates a shape that imports a function with a parameter i32, and a memory.
 pub(crate) fn ping_and_memory(alloc: Global) -> Result<Shape, Error> {
     let groups = type_of_ping(alloc)?;
     Ok(shape_of(alloc, groups, ping_and_memory_imports(alloc)?))

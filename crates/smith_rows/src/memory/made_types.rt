@@ -10,7 +10,7 @@ pub(crate) fn with<T: Drop>(mut items: Items<T>, item: T) -> Result<Items<T>, Er
     Ok(items)
 }
 
-// Makes a group of the type `ty` alone.
+// Creates a group of the type `ty` alone.
 fn group_of(alloc: Global, ty: SubType) -> Result<Items<SubType>, Error> {
     with(Items::new(alloc), ty)
 }
@@ -24,7 +24,7 @@ pub(crate) fn with_type(
     with(groups, group_of(alloc, ty)?)
 }
 
-/// Makes a struct type without fields, with the supertype `supertype`, if any.
+/// Creates a struct type without fields, with the supertype `supertype`, if any.
 pub(crate) fn empty_struct(alloc: Global, is_final: bool, supertype: Option<u32>) -> SubType {
     SubType {
         is_final,
@@ -38,7 +38,7 @@ pub(crate) fn empty_struct(alloc: Global, is_final: bool, supertype: Option<u32>
     }
 }
 
-/// Makes a function type from `params` to `results`.
+/// Creates a function type from `params` to `results`.
 pub(crate) fn function(
     alloc: Global,
     is_final: bool,

@@ -9,7 +9,7 @@ use std::alloc::Global;
 use std::test::Fail;
 use wasm_smith::Module;
 
-// Module that is drawn from `input`, for a copy of `config`.
+// A module that is drawn from `input`, for a copy of `config`.
 #[derive(Clone, Copy)]
 struct Drawing<'a> {
     config: &'a Config,

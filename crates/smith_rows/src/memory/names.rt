@@ -20,7 +20,7 @@ const INPUT: &[u8] = &[
     15, 97, 98, 99, 100, 101, 102, 103, 104, 105, 106, 107, 108, 109, 110, 111, 112,
 ];
 
-// Name that is drawn, distinct from `names`. `copy` has the names before the draw.
+// A name that is drawn, distinct from `names`. `copy` has the names before the draw.
 #[derive(Drop)]
 struct Naming {
     kind: Kind,

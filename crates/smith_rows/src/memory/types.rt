@@ -10,7 +10,7 @@ use std::test::Fail;
 #[derive(Drop)]
 struct Pushes;
 
-// The pushes: whether each is of a group, and how many types and groups stand before it.
+// The pushes: whether each is of a group, and how many types and groups exist before it.
 const PUSHES: [(bool, u32, usize); 7] = [
     (false, 0, 0),
     (false, 1, 0),

@@ -21,7 +21,7 @@ pub(crate) fn whole(alloc: Global, module: &Module) -> Result<String, Error> {
     }
 }
 
-// Writer that keeps nothing: it fails where what is written is not the text that is expected.
+// A writer that keeps nothing and fails where the written text differs from the expected text.
 #[derive(Drop)]
 struct Expecting<'a> {
     rest: &'a [u8],
@@ -37,7 +37,7 @@ impl fmt::Write for Expecting<'_> {
     }
 }
 
-/// Returns whether `text` is what [`whole`] returns for `module`. Takes no memory.
+/// Returns whether `text` equals the result of [`whole`] for `module`. Does not allocate.
 pub(crate) fn is_whole(module: &Module, text: &str) -> bool {
     let mut expecting = Expecting {
         rest: text.as_bytes(),
