@@ -12,7 +12,7 @@ power_kind zero = inl refl
 power_kind (suc zero) = inr (inl refl)
 power_kind (suc (suc i)) = inr (inr (2 ^ i, omega arith))
 
--- a number with the remainder 1 by 4, above 1 and below 2^63, is not near a power of two
+-- a number with remainder 1 modulo 4, above 1 and below 2^63, is not near a power of two
 pub not_near_power : (n q : ℕ) → n ≡ 4 * q + 1 → 1 < n → n < 2 ^ 63 → IsNearPower n → ⊥
 not_near_power n q is low high (i, fits, edge) =
     elim (power_kind i) [
