@@ -8,7 +8,7 @@ use std::io;
 use std::io::{ErrorKind, Read, Write};
 use std::test::Fail;
 
-// Maximum number of bytes of a line of the program.
+// The maximum number of bytes of a line of the program.
 const MOST_BYTES: usize = 512;
 
 // Inputs without bytes, with a function, with imports in a group, and with bytes that are not text.
@@ -19,7 +19,7 @@ const INPUTS: [&[u8]; 4] = [
     &[3, 102, 255, 4, 2, 4, 8, 6, 9, 2, 5, 200],
 ];
 
-/// Reader that returns one byte of an input per read, and fails at one of the reads, counted from
+/// A reader that returns one byte of an input per read, and fails at one of the reads, counted from
 /// 1.
 #[derive(Drop)]
 struct Trickle {
@@ -46,7 +46,7 @@ impl Read for Trickle {
     }
 }
 
-/// Writer that keeps a line in its own memory. Takes one byte per write, and fails at one of the
+/// A writer that keeps a line in its own memory. Takes one byte per write, and fails at one of the
 /// writes, counted from 1.
 #[derive(Drop)]
 struct Page {
@@ -156,7 +156,7 @@ fn each_write_fails_in_turn(rt: HostRuntime) {
     }
 }
 
-/// Run over an input in memory.
+/// A run over an input in memory.
 #[derive(Drop)]
 struct Running {
     input: &'static [u8],

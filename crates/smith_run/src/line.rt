@@ -6,7 +6,7 @@ ghost use Rattle.smith_run.specs.Line.{line_of, counts_line, index_or_none};
 use arrayvec::ArrayString;
 use wasm_smith::{Error, Module};
 
-/// Line of text, which takes no memory. Lines of this program have at most 400 bytes.
+/// A line of text, which does not allocate. Lines of this program have at most 400 bytes.
 pub type Line = ArrayString<512>;
 
 /// Returns the line for `answer`, a module or a refusal.

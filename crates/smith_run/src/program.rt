@@ -10,7 +10,7 @@ use crate::source::Source;
 use crate::words::{status, words};
 use std::alloc::Global;
 
-/// Fault of the program, after which there is no outcome.
+/// A fault of the program, after which there is no outcome.
 #[derive(Clone, Copy, Debug, PartialEq, Eq, thiserror::Error)]
 pub enum ProgramFault {
     /// The words are not accepted. Nothing was read or written.
@@ -24,11 +24,11 @@ pub enum ProgramFault {
 /// Runs the program for `asked`, the words after its name. Checks `asked` first, then reads `r` to
 /// its end and writes a line to `w` as [`run`] does.
 ///
-/// Neither `r` nor `w` has failed before.
+/// Requires that neither `r` nor `w` has failed.
 ///
 /// # Errors
 ///
-/// `Usage` if `asked` is not accepted, else the faults of [`run`].
+/// Returns `Usage` if `asked` is not accepted, else the faults of [`run`].
 pub fn run_words<R: Source, W: Sink>(
     alloc: Global,
     asked: &[String],

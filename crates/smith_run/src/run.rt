@@ -10,7 +10,7 @@ use crate::source::{Failed, InputFault, Source, read_whole};
 use std::alloc::Global;
 use wasm_smith::{Config, Error, Module, Unstructured};
 
-/// Outcome that the written line reports.
+/// The outcome that the written line reports.
 #[derive(Clone, Copy, Debug, PartialEq, Eq)]
 pub enum Outcome {
     /// A module was drawn.
@@ -19,7 +19,7 @@ pub enum Outcome {
     Refused(Error),
 }
 
-/// Fault of a run, after which there is no whole line.
+/// A fault of a run, after which there is no whole line.
 #[derive(Clone, Copy, Debug, PartialEq, Eq, thiserror::Error)]
 pub enum RunFault {
     /// The input was not read to its end. Nothing was written.
@@ -31,10 +31,10 @@ pub enum RunFault {
 }
 
 /// Reads `r` to its end, draws a module from the bytes, and writes a line to `w` that reports the
-/// module or the refusal. The line takes no memory. If `drawn` is set, the configuration is drawn
-/// from the bytes first, else it is the default. Only lack of memory refuses a module.
+/// module or the refusal. The line does not allocate. If `drawn` is set, the configuration is drawn
+/// from the bytes first, else it is the default. A module is refused only for lack of memory.
 ///
-/// Neither `r` nor `w` has failed before.
+/// Requires that neither `r` nor `w` has failed.
 ///
 /// # Errors
 ///

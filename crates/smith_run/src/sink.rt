@@ -6,7 +6,7 @@ ghost use Rattle.std.specs.Io.KnownBytes.{WriteAppends, Appends};
 use crate::source::Failed;
 use std::io::Write;
 
-/// Destination of the program's output.
+/// The destination of the program's output.
 pub trait Sink {
     // The bytes written so far, if the sink knows them.
     ghost written: { Self → Option (List ℕ) } = { λ _. None };
@@ -27,8 +27,8 @@ pub trait Sink {
         ensures { result ≡ failed self.now };
 }
 
-/// Sink that writes to a writer. Every error is a failure, even an interruption, and so is a write
-/// that takes nothing of a piece that is not empty.
+/// A sink that writes to a writer. Every error is a failure, even an interruption, and so is a
+/// write that takes nothing of a piece that is not empty.
 #[derive(Drop)]
 pub struct FromWrite<W> {
     writer: W,
@@ -36,7 +36,7 @@ pub struct FromWrite<W> {
 }
 
 impl<W: Write> FromWrite<W> {
-    /// Makes a sink that appends to the contents of `writer`. Takes no memory.
+    /// Creates a sink that appends to the contents of `writer`. Does not allocate.
     pub fn new(writer: W) -> Self
         ensures written { ⟦<FromWrite<W> as Sink>⟧.written result ≡ W.contents writer }
         ensures fresh { ⟦<FromWrite<W> as Sink>⟧.failed result ≡ false }

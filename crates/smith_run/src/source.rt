@@ -8,11 +8,11 @@ ghost use Rattle.smith_run.specs.declared.source.InputFault.TheVariants.{Read, M
 use std::alloc::{AllocError, Global};
 use std::io::Read;
 
-/// Failure of a read or a write, without its reason.
+/// A failure of a read or a write, without its reason.
 #[derive(Clone, Copy, Debug)]
 pub struct Failed;
 
-/// Source of the program's input.
+/// The source of the program's input.
 pub trait Source {
     // The bytes that later reads will return, if the source knows them.
     ghost left: { Self → Option (List ℕ) } = { λ _. None };
@@ -32,7 +32,7 @@ pub trait Source {
         ensures { result ≡ failed self.now };
 }
 
-/// Source that reads from a reader. Every error is a failure, even an interruption.
+/// A source that reads from a reader. Every error is a failure, even an interruption.
 #[derive(Drop)]
 pub struct FromRead<R> {
     reader: R,
@@ -40,7 +40,7 @@ pub struct FromRead<R> {
 }
 
 impl<R: Read> FromRead<R> {
-    /// Makes a source of the remaining input of `reader`. Takes no memory.
+    /// Creates a source of the remaining input of `reader`. Does not allocate.
     pub fn new(reader: R) -> Self
         ensures left { ⟦<FromRead<R> as Source>⟧.left result ≡ R.remaining reader }
         ensures fresh { ⟦<FromRead<R> as Source>⟧.failed result ≡ false }
@@ -72,7 +72,7 @@ impl<R: Read> Source for FromRead<R> {
     }
 }
 
-/// Fault after which an input is not read whole.
+/// A fault after which an input is not read whole.
 #[derive(Clone, Copy, Debug)]
 pub enum InputFault {
     /// A read failed.

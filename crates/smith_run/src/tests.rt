@@ -7,7 +7,7 @@ use std::io;
 use std::io::{ErrorKind, Read, Write};
 use std::test::Fail;
 
-/// Reader that returns one zero per read, and fails at one of the reads.
+/// A reader that returns one zero per read, and fails at one of the reads.
 #[derive(Drop)]
 struct ZeroReader {
     reads: usize,
@@ -29,7 +29,7 @@ impl Read for ZeroReader {
     }
 }
 
-/// Writer that takes one byte per write, and at one of the writes fails or takes nothing.
+/// A writer that takes one byte per write, and at one of the writes fails or takes nothing.
 #[derive(Drop)]
 struct ByteWriter {
     writes: usize,

@@ -6,7 +6,7 @@ ghost use Rattle.smith_run.specs.Words.{drawn_by};
 use crate::run::{Outcome, RunFault};
 
 /// Returns whether `words`, the words after the program's name, select a configuration that is
-/// drawn from the input. Returns none if `words` are not accepted.
+/// drawn from the input. Returns `None` if `words` are not accepted.
 pub fn words(words: &[String]) -> Option<bool>
     ensures { result ≡ drawn_by (map string_bytes words.now) }
 {
