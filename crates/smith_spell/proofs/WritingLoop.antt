@@ -33,7 +33,7 @@ unfolding Listed
 listed_end Item zero piece h = h
 listed_end Item (suc room) piece h = rw (lt-ltb 0 (suc room) (omega arith)) at h
 
--- one item more of a list
+-- one more item of a list
 pub leads_each : {A : Type 0} (Item : A → List ℕ → Type 0) {Whole : List ℕ → Type 0} {start now later : List ℕ} (i : ℕ) (xs : List A) (x d : A) → i < length xs → x ≡ get_or xs i d
     → Leads (Each Item (drop i xs)) Whole start now → Writes (Item x) now later → Leads (Each Item (drop (i + 1) xs)) Whole start later
 unfolding Each

@@ -3,7 +3,7 @@ use Rattle.std.proofs.Common.{◌≡◌, ℕ, List, [], ◌∷◌, ◌++◌, ref
 use Rattle.smith_bytes.specs.Spelling.{Joined}
 use Rattle.smith_spell.specs.Written.{Writes}
 
--- no byte, if no byte spells it
+-- nothing is written if no byte spells the item
 pub nothing_written : {Spells : List ℕ → Type 0} {old : List ℕ} → Spells [] → Writes Spells old old
 nothing_written {old = old} spelled = record { piece = []; spelled = spelled; whole = sym (append-nil old) }
 

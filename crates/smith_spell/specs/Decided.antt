@@ -1,4 +1,4 @@
--- Wholes as the parts that decisions test. Proofs turn each into the equal rule of the family.
+-- Properties of wholes, stated for the parts that decisions test. Proofs derive the family's rules.
 use Rattle.std.specs.Prelude.{◌≡◌, ◌<◌, ◌≤◌, false, IsTrue, List, [], ◌∷◌, ◌++◌, length, All}
 use Rattle.std.specs.List.{list_any}
 use Rattle.smith_types.specs.Grounds.{is_ground_of}

@@ -25,7 +25,7 @@ pub record IsSummary (types : List SubType) (before : Before) : Type 0 where
   pub counted : before.count ≡ length types
   pub open_told : before.has_open ≡ list_any is_open types
 
--- a property holds of some list of types that is no longer than the limit
+-- a property holds for some list of types that is no longer than the limit
 pub record OverSome (limit : ℕ) (Holds : List SubType → Type 0) : Type 0 where
   pub types : List SubType
   pub few : length types ≤ limit

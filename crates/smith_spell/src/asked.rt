@@ -8,7 +8,7 @@ ghost use Rattle.smith_spell.specs.Decided.{AsksForNothing};
 use smith_config::Config;
 
 /// Returns whether `config`, once sanitised, imposes no minimums, shapes or export-everything.
-/// Takes no memory, and reads no shape.
+/// Does not allocate, and reads no shape.
 pub(crate) fn asks_for_nothing(config: &Config) -> bool
     ensures { IsTrue result ↔ AsksForNothing (sanitized config.now) }
 {

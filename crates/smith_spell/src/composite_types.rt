@@ -145,7 +145,7 @@ pub(crate) fn write_inner(
     }
 }
 
-/// Writes `inner`, a function type, without a kind. `config` has no garbage collection.
+/// Writes `inner`, a function type, without a kind. Requires garbage collection to be off.
 pub(crate) fn write_plain_function(
     config: &Config,
     limit: usize,

@@ -19,7 +19,7 @@ use std::marker::Model;
 /// Facts about a list of types that decide which abstract heap types they ground.
 #[derive(Clone, Copy)]
 pub(crate) struct Known {
-    /// Number of the types.
+    /// The number of types.
     pub(crate) count: usize,
     /// Whether one of the types is an unshared struct type whose fields all have defaults.
     pub(crate) has_ground: bool,
@@ -72,8 +72,8 @@ impl<'a> Model for Earlier<'a> {
 }
 
 impl<'a> Earlier<'a> {
-    /// Makes the list of the types of `groups`, followed by those of `group`. `known` are the facts
-    /// about all of them.
+    /// Creates the list of the types of `groups`, followed by those of `group`. `known` holds the
+    /// facts about all of them.
     pub(crate) fn new(
         groups: &'a [Items<SubType>],
         group: &'a [SubType],
@@ -89,7 +89,7 @@ impl<'a> Earlier<'a> {
         }
     }
 
-    /// Returns the number of the types.
+    /// Returns the number of types.
     pub(crate) fn count(&self) -> usize
         ensures { result ≡ length self.now }
     {

@@ -13,8 +13,8 @@ use smith_config::Config;
 use smith_types::{Items, SubType, TypeSpace, are_funcs_valid, type_space_of};
 use std::alloc::Global;
 
-/// Returns the type space of `groups` if `groups` and `funcs` are in the family of `config`, else
-/// none. Takes memory only if `groups` are those of a member, and `funcs` are few enough.
+/// Returns the type space of `groups` if `groups` and `funcs` are in the family of `config`, or
+/// `None`. Allocates only if `groups` are those of a member, and `funcs` are few enough.
 pub(crate) fn member_space(
     alloc: Global,
     config: &Config,
@@ -44,7 +44,7 @@ pub(crate) fn member_space(
     Ok(Some(space))
 }
 
-/// Returns whether the groups of a member of the family may be `groups`. Takes no memory.
+/// Returns whether the groups of a member of the family may be `groups`. Does not allocate.
 fn are_groups_in_family(config: &Config, groups: &[Items<SubType>]) -> bool
     ensures { IsTrue result ↔ AreGroupsInFamily config.now groups.now }
 {
@@ -103,8 +103,8 @@ fn are_members(config: &Config, groups: &[Items<SubType>]) -> bool
     true
 }
 
-// Returns the facts about the types of `groups` followed by those of `group`, or none if a type of
-// `group` isn't a member there. `known` are the facts about the types of `groups`.
+// Returns the facts about the types of `groups` followed by those of `group`, or `None` if a type
+// of `group` isn't a member there. `known` are the facts about the types of `groups`.
 fn known_after(
     config: &Config,
     groups: &[Items<SubType>],

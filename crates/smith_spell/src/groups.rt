@@ -14,7 +14,7 @@ use smith_config::Config;
 use smith_types::{Items, SubType};
 
 /// Writes the size `size` of a group, which is at most `room`. First writes that no group is cloned
-/// if `stands` is set: a group exists before it. Writes nothing without garbage collection.
+/// if a group exists before it, as `stands` states. Writes nothing without garbage collection.
 fn write_size(
     config: &Config,
     stands: bool,

@@ -9,7 +9,7 @@ mod examples;
 mod family;
 mod funcs;
 mod groups;
-/// Laws: functions without effect, whose clauses state properties.
+/// Laws: functions with empty bodies whose clauses state theorems.
 pub mod laws;
 mod member;
 mod member_type;

@@ -23,7 +23,7 @@ use smith_types::{
     SubType, ValType,
 };
 
-/// Maximum number of parameters, of results and of fields.
+/// The maximum number of parameters, of results and of fields.
 const MOST: usize = 20;
 
 /// Returns whether `ty` may follow `earlier` in lists of the family of `config`.

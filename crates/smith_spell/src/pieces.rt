@@ -15,7 +15,7 @@ pub(crate) fn write_bool(value: bool, bytes: &mut Items<u8>) -> Result<(), Error
     bytes.push(u8::from(value))
 }
 
-/// Writes that a loop ends, if it `may_go_on`.
+/// Writes the end of a loop if `may_go_on` is set.
 pub(crate) fn write_end(may_go_on: bool, bytes: &mut Items<u8>) -> Result<(), Error>
     ensures writes { OnOk result (Writes (Where may_go_on (SpellsBool false)) bytes.old bytes.new) }
     ensures memory { IfErr result (λ e. e ≡ Memory) }

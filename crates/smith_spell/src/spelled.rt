@@ -16,7 +16,7 @@ use smith_config::Config;
 use smith_types::{Items, SubType};
 use std::alloc::Global;
 
-/// Returns the sanitised `config` if that passes its check, else none.
+/// Returns the sanitised `config` if that passes its check, or `None`.
 fn passing(alloc: Global, config: &Config) -> Result<Option<Config>, Error>
     ensures found { IfOk result (λ found. MatchOption found (¬ Passes (sanitized config.now))
         (λ own. (own ≡ sanitized config.now) × Passes (sanitized config.now))) }
@@ -31,7 +31,7 @@ fn passing(alloc: Global, config: &Config) -> Result<Option<Config>, Error>
     Ok(Some(own))
 }
 
-/// Returns bytes that spell `groups` and `funcs` if these are in the family of `config`, else none.
+/// Returns bytes that spell `groups` and `funcs` if these are in the family of `config`, or `None`.
 fn spell_in_family(
     alloc: Global,
     config: &Config,
@@ -56,7 +56,7 @@ fn spell_in_family(
 /// Spells `groups` and `funcs`: returns bytes from which a module for `config` has the types and
 /// groups of `groups`, and functions with the type indices `funcs`, whatever follows the bytes.
 ///
-/// Returns none if no bytes are certain to produce such a module:
+/// Returns `None` if no bytes are certain to produce such a module:
 ///
 /// - `config`, once sanitised, fails its check, sets a minimum, holds a shape or exports
 ///   everything;
@@ -66,15 +66,15 @@ fn spell_in_family(
 /// references are nullable, unless `config` enables non-nullable ones and an earlier struct type,
 /// whose fields all have defaults, is below the heap type of the reference.
 ///
-/// Takes memory only if `config` and `groups` allow bytes, and `config` allows as many functions as
-/// `funcs`.
+/// Allocates only if `config` and `groups` allow bytes, and `config` allows as many functions as
+/// `funcs` has.
 ///
 /// A byte 1 continues a list; a byte 0 ends it, if it could continue. The bytes clone no group,
 /// choose no supertype, import nothing and define no tag.
 ///
 /// # Errors
 ///
-/// `Memory` for lack of memory.
+/// Returns [`Error::Memory`] if an allocation fails.
 ///
 /// # Examples
 ///

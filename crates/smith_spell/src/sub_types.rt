@@ -13,10 +13,10 @@ use smith_bytes::Error;
 use smith_config::Config;
 use smith_types::{Items, SubType};
 
-/// Summary of the types before others, which decides the bytes of the others.
+/// A summary of the types before others, which decides the bytes of the others.
 #[derive(Clone, Copy)]
 pub(crate) struct Before {
-    /// Number of these types.
+    /// The number of these types.
     pub(crate) count: usize,
     /// Whether one of these types may have subtypes.
     pub(crate) has_open: bool,
