@@ -5,7 +5,7 @@ use crate::text_form::TextForm;
 use smith_types::{EntityType, ExportKind, GlobalType, MemoryType, TableType};
 use std::fmt;
 
-// Initial size, and its maximum.
+// An initial size, and its maximum.
 #[derive(Drop)]
 struct Limits {
     minimum: u64,

@@ -35,12 +35,12 @@ fn write_trap<S: Sink>(fuel_globals: &[u32], sink: &mut S) -> fmt::Result
 /// The instructions of the bodies of a module, as text.
 pub trait BodyText {
     /// Writes the instructions of the defined function `place` to `sink`, of which no write has
-    /// failed: a line each, at least four spaces deep. `body` is the module's, and `fuel_globals`
+    /// failed: one line each, at least four spaces deep. `body` is the module's, and `fuel_globals`
     /// are the indices of its globals that count fuel.
     ///
     /// # Errors
     ///
-    /// The error of the first write that fails. Nothing is written after it.
+    /// Returns the error of the first write that fails. Nothing is written after it.
     fn write_body<S: Sink>(
         &self,
         place: usize,

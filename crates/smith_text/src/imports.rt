@@ -6,7 +6,7 @@ use crate::text_form::TextForm;
 use smith_types::{EntityType, Import, ImportItem, Imports, Items, Name};
 use std::fmt;
 
-/// Numbers of imports of each kind so far: the index of the next one.
+/// The number of imports of each kind so far, which is the index of the next one.
 #[derive(Default, Drop)]
 struct NextIndices {
     globals: u32,

@@ -13,8 +13,8 @@ use std::alloc::Global;
 use std::fmt;
 use wasm_smith::Module;
 
-// Writes those of `tables` that a module defines, the last, with their initialisers. The section
-// Text Format, Tables. A table without an initialiser has null references.
+// Writes those of `tables` that a module defines, which are the last, with their initialisers. The
+// section Text Format, Tables. A table without an initialiser has null references.
 fn write_tables<S: Sink>(
     tables: &[TableType],
     initialisers: &[Option<Items<ConstInstr>>],
@@ -59,8 +59,8 @@ fn write_tags<S: Sink>(tags: &[u32], defined: usize, sink: &mut S) -> fmt::Resul
     Ok(())
 }
 
-// Writes those of `globals` that a module defines, the last, with their indices and initialisers.
-// The section Text Format, Globals.
+// Writes those of `globals` that a module defines, which are the last, with their indices and
+// initialisers. The section Text Format, Globals.
 fn write_globals<S: Sink>(
     globals: &[GlobalType],
     initialisers: &[(u32, Items<ConstInstr>)],
@@ -103,7 +103,7 @@ fn write_exports<S: Sink>(
 ///
 /// # Errors
 ///
-/// The error of the first write that fails. Nothing is written after it.
+/// Returns the error of the first write that fails. Nothing is written after it.
 pub fn write_with_bodies<B: BodyText, S: Sink>(
     module: &Module,
     bodies: &B,
@@ -128,20 +128,20 @@ pub fn write_with_bodies<B: BodyText, S: Sink>(
     write_notes(module, sink)
 }
 
-/// The section Text Format, Modules: a field a line, in the order of the sections of the binary
-/// format, functions in the place of their bodies. Lines of comments follow for values that the
-/// text format cannot express.
+/// The section Text Format, Modules: one field per line, in the order of the sections of the binary
+/// format, with functions in the place of their bodies. Lines of comments follow for values that
+/// the text format cannot express.
 impl TextForm for Module {
     fn write_text<S: Sink>(&self, sink: &mut S) -> fmt::Result {
         write_with_bodies(self, &OwnBodies, sink)
     }
 }
 
-/// Returns the text of `module`, as [`TextForm::write_text`] writes it, in new memory from `alloc`.
+/// Returns the text of `module`, as [`TextForm::write_text`] writes it, allocated from `alloc`.
 ///
 /// # Errors
 ///
-/// `Memory` for lack of memory.
+/// Returns `Memory` if an allocation fails.
 pub fn text(alloc: Global, module: &Module) -> Result<String, Error>
     ensures memory { IfErr result (λ e. e ≡ Error.Memory) }
 {

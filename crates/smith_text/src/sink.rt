@@ -3,16 +3,16 @@ ghost use Rattle.std.specs.Prelude.{◌≡◌, Bool, false, is_err};
 use std::fmt;
 use std::fmt::Display;
 
-/// Destination of text. It is written to until a write fails.
+/// A destination of text, written to until a write fails.
 pub trait Sink {
     // Whether a write has failed.
     ghost failed: { Self → Bool };
 
-    /// Writes `text`. No write of the sink has failed before.
+    /// Writes `text`. Requires that no write of the sink has failed.
     ///
     /// # Errors
     ///
-    /// The error of the destination.
+    /// Returns the error of the destination.
     fn write_str(&mut self, text: &str) -> fmt::Result
         requires open { failed self.old ≡ false }
         ensures fault { failed self.new ≡ is_err result };
@@ -24,7 +24,7 @@ pub trait Sink {
         ensures fault { failed self.new ≡ is_err result };
 }
 
-/// Sink that writes to any writer of text.
+/// A sink that writes to any writer of text.
 #[derive(Drop)]
 pub struct FromFmt<W> {
     writer: W,
@@ -32,7 +32,7 @@ pub struct FromFmt<W> {
 }
 
 impl<W: fmt::Write> FromFmt<W> {
-    /// Makes a sink that appends to the contents of `writer`. Takes no memory.
+    /// Creates a sink that appends to the contents of `writer`. Does not allocate.
     pub fn new(writer: W) -> Self
         ensures open { ⟦<FromFmt<W> as Sink>⟧.failed result ≡ false }
     {

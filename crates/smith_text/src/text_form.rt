@@ -11,7 +11,7 @@ pub trait TextForm {
     ///
     /// # Errors
     ///
-    /// The error of the first write that fails. Nothing is written after it.
+    /// Returns the error of the first write that fails. Nothing is written after it.
     fn write_text<S: Sink>(&self, sink: &mut S) -> fmt::Result
         requires open { S.failed sink.old ≡ false }
         ensures fault { S.failed sink.new ≡ is_err result };
@@ -24,7 +24,7 @@ impl TextForm for &str {
     }
 }
 
-/// A value that is lent is written as the value.
+/// A borrowed value is written as the value.
 impl<T: TextForm> TextForm for &T {
     fn write_text<S: Sink>(&self, sink: &mut S) -> fmt::Result {
         (**self).write_text(sink)
