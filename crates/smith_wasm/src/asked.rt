@@ -14,7 +14,7 @@ use std::mem;
 // The default number of allowed calls and iterations of loops.
 const DEFAULT_FUEL: u32 = 100;
 
-/// Request of the command line.
+/// The request of the command line.
 #[derive(Drop)]
 pub(crate) struct Asked<'m, 'w> {
     /// The words of the command line.

@@ -3,7 +3,7 @@ use smith_output::OutputFault;
 use std::alloc::{AllocError, AllocFailed};
 use std::{fmt, io};
 
-/// Reason why the program ends without its output.
+/// The reason why the program ends without its output.
 #[derive(Debug, Drop)]
 pub(crate) enum Failure {
     /// A file or a stream was not read or written: its path, and why.
@@ -12,7 +12,7 @@ pub(crate) enum Failure {
     Stream(io::Error),
     /// A configuration file is refused: its path, and why.
     Config(String, ConfigRefusal),
-    /// The value of a word is none of the field of that name.
+    /// The value of a word is not a value of the field of that name.
     Word(&'static str, String),
     /// A module was not made or not written.
     Output(OutputFault),

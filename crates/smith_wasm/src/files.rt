@@ -27,7 +27,7 @@ pub(crate) fn read_input(rt: &HostRuntime) -> Result<Vec<u8>, Failure> {
     }
 }
 
-/// Writes `bytes` to the file at `path`, which is made or replaced.
+/// Writes `bytes` to the file at `path`, which is created or replaced.
 pub(crate) fn write_file(rt: &HostRuntime, path: &str, bytes: &[u8]) -> Result<(), Failure> {
     match fs::write(rt, path, bytes) {
         Ok(()) => Ok(()),
@@ -35,7 +35,7 @@ pub(crate) fn write_file(rt: &HostRuntime, path: &str, bytes: &[u8]) -> Result<(
     }
 }
 
-/// Makes the folder at `path`, and those above it, where there are none.
+/// Creates the folder at `path`, and those above it, if they do not exist.
 pub(crate) fn make_folder(rt: &HostRuntime, path: &str) -> Result<(), Failure> {
     match fs::create_dir_all(rt, path) {
         Ok(()) => Ok(()),

@@ -27,7 +27,7 @@ pub(crate) const SIZE: &str = "size";
 /// The word of the folder of a corpus.
 pub(crate) const OUTPUT_DIR: &str = "output-dir";
 
-/// Value of a word.
+/// The value of a word.
 #[derive(Clone, Copy)]
 enum Takes {
     /// Nothing.
@@ -38,7 +38,7 @@ enum Takes {
     Number,
 }
 
-/// Word of the command line that is not a field of the configuration.
+/// A word of the command line that is not a field of the configuration.
 struct Word {
     name: &'static str,
     short: Option<char>,
@@ -133,7 +133,7 @@ static WORDS: [Word; 10] = [
     },
 ];
 
-/// Makes the command line of the program.
+/// Creates the command line of the program.
 pub(crate) fn command<'a>(alloc: Global) -> Result<Command<'a>, Failure> {
     let command = Command::new(alloc, "smith_wasm").version("0.1.0").about(
         "Makes a valid WebAssembly module from the bytes of a file or of standard input.",
