@@ -1,4 +1,4 @@
--- The state after imports are added that no shape fixes.
+-- The state after imports that no shape fixes are added.
 use Rattle.std.proofs.Common.{◌≡◌, Bool, false, List, [], length, inl, inr, refl, sym, ap, subst, arith}
 use Rattle.std.specs.Prelude.{All, IsSome, Option, Some, None, is_some}
 use Rattle.smith_bytes.specs.declared.error.Count.TheVariants as counts

@@ -1,5 +1,5 @@
--- If nothing prevents a module, only lack of memory refuses it; and the refusals of the first shape
--- that fails its check.
+-- If nothing prevents a module, the only refusal is lack of memory; and the refusals of the first
+-- shape that fails its check.
 use Rattle.std.proofs.Common.{◌≡◌, ◌<◌, ℕ, refl, sym, arith, inl, inr, subst}
 use Rattle.std.specs.Prelude.{IsSome, IsSomeAnd, IfSome, Option, Some, None}
 use Rattle.smith_bytes.specs.declared.error.Error.{Error}
@@ -45,7 +45,7 @@ in_shape config reasons.SeveralTables h several = let may = (h.several (shape_br
 in_shape config reasons.Loop h never = never
 in_shape config reasons.RawBody h never = never
 
--- if nothing impossible is required, only lack of memory refuses
+-- if nothing impossible is required, the only refusal is lack of memory
 pub memory_alone : (config : Config) (e : Error) → AsksNothingImpossible config → MayRefuse config e → e ≡ errors.Memory
 memory_alone config errors.Memory h refused = refl
 memory_alone config (errors.Config fault) h refused = absurd (no_fault config h.may_give.passes fault refused.there)

@@ -281,7 +281,7 @@ rest_reached distinct config groups funcs numbers passive piece rest after sanit
     let ending : IfOk (ending_at config read.0 so_far drawn.1) (λ made. HasRest numbers passive made.0) = rw (numbered.left, made) ended in
     rw read.1 (subst (λ (bytes : List ℕ). let all = behind_funcs_at config types funcs bytes in IfOk (ending_at config read.0 (with_entities groups all.0) all.1) (λ made. HasRest numbers passive made.0)) (sym parts) ending)
 
--- a property of every module of these bytes, apart from interesting values, is one of the result
+-- a property of every module of these bytes, apart from interesting values, holds for the result
 answered : (Holds : ModuleParts → Type 0) (distinct : Bool) (config : Config) (bytes left : List ℕ) (answer : Result ModuleParts Error) → ((m : ModuleParts) → Holds (as_drawn m) → Holds m) → Returns is_lack (λ m. (as_drawn m, left)) answer (module_at distinct config bytes)
     → IfErr answer (λ e. e ≡ errors.Memory) → IfOk (module_at distinct config bytes) (λ drawn. Holds drawn.0) → MatchResult answer Holds (λ e. e ≡ errors.Memory)
 answered Holds distinct config bytes left (Ok m) keeps given memory held = keeps m (subst (λ (read : Result (ModuleParts × List ℕ) Error). IfOk read (λ drawn. Holds drawn.0)) given held)

@@ -16,7 +16,7 @@ use Rattle.smith_defined.specs.declared.definitions.Definitions.{Definitions}
 use Rattle.wasm_smith.specs.declared.build.parts_so_far.PartsSoFar.{PartsSoFar}
 use Rattle.smith_defined.proofs.DefinedLemmas.{added_weaker, all_behind}
 
--- of each kind there are at most the maximum, or as many as before
+-- each kind has at most its maximum number of items, or as many as before
 no_more_than : (config : Config) (before spaces : EntitySpaces) → AreFilled config before spaces → (count : Count) → IsOfEntities count → count_in spaces count ≤ max (maximum_of config count) (count_in before count)
 no_more_than config before spaces filled counts.Tags is = filled.tags.within
 no_more_than config before spaces filled counts.Funcs is = filled.funcs.within

@@ -3,13 +3,13 @@ ghost use Rattle.wasm_smith.specs.Termination.{CountingIsValid};
 
 pub use smith_spell::laws::groups_are_read;
 
-/// Proves that lists of types and functions are read back from the bytes that spell them, whatever
+/// States that lists of types and functions are read back from the bytes that spell them, whatever
 /// bytes follow.
 pub fn spelled_comes_back()
     ensures { SpelledComesBack }
 {}
 
-/// Proves that a valid module stays valid with a global that counts fuel.
+/// States that a valid module stays valid with a global that counts fuel.
 pub fn counting_is_valid()
     ensures { CountingIsValid }
 {}

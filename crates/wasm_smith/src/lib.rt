@@ -1,10 +1,10 @@
-//! Modules of WebAssembly from bytes. Whatever the bytes, a module is valid by the Core
+//! WebAssembly modules drawn from bytes. Whatever the bytes, a module is valid under the Core
 //! Specification 3.0, except for raw bodies. Proposals beyond it that the configuration enables (by
 //! default shared memories and compact imports) follow rules of this project.
 #![tactic(auto)]
 
 mod build;
-/// Laws: functions without effect, whose clauses state properties.
+/// Laws: functions with empty bodies whose clauses state theorems.
 pub mod laws;
 mod module;
 mod termination;

@@ -80,7 +80,7 @@ impl Model for Module {
     } };
 }
 
-/// Rule for imports of a module with the same module name and the same name.
+/// The rule for imports of a module with the same module name and the same name.
 #[derive(Clone, Copy, Debug, PartialEq, Eq)]
 pub enum DuplicateImportsBehavior {
     /// Imports keep the names that are drawn.
@@ -150,7 +150,7 @@ impl Module {
     ///   enable.
     /// - `EmptyChoose` if a shape holds a reference type that is not nullable, and no expression
     ///   has it.
-    /// - `Memory` for lack of memory.
+    /// - `Memory` if an allocation fails.
     ///
     /// # Examples
     ///
@@ -269,7 +269,7 @@ impl Module {
         self.drawn.imported.spaces.tables.as_slice()
     }
 
-    /// Returns the initialiser of each defined table, or none.
+    /// Returns the initialiser of each defined table, or `None`.
     pub fn defined_tables(&self) -> &[Option<Items<ConstInstr>>]
         ensures { result.now ≡ self.now.defined_tables }
     {
@@ -325,7 +325,7 @@ impl Module {
         self.drawn.contents.exports.as_slice()
     }
 
-    /// Returns the index of the start function, or none.
+    /// Returns the index of the start function, or `None`.
     pub fn start(&self) -> Option<u32>
         ensures { result ≡ self.now.start }
     {

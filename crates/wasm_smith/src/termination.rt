@@ -37,7 +37,7 @@ fn take_back<T: Drop>(alloc: Global, items: &mut Items<T>)
     *items = Items::from_vec(all);
 }
 
-// Makes the definition of a counter.
+// Creates the definition of a counter.
 fn initial(alloc: Global, index: u32, fuel: u32) -> Result<(u32, Items<ConstInstr>), Error>
     ensures ok { IfOk result (λ definition.
         definition ≡ (index, NumberConst (cast_signed w32 fuel) ∷ [])) }
@@ -58,7 +58,7 @@ fn push_counter(
 ) -> Result<u32, Error>
     requires room { length globals.old < 2 ^ 32 - 1 }
 
-    // What is added.
+    // The counter.
     ensures index { IfOk result (λ index. index ≡ length globals.old) }
     ensures globals { OnOk result (globals.new ≡ globals.old ++ counter ∷ []) }
     ensures definitions { IfOk result (λ index. defined_globals.new
@@ -96,14 +96,14 @@ impl Module {
     ///
     /// The counter follows all other globals, even past the maximum of the configuration, and is
     /// not exported. A further call adds another counter, which bodies check before the earlier
-    /// counters. The definition takes memory from `alloc`.
+    /// counters. The definition is allocated from `alloc`.
     ///
-    /// The module has fewer than 2^32 - 1 globals.
+    /// Requires the module to have fewer than 2^32 - 1 globals.
     ///
     /// # Errors
     ///
-    /// `IncorrectFormat(RawBody)` if a body is raw bytes, before which no check can be placed. The
-    /// module is unchanged after any error.
+    /// Returns `IncorrectFormat(RawBody)` if a body is raw bytes, before which no check can be
+    /// placed. The module is unchanged after any error.
     ///
     /// # Examples
     ///

@@ -29,7 +29,7 @@ use smith_imports::Imported;
 use smith_types::{Code, ExportKind, Items, Name, TypeSpace};
 use std::alloc::Global;
 
-/// Exports, start function, segments and bodies of a module.
+/// The exports, start function, segments and bodies of a module.
 #[derive(Drop)]
 pub(crate) struct Contents {
     /// The name of each export, and the kind and the index of its item.
@@ -38,7 +38,7 @@ pub(crate) struct Contents {
     pub(crate) type_size: u32,
     /// Whether a type section is written.
     pub(crate) encodes_types: bool,
-    /// The index of the start function, or none.
+    /// The index of the start function, or `None`.
     pub(crate) start: Option<u32>,
     /// The element and data segments.
     pub(crate) segments: Segments,
@@ -47,7 +47,7 @@ pub(crate) struct Contents {
 }
 
 impl Contents {
-    /// Makes empty contents. Takes no memory.
+    /// Creates empty contents. Does not allocate.
     pub(crate) fn none(alloc: Global) -> Self
         ensures { result ≡ record {
           exports = [];
@@ -88,7 +88,7 @@ pub(crate) fn draw_behind_exports(
     requires made { AreExportsMade config.now types.now.types
         (spaces_of imported.now) imported.now.type_size made }
 
-    // What is drawn.
+    // The draw.
     ensures exact { ReturnsWhy (λ contents. (contents, u.new)) result (behind_exports_at config.now
         types.now.types (imported_in imported.now) (spaces_of imported.now) made u.old) }
     ensures kept { IfOk result (AreContents config.now types.now.types (imported_in imported.now)
@@ -141,7 +141,7 @@ pub(crate) fn draw_contents(
     requires made { AreExportsMade config.now drawn.now.types.types
         (spaces_in drawn.now.imported.spaces) drawn.now.imported.type_size made }
 
-    // What is drawn.
+    // The draw.
     ensures exact { Returns is_lack (λ contents. (contents, u.new)) result
         (in_full (behind_exports_at config.now drawn.now.types.types
         (imported_in drawn.now.imported) (spaces_in drawn.now.imported.spaces) made u.old)) }

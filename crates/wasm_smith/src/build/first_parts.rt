@@ -112,7 +112,7 @@ pub(crate) fn begin(
     Ok(())
 }
 
-/// Makes an empty type space with room for the minimum number of types of `config`. The type space
+/// Creates an empty type space with room for the minimum number of types of `config`. The space
 /// records which heap types its types ground only if `config` has non-nullable references.
 fn no_types(alloc: Global, config: &Config) -> Result<TypeSpace, Error>
     ensures ok { IfOk result (λ space. space ≡ record { types = []; groups = [] }) }

@@ -46,7 +46,7 @@ pub(crate) fn build(
     requires sanitized { IsSanitized config }
     requires valid { AreShapesValid config }
 
-    // What is drawn.
+    // The draw.
     ensures exact { Returns is_lack (λ m. (as_drawn m, u.new)) result
         (module_at distinct config u.old) }
     ensures config { IfOk result (λ m. m.config ≡ record config { available_imports = None }) }

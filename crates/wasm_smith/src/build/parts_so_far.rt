@@ -27,7 +27,7 @@ use smith_rules::collect_interesting_values;
 use smith_types::{Items, TypeSpace};
 use std::alloc::Global;
 
-/// Parts of a module, as they are drawn.
+/// The parts of a module, as they are drawn.
 #[derive(Drop)]
 pub(crate) struct PartsSoFar {
     /// The types, in their recursive groups.
@@ -47,7 +47,7 @@ pub(crate) struct PartsSoFar {
 }
 
 impl PartsSoFar {
-    /// Makes empty parts. Takes no memory.
+    /// Creates empty parts. Does not allocate.
     pub(crate) fn none(alloc: Global) -> Self
         ensures { HasNothing result }
     {
@@ -113,7 +113,7 @@ pub(crate) fn draw(
     requires sanitized { IsSanitized config.now }
     requires valid { AreShapesValid config.now }
 
-    // What is drawn.
+    // The draw.
     ensures exact { Returns is_lack (λ drawn. (as_drawn (parts_of config.now drawn.value), u.new))
         result (module_at distinct config.now u.old) }
 

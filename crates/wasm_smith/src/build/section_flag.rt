@@ -6,8 +6,8 @@ ghost use Rattle.smith_bytes.specs.Steps.{section_flag_at};
 
 use smith_bytes::Unstructured;
 
-/// Draws whether a section of `count` types or groups of imports is written. Returns true without a
-/// draw if `count` is above 0.
+/// Draws whether a section of `count` types or groups of imports is written. Returns `true` without
+/// a draw if `count` is above 0.
 #[tactic(auto, unfolding(smith_bytes::specs::Steps::section_flag_at))]
 pub(crate) fn draw_section_flag(count: usize, u: &mut Unstructured<'_>) -> bool
     ensures draws { AlwaysDraws (section_flag_at count u.old) result u.old u.new }

@@ -18,7 +18,7 @@ use smith_imports::Imported;
 use smith_types::{DataSegment, ElementSegment, Items, TypeSpace};
 use std::alloc::Global;
 
-/// Segments of a module.
+/// The segments of a module.
 #[derive(Drop)]
 pub(crate) struct Segments {
     /// The element segments.
@@ -28,7 +28,7 @@ pub(crate) struct Segments {
 }
 
 impl Segments {
-    /// Makes empty lists of segments. Takes no memory.
+    /// Creates empty lists of segments. Does not allocate.
     pub(crate) fn none(alloc: Global) -> Self
         ensures { result ≡ record { elements = []; data_segments = [] } }
     {
@@ -54,7 +54,7 @@ pub(crate) fn draw_segments(
     requires told { TellsImported (imported_in imported.now)
         (spaces_of imported.now) definitions.now }
 
-    // What is drawn.
+    // The draw.
     ensures exact { ReturnsWhy (λ segments. (segments, u.new)) result (all_segments_at config.now
         types.now.types (imported_in imported.now) (spaces_of imported.now) u.old) }
     ensures fit { IfOk result (AreSegmentsFit config.now types.now.types (imported_in imported.now)

@@ -62,7 +62,7 @@ pub(crate) fn add_imports(
     requires sanitized { IsSanitized config.now }
     requires types { AreTypesDrawn config.now drawn.old }
 
-    // What is drawn.
+    // The draw.
     ensures exact { Returns is_lack (λ _. (module_so_far drawn.new, u.new)) result
         (imported_at distinct config.now (module_so_far drawn.old) u.old) }
 
@@ -97,7 +97,7 @@ pub(crate) fn add_definitions(
     requires valid { AreShapesValid config.now }
     requires imports { AreImportsDrawn config.now drawn.old }
 
-    // What is drawn.
+    // The draw.
     ensures exact { Returns is_lack (λ _. (module_so_far drawn.new, u.new)) result
         (defined_at config.now (module_so_far drawn.old) u.old) }
 

@@ -34,7 +34,7 @@ pub(crate) fn add_more_types(
     requires sanitized { IsSanitized config.now }
     requires valid { AreTypesValid (features_of config.now) types.old }
 
-    // What is drawn.
+    // The draw.
     ensures draws { DrawsInto
         (types_at config.now (functions_over config.now funcs.now imported_funcs) types.old u.old)
         types.new result u.old u.new }
