@@ -4,25 +4,26 @@
  *
  * Each call takes a configuration, an input, and a buffer for its output. All three are a pointer and a number of bytes.
  *
- * - `config` is a JSON object in the form of the Rust crate `wasm-smith`, as {"max-types": 3}, in UTF-8, without a zero at its end.
- *   Of length 0 it is the default configuration.
- * - `input` is any bytes. The same configuration and input give the same module.
+ * - `config` is a JSON object in the form of the Rust crate `wasm-smith`, such as {"max-types": 3}, in UTF-8, without a zero at its end.
+ *   With length 0 it is the default configuration.
+ * - `input` is any bytes. The same configuration and input produce the same module.
  * - No pointer may be null, even where its length is 0, and `out` may overlap neither `config` nor `input`.
  *   No length may be above PTRDIFF_MAX.
  * - A call writes all of its output to the front of `out` and leaves the other bytes as they are, or it leaves all of `out` as it is.
  *   It keeps no pointer.
  *
- * Any number of threads may call at the same time, each with a buffer of its own. A call takes memory from malloc, which must be
- * thread-safe then, and gives all of it back. It uses the stack, more of it for deeper modules, so give a thread the usual 8 MiB. Do
- * not call from a signal handler.
+ * Any number of threads may call at the same time, each with a buffer of its own. A call allocates with malloc, which must be
+ * thread-safe then, and frees all that it allocated. It uses the stack, more of it for deeper modules, so give a thread the usual
+ * 8 MiB. Do not call from a signal handler.
  *
- * The module is the one that the definitions of this project give. But for raw bodies it is valid by the WebAssembly Core
- * Specification 3.0 and, for proposals beyond it that the configuration turns on (by default shared memories, compact imports and, in
- * bodies, atomic accesses and arithmetic on 128 bits), by rules of this project; docs/DEFINITIONS.md lists both. Each body is typed over it. What smith_binary writes is a binary of it. All
- * this is proved for every input. Nothing checks that a caller in C keeps the rules above.
+ * The module is determined by the definitions of this project. Apart from raw bodies it is valid by the WebAssembly Core
+ * Specification 3.0 and, for proposals beyond it that the configuration turns on (by default shared memories, compact imports and,
+ * in bodies, atomic accesses and arithmetic on 128 bits), by rules of this project; docs/DEFINITIONS.md lists both. Each body is
+ * typed over it. smith_binary writes a binary of it. All this is proved for every input. Nothing checks that a caller in C keeps
+ * the rules above.
  *
- * {"max-instructions": 0} makes every body `unreachable`. A function may run forever, also the start function, since nothing counts
- * calls or turns of loops: whoever instantiates a module sets a limit of time.
+ * {"max-instructions": 0} makes every body `unreachable`. A function may run forever, even the start function, since nothing counts
+ * calls or iterations of loops: whoever instantiates a module should set a time limit.
  */
 #ifndef SMITH_H
 #define SMITH_H
@@ -34,11 +35,11 @@
 extern "C" {
 #endif
 
-/* What a call came to. */
+/* The outcome of a call. */
 enum {
     SMITH_MADE = 0,         /* there is a module */
     SMITH_SHORT = 1,        /* nothing was written, since the output has `length` bytes and `out` has fewer */
-    SMITH_NO_MEMORY = 2,    /* malloc gave no memory */
+    SMITH_NO_MEMORY = 2,    /* malloc returned no memory */
     SMITH_CONFIG_TEXT = 3,  /* the configuration isn't UTF-8, or isn't an object of known fields with values that they take */
     SMITH_CONFIG = 4,       /* a minimum is above its maximum, or a maximum is too large */
     SMITH_UNMET = 5,        /* the input doesn't reach a minimum of the configuration, or exports would pass the type size */
@@ -46,7 +47,7 @@ enum {
     SMITH_TOO_LONG = 7      /* a list or a section is too long for the binary format */
 };
 
-/* `length` is the number of bytes of the output. It is 0 where there is none. */
+/* `length` is the number of bytes of the output. It is 0 if there is none. */
 struct smith_answer {
     uint32_t status;
     size_t length;
@@ -62,8 +63,8 @@ struct smith_answer smith_text(const uint8_t *config, size_t config_length,
                                const uint8_t *input, size_t input_length,
                                uint8_t *out, size_t out_length);
 
-/* Writes in words, as UTF-8, why smith_binary gives no module, and answers with the status of that refusal. The words are missing
- * where there is no memory for them. Where there is a module it writes nothing, and answers SMITH_MADE with length 0. */
+/* Writes in words, as UTF-8, why smith_binary writes no module, and returns the status of that refusal. The words are missing
+ * if there is no memory for them. If there is a module, it writes nothing, and returns SMITH_MADE with length 0. */
 struct smith_answer smith_refusal(const uint8_t *config, size_t config_length,
                                   const uint8_t *input, size_t input_length,
                                   uint8_t *out, size_t out_length);

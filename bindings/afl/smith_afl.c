@@ -1,4 +1,4 @@
-/* A custom mutator for AFL++ that hands each test case to the target as a module. AFL++ keeps and mutates the bytes before.
+/* A custom mutator for AFL++ that hands each test case to the target as a module. AFL++ itself keeps and mutates the original bytes.
  *
  *     gcc -O2 -shared -fPIC -I bindings -o smith_afl.so bindings/afl/smith_afl.c bindings/out/libsmith.a
  *     AFL_CUSTOM_MUTATOR_LIBRARY=$PWD/smith_afl.so afl-fuzz -i seeds -o found -- ./target @@
@@ -33,7 +33,7 @@ void *afl_custom_init(void *afl, unsigned int seed) {
     return state;
 }
 
-/* Returns 0 where there is no module, and AFL++ leaves that test case out. */
+/* Returns 0 if there is no module, and AFL++ then skips that test case. */
 size_t afl_custom_post_process(void *data, uint8_t *input, size_t length, uint8_t **out) {
     struct state *state = data;
     struct smith_answer answer;

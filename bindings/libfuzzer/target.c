@@ -7,7 +7,7 @@
 
 #include <stdlib.h>
 
-/* Gives a valid module to what is under test. */
+/* Passes a valid module to the code under test. */
 void consume(const uint8_t *module, size_t length);
 
 int LLVMFuzzerTestOneInput(const uint8_t *input, size_t length) {

@@ -5,7 +5,7 @@ import pathlib
 
 
 class Answer(ctypes.Structure):
-    """What a call came to, as in smith.h."""
+    """The outcome of a call, as in smith.h."""
 
     _fields_ = [("status", ctypes.c_uint32), ("length", ctypes.c_size_t)]
 
@@ -27,7 +27,7 @@ for _name in ("smith_binary", "smith_text", "smith_refusal"):
 
 
 def _output(call, config: bytes, given: bytes) -> tuple:
-    """The status and the output of a call, in a buffer that is made longer once if it has to be."""
+    """Returns the status and the output of a call, from a buffer that is enlarged once if necessary."""
     room = 1 << 16
     while True:
         buffer = ctypes.create_string_buffer(room)
@@ -45,10 +45,10 @@ def _made(call, config: str, given: bytes) -> bytes:
 
 
 def module(given: bytes, config: str = "") -> bytes:
-    """The module of `given`, with bodies of instructions, in the binary format. `config` is a JSON object, or empty for the default."""
+    """Returns the module of `given`, with bodies of instructions, in the binary format. `config` is a JSON object, or empty for the default."""
     return _made(_LIBRARY.smith_binary, config, given)
 
 
 def text(given: bytes, config: str = "") -> str:
-    """The same module in the text format."""
+    """Returns the same module in the text format."""
     return _made(_LIBRARY.smith_text, config, given).decode()

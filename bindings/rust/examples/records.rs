@@ -1,4 +1,4 @@
-//! Reads a configuration and inputs from standard input, each as its length in four bytes, the lowest first, and then its bytes.
+//! Reads a configuration and inputs from standard input, each as its length in four bytes, least significant first, and then its bytes.
 //! Writes for each input a status and the module, or the reason in words, in the same form.
 use smith::{module, Config};
 use std::io::{self, Read, Write};

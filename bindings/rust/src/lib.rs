@@ -6,16 +6,16 @@ use std::fmt;
 pub struct Config(String);
 
 impl Config {
-    /// Makes a configuration of `text`, a JSON object in the form of the crate `wasm-smith`. Each call that uses it reads it.
+    /// Creates a configuration from `text`, a JSON object in the form of the crate `wasm-smith`. Each call that uses it parses `text`.
     pub fn from_json(text: impl Into<String>) -> Self {
         Config(text.into())
     }
 }
 
-/// Why there is no module.
+/// The reason why there is no module.
 #[derive(Clone, Debug, PartialEq, Eq)]
 pub struct Refused {
-    /// The number that `smith.h` names.
+    /// The status, a number that `smith.h` names.
     pub status: u32,
     /// The reason in words.
     pub words: String,
@@ -46,12 +46,12 @@ extern "C" {
     fn smith_refusal(config: *const u8, config_length: usize, input: *const u8, input_length: usize, out: *mut u8, out_length: usize) -> Answer;
 }
 
-/// The status and the output of `call`, in a buffer that is made longer once if it has to be.
+/// Returns the status and the output of `call`, from a buffer that is enlarged once if necessary.
 fn output(call: Call, config: &Config, input: &[u8]) -> (u32, Vec<u8>) {
     let config = config.0.as_bytes();
     let mut out = vec![0; 1 << 16];
     loop {
-        // SAFETY: each pointer is that of a slice with its length, and `out` is borrowed alone.
+        // SAFETY: each pointer is that of a slice with its length, and `out` is borrowed exclusively.
         let answer = unsafe { call(config.as_ptr(), config.len(), input.as_ptr(), input.len(), out.as_mut_ptr(), out.len()) };
         if answer.status != SHORT {
             out.truncate(answer.length);
@@ -71,12 +71,12 @@ fn made(call: Call, config: &Config, input: &[u8]) -> Result<Vec<u8>, Refused> {
     }
 }
 
-/// The module of `config` and `input`, with bodies of instructions, in the binary format.
+/// Returns the module of `config` and `input`, with bodies of instructions, in the binary format.
 pub fn module(config: &Config, input: &[u8]) -> Result<Vec<u8>, Refused> {
     made(smith_binary, config, input)
 }
 
-/// The same module in the text format.
+/// Returns the same module in the text format.
 pub fn text(config: &Config, input: &[u8]) -> Result<String, Refused> {
     made(smith_text, config, input).map(|text| String::from_utf8_lossy(&text).into_owned())
 }

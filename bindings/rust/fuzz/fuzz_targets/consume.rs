@@ -1,4 +1,4 @@
-//! `cargo fuzz run consume`: each input becomes a module. Put what is under test in place of `consume`.
+//! `cargo fuzz run consume`: each input becomes a module. Replace `consume` with the code under test.
 #![no_main]
 use libfuzzer_sys::fuzz_target;
 
