@@ -145,8 +145,8 @@ fn answer_peeked(case: &Case, u: &Unstructured<'_>, answer: &mut String) -> Resu
     }
 }
 
-// Returns the result of a call of a loop: false or a refusal if the argument at `place` says so,
-// else true.
+// Returns the result of one call of a loop's closure: `false` or a refusal if the argument at
+// `place` names it, else `true`.
 fn turn_of(case: &Case, place: usize) -> Result<bool, Error> {
     match case.args().get(place).map(|word| word.as_str()) {
         Some("false") => Ok(false),

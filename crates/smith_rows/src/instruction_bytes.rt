@@ -23,7 +23,7 @@ const BYTES: [u8; 62] = [
     0x00, 0x00, 0x00, 0x00, 0x00, 0x00, 0xF8, 0x3F, 0xFC, 0x03, 0x1C, 0x01, 0x7F, 0x0B,
 ];
 
-// The instructions before the division.
+// Returns the instructions before the division.
 fn branches(alloc: Global) -> Result<Vec<Instr>, Fail> {
     let mut body = Vec::new(alloc);
     body.push(Instr::Block(RESULT))?;

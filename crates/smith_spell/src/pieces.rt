@@ -56,7 +56,7 @@ pub(crate) fn write_number(number: usize, most: usize, bytes: &mut Items<u8>) ->
     write_digits(number, most, bytes)
 }
 
-/// If `is_asked` is set, writes that the first of `chances` chances is not drawn.
+/// Writes that the first of `chances` chances is not drawn, if `is_asked` is set.
 pub(crate) fn write_refusal(
     is_asked: bool,
     chances: usize,

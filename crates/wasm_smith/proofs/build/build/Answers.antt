@@ -8,7 +8,7 @@ use Rattle.smith_rules.specs.Promises.{KeepsPromises}
 use Rattle.smith_rules.specs.ShapesKept.{KeepsShapes}
 use Rattle.wasm_smith.proofs.build.build.Goals as goal
 
--- a fact about the lent configuration is a fact about the caller's, and about the module's
+-- a fact about the borrowed configuration is a fact about the caller's, and about the module's
 kept : (P : Config → Config → Type 0) (given boxed lent shown : Config) → boxed ≡ given → lent ≡ boxed → shown ≡ boxed → P lent lent → P given shown
 kept P given boxed lent shown was read stands h =
     let same : P boxed boxed = subst (λ (config : Config). P config config) read h in
