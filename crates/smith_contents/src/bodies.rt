@@ -122,7 +122,7 @@ fn draw_bodies(
 /// Draws the bodies of `count` functions. Each has locals over the types and functions of `spaces`,
 /// then `unreachable`, or raw bytes if `config` allows invalid bodies.
 ///
-/// Requires `config` to be sanitised.
+/// `config` is sanitised.
 pub fn arbitrary_bodies(
     alloc: Global,
     config: &Config,

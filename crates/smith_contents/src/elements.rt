@@ -172,9 +172,9 @@ fn draw_elements(
 /// `max_elements`. A segment that lists functions is empty if all functions of `spaces` have shared
 /// types. See the standard, section Validation, Element Segments.
 ///
-/// Requires `config` to be sanitised and to pass its check. Requires `spaces` to have valid types,
-/// no more imported globals than globals, and fewer than 2^32 functions, tables and globals each,
-/// valid over its types.
+/// `config` is sanitised and passes its check. The types of `spaces` are valid, and its functions,
+/// tables and globals are valid over them, each fewer than 2^32. The imported globals are among its
+/// globals.
 ///
 /// # Errors
 ///

@@ -55,10 +55,10 @@ impl Definitions {
 /// of `config` or the number before, whichever is greater. An entity of `spaces` that `definitions`
 /// does not count is imported. See the standard, section Validation, Modules.
 ///
-/// Requires `config` to be sanitised and to pass its check. Requires `types` to be valid, at least
-/// `min_types` and fewer than 2^32. Requires the entities of `spaces` to be valid over `types`,
-/// fewer than 2^32 of each kind, and to need only enabled features for their numbers. Requires
-/// `definitions` to count no more entities than exist in `spaces`.
+/// `config` is sanitised and passes its check. `types` are valid, at least `min_types` and fewer
+/// than 2^32. The entities of `spaces` are valid over `types`, fewer than 2^32 of each kind, and
+/// the features that their numbers require are on. `definitions` counts no more entities than exist
+/// in `spaces`.
 ///
 /// # Errors
 ///

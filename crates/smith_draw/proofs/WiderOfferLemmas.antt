@@ -1,4 +1,4 @@
--- The globals offered for a type are among those offered for a wider one.
+-- What is offered for a type is among what is offered for a wider one.
 use Rattle.std.proofs.Common.{◌≡◌, inl, inr, ℕ, zero, suc, ◌+◌, ◌-◌, ◌<◌, ◌≤◌, Bool, true, false, cond, List, [], ◌∷◌, ◌++◌, Option, Some, None, IsTrue, take, drop, get_or, map, length, refl, sym, ap, ◌∙◌, subst, arith}
 use Rattle.std.specs.Prelude.{All, slice_get, not, ◌&&◌}
 use Rattle.std.specs.List.{AllWithin, filter}
@@ -88,7 +88,7 @@ among_one test true narrow i rest more implied is tail = ap (λ (offered : Bool)
 among_one test false true i rest more implied is tail = let never : false ≡ true = implied refl in cc
 among_one test false false i rest more implied is tail = tail
 
--- a narrower test passes the same indices, whether it is applied to all or to those of a wider test
+-- of the indices that pass one test those that pass a narrower one are all that pass it
 among : {A : Type 0} (wide narrow : ℕ → A → Bool) (test : ℕ → Bool) (d : A) → ((i : ℕ) (x : A) → narrow i x ≡ true → wide i x ≡ true) → (start : ℕ) (xs : List A) → ((k : ℕ) → k < length xs → test (start + k) ≡ narrow (start + k) (get_or xs k d)) → filter test (listed wide start xs) ≡ listed narrow start xs
 among wide narrow test d implied start [] there = refl
 among wide narrow test d implied start (x ∷ xs) there =
@@ -118,7 +118,7 @@ split_not_past source before after seen place parts high total bound passed = el
   | inr h ↦ h
 ]
 
--- the items after a position that splits a list at a bound are those not below the bound
+-- where the indices below a bound end, the others begin
 split_there : (source before after : List ℕ) (seen place : ℕ) → source ≡ before ++ after → All (λ (i : ℕ). i < seen) before → All (λ (i : ℕ). seen ≤ i) after → place ≤ length source → AllWithin (λ (i : ℕ). seen ≤ i) source place (length source) → AllWithin (λ (i : ℕ). i < seen) source (place - 1) place
     → drop place source ≡ after
 split_there source before after seen place parts low high bound reached passed =
@@ -126,7 +126,7 @@ split_there source before after seen place parts low high bound reached passed =
     let here : place ≡ length before = omega (arith, split_not_before source before after seen place parts low total reached, split_not_past source before after seen place parts high total bound passed) in
     ap (λ (n : ℕ). drop n source) here ∙ ap (λ (xs : List ℕ). drop (length before) xs) parts ∙ drop-append_seam before after
 
--- old indices of a narrower test, and new ones found in a wider list, are all up to the end
+-- what passes the narrower test up to one end, and then among what passes the wider one, passes it up to a later end
 narrowed : {A : Type 0} (wide narrow : ℕ → A → Bool) (d : A) → ((i : ℕ) (x : A) → narrow i x ≡ true → wide i x ≡ true) → (xs : List A) (seen end place : ℕ) (source old : List ℕ) → seen ≤ end → end ≤ length xs → source ≡ listed wide 0 (take end xs) → old ≡ listed narrow 0 (take seen xs)
     → place ≤ length source → AllWithin (λ (i : ℕ). seen ≤ i) source place (length source) → AllWithin (λ (i : ℕ). i < seen) source (place - 1) place
     → old ++ filter (passes narrow xs) (drop place source) ≡ listed narrow 0 (take end xs)
@@ -170,7 +170,7 @@ globals_there context offer kept =
     (All-weaker (λ (i : ℕ). i < 0 + length (take offer.globals_seen context.globals)) (λ (i : ℕ). i < length context.globals) (λ i near. omega (arith, near, seen, kept.globals_seen)) (listed (global_test context offer.wanted) 0 (take offer.globals_seen context.globals))
     (none_after (global_test context offer.wanted) 0 (take offer.globals_seen context.globals)))
 
--- so are the indices in the rest of an entry
+-- the same of the rest of these indices
 pub rest_there : (context : Context) (offer : KeptOffer) (indices : List ℕ) (first at : ℕ) → IsKeptOffer context offer → indices ≡ offer.globals → at < length (take (length indices - first) (drop first indices)) → get_or (take (length indices - first) (drop first indices)) at 0 < length context.globals
 rest_there context offer indices first at kept same inside =
     All-take (λ (i : ℕ). i < length context.globals) (length indices - first) (drop first indices)
@@ -182,7 +182,7 @@ pub global_passes : (context : Context) (wanted : ValType) (index : ℕ) (d : Gl
 global_passes context wanted index d offered inside is = is ∙ sym (passes_there (global_test context wanted) context.globals index d inside)
 
 module _ (context : Context) (offer source : KeptOffer) (orderly : IsOrderly context.types) (kept : IsKeptOffer context offer) (wide : IsKeptOffer context source) (wider : IsTrue (is_val_below context.types offer.wanted source.wanted)) where
-  -- all visible globals are read, the new ones among those offered for a wider type
+  -- all visible globals are read: those that were not, among those offered for a wider type
   pub globals_narrowed : (place : ℕ) (indices : List ℕ) (new : KeptOffer) → indices ≡ source.globals → source.globals_seen ≡ context.visible → context.visible ≤ length context.globals → offer.globals_seen ≤ context.visible → place ≤ length indices
       → AllWithin (λ (i : ℕ). offer.globals_seen ≤ i) indices place (length indices) → AllWithin (λ (i : ℕ). i < offer.globals_seen) indices (place - 1) place
       → new ≡ record offer { globals = new.globals } → new.globals ≡ offer.globals ++ filter (passes (global_test context offer.wanted) context.globals) (drop place indices) → IsKeptOffer context (record new { globals_seen = context.visible })

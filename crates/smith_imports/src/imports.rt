@@ -454,9 +454,9 @@ fn draw_imports(
 /// `config`, and at most `max_imports`. If `distinct` is set, no two imports have the same pair of
 /// names.
 ///
-/// Requires `config` to be sanitised, to pass its check, and to have no shape that fixes the
-/// imports. Requires `types` to be valid and fewer than 2^32, and each function type among them to
-/// have at most 20 parameters and 20 results.
+/// `config` is sanitised, passes its check, and has no shape that fixes the imports. `types` are
+/// valid and fewer than 2^32, and each function type among them has at most 20 parameters and 20
+/// results.
 ///
 /// # Errors
 ///

@@ -18,7 +18,7 @@ use smith_types::{Items, ValType, is_same};
 use std::alloc::Global;
 use std::mem;
 
-/// The number of globals and functions below which nothing is recorded: a list would cost more than
+/// With fewer globals and functions than this nothing is recorded: a list would cost more than
 /// reading them again.
 const FEW: usize = 32;
 
