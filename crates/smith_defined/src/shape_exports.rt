@@ -134,8 +134,8 @@ fn push_exports(
 /// own.
 ///
 /// Requires `config` to be sanitised, and `shape` to pass [`Shape::check`] as exports for `config`.
-/// Requires valid `types` and entities of `spaces`, fewer than 2^32 of each kind even with one more
-/// for each export, and `definitions` to count no more entities than exist in `spaces`.
+/// Requires `types` and the entities of `spaces` to be valid, fewer than 2^32 of each kind even
+/// with one more for each export, and `definitions` to count no more entities than `spaces` has.
 ///
 /// # Errors
 ///

@@ -522,8 +522,8 @@ lacking config context (Ref r) fuel before scope none =
       λ on grounded. let some = references_some context (Ref r) before references (grounded_offered config context r fuel scope grounded) in absurd (omega arith),
     )
 
--- no choice is offered only for a non-nullable reference; with `non_nullable_enabled`, only if it
--- is not grounded either
+-- if no choice is offered, the wanted type is a non-nullable reference, which with
+-- `non_nullable_enabled` is not grounded either
 pub nothing_offered : (config : Config) (context : Context) (wanted : ValType) (fuel : ℕ) (items : List Choice) (e : Error) → IsScope context → items ≡ offers config context wanted fuel → length items ≡ 0 → e ≡ EmptyChoose → MayRefuseConstExpr config context wanted e
 unfolding offers
 nothing_offered config context wanted fuel items e scope is none empty =

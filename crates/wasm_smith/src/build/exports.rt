@@ -40,7 +40,7 @@ pub(crate) fn make_exports(
     requires valid { AreShapesValid config.now }
     requires entities { AreEntitiesDrawn config.now drawn.old }
 
-    // The exports.
+    // The draw.
     ensures exact { Returns is_lack
         (λ made. (record (module_so_far drawn.new) { exports = made.exports }, u.new)) result
         (exported_at config.now (module_so_far drawn.old) u.old) }
