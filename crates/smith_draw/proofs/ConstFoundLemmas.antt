@@ -79,7 +79,7 @@ past_inside (x ∷ xs) zero rest e = cc
 past_inside (x ∷ xs) (suc place) rest e = let more = past_inside xs place rest e in omega arith
 
 -- the maximum number of choices
-few_if : {B : Type 0} (b : Bool) (x : B) → length (offered_if b x) ≤ 1
+pub few_if : {B : Type 0} (b : Bool) (x : B) → length (offered_if b x) ≤ 1
 few_if true x = omega arith
 few_if false x = omega arith
 
@@ -87,7 +87,7 @@ few_cond : {B : Type 0} (b : Bool) (xs : List B) (n : ℕ) → length xs ≤ n �
 few_cond true xs n h = h
 few_cond false xs n h = omega arith
 
-few_each : {A B : Type 0} (offer : ℕ → A → List B) (n : ℕ) → ((i : ℕ) (x : A) → length (offer i x) ≤ n) → (start : ℕ) (xs : List A) → length (each_from offer start xs) ≤ n * length xs
+pub few_each : {A B : Type 0} (offer : ℕ → A → List B) (n : ℕ) → ((i : ℕ) (x : A) → length (offer i x) ≤ n) → (start : ℕ) (xs : List A) → length (each_from offer start xs) ≤ n * length xs
 few_each offer n each start [] = omega arith
 few_each offer n each start (x ∷ xs) =
     let one = each start x in

@@ -1,19 +1,29 @@
 -- The record of globals and functions that are offered, as they are read in turn.
-use Rattle.std.proofs.Common.{◌≡◌, inl, inr, ℕ, zero, suc, ◌+◌, ◌-◌, ◌<◌, ◌≤◌, Bool, true, false, List, [], ◌∷◌, ◌++◌, take, get_or, set, map, length, refl, sym, ap, ◌∙◌, subst, arith}
-use Rattle.std.specs.Prelude.{All, Some, Ok, Err, not, ◌&&◌}
-use Rattle.std.proofs.lemmas.List.{append-nil, append_assoc, get_or-set_other, get_or-set_same, length-map, length-set, map-append}
+use Rattle.std.proofs.Common.{◌≡◌, inl, inr, ℕ, zero, suc, ◌+◌, ◌<◌, ◌≤◌, Bool, true, false, cond, List, [], ◌∷◌, ◌++◌, take, drop, get_or, set, length, refl, sym, ap, ◌∙◌, subst, arith}
+use Rattle.std.specs.Prelude.{All, Some, Ok, not, ◌&&◌}
+use Rattle.std.proofs.lemmas.List.{append-nil, append_assoc, get_or-set_other, get_or-set_same, length-append, length-set, length-take-le, take-append-drop, take-take}
 use Rattle.std.proofs.lemmas.List.Elements.{All-set}
 use Rattle.std.proofs.lemmas.Bool.Decides.{eqb_tells}
 use Rattle.std.proofs.lemmas.Option.{get_or_from_slice_get, slice_get-get_or, slice_get_within}
 use Rattle.smith_types.specs.Expressions.{Context, function_reference}
-use Rattle.smith_types.specs.declared.entity_type.GlobalType.{GlobalType}
 use Rattle.smith_types.specs.declared.value_type.ValType.{ValType}
 use Rattle.smith_draw.specs.Below.{is_val_below}
 use Rattle.smith_draw.specs.ConstOffers.{each_from, offered_if, past, global_offers, function_offers}
-use Rattle.smith_draw.specs.KeptOffers.{IsKeptAt, IsKeptOffer}
+use Rattle.smith_draw.specs.KeptOffers.{IsCounted, IsKeptAt, IsKeptOffer, offered_before}
+use Rattle.smith_draw.specs.declared.const_expr.block_counts.BlockCounts.{BlockCounts}
 use Rattle.smith_draw.specs.declared.const_expr.kept_offers.KeptOffer.{KeptOffer}
+use Rattle.smith_draw.specs.declared.const_expr.node_choice.Choice.{Choice}
 use Rattle.smith_draw.specs.declared.const_expr.node_choice.Choice.TheVariants as choice
-use Rattle.smith_draw.proofs.ConstFoundLemmas.{past_end}
+use Rattle.smith_draw.proofs.ConstFoundLemmas.{few_each, few_if, past_append, past_end}
+
+-- the choices of the items of two lists
+each_split : {A B : Type 0} (offer : ℕ → A → List B) (start : ℕ) (xs ys : List A) → each_from offer start (xs ++ ys) ≡ each_from offer start xs ++ each_from offer (start + length xs) ys
+each_split offer start [] ys = let same : start ≡ start + 0 = omega arith in ap (λ (n : ℕ). each_from offer n ys) same
+each_split offer start (x ∷ xs) ys =
+    let same : start + 1 + length xs ≡ start + suc (length xs) = omega arith in
+    ap (λ zs. offer start x ++ zs) (each_split offer (start + 1) xs ys)
+    ∙ sym (append_assoc (offer start x) (each_from offer (start + 1) xs) (each_from offer (start + 1 + length xs) ys))
+    ∙ ap (λ (n : ℕ). offer start x ++ each_from offer (start + 1) xs ++ each_from offer n ys) same
 
 -- the choices of the items before one, and of this one
 each_more : {A B : Type 0} (offer : ℕ → A → List B) (start : ℕ) (xs : List A) (k : ℕ) (d : A) → k < length xs → each_from offer start (take (suc k) xs) ≡ each_from offer start (take k xs) ++ offer (start + k) (get_or xs k d)
@@ -24,61 +34,61 @@ each_more offer start (x ∷ xs) (suc k) d inside =
     let same : start + 1 + k ≡ start + suc k = omega arith in
     ap (λ ys. offer start x ++ ys) (more ∙ ap (λ (n : ℕ). each_from offer (start + 1) (take k xs) ++ offer n (get_or xs k d)) same) ∙ sym (append_assoc (offer start x) (each_from offer (start + 1) (take k xs)) (offer (start + suc k) (get_or xs k d)))
 
-pub made_if : {B : Type 0} (make : ℕ → B) (offered : Bool) (k : ℕ) → map make (offered_if offered k) ≡ offered_if offered (make k)
-made_if make true k = refl
-made_if make false k = refl
+-- one more item adds what it offers
+pub offered_more : {A : Type 0} (offer : ℕ → A → List Choice) (xs : List A) (k : ℕ) (d : A) → k < length xs → offered_before offer xs (k + 1) ≡ offered_before offer xs k + length (offer k (get_or xs k d))
+offered_more offer xs k d inside =
+    let next : k + 1 ≡ suc k = omega arith in
+    let start : 0 + k ≡ k = omega arith in
+    ap (λ (n : ℕ). length (each_from offer 0 (take n xs))) next
+    ∙ ap length (each_more offer 0 xs k d inside)
+    ∙ length-append (each_from offer 0 (take k xs)) (offer (0 + k) (get_or xs k d))
+    ∙ ap (λ (n : ℕ). length (each_from offer 0 (take k xs)) + length (offer n (get_or xs k d))) start
 
--- one more item is read, and recorded if it is offered
-kept_more : {A B : Type 0} (make : ℕ → B) (offer : ℕ → A → List B) (xs : List A) (k : ℕ) (d : A) (old : List ℕ) (offered : Bool) → k < length xs → map make old ≡ each_from offer 0 (take k xs) → offer k (get_or xs k d) ≡ offered_if offered (make k)
-    → map make (old ++ offered_if offered k) ≡ each_from offer 0 (take (k + 1) xs)
-kept_more make offer xs k d old offered inside kept is =
-    let start : k ≡ 0 + k = omega arith in
-    let next : suc k ≡ k + 1 = omega arith in
-    map-append make old (offered_if offered k)
-    ∙ ap (λ ys. map make old ++ ys) (made_if make offered k ∙ sym is)
-    ∙ ap (λ ys. ys ++ offer k (get_or xs k d)) kept
-    ∙ ap (λ (n : ℕ). each_from offer 0 (take k xs) ++ offer n (get_or xs k d)) start
-    ∙ sym (each_more offer 0 xs k d inside)
-    ∙ ap (λ (n : ℕ). each_from offer 0 (take n xs)) next
+-- more items offer no less
+pub offered_rising : {A : Type 0} (offer : ℕ → A → List Choice) (xs : List A) (m n : ℕ) → m ≤ n → offered_before offer xs m ≤ offered_before offer xs n
+offered_rising {A} offer xs m n le =
+    let parts : take n xs ≡ take m xs ++ drop m (take n xs) = sym (take-append-drop m (take n xs)) ∙ ap (λ (ys : List A). ys ++ drop m (take n xs)) (take-take m n xs le) in
+    let split = ap (λ (ys : List A). length (each_from offer 0 ys)) parts ∙ ap length (each_split offer 0 (take m xs) (drop m (take n xs))) ∙ length-append (each_from offer 0 (take m xs)) (each_from offer (0 + length (take m xs)) (drop m (take n xs))) in
+    omega (arith, split)
 
-pub global_more : (context : Context) (offer : KeptOffer) (index : ℕ) (d : GlobalType) (offered : Bool) (more : List ℕ) → IsKeptOffer context offer → offer.globals_seen ≡ index → index < length context.globals
-    → offered ≡ (not (get_or context.globals index d).mutable && is_val_below context.types (get_or context.globals index d).val_type offer.wanted) → more ≡ offer.globals ++ offered_if offered index
-    → IsKeptOffer context (record offer { globals_seen = index + 1; globals = more })
-global_more context offer index d offered more kept seen inside is longer = record {
-  wanted = kept.wanted;
-  globals_seen = omega (arith, inside);
-  globals =
-      ap (map (λ (i : ℕ). choice.Global i)) longer
-      ∙ kept_more (λ i. choice.Global i) (global_offers context offer.wanted) context.globals index d offer.globals offered inside (rw seen at kept.globals) (ap (λ (each : Bool). offered_if each (choice.Global index)) (sym is));
-  funcs_seen = kept.funcs_seen;
-  funcs = kept.funcs;
-}
+length_if : {B : Type 0} (offered : Bool) (x : B) → length (offered_if offered x) ≡ cond offered 1 0
+length_if true x = refl
+length_if false x = refl
 
-pub func_more : (context : Context) (offer : KeptOffer) (index d : ℕ) (offered : Bool) (more : List ℕ) → IsKeptOffer context offer → offer.funcs_seen ≡ index → index < length context.funcs
-    → offered ≡ is_val_below context.types (function_reference context index (get_or context.funcs index d)) offer.wanted → more ≡ offer.funcs ++ offered_if offered index
-    → IsKeptOffer context (record offer { funcs_seen = index + 1; funcs = more })
-func_more context offer index d offered more kept seen inside is longer = record {
-  wanted = kept.wanted;
-  globals_seen = kept.globals_seen;
-  globals = kept.globals;
-  funcs_seen = omega (arith, inside);
-  funcs =
-      ap (map (λ (i : ℕ). choice.Function i)) longer
-      ∙ kept_more (λ i. choice.Function i) (function_offers context offer.wanted) context.funcs index d offer.funcs offered inside (rw seen at kept.funcs) (ap (λ (each : Bool). offered_if each (choice.Function index)) (sym is));
-}
+-- one more item is read, and counted if it is offered
+pub counted_item : {A : Type 0} (offer : ℕ → A → List Choice) (xs : List A) (old new : BlockCounts) (index : ℕ) (d : A) (offered : Bool) (one : Choice) → old.seen ≡ index → index < length xs → offer index (get_or xs index d) ≡ offered_if offered one
+    → ((before : ℕ → ℕ) → IsCounted before old → before (old.seen + 1) ≡ before old.seen + cond offered 1 0 → IsCounted before new) → IsCounted (offered_before offer xs) old → IsCounted (offered_before offer xs) new
+counted_item offer xs old new index d offered one seen inside is more counted =
+    let next : offered_before offer xs (index + 1) ≡ offered_before offer xs index + cond offered 1 0 = offered_more offer xs index d inside ∙ ap (λ (n : ℕ). offered_before offer xs index + n) (ap length is ∙ length_if offered one) in
+    more (offered_before offer xs) counted (subst (λ (n : ℕ). offered_before offer xs (n + 1) ≡ offered_before offer xs n + cond offered 1 0) (sym seen) next)
 
--- a search in a list whose items are made from another list
-pub past_made : {B : Type 0} (make : ℕ → B) (xs : List ℕ) (place d : ℕ) → place < length xs → past (map make xs) place ≡ Err (make (get_or xs place d))
-unfolding past
-past_made make [] place d inside = absurd (omega arith)
-past_made make (x ∷ xs) zero d inside = refl
-past_made make (x ∷ xs) (suc place) d inside = past_made make xs place d (omega arith)
+-- each global and each function offers at most one choice
+few_before : {A : Type 0} (offer : ℕ → A → List Choice) (xs : List A) (n : ℕ) → ((i : ℕ) (x : A) → length (offer i x) ≤ 1) → n ≤ length xs → offered_before offer xs n ≤ n
+few_before offer xs n each inside = let few = few_each offer 1 each 0 (take n xs) in omega (arith, few, length-take-le n xs inside)
 
--- a search past the end of such a list
-pub past_all_made : {B : Type 0} (make : ℕ → B) (xs : List ℕ) (place : ℕ) → length xs ≤ place → past (map make xs) place ≡ Ok (place - length xs)
-past_all_made make xs place far =
-    let same : length (map make xs) ≡ length xs = length-map xs make in
-    past_end (map make xs) place (omega (arith, same, far)) ∙ ap (λ (n : ℕ). Ok (place - n)) same
+pub few_globals : (context : Context) (offer : KeptOffer) → IsKeptOffer context offer → offer.globals.total ≤ offer.globals.seen
+few_globals context offer kept =
+    let few = few_before (global_offers context offer.wanted) context.globals offer.globals.seen (λ i global. few_if (not global.mutable && is_val_below context.types global.val_type offer.wanted) (choice.Global i)) kept.globals_seen in
+    omega (arith, few, kept.globals.total)
+
+pub few_functions : (context : Context) (offer : KeptOffer) → IsKeptOffer context offer → offer.funcs.total ≤ offer.funcs.seen
+few_functions context offer kept =
+    let few = few_before (function_offers context offer.wanted) context.funcs offer.funcs.seen (λ i index. few_if (is_val_below context.types (function_reference context i index) offer.wanted) (choice.Function i)) kept.funcs_seen in
+    omega (arith, few, kept.funcs.total)
+
+-- a search that begins at an item, with the place counted from there
+pub past_from : {A : Type 0} (offer : ℕ → A → List Choice) (xs : List A) (first place rest : ℕ) → first ≤ length xs → offered_before offer xs first + rest ≡ place → past (each_from offer first (drop first xs)) rest ≡ past (each_from offer 0 xs) place
+past_from {A} offer xs first place rest inside is =
+    let front : List Choice = each_from offer 0 (take first xs) in
+    let at : 0 + length (take first xs) ≡ first = omega (arith, length-take-le first xs inside) in
+    let whole : each_from offer 0 xs ≡ front ++ each_from offer first (drop first xs) =
+    ap (each_from offer 0) (sym (take-append-drop first xs)) ∙ each_split offer 0 (take first xs) (drop first xs) ∙ ap (λ (n : ℕ). front ++ each_from offer n (drop first xs)) at in
+    let after : past front place ≡ Ok rest = past_end front place (omega (arith, is)) ∙ ap (λ (n : ℕ). Ok n) (omega (arith, is)) in
+    sym (past_append front (each_from offer first (drop first xs)) place rest after) ∙ ap (λ (ys : List Choice). past ys place) (sym whole)
+
+-- the first of the first items are the first of all
+pub offered_within : {A : Type 0} (offer : ℕ → A → List Choice) (xs : List A) (first seen : ℕ) → first ≤ seen → offered_before offer (take seen xs) first ≡ offered_before offer xs first
+offered_within {A} offer xs first seen le = ap (λ (ys : List A). length (each_from offer 0 ys)) (take-take first seen xs le)
 
 -- the entry at a position is recorded
 pub kept_there : (kept : List KeptOffer) (place : ℕ) (d one : KeptOffer) (wanted : ValType) → place < length kept → one ≡ get_or kept place d → one.wanted ≡ wanted → IsKeptAt kept place wanted

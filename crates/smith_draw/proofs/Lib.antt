@@ -44,6 +44,7 @@ pub mod MemoryLemmas
 pub mod BelowLemmas
 pub mod GroundingLemmas
 pub mod KeptGroundLemmas
+pub mod BlockCountLemmas
 pub mod KeptOfferLemmas
 pub mod WiderOfferLemmas
 pub mod ReadableLemmas

@@ -1,32 +1,32 @@
-ghost use Rattle.std.specs.Prelude.{◌≡◌, ◌≤◌, ◌<◌, ◌-◌, ◌++◌, ◌↔◌, ℕ, IsTrue, IfSome, OnOk, IfOk};
-ghost use Rattle.std.specs.Prelude.{IfErr, length, map};
-ghost use Rattle.std.specs.List.{AllWithin};
+ghost use Rattle.std.specs.Prelude.{◌≡◌, ◌+◌, ◌<◌, ◌≤◌, ◌↔◌, ℕ, false, Some, IsTrue, IfSome, OnOk};
+ghost use Rattle.std.specs.Prelude.{IfOk, IfErr, length, slice_get};
 ghost use Rattle.smith_types.specs.Expressions.{Context};
 ghost use Rattle.smith_types.specs.Subtyping.{IsValInRange};
 ghost use Rattle.smith_types.specs.declared.value_type.ValType.{ValType as Wanted};
-ghost use Rattle.smith_draw.specs.Below.{is_val_below};
-ghost use Rattle.smith_draw.specs.ConstOffers.{offered_if, past};
+ghost use Rattle.smith_types.specs.declared.entity_type.GlobalType.{GlobalType};
+ghost use Rattle.smith_draw.specs.ConstOffers.{global_offers, offered_if};
 ghost use Rattle.smith_draw.specs.ConstScopes.{context_of, IsScope};
-ghost use Rattle.smith_draw.specs.KeptOffers.{AreKeptOffers, IsKeptAt, IsKeptOffer, IsWhole};
+ghost use Rattle.smith_draw.specs.KeptOffers.{AreKeptOffers, IsCounted, IsKeptAt, IsKeptOffer};
+ghost use Rattle.smith_draw.specs.KeptOffers.{IsWhole, IsWiderOffer};
 ghost use Rattle.smith_draw.specs.declared.const_expr.node_choice.Choice.TheVariants as choice;
 
-use super::node_choice::Choice;
+use super::block_counts::BlockCounts;
 use super::references::{function_reference, is_below, is_readable, widest};
 use super::scope::Scope;
 use smith_bytes::Error;
-use smith_types::{Items, ValType, is_same};
+use smith_types::{ValType, is_same};
 use std::alloc::Global;
 use std::mem;
 
-/// With fewer globals and functions than this nothing is recorded: a list would cost more than
+/// With fewer globals and functions than this nothing is recorded: counts would cost more than
 /// reading them again.
 const FEW: usize = 32;
 
-/// The globals and functions offered for each wanted type, recorded so that repeated draws read
-/// each global and function only once per type.
+/// The counts of globals and functions offered for each wanted type. A first draw of a type reads
+/// all globals and functions, and each later one at most a few of each.
 ///
-/// For a type of unshared references, only the globals offered for the top of its hierarchy are
-/// read.
+/// For a type of unshared references, a first draw tests only the globals near one that is offered
+/// for the top of its hierarchy.
 ///
 /// Initialisers of tables and of globals may share one value: an entry that has read defined
 /// globals is not used where only imported globals are visible. If there are few globals and
@@ -36,16 +36,14 @@ pub struct KeptOffers {
     kept: Vec<KeptOffer>,
 }
 
-/// The globals and functions offered for values of one type, among those read so far.
+/// The counts of globals and functions offered for values of one type, among those read so far.
 #[derive(Drop)]
 pub(super) struct KeptOffer {
     wanted: ValType,
-    // The number of globals read so far, from the first, and those that are offered.
-    globals_seen: usize,
-    globals: Items<u32>,
-    // The same for functions.
-    funcs_seen: usize,
-    funcs: Items<u32>,
+    /// The counts of globals.
+    pub globals: BlockCounts,
+    /// The counts of functions.
+    pub funcs: BlockCounts,
 }
 
 impl KeptOffers {
@@ -104,13 +102,13 @@ impl KeptOffers {
         ensures memory { IfErr result (λ e. e ≡ Error.Memory) }
     {
         let Some(wider) = widest(scope.spaces.types, wanted) else {
-            return self.kept[place].look(scope);
+            return self.kept[place].look(scope, None);
         };
         let source = self.place_of(alloc, wider, scope.visible)?;
-        self.kept[source].look(scope)?;
+        self.kept[source].look(scope, None)?;
         let none = KeptOffer::new(alloc, wanted);
         let mut offer = mem::replace(&mut self.kept[place], none);
-        offer.look_among(scope, &self.kept[source])?;
+        offer.look(scope, Some(&self.kept[source]))?;
         self.kept[place] = offer;
         Ok(())
     }
@@ -161,29 +159,35 @@ fn find(kept: &[KeptOffer], wanted: ValType, visible: usize) -> Option<usize>
     None
 }
 
-/// Returns the position after the last item of `indices` that is less than `seen`.
-fn first_from(indices: &[u32], seen: usize) -> usize
-    ensures bound { result ≤ length indices.now }
-    ensures reached { AllWithin (λ index. seen ≤ index) indices.now result (length indices.now) }
-    ensures passed { AllWithin (λ index. index < seen) indices.now (result - 1) result }
+/// Returns whether the global `index` may be offered: `wider`, an entry for a wider type, does not
+/// exclude it.
+fn may_offer(wider: Option<&KeptOffer>, index: usize) -> bool
+    ensures { (before : ℕ → ℕ) → IfSome wider.entry (λ offer. IsCounted before offer.now.globals)
+        → ((m n : ℕ) → m ≤ n → before m ≤ before n)
+        → result ≡ false → before (index + 1) ≡ before index }
 {
-    for place in (0..indices.len()).rev() {
-        if (indices[place] as usize) < seen {
-            return place + 1;
-        }
+    match wider {
+        Some(wider) => wider.globals.may_offer(index),
+        None => true,
     }
-    0
 }
 
-/// Appends `index` to `indices` if `offered` is `true`.
-fn push_if(offered: bool, index: u32, indices: &mut Items<u32>) -> Result<(), Error>
-    ensures ok { OnOk result (indices.new ≡ indices.old ++ offered_if offered index) }
-    ensures memory { IfErr result (λ e. e ≡ Error.Memory) }
+/// Returns whether the global `index` is offered for the type `wanted`. Does not test it if
+/// `wider`, an entry for a wider type, excludes it.
+fn is_offered(scope: &Scope<'_>, index: usize, wanted: ValType, wider: Option<&KeptOffer>) -> bool
+    requires scope { IsScope (context_of scope.now) }
+    requires upper { IsValInRange (context_of scope.now).types wanted }
+    requires there { index < length (context_of scope.now).globals }
+    requires wider { IfSome wider (λ offer.
+        IsWiderOffer (context_of scope.now) wanted offer.now) }
+    ensures { (global : GlobalType)
+        → slice_get (context_of scope.now).globals index ≡ Some global
+        → global_offers (context_of scope.now) wanted index global
+        ≡ offered_if result (choice.Global index) }
 {
-    if offered {
-        return indices.push(index);
-    }
-    Ok(())
+    let entities = scope.spaces.entities;
+    let global = entities.globals[index];
+    may_offer(wider, index) && is_readable(scope.spaces.types, global, wanted)
 }
 
 impl KeptOffer {
@@ -195,56 +199,58 @@ impl KeptOffer {
     {
         KeptOffer {
             wanted,
-            globals_seen: 0,
-            globals: Items::new(alloc),
-            funcs_seen: 0,
-            funcs: Items::new(alloc),
+            globals: BlockCounts::new(alloc),
+            funcs: BlockCounts::new(alloc),
         }
     }
 
     /// Returns whether this is the entry for the type `wanted`, and has read no global past the
     /// first `visible`.
     fn is_for(&self, wanted: ValType, visible: usize) -> bool
-        ensures { IsTrue result ↔ ((self.now.wanted ≡ wanted) × (self.now.globals_seen ≤ visible)) }
+        ensures { IsTrue result ↔ ((self.now.wanted ≡ wanted) × (self.now.globals.seen ≤ visible)) }
     {
-        is_same(&self.wanted, &wanted) && self.globals_seen <= visible
+        is_same(&self.wanted, &wanted) && self.globals.seen <= visible
     }
 
     /// Returns whether this entry covers the globals and functions of `scope`.
     fn is_current(&self, scope: &Scope<'_>) -> bool
-        ensures { IsTrue result ↔ ((self.now.globals_seen ≡ scope.now.visible)
-            × (self.now.funcs_seen ≡ length (context_of scope.now).funcs)) }
+        ensures { IsTrue result ↔ ((self.now.globals.seen ≡ scope.now.visible)
+            × (self.now.funcs.seen ≡ length (context_of scope.now).funcs)) }
     {
         let entities = scope.spaces.entities;
-        self.globals_seen == scope.visible && self.funcs_seen == entities.funcs.len()
+        self.globals.seen == scope.visible && self.funcs.seen == entities.funcs.len()
     }
 
-    /// Reads the globals and functions of `scope` that have not been read.
-    fn look(&mut self, scope: &Scope<'_>) -> Result<(), Error>
+    /// Reads the globals and functions of `scope` that have not been read. Tests only the globals
+    /// that `wider`, if given, does not exclude: an entry for a wider type.
+    fn look(&mut self, scope: &Scope<'_>, wider: Option<&KeptOffer>) -> Result<(), Error>
         requires scope { IsScope (context_of scope.now) }
         requires kept { IsKeptOffer (context_of scope.now) self.old }
+        requires wider { IfSome wider (λ offer.
+            IsWiderOffer (context_of scope.now) self.old.wanted offer.now) }
         ensures kept { OnOk result (IsKeptOffer (context_of scope.now) self.new) }
         ensures wanted { OnOk result (self.new.wanted ≡ self.old.wanted) }
         ensures memory { IfErr result (λ e. e ≡ Error.Memory) }
     {
-        self.look_at_globals(scope)?;
+        self.look_at_globals(scope, wider)?;
         self.look_at_funcs(scope)
     }
 
-    /// Reads the globals of `scope` that have not been read.
-    fn look_at_globals(&mut self, scope: &Scope<'_>) -> Result<(), Error>
+    /// Reads the globals of `scope` that have not been read. Tests only those that `wider`, if
+    /// given, does not exclude: an entry for a wider type.
+    fn look_at_globals(&mut self, scope: &Scope<'_>, wider: Option<&KeptOffer>) -> Result<(), Error>
         requires scope { IsScope (context_of scope.now) }
         requires kept { IsKeptOffer (context_of scope.now) self.old }
+        requires wider { IfSome wider (λ offer.
+            IsWiderOffer (context_of scope.now) self.old.wanted offer.now) }
         ensures kept { OnOk result (IsKeptOffer (context_of scope.now) self.new) }
         ensures wanted { OnOk result (self.new.wanted ≡ self.old.wanted) }
         ensures memory { IfErr result (λ e. e ≡ Error.Memory) }
     {
-        let entities = scope.spaces.entities;
-        let seen = self.globals_seen;
+        let seen = self.globals.seen;
         for index in seen..scope.visible {
-            let offered = is_readable(scope.spaces.types, entities.globals[index], self.wanted);
-            push_if(offered, index as u32, &mut self.globals)?;
-            self.globals_seen = index + 1;
+            let offered = is_offered(scope, index, self.wanted, wider);
+            self.globals.push(offered)?;
         }
         Ok(())
     }
@@ -258,82 +264,12 @@ impl KeptOffer {
         ensures memory { IfErr result (λ e. e ≡ Error.Memory) }
     {
         let entities = scope.spaces.entities;
-        let seen = self.funcs_seen;
+        let seen = self.funcs.seen;
         for index in seen..entities.funcs.len() {
             let reference = function_reference(scope, index, entities.funcs[index]);
             let offered = is_below(scope.spaces.types, reference, self.wanted);
-            push_if(offered, index as u32, &mut self.funcs)?;
-            self.funcs_seen = index + 1;
+            self.funcs.push(offered)?;
         }
         Ok(())
-    }
-
-    /// Reads the globals and functions of `scope` that have not been read. If `source` has read
-    /// all visible globals, reads only those offered there, for a wider type.
-    fn look_among(&mut self, scope: &Scope<'_>, source: &KeptOffer) -> Result<(), Error>
-        requires scope { IsScope (context_of scope.now) }
-        requires kept { IsKeptOffer (context_of scope.now) self.old }
-        requires source { IsKeptOffer (context_of scope.now) source.now }
-        requires wider { IsTrue
-            (is_val_below (context_of scope.now).types self.old.wanted source.now.wanted) }
-        ensures kept { OnOk result (IsKeptOffer (context_of scope.now) self.new) }
-        ensures wanted { OnOk result (self.new.wanted ≡ self.old.wanted) }
-        ensures memory { IfErr result (λ e. e ≡ Error.Memory) }
-    {
-        if self.globals_seen < scope.visible && source.globals_seen == scope.visible {
-            self.look_among_globals(scope, source)?;
-        }
-        self.look(scope)
-    }
-
-    /// Reads the globals of `scope` that have not been read, among those offered in `source`, for a
-    /// wider type.
-    fn look_among_globals(&mut self, scope: &Scope<'_>, source: &KeptOffer) -> Result<(), Error>
-        requires scope { IsScope (context_of scope.now) }
-        requires kept { IsKeptOffer (context_of scope.now) self.old }
-        requires source { IsKeptOffer (context_of scope.now) source.now }
-        requires before { self.old.globals_seen ≤ scope.now.visible }
-        requires current { source.now.globals_seen ≡ scope.now.visible }
-        requires wider { IsTrue
-            (is_val_below (context_of scope.now).types self.old.wanted source.now.wanted) }
-        ensures kept { OnOk result (IsKeptOffer (context_of scope.now) self.new) }
-        ensures wanted { OnOk result (self.new.wanted ≡ self.old.wanted) }
-        ensures memory { IfErr result (λ e. e ≡ Error.Memory) }
-    {
-        let entities = scope.spaces.entities;
-        let globals = entities.globals;
-        let indices = source.globals.as_slice();
-        let first = first_from(indices, self.globals_seen);
-        for index in &indices[first..] {
-            let global = globals[*index as usize];
-            let offered = is_readable(scope.spaces.types, global, self.wanted);
-            push_if(offered, *index, &mut self.globals)?;
-        }
-        self.globals_seen = scope.visible;
-        Ok(())
-    }
-
-    /// Searches the offered globals for the choice at `place`.
-    #[tactic(auto, unfolding(crate::specs::ConstOffers::past))]
-    pub(super) fn past_globals(&self, place: usize) -> Result<usize, Choice>
-        ensures { result ≡ past (map choice.Global self.now.globals) place }
-    {
-        let globals = self.globals.as_slice();
-        if place < globals.len() {
-            return Err(Choice::Global(globals[place]));
-        }
-        Ok(place - globals.len())
-    }
-
-    /// Searches the offered functions for the choice at `place`.
-    #[tactic(auto, unfolding(crate::specs::ConstOffers::past))]
-    pub(super) fn past_funcs(&self, place: usize) -> Result<usize, Choice>
-        ensures { result ≡ past (map choice.Function self.now.funcs) place }
-    {
-        let funcs = self.funcs.as_slice();
-        if place < funcs.len() {
-            return Err(Choice::Function(funcs[place]));
-        }
-        Ok(place - funcs.len())
     }
 }

@@ -18,6 +18,7 @@ ghost use Rattle.smith_draw.specs.ConstScopes.{seen_by, IsReadable, AreSpacesVal
 ghost use Rattle.smith_draw.specs.ConstBounds.{most_instructions, MayRefuseConstExpr};
 ghost use Rattle.smith_draw.specs.KeptOffers.{AreKeptOffers};
 
+mod block_counts;
 mod constant;
 mod drawn;
 mod extended;

@@ -1,4 +1,5 @@
-ghost use Rattle.std.specs.Prelude.{◌≡◌, ◌<◌, ◌++◌, [], ◌∷◌, length, take, Some, IfOk, IfErr};
+ghost use Rattle.std.specs.Prelude.{◌≡◌, ◌<◌, ◌≤◌, ◌++◌, [], ◌∷◌, length, take, drop, Some, IfOk};
+ghost use Rattle.std.specs.Prelude.{IfErr};
 ghost use Rattle.std.specs.Prelude.{IfSome};
 ghost use Rattle.smith_types.specs.Subtyping.{IsValInRange};
 ghost use Rattle.smith_types.specs.Expressions.{unpacked};
@@ -72,22 +73,33 @@ fn past_globals(
         (take scope.now.visible (context_of scope.now).globals)) place }
 {
     match kept {
-        Some(kept) => kept.past_globals(place),
-        None => past_each_global(scope, wanted, place),
+        Some(kept) => {
+            let (first, place) = kept.globals.search_from(place);
+            past_globals_from(scope, wanted, first, place)
+        }
+        None => past_globals_from(scope, wanted, 0, place),
     }
 }
 
+/// Searches the globals from the index `first` on.
+
 #[tactic(auto, using(crate::proofs::ConstFoundLemmas::past_append, crate::proofs::ConstFoundLemmas::past_front), unfolding(crate::specs::ConstOffers::past))]
-fn past_each_global(scope: &Scope<'_>, wanted: ValType, place: usize) -> Result<usize, Choice>
+fn past_globals_from(
+    scope: &Scope<'_>,
+    wanted: ValType,
+    first: usize,
+    place: usize,
+) -> Result<usize, Choice>
     requires scope { IsScope (context_of scope.now) }
     requires upper { IsValInRange (context_of scope.now).types wanted }
-    ensures { result ≡ past (each_from (global_offers (context_of scope.now) wanted) 0
-        (take scope.now.visible (context_of scope.now).globals)) place }
+    requires first { first ≤ scope.now.visible }
+    ensures { result ≡ past (each_from (global_offers (context_of scope.now) wanted) first
+        (drop first (take scope.now.visible (context_of scope.now).globals))) place }
 {
     let entities = scope.spaces.entities;
     let globals = &entities.globals[..scope.visible];
     let mut rest = place;
-    for index in 0..globals.len() {
+    for index in first..globals.len() {
         let global = globals[index];
         let offered = !global.mutable && is_below(scope.spaces.types, global.val_type, wanted);
         rest = past_if(offered, Choice::Global(index as u32), rest)?;
@@ -143,22 +155,33 @@ fn past_functions(
         (context_of scope.now).funcs) place }
 {
     match kept {
-        Some(kept) => kept.past_funcs(place),
-        None => past_each_function(scope, wanted, place),
+        Some(kept) => {
+            let (first, place) = kept.funcs.search_from(place);
+            past_functions_from(scope, wanted, first, place)
+        }
+        None => past_functions_from(scope, wanted, 0, place),
     }
 }
 
+/// Searches the functions from the index `first` on.
+
 #[tactic(auto, using(crate::proofs::ConstFoundLemmas::past_append, crate::proofs::ConstFoundLemmas::past_front), unfolding(crate::specs::ConstOffers::past))]
-fn past_each_function(scope: &Scope<'_>, wanted: ValType, place: usize) -> Result<usize, Choice>
+fn past_functions_from(
+    scope: &Scope<'_>,
+    wanted: ValType,
+    first: usize,
+    place: usize,
+) -> Result<usize, Choice>
     requires scope { IsScope (context_of scope.now) }
     requires upper { IsValInRange (context_of scope.now).types wanted }
-    ensures { result ≡ past (each_from (function_offers (context_of scope.now) wanted) 0
-        (context_of scope.now).funcs) place }
+    requires first { first ≤ length (context_of scope.now).funcs }
+    ensures { result ≡ past (each_from (function_offers (context_of scope.now) wanted) first
+        (drop first (context_of scope.now).funcs)) place }
 {
     let entities = scope.spaces.entities;
     let funcs = entities.funcs;
     let mut rest = place;
-    for index in 0..funcs.len() {
+    for index in first..funcs.len() {
         let reference = function_reference(scope, index, funcs[index]);
         let offered = is_below(scope.spaces.types, reference, wanted);
         rest = past_if(offered, Choice::Function(index as u32), rest)?;

@@ -6,6 +6,6 @@ use Rattle.smith_draw.proofs.const_expr.kept_offers.KeptOffer.look_at_funcs.Give
 abbrev pub invariant-loop-index : goal.invariant-loop-index
 invariant-loop-index l = record {
   kept : IsKeptOffer (context_of l.scope) l.self;
-  seen : l.self.funcs_seen ≡ l.index;
+  seen : l.self.funcs.seen ≡ l.index;
   wanted : l.self.wanted ≡ l.fn.self.wanted;
 }

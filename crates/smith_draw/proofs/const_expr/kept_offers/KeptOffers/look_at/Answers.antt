@@ -48,27 +48,24 @@ index-requires c =
     let there = c.in_ok-source.ensures.place in
     omega (arith, slice_get_within c.place_of.new.self.kept.items c.in_ok-source.source there.0 there.1)
 
-pub look_among-requires-clause-kept : goal.look_among-requires-clause-kept
-look_among-requires-clause-kept c =
-    let has = looked (goal.at.look_among-requires-clause-kept c).In_ok-look in
+pub look-requires-3-clause-kept : goal.look-requires-3-clause-kept
+look-requires-3-clause-kept c =
+    let has = looked (goal.at.look-requires-3-clause-kept c).In_ok-look in
     offer_there (context_of c.args.scope.now) (set c.place_of.new.self.kept.items c.in_ok-source.source c.look-2.new.self) c.args.place _ c.replace-offer.result c.args.wanted has.at_place (c.replace-offer.ensures.value ∙ c.index_mut-3.ensures.value) has.all
 
-pub look_among-requires-clause-source : goal.look_among-requires-clause-source
-look_among-requires-clause-source c =
-    let at = goal.at.look_among-requires-clause-source c in
-    let has = taken at.After-replace-offer (looked at.In_ok-look) in
-    offer_there (context_of c.args.scope.now) (set (set c.place_of.new.self.kept.items c.in_ok-source.source c.look-2.new.self) c.args.place c.replace-offer.new.dest) c.in_ok-source.source _ c.index.result.now c.in-Some.wider has.at_source c.index.ensures has.all
-
-pub look_among-requires-clause-wider : goal.look_among-requires-clause-wider
-look_among-requires-clause-wider c =
-    let at = goal.at.look_among-requires-clause-wider c in
+pub look-requires-3-clause-wider : goal.look-requires-3-clause-wider
+look-requires-3-clause-wider c =
+    let at = goal.at.look-requires-3-clause-wider c in
     let had = looked at.In_ok-look in
     let has = taken at.After-replace-offer had in
     let kept = set c.place_of.new.self.kept.items c.in_ok-source.source c.look-2.new.self in
     let types = (context_of c.args.scope.now).types in
     let wanted : c.replace-offer.result.wanted ≡ c.args.wanted = wanted_there kept c.args.place _ c.replace-offer.result c.args.wanted had.at_place (c.replace-offer.ensures.value ∙ c.index_mut-3.ensures.value) in
     let wider : c.index.result.now.wanted ≡ c.in-Some.wider = wanted_there (set kept c.args.place c.replace-offer.new.dest) c.in_ok-source.source _ c.index.result.now c.in-Some.wider has.at_source c.index.ensures in
-    ap (λ (w : ValType). is_val_below types w c.index.result.now.wanted) wanted ∙ ap (λ (w : ValType). is_val_below types c.args.wanted w) wider ∙ c.in-Some.ensures.1
+    record {
+      kept = offer_there (context_of c.args.scope.now) (set kept c.args.place c.replace-offer.new.dest) c.in_ok-source.source _ c.index.result.now c.in-Some.wider has.at_source c.index.ensures has.all;
+      wider = ap (λ (w : ValType). is_val_below types w c.index.result.now.wanted) wanted ∙ ap (λ (w : ValType). is_val_below types c.args.wanted w) wider ∙ c.in-Some.ensures.1;
+    }
 
 pub index_mut-requires-4 : goal.index_mut-requires-4
 index_mut-requires-4 c =
@@ -79,7 +76,7 @@ pub returns-clause-kept : goal.returns-clause-kept
 returns-clause-kept c =
     let at = goal.at.returns-clause-kept c in
     let has = taken at.After-replace-offer (looked at.In_ok-look) in
-    All-set (IsKeptOffer (context_of c.args.scope.now)) (set (set c.place_of.new.self.kept.items c.in_ok-source.source c.look-2.new.self) c.args.place c.replace-offer.new.dest) c.args.place c.look_among.new.self c.in_ok-look_among.ensures.kept has.all
+    All-set (IsKeptOffer (context_of c.args.scope.now)) (set (set c.place_of.new.self.kept.items c.in_ok-source.source c.look-2.new.self) c.args.place c.replace-offer.new.dest) c.args.place c.look-3.new.self c.in_ok-look-2.ensures.kept has.all
 
 pub returns-clause-place : goal.returns-clause-place
 returns-clause-place c =
@@ -89,4 +86,4 @@ returns-clause-place c =
     let kept = set c.place_of.new.self.kept.items c.in_ok-source.source c.look-2.new.self in
     let wanted : c.replace-offer.result.wanted ≡ c.args.wanted = wanted_there kept c.args.place _ c.replace-offer.result c.args.wanted had.at_place (c.replace-offer.ensures.value ∙ c.index_mut-3.ensures.value) in
     let none : c.index_mut-4.result.now.wanted ≡ c.args.wanted = wanted_there (set kept c.args.place c.replace-offer.new.dest) c.args.place _ c.index_mut-4.result.now c.args.wanted has.at_place c.index_mut-4.ensures.value in
-    kept_again (set kept c.args.place c.replace-offer.new.dest) c.args.place _ c.index_mut-4.result.now c.look_among.new.self c.args.wanted has.at_place c.index_mut-4.ensures.value (c.in_ok-look_among.ensures.wanted ∙ wanted ∙ sym none)
+    kept_again (set kept c.args.place c.replace-offer.new.dest) c.args.place _ c.index_mut-4.result.now c.look-3.new.self c.args.wanted has.at_place c.index_mut-4.ensures.value (c.in_ok-look-2.ensures.wanted ∙ wanted ∙ sym none)

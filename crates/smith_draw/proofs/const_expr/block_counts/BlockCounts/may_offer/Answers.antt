@@ -1,0 +1,13 @@
+use Rattle.std.proofs.Common.{◌≡◌, ◌∙◌, inl, inr, true, false, ap, arith, sym}
+use Rattle.std.specs.Prelude.{not}
+use Rattle.std.proofs.lemmas.Bool.Decides.{eqb_tells}
+use Rattle.smith_draw.proofs.BlockCountLemmas.{none_near}
+use Rattle.smith_draw.proofs.const_expr.block_counts.BlockCounts.may_offer.Goals as goal
+
+pub returns : goal.returns
+returns c = λ before counted rising no.
+    let same : c.start_of.result ≡ c.start_of-2.result = elim (eqb_tells c.start_of.result c.start_of-2.result) [
+      | inl (test, is) ↦ is
+      | inr (test, other) ↦ let never : true ≡ false = ap not (sym test) ∙ no in cc
+    ] in
+    none_near before c.args.self.now.seen c.args.index rising (omega arith) (sym (c.start_of.ensures before counted) ∙ same ∙ c.start_of-2.ensures before counted)
