@@ -18,7 +18,7 @@ use smith_types::{ValType, is_same};
 use std::alloc::Global;
 use std::mem;
 
-/// With fewer globals and functions than this nothing is recorded: counts would cost more than
+/// The number of globals and functions below which nothing is recorded: counts would cost more than
 /// reading them again.
 const FEW: usize = 32;
 
