@@ -26,7 +26,7 @@ use Rattle.smith_instr.specs.Contexts.{BodyContext, IsValid, AreValid, nullable_
 use Rattle.smith_code_aggregates.specs.Aggregates.{array_at, array_there, created_array_at, field_at, field_in, field_there, fields_with, is_array, is_created_array, is_field, is_struct, names_types}
 use Rattle.smith_code_aggregates.specs.Fields.{AreFieldsValid, element_in, element_of, extension_of, is_of_bytes, is_of_references, is_storage_below, is_usable, is_usable_in, struct_in, struct_of}
 use Rattle.smith_code_nodes.specs.Items.{continued}
-use Rattle.smith_code_nodes.specs.Offered.{chunk_at, offered}
+use Rattle.smith_code_nodes.specs.Offered.{chunk_at}
 use Rattle.smith_code_nodes.specs.Scopes.{IsScope, indexed}
 use Rattle.smith_code_tables.specs.TableChoices.{is_segment_below}
 use Rattle.smith_code_aggregates.specs.declared.fields.FieldUse.{FieldUse}

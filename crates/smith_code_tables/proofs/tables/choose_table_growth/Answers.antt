@@ -1,4 +1,4 @@
-use Rattle.std.proofs.Common.{◌≡◌, Option, Some}
+use Rattle.std.proofs.Common.{◌≡◌, Option}
 use Rattle.std.proofs.lemmas.Result.{IfOk-weaker}
 use Rattle.smith_code_nodes.specs.Scopes.{where_stands}
 use Rattle.smith_code_nodes.specs.declared.node.Node.{Node}
