@@ -88,7 +88,7 @@ fn draw_each_body(
     Ok(bodies)
 }
 
-fn draw_over(
+fn draw_bodies(
     alloc: Global,
     config: &Config,
     spaces: &Spaces<'_>,
@@ -104,33 +104,21 @@ fn draw_over(
     draw_each_body(alloc, config, &kept, count, u)
 }
 
-fn draw_bodies(
-    alloc: Global,
-    config: &Config,
-    spaces: &Spaces<'_>,
-    count: usize,
-    u: &mut Unstructured<'_>,
-) -> Result<Items<Code>, Error>
-    ensures { Draws (bodies_at config.now (standing_in config.now spaces.now) count u.old)
-        result u.old u.new }
-{
-    let mut grounds = KeptGrounds::new();
-    grounds.keep(alloc, config, spaces)?;
-    draw_over(alloc, config, spaces, &grounds, count, u)
-}
-
 /// Draws the bodies of `count` functions. Each has locals over the types and functions of `spaces`,
 /// then `unreachable`, or raw bytes if `config` allows invalid bodies.
 ///
-/// `config` is sanitised.
+/// Requires `config` to be sanitised, and `grounds` to record the heap types that the functions of
+/// `spaces` ground.
 pub fn arbitrary_bodies(
     alloc: Global,
     config: &Config,
     spaces: &Spaces<'_>,
+    grounds: &KeptGrounds,
     count: usize,
     u: &mut Unstructured<'_>,
 ) -> Result<Items<Code>, Error>
-    requires { IsSanitized config.now }
+    requires sanitized { IsSanitized config.now }
+    requires kept { AreKeptGrounds (standing_in config.now spaces.now) grounds.now }
 
     // The draw.
     ensures draws { Draws (bodies_at config.now (standing_in config.now spaces.now) count u.old)
@@ -151,5 +139,5 @@ pub fn arbitrary_bodies(
         → IfOk result (λ bodies. ¬ Any (λ body. IsRaw body.instructions) bodies) }
 {
     let _types = spaces.types.types();
-    draw_bodies(alloc, config, spaces, count, u)
+    draw_bodies(alloc, config, spaces, grounds, count, u)
 }

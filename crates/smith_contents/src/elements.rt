@@ -7,6 +7,7 @@ ghost use Rattle.smith_types.specs.Floats.{HasNoFloat, GivesNoFloat};
 ghost use Rattle.smith_types.specs.Segments.{item_count, IsElementValid, IsElementInside};
 ghost use Rattle.smith_types.specs.declared.segments.ElementSegment.{ElementSegment};
 ghost use Rattle.smith_draw.specs.Grounding.{standing_in};
+ghost use Rattle.smith_draw.specs.KeptGrounds.{AreKeptGrounds};
 ghost use Rattle.smith_draw.specs.ConstScopes.{seen_by};
 ghost use Rattle.smith_bytes.specs.Spelling.{SpellsEmpty};
 ghost use Rattle.smith_bytes.specs.Steps.{ReturnsWhy};
@@ -144,9 +145,11 @@ fn draw_elements(
     alloc: Global,
     config: &Config,
     spaces: &Spaces<'_>,
+    grounds: &KeptGrounds,
     u: &mut Unstructured<'_>,
 ) -> Result<Items<ElementSegment>, Error>
     requires may { MayDrawElements config.now spaces.now }
+    requires kept { AreKeptGrounds (standing_in config.now spaces.now) grounds.now }
     ensures exact { ReturnsWhy (λ segments. (segments, u.new)) result (elements_at config.now
         (seen_by config.now spaces.now true) spaces.now.entities.tables.now u.old) }
     ensures fit { IfOk result (All (IsElementFit config.now
@@ -161,8 +164,6 @@ fn draw_elements(
     if kinds.is_empty() {
         return none(alloc, config);
     }
-    let mut grounds = KeptGrounds::new();
-    grounds.keep(alloc, config, spaces)?;
     let standing = grounds.standing(config, spaces);
     draw_segments(alloc, config, spaces, &standing, &kinds, u)
 }
@@ -172,9 +173,9 @@ fn draw_elements(
 /// `max_elements`. A segment that lists functions is empty if all functions of `spaces` have shared
 /// types. See the standard, section Validation, Element Segments.
 ///
-/// `config` is sanitised and passes its check. The types of `spaces` are valid, and its functions,
-/// tables and globals are valid over them, each fewer than 2^32. The imported globals are among its
-/// globals.
+/// Requires `config` to be sanitised and to pass its check. Requires `spaces` to have valid types,
+/// no more imported globals than globals, and fewer than 2^32 functions, tables and globals each,
+/// valid over its types. Requires `grounds` to record the heap types that its functions ground.
 ///
 /// # Errors
 ///
@@ -188,9 +189,11 @@ pub fn arbitrary_elements(
     alloc: Global,
     config: &Config,
     spaces: &Spaces<'_>,
+    grounds: &KeptGrounds,
     u: &mut Unstructured<'_>,
 ) -> Result<Items<ElementSegment>, Error>
     requires may { MayDrawElements config.now spaces.now }
+    requires kept { AreKeptGrounds (standing_in config.now spaces.now) grounds.now }
 
     // The draw.
     ensures exact { ReturnsWhy (λ segments. (segments, u.new)) result (elements_at config.now
@@ -226,5 +229,5 @@ pub fn arbitrary_elements(
         (standing_in config.now spaces.now) spaces.now.entities.tables.now) }
     ensures left { KeepsPieces u.old u.new }
 {
-    draw_elements(alloc, config, spaces, u)
+    draw_elements(alloc, config, spaces, grounds, u)
 }

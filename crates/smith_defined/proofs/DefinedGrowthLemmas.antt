@@ -174,11 +174,14 @@ module _ (config : Config) (imported : EntitySpaces) (space : GroupedTypes) (bef
     each_global = globals_stand.each;
   }
 
+-- as many functions are imported after more are defined
+pub still_imported : (before later : List ℕ) (old new : ℕ) → Extends before later → new ≡ old + (length later - length before) → length before - old ≡ length later - new
+still_imported before later old new extends counted = let whole = ap length extends.parts ∙ length-append before extends.more in omega (arith, whole, counted)
+
 pub defined_more : (config : Config) (space : GroupedTypes) (before later : EntitySpaces) (so_far defined : Definitions) → AddsTo config space before so_far later defined → AreDefinedMore config space before so_far later defined
 defined_more config space before later so_far defined adds =
     let drawn : ℕ → Context = λ imported. record { features = features_of config; types = space.types; funcs = later.funcs; globals = []; imported_funcs = imported; imported_globals = 0; visible = 0 } in
-    let whole = ap length adds.filled.funcs.extends.parts ∙ length-append before.funcs adds.filled.funcs.extends.more in
-    let same : length before.funcs - so_far.num_funcs ≡ length later.funcs - defined.num_funcs = omega (arith, whole, adds.num_funcs) in
+    let same = still_imported before.funcs later.funcs so_far.num_funcs defined.num_funcs adds.filled.funcs.extends adds.num_funcs in
     record {
       filled = adds.filled;
       grounded_tables = subst (λ (imported : ℕ). AreAdded (HasGroundedElements config (drawn imported)) before.tables later.tables) same (tables_added (HasGroundedElements config (drawn (length before.funcs - so_far.num_funcs))) (λ one fit. fit.grounded) adds.tables);

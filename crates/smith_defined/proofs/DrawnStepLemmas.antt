@@ -1,8 +1,9 @@
 -- Facts that one step of drawing a module provides for the next.
-use Rattle.std.proofs.Common.{inl, inr, ℕ, ◌-◌, ◌≤◌, max, List, [], length, refl, arith}
+use Rattle.std.proofs.Common.{inl, inr, ◌≡◌, ℕ, ◌-◌, ◌≤◌, max, List, [], take, length, refl, arith}
 use Rattle.std.specs.Prelude.{All}
 use Rattle.smith_bytes.specs.declared.error.Error.{Error}
 use Rattle.smith_bytes.specs.declared.error.Count.TheVariants as counts
+use Rattle.std.proofs.Math.Seq.{take-append_seam}
 use Rattle.std.proofs.lemmas.List.{length-take}
 use Rattle.std.proofs.lemmas.List.Elements.{All-take}
 use Rattle.smith_types.specs.Entities.{IsFuncTypeIndex, IsGlobalValid}
@@ -16,6 +17,9 @@ use Rattle.smith_config.specs.declared.config.Config.{Config}
 use Rattle.smith_config.specs.Features.{features_of}
 use Rattle.smith_config.specs.Granted.{IsUngrounded}
 use Rattle.smith_draw.specs.ConstBounds.{MayRefuseConstExpr}
+use Rattle.smith_draw.specs.Grounding.{context_of}
+use Rattle.smith_draw.specs.KeptGrounds.{AreKeptGrounds}
+use Rattle.smith_draw.specs.declared.kept_grounds.KeptGrounds.{KeptGrounds}
 use Rattle.smith_draw.proofs.FilledLemmas.{fields_before}
 use Rattle.smith_defined.specs.Defined.{MayDefine, MayInitialise, MayRefuseDrawn, MayRefuseDefined, drawn_over, drawn_beside}
 use Rattle.smith_defined.specs.Definitions.{scope_among, scope_over}
@@ -61,3 +65,11 @@ refused_before config types before so_far funcs e extends (inr (empty, holds)) =
       visible = omega arith;
     } in
     inr (inr (empty, fields_before config old new growth refl holds))
+
+-- the record after the added functions are noted
+pub functions_noted : (config : Config) (types : List SubType) (before : EntitySpaces) (so_far : Definitions) (funcs : List ℕ) (old new : KeptGrounds) → Extends before.funcs funcs → so_far.num_funcs ≤ length before.funcs
+    → ((imported : ℕ) → imported ≤ length before.funcs → AreKeptGrounds (context_of (features_of config) types (take (length before.funcs) funcs) imported) old → AreKeptGrounds (context_of (features_of config) types funcs imported) new)
+    → AreKeptGrounds (drawn_beside config types before so_far) old → AreKeptGrounds (context_of (features_of config) types funcs (length before.funcs - so_far.num_funcs)) new
+functions_noted config types before so_far funcs old new extends within noted kept =
+    let front : take (length before.funcs) funcs ≡ before.funcs = rw extends.parts (take-append_seam before.funcs extends.more) in
+    noted (length before.funcs - so_far.num_funcs) (omega (arith, within)) (rw front kept)

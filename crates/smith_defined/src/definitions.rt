@@ -2,12 +2,13 @@ ghost use Rattle.std.specs.Prelude.{◌≡◌, false, IfErr, OnOk, All};
 ghost use Rattle.smith_bytes.specs.Source.{KeepsPieces};
 ghost use Rattle.smith_types.specs.Floats.{HasNoFloat};
 ghost use Rattle.smith_types.specs.EntitySpaces.{spaces_in};
+ghost use Rattle.smith_draw.specs.KeptGrounds.{AreKeptGrounds};
 ghost use Rattle.smith_defined.specs.Definitions.{definitions_at};
 ghost use Rattle.smith_bytes.specs.Steps.{ReturnsWhy};
 ghost use Rattle.smith_defined.specs.Defined.{nothing_defined, drawn_beside, MayDefine};
 ghost use Rattle.smith_defined.specs.Defined.{MayRefuseDefined, AreDefinedMore, HaveNoFloats};
 
-use crate::funcs::define_funcs;
+use crate::funcs::{define_funcs, note_defined};
 use crate::globals::define_globals;
 use crate::memories::define_memories;
 use crate::standing::{standing, standing_imported};
@@ -55,10 +56,11 @@ impl Definitions {
 /// of `config` or the number before, whichever is greater. An entity of `spaces` that `definitions`
 /// does not count is imported. See the standard, section Validation, Modules.
 ///
-/// `config` is sanitised and passes its check. `types` are valid, at least `min_types` and fewer
-/// than 2^32. The entities of `spaces` are valid over `types`, fewer than 2^32 of each kind, and
-/// the features that their numbers require are on. `definitions` counts no more entities than exist
-/// in `spaces`.
+/// Requires `config` to be sanitised and to pass its check. Requires `types` to be valid, at least
+/// `min_types` and fewer than 2^32. Requires the entities of `spaces` to be valid over `types`,
+/// fewer than 2^32 of each kind, and to need only enabled features for their numbers. Requires
+/// `definitions` to count no more entities than exist in `spaces`, and `grounds` to record the heap
+/// types that the functions of `spaces` ground. Each defined function is noted in `grounds`.
 ///
 /// # Errors
 ///
@@ -73,13 +75,18 @@ pub fn define(
     types: &TypeSpace,
     spaces: &mut EntitySpaces,
     definitions: &mut Definitions,
+    grounds: &mut KeptGrounds,
     u: &mut Unstructured<'_>,
 ) -> Result<(), Error>
     requires may { MayDefine config.now types.now (spaces_in spaces.old) definitions.old }
+    requires kept { AreKeptGrounds (drawn_beside config.now types.now.types
+        (spaces_in spaces.old) definitions.old) grounds.old }
     ensures exact { ReturnsWhy (λ _. ((spaces_in spaces.new, definitions.new), u.new)) result
         (definitions_at config.now types.now.types (spaces_in spaces.old) definitions.old u.old) }
     ensures defined { OnOk result (AreDefinedMore config.now types.now
         (spaces_in spaces.old) definitions.old (spaces_in spaces.new) definitions.new) }
+    ensures kept { OnOk result (AreKeptGrounds (drawn_beside config.now types.now.types
+        (spaces_in spaces.new) definitions.new) grounds.new) }
     ensures floats { config.now.allow_floats ≡ false → All HasNoFloat types.now.types
         → HaveNoFloats (spaces_in spaces.old) definitions.old
         → OnOk result (HaveNoFloats (spaces_in spaces.new) definitions.new) }
@@ -97,9 +104,8 @@ pub fn define(
     define_tags(alloc, config, types, &mut spaces.tags, u)?;
     define_funcs(alloc, config, types, &mut spaces.funcs, u)?;
     let func_types = spaces.funcs.as_slice();
+    note_defined(config, types, func_types, funcs_before, grounds);
     let scope = standing(types, func_types, imported_funcs, &[], 0);
-    let mut grounds = KeptGrounds::new();
-    grounds.keep(alloc, config, &scope)?;
     let drawn = grounds.standing(config, &scope);
     let all_globals = spaces.globals.as_slice();
     let imported = standing_imported(

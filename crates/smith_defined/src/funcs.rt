@@ -1,4 +1,5 @@
-ghost use Rattle.std.specs.Prelude.{◌≡◌, ◌<◌, ◌≤◌, ◌^◌, ◌⊎◌, [], length, IfErr, OnOk, All};
+ghost use Rattle.std.specs.Prelude.{◌≡◌, ◌<◌, ◌≤◌, ◌^◌, ◌⊎◌, ℕ, [], take, length};
+ghost use Rattle.std.specs.Prelude.{IfErr, OnOk, All};
 ghost use Rattle.smith_bytes.specs.Source.{KeepsPieces};
 ghost use Rattle.smith_bytes.specs.Takes.{Takes};
 ghost use Rattle.smith_types.specs.Entities.{IsFuncTypeIndex};
@@ -9,6 +10,8 @@ ghost use Rattle.smith_config.specs.Sanitized.{IsSanitized};
 ghost use Rattle.smith_bytes.specs.Steps.{ReturnsWhy};
 ghost use Rattle.smith_defined.specs.Defined.{IsFilled};
 ghost use Rattle.smith_defined.specs.Definitions.{funcs_at};
+ghost use Rattle.smith_draw.specs.Grounding.{context_of};
+ghost use Rattle.smith_draw.specs.KeptGrounds.{AreKeptGrounds};
 ghost use Rattle.smith_draw.specs.TypeUses.{func_types};
 ghost use Rattle.smith_draw.specs.SpelledParts.{SpellsFuncs};
 ghost use Rattle.smith_rules.specs.Refusals.{MayRefuse};
@@ -16,7 +19,7 @@ ghost use Rattle.smith_rules.specs.Refusals.{MayRefuse};
 use crate::typed::define_typed;
 use smith_bytes::{Count, Error, Unstructured, Why};
 use smith_config::Config;
-use smith_draw::{TypeUse, list_types};
+use smith_draw::{KeptGrounds, TypeUse, list_types};
 use smith_types::{Items, TypeSpace};
 use std::alloc::Global;
 
@@ -80,4 +83,23 @@ pub(crate) fn define_funcs(
     ensures left { KeepsPieces u.old u.new }
 {
     push_funcs(alloc, config, types, funcs, u)
+}
+
+/// Notes the functions of `funcs` from the index `before` in `grounds`. All of them are defined.
+pub(crate) fn note_defined(
+    config: &Config,
+    types: &TypeSpace,
+    funcs: &[u32],
+    before: usize,
+    grounds: &mut KeptGrounds,
+)
+    ensures { (imported : ℕ) → imported ≤ before
+        → AreKeptGrounds (context_of (features_of config.now) types.now.types
+        (take before funcs.now) imported) grounds.old
+        → AreKeptGrounds (context_of (features_of config.now) types.now.types funcs.now imported)
+        grounds.new }
+{
+    for function in before..funcs.len() {
+        grounds.note(types, funcs[function], config.custom_descriptors_enabled);
+    }
 }

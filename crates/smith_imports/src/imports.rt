@@ -400,15 +400,19 @@ fn add_all_groups(
     distinct: bool,
     types: &TypeSpace,
     imported: &mut Imported,
+    grounds: &mut KeptGrounds,
     u: &mut Unstructured<'_>,
 ) -> Result<(), Error>
     requires may { MayImport config.now types.now }
-    requires none { HasNoImports imported.old }
+    requires kept { AreKeptGrounds
+        (import_scope config.now types.now.types (spaces_of imported.old)) grounds.old }
     requires so_far { IsImported config.now types.now.types distinct imported.old }
     ensures exact { OnOk result (groups_at config.now types.now.types distinct
         (config.now.max_imports + length u.old + 1) imported.old.groups u.old
         ≡ (imported.new.groups, u.new)) }
     ensures so_far { OnOk result (IsImported config.now types.now.types distinct imported.new) }
+    ensures kept { OnOk result (AreKeptGrounds
+        (import_scope config.now types.now.types (spaces_of imported.new)) grounds.new) }
     ensures least { OnOk result
         (imported.new.count < config.now.min_imports → MayEnd config.now imported.new.count) }
     ensures memory { IfErr result (λ e. e ≡ Error.Memory) }
@@ -417,10 +421,8 @@ fn add_all_groups(
     if config.max_imports == 0 {
         return Ok(());
     }
-    let mut grounds = KeptGrounds::new();
-    grounds.begin(alloc, config, types)?;
     let types = ImportTypes::new(alloc, types)?;
-    add_groups(alloc, config, distinct, &types, imported, &mut grounds, u)
+    add_groups(alloc, config, distinct, &types, imported, grounds, u)
 }
 
 /// Draws imports into `imported`, which is empty. Fails if there are fewer than `config`
@@ -432,18 +434,23 @@ fn draw_imports(
     distinct: bool,
     types: &TypeSpace,
     imported: &mut Imported,
+    grounds: &mut KeptGrounds,
     u: &mut Unstructured<'_>,
 ) -> Result<(), Error>
     requires may { MayImport config.now types.now }
     requires none { HasNoImports imported.old }
+    requires kept { AreKeptGrounds
+        (import_scope config.now types.now.types (spaces_of imported.old)) grounds.old }
     ensures exact { ReturnsWhy (λ _. (imported.new.groups, u.new)) result
         (imports_at config.now types.now.types distinct u.old) }
     ensures so_far { OnOk result (IsImported config.now types.now.types distinct imported.new) }
+    ensures kept { OnOk result (AreKeptGrounds
+        (import_scope config.now types.now.types (spaces_of imported.new)) grounds.new) }
     ensures least { OnOk result (config.now.min_imports ≤ imported.new.count) }
     ensures refusal { IfErr result (MayRefuseImports config.now) }
     ensures left { KeepsPieces u.old u.new }
 {
-    add_all_groups(alloc, config, distinct, types, imported, u)?;
+    add_all_groups(alloc, config, distinct, types, imported, grounds, u)?;
     if imported.count < config.min_imports {
         return Err(Error::IncorrectFormat(Why::Unmet(Count::Imports)));
     }
@@ -454,9 +461,10 @@ fn draw_imports(
 /// `config`, and at most `max_imports`. If `distinct` is set, no two imports have the same pair of
 /// names.
 ///
-/// `config` is sanitised, passes its check, and has no shape that fixes the imports. `types` are
-/// valid and fewer than 2^32, and each function type among them has at most 20 parameters and 20
-/// results.
+/// Requires `config` to be sanitised, to pass its check, and to have no shape that fixes the
+/// imports. Requires `types` to be valid and fewer than 2^32, and each function type among them to
+/// have at most 20 parameters and 20 results. Requires `grounds` to record no function. Each
+/// imported function is noted in it.
 ///
 /// # Errors
 ///
@@ -468,17 +476,22 @@ pub fn arbitrary_imports(
     distinct: bool,
     types: &TypeSpace,
     imported: &mut Imported,
+    grounds: &mut KeptGrounds,
     u: &mut Unstructured<'_>,
 ) -> Result<(), Error>
     requires may { MayImport config.now types.now }
     requires none { HasNoImports imported.old }
+    requires kept { AreKeptGrounds
+        (import_scope config.now types.now.types (spaces_of imported.old)) grounds.old }
 
     // The draw.
     ensures exact { ReturnsWhy (λ _. (imported.new.groups, u.new)) result
         (imports_at config.now types.now.types distinct u.old) }
 
-    // Validity and bounds.
+    // Validity, bounds and the record.
     ensures so_far { OnOk result (IsImported config.now types.now.types distinct imported.new) }
+    ensures kept { OnOk result (AreKeptGrounds
+        (import_scope config.now types.now.types (spaces_of imported.new)) grounds.new) }
     ensures least { OnOk result (config.now.min_imports ≤ imported.new.count) }
 
     // Refusals, reach and the source.
@@ -487,5 +500,5 @@ pub fn arbitrary_imports(
         → OnOk result (Takes (SpellsNoImport config.now) u.old imported.new.groups u.new) }
     ensures left { KeepsPieces u.old u.new }
 {
-    draw_imports(alloc, config, distinct, types, imported, u)
+    draw_imports(alloc, config, distinct, types, imported, grounds, u)
 }

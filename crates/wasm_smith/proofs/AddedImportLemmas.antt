@@ -64,6 +64,14 @@ module _ (config : Config) (drawn : PartsSoFar) (passes : Passes config) (saniti
     small = (old.free (free_of config free none)).small;
   }
 
+  -- all functions are imported
+  all_imported : (made : Imported) → (drawn_next config (record drawn { imported = made })).imported_funcs ≡ length made.spaces.funcs
+  all_imported made = rw (old.free (free_of config free none)).nothing (omega arith)
+
+  -- so the next draw has the context of the imports
+  pub in_scope : (made : Imported) → import_scope config drawn.types.types (spaces_in made.spaces) ≡ drawn_next config (record drawn { imported = made })
+  in_scope made = λ i. record (drawn_next config (record drawn { imported = made })) { imported_funcs = sym (all_imported made) i }
+
   module _ (distinct : Bool) (made : Imported) (so_far : IsImported config drawn.types.types distinct made) where
     grown : AreSpacesGrown (spaces_in drawn.imported.spaces) (spaces_in made.spaces)
     grown = grown_from_none (spaces_in drawn.imported.spaces) (spaces_in made.spaces) (old.free (free_of config free none)).imports.spaces
@@ -75,23 +83,20 @@ module _ (config : Config) (drawn : PartsSoFar) (passes : Passes config) (saniti
         let later = drawn_next config (record drawn { imported = made }) in
         let none_yet : drawn.imported.spaces.funcs ≡ [] = ap (λ (spaces : EntitySpaces). spaces.funcs) alone.imports.spaces in
         let earlier : Context = record later { funcs = []; imported_funcs = 0 } in
-        let all_imported : later.imported_funcs ≡ length made.spaces.funcs = rw alone.nothing (omega arith) in
         let growth : AreImportsGrown earlier later = record {
           features = refl;
           types = all_kept drawn.types.types;
           funcs = record { more = made.spaces.funcs; parts = refl };
           imported = refl;
-          still_imported = all_imported;
+          still_imported = all_imported made;
         } in
         let same : drawn_next config drawn ≡ earlier = rw (none_yet, alone.nothing) refl in
-        let scope = import_scope config drawn.types.types (spaces_in made.spaces) in
-        let in_scope : scope ≡ later = λ i. record later { imported_funcs = sym all_imported i } in
         record {
           fields = λ lacks. held.fields (subst (HoldsUngroundedField config) (sym same) (fields_imported config earlier later growth refl lacks));
           types = types_later config earlier later (ungrounded_imported config earlier later growth) drawn.types.types (subst (AreTypesGranted config) same held.types);
-          elements = subst (λ (context : Context). All (HasGroundedElements config context) made.spaces.tables) in_scope
+          elements = subst (λ (context : Context). All (HasGroundedElements config context) made.spaces.tables) (in_scope made)
               (subst (λ (each : EntitySpaces). All (HasGroundedElements config (import_scope config drawn.types.types each)) each.tables) (sym so_far.counts.spaces) so_far.fit.grounded_tables);
-          globals = subst (λ (context : Context). All (HasGroundedValue config context) made.spaces.globals) in_scope
+          globals = subst (λ (context : Context). All (HasGroundedValue config context) made.spaces.globals) (in_scope made)
               (subst (λ (each : EntitySpaces). All (HasGroundedValue config (import_scope config drawn.types.types each)) each.globals) (sym so_far.counts.spaces) so_far.fit.grounded_globals);
         }
 

@@ -6,6 +6,7 @@ ghost use Rattle.smith_types.specs.Floats.{HasNoFloat};
 ghost use Rattle.smith_types.specs.EntitySpaces.{spaces_in};
 ghost use Rattle.smith_config.specs.Faults.{Passes};
 ghost use Rattle.smith_config.specs.Sanitized.{IsSanitized};
+ghost use Rattle.smith_draw.specs.KeptGrounds.{AreKeptGrounds};
 ghost use Rattle.smith_bytes.specs.Steps.{Returns, is_lack, ReturnsWhy};
 ghost use Rattle.wasm_smith.specs.Build.{in_full};
 ghost use Rattle.wasm_smith.specs.DrawnSteps.{AreExportsDrawn, drawn_next};
@@ -25,6 +26,7 @@ use smith_bytes::{Error, Unstructured};
 use smith_config::Config;
 use smith_contents::{Exports, arbitrary_bodies, arbitrary_start};
 use smith_defined::Definitions;
+use smith_draw::KeptGrounds;
 use smith_imports::Imported;
 use smith_types::{Code, ExportKind, Items, Name, TypeSpace};
 use std::alloc::Global;
@@ -78,6 +80,7 @@ pub(crate) fn draw_behind_exports(
     types: &TypeSpace,
     imported: &Imported,
     definitions: &Definitions,
+    grounds: &KeptGrounds,
     made: Exports,
     u: &mut Unstructured<'_>,
 ) -> Result<Contents, Error>
@@ -85,6 +88,8 @@ pub(crate) fn draw_behind_exports(
         (spaces_of imported.now) imported.now.type_size }
     requires told { TellsImported (imported_in imported.now)
         (spaces_of imported.now) definitions.now }
+    requires grounds { AreKeptGrounds (drawn_beside config.now types.now.types
+        (spaces_of imported.now) definitions.now) grounds.now }
     requires made { AreExportsMade config.now types.now.types
         (spaces_of imported.now) imported.now.type_size made }
 
@@ -110,11 +115,11 @@ pub(crate) fn draw_behind_exports(
 {
     let encodes_types = draw_section_flag(types.types().len(), u);
     let start = arbitrary_start(config, types.types(), imported.spaces.funcs.as_slice(), u);
-    let segments = draw_segments(alloc, config, types, imported, definitions, u)?;
+    let segments = draw_segments(alloc, config, types, imported, definitions, grounds, u)?;
     let imported_funcs = imported.spaces.funcs.len() - definitions.num_funcs;
     let imported_globals = imported.spaces.globals.len() - definitions.globals.len();
     let spaces = segment_spaces(types, &imported.spaces, imported_funcs, imported_globals);
-    let code = arbitrary_bodies(alloc, config, &spaces, definitions.num_funcs, u)?;
+    let code = arbitrary_bodies(alloc, config, &spaces, grounds, definitions.num_funcs, u)?;
     Ok(Contents {
         exports: made.exports,
         type_size: made.type_size,
@@ -131,6 +136,7 @@ pub(crate) fn draw_contents(
     alloc: Global,
     config: &Config,
     drawn: &PartsSoFar,
+    grounds: &KeptGrounds,
     made: Exports,
     u: &mut Unstructured<'_>,
 ) -> Result<Contents, Error>
@@ -138,6 +144,7 @@ pub(crate) fn draw_contents(
     requires sanitized { IsSanitized config.now }
     requires valid { AreShapesValid config.now }
     requires drawn { AreExportsDrawn config.now drawn.now }
+    requires grounds { AreKeptGrounds (drawn_next config.now drawn.now) grounds.now }
     requires made { AreExportsMade config.now drawn.now.types.types
         (spaces_in drawn.now.imported.spaces) drawn.now.imported.type_size made }
 
@@ -167,6 +174,7 @@ pub(crate) fn draw_contents(
         &drawn.types,
         imported,
         &drawn.definitions,
+        grounds,
         made,
         u,
     )

@@ -16,6 +16,7 @@ ghost use Rattle.smith_rules.specs.Refusals.{AreShapesValid, MayRefuse};
 mod contents;
 mod exports;
 mod first_parts;
+mod func_grounds;
 mod parts_so_far;
 mod section_flag;
 mod segment_spaces;

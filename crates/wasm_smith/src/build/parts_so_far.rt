@@ -17,6 +17,7 @@ ghost use Rattle.smith_rules.specs.ShapesKept.{KeepsShapes};
 
 use crate::build::contents::{Contents, draw_contents};
 use crate::build::exports::make_exports;
+use crate::build::func_grounds::func_grounds;
 use crate::build::section_flag::draw_section_flag;
 use crate::build::steps::{add_definitions, add_imports, begin_with_types};
 use smith_bytes::{Error, Unstructured};
@@ -63,8 +64,8 @@ impl PartsSoFar {
     }
 }
 
-/// Draws the parts of a module into `drawn`, which is empty, in the order of the steps. Collects
-/// the interesting values.
+/// Draws the parts of a module into `drawn`, which is empty, in the order of the steps. The steps
+/// share a record of the heap types that functions ground. Collects the interesting values.
 #[tactic(auto, unfolding(crate::specs::Build::module_at))]
 fn draw_parts(
     alloc: Global,
@@ -85,11 +86,12 @@ fn draw_parts(
     ensures left { KeepsPieces u.old u.new }
 {
     begin_with_types(alloc, config, drawn, u)?;
-    add_imports(alloc, config, distinct, drawn, u)?;
+    let mut grounds = func_grounds(alloc, config, drawn)?;
+    add_imports(alloc, config, distinct, drawn, &mut grounds, u)?;
     let encodes_imports = draw_section_flag(drawn.imported.groups.len(), u);
-    add_definitions(alloc, config, drawn, u)?;
-    let made = make_exports(alloc, config, drawn, u)?;
-    drawn.contents = draw_contents(alloc, config, drawn, made, u)?;
+    add_definitions(alloc, config, drawn, &mut grounds, u)?;
+    let made = make_exports(alloc, config, drawn, &mut grounds, u)?;
+    drawn.contents = draw_contents(alloc, config, drawn, &grounds, made, u)?;
     drawn.encodes_imports = encodes_imports;
     let (narrow, wide) = collect_interesting_values(
         alloc,

@@ -1,6 +1,7 @@
 ghost use Rattle.std.specs.Prelude.{◌≡◌, [], IfOk, IfErr, All};
 ghost use Rattle.smith_bytes.specs.Source.{KeepsPieces};
 ghost use Rattle.smith_types.specs.Floats.{HasNoFloat};
+ghost use Rattle.smith_draw.specs.KeptGrounds.{AreKeptGrounds};
 ghost use Rattle.smith_defined.specs.Defined.{drawn_beside};
 ghost use Rattle.wasm_smith.specs.Contents.{MayHoldContents, MayRefuseContents};
 ghost use Rattle.wasm_smith.specs.DrawnContents.{TellsImported, AreSegmentsFit, HaveNoFloatItems};
@@ -14,6 +15,7 @@ use smith_bytes::{Error, Unstructured};
 use smith_config::Config;
 use smith_contents::{arbitrary_data, arbitrary_elements};
 use smith_defined::Definitions;
+use smith_draw::KeptGrounds;
 use smith_imports::Imported;
 use smith_types::{DataSegment, ElementSegment, Items, TypeSpace};
 use std::alloc::Global;
@@ -47,12 +49,15 @@ pub(crate) fn draw_segments(
     types: &TypeSpace,
     imported: &Imported,
     definitions: &Definitions,
+    grounds: &KeptGrounds,
     u: &mut Unstructured<'_>,
 ) -> Result<Segments, Error>
     requires may { MayHoldContents config.now types.now
         (spaces_of imported.now) imported.now.type_size }
     requires told { TellsImported (imported_in imported.now)
         (spaces_of imported.now) definitions.now }
+    requires grounds { AreKeptGrounds (drawn_beside config.now types.now.types
+        (spaces_of imported.now) definitions.now) grounds.now }
 
     // The draw.
     ensures exact { ReturnsWhy (λ segments. (segments, u.new)) result (all_segments_at config.now
@@ -79,7 +84,7 @@ pub(crate) fn draw_segments(
     let imported_funcs = imported.spaces.funcs.len() - definitions.num_funcs;
     let imported_globals = imported.spaces.globals.len() - definitions.globals.len();
     let spaces = segment_spaces(types, &imported.spaces, imported_funcs, imported_globals);
-    let elements = arbitrary_elements(alloc, config, &spaces, u)?;
+    let elements = arbitrary_elements(alloc, config, &spaces, grounds, u)?;
     let data_segments = arbitrary_data(alloc, config, &spaces, u)?;
     Ok(Segments {
         elements,

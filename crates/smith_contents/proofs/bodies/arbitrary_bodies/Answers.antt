@@ -9,7 +9,7 @@ returns c =
     let config = c.args.config.now in
     let context = standing_in c.args.config.now c.args.spaces.now in
     let draws = c.draw_bodies.ensures in
-    let valid = of_drawn _ draws (bodies_valid config context c.args.count c.args.u.now c.requires) in
+    let valid = of_drawn _ draws (bodies_valid config context c.args.count c.args.u.now c.requires.sanitized) in
     record {
       draws = draws;
       each = of_drawn _ draws (bodies_each config context c.args.count c.args.u.now);

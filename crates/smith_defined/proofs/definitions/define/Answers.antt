@@ -1,9 +1,19 @@
-use Rattle.std.proofs.Common.{refl}
+use Rattle.std.proofs.Common.{ℕ, refl, subst}
 use Rattle.smith_types.specs.EntitySpaces.{spaces_in}
+use Rattle.smith_config.specs.Features.{features_of}
+use Rattle.smith_draw.specs.Grounding.{context_of}
+use Rattle.smith_draw.specs.KeptGrounds.{AreKeptGrounds}
 use Rattle.smith_draw.proofs.ConstStepLemmas.{passed_on}
-use Rattle.smith_defined.proofs.DrawnStepLemmas.{may_initialise, refused_before}
-use Rattle.smith_defined.proofs.DefinedGrowthLemmas.{defined_more}
+use Rattle.smith_defined.proofs.DrawnStepLemmas.{functions_noted, may_initialise, refused_before}
+use Rattle.smith_defined.proofs.DefinedGrowthLemmas.{defined_more, still_imported}
 use Rattle.smith_defined.proofs.definitions.define.Goals as goal
+
+pub standing-drawn-requires : goal.standing-drawn-requires
+standing-drawn-requires c =
+    let scope = c.standing-scope.ensures in
+    rw (scope.types, scope.funcs, scope.imported_funcs, c.as_slice-func_types.ensures, c.len-funcs_before.ensures)
+    (functions_noted c.args.config.now c.args.types.now.types (spaces_in c.args.spaces.now) c.args.definitions.now c.define_funcs.new.funcs _ _ c.in_ok-define_funcs.ensures.filled.extends c.requires.may.within.funcs
+    (rw (c.as_slice-func_types.ensures, c.len-funcs_before.ensures) at c.note_defined.ensures) c.requires.kept)
 
 pub define_tables-requires-clause-may : goal.define_tables-requires-clause-may
 define_tables-requires-clause-may c =
@@ -80,6 +90,17 @@ returns-clause-defined c =
       num_funcs = rw (c.len-2.ensures, c.len-funcs_before.ensures) refl;
       num_memories = rw (c.len-3.ensures, c.len-memories_before.ensures) refl;
     })
+
+pub returns-clause-kept : goal.returns-clause-kept
+returns-clause-kept c =
+    let config = c.args.config.now in
+    let types = c.args.types.now.types in
+    let extends = c.in_ok-define_funcs.ensures.filled.extends in
+    let within = c.requires.may.within.funcs in
+    subst (λ (imported : ℕ). AreKeptGrounds (context_of (features_of config) types c.define_funcs.new.funcs imported) c.note_defined.new.grounds)
+    (still_imported (spaces_in c.args.spaces.now).funcs c.define_funcs.new.funcs c.args.definitions.now.num_funcs _ extends (rw (c.len-2.ensures, c.len-funcs_before.ensures) refl))
+    (functions_noted config types (spaces_in c.args.spaces.now) c.args.definitions.now c.define_funcs.new.funcs _ _ extends within
+    (rw (c.as_slice-func_types.ensures, c.len-funcs_before.ensures) at c.note_defined.ensures) c.requires.kept)
 
 pub returns-clause-floats : goal.returns-clause-floats
 returns-clause-floats c = λ off types before. record {

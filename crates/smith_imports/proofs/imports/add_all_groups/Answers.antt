@@ -1,7 +1,4 @@
-use Rattle.std.proofs.Common.{◌+◌, length, refl, ap, arith}
-use Rattle.smith_types.specs.Imports.{EntitySpaces}
-use Rattle.smith_imports.specs.Imported.{spaces_of}
-use Rattle.smith_imports.specs.ImportedEntities.{import_scope}
+use Rattle.std.proofs.Common.{◌+◌, length, refl, arith}
 use Rattle.smith_bytes.specs.declared.error.Count.TheVariants as counts
 use Rattle.smith_imports.proofs.ImportGroupsLoop.{groups_full}
 use Rattle.smith_imports.proofs.imports.add_all_groups.Goals as goal
@@ -17,6 +14,4 @@ pub returns-then-config-eq0-clause-least : goal.returns-then-config-eq0-clause-l
 returns-then-config-eq0-clause-least c = λ few. absurd (omega (arith, c.requires.may.passes.ordered counts.Imports c.requires.may.free, c.if-config-eq0.true))
 
 pub add_groups-requires-clause-kept : goal.add_groups-requires-clause-kept
-add_groups-requires-clause-kept c =
-    rw c.in_ok-types.ensures.exact
-    (c.in_ok-begin.ensures.none (import_scope c.args.config.now c.args.types.now.types (spaces_of c.args.imported.now)) refl (ap (λ (spaces : EntitySpaces). spaces.funcs) c.requires.none.spaces))
+add_groups-requires-clause-kept c = rw c.in_ok-types.ensures.exact c.requires.kept

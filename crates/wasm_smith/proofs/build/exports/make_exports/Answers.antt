@@ -1,9 +1,10 @@
-use Rattle.std.proofs.Common.{◌≡◌}
+use Rattle.std.proofs.Common.{◌≡◌, arith}
 use Rattle.std.specs.Prelude.{None}
 use Rattle.std.proofs.lemmas.Result.{IfErr-weaker}
 use Rattle.smith_types.specs.Imports.{flattened, imported_spaces}
 use Rattle.smith_types.specs.EntitySpaces.{spaces_in}
 use Rattle.smith_draw.proofs.ConstStepLemmas.{passed_on}
+use Rattle.smith_defined.proofs.StandsBehindLemmas.{defined_end}
 use Rattle.wasm_smith.specs.FirstParts.{ModuleSoFar}
 use Rattle.wasm_smith.proofs.ContentsLemmas.{may_draw_exports}
 use Rattle.wasm_smith.proofs.RefusalLemmas.{exports_refuse}
@@ -33,6 +34,10 @@ returns-in_err-exports-clause-refusal c =
     let none : c.args.config.now.module_shape ≡ None = none_given c.args.config.now.module_shape cc in
     passed_on _ c.from_residual.result c.in_err-exports.field-0.0 c.from_residual.ensures.1
     (required_refuses c.args.config.now c.in-Some.shape c.args.drawn.now none c.in-Some.is c.requires.entities.may c.in_err-exports.field-0.0 c.in_err-exports.ensures.refusal)
+
+pub func_grounds-requires : goal.func_grounds-requires
+func_grounds-requires c =
+    omega (arith, defined_end (c.in_ok-exports.ensures.stands (imported_spaces (flattened c.args.drawn.now.imported.groups)) c.requires.entities.may.so_far.stands).funcs)
 
 pub returns-in-Some-clause-drawn : goal.returns-in-Some-clause-drawn
 returns-in-Some-clause-drawn c =

@@ -1,3 +1,5 @@
+use Rattle.std.proofs.Common.{arith}
+use Rattle.smith_defined.proofs.StandsBehindLemmas.{defined_end}
 use Rattle.wasm_smith.specs.declared.build.contents.Contents.{Contents}
 use Rattle.wasm_smith.specs.declared.build.parts_so_far.PartsSoFar.{PartsSoFar}
 use Rattle.wasm_smith.proofs.ContentsLemmas.{pages_small}
@@ -5,6 +7,9 @@ use Rattle.wasm_smith.proofs.KeptShapeLemmas.{kept_beyond, shapes_kept}
 use Rattle.wasm_smith.proofs.MadeExportsLemmas.{may_hold_contents}
 use Rattle.wasm_smith.proofs.PartsLemmas.{drawn_for, module_read, module_refused, same_imports}
 use Rattle.wasm_smith.proofs.build.parts_so_far.draw_parts.Goals as goal
+
+pub func_grounds-requires : goal.func_grounds-requires
+func_grounds-requires c = omega (arith, defined_end c.in_ok-begin_with_types.ensures.drawn.may.so_far.stands.funcs)
 
 pub returns-in_err-made-clause-left : goal.returns-in_err-made-clause-left
 returns-in_err-made-clause-left c = λ whole h.

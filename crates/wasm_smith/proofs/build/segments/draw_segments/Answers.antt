@@ -11,8 +11,11 @@ use Rattle.wasm_smith.proofs.RefusalLemmas.{elements_refuse, none_lacks}
 use Rattle.wasm_smith.proofs.SegmentScopeLemmas.{seen_over}
 use Rattle.wasm_smith.proofs.build.segments.draw_segments.Goals as goal
 
-pub arbitrary_elements-requires : goal.arbitrary_elements-requires
-arbitrary_elements-requires c = record { may = may_draw_elements c.requires.may c.segment_spaces-spaces.ensures (omega (arith, c.len-2.ensures)) }
+pub arbitrary_elements-requires-clause-may : goal.arbitrary_elements-requires-clause-may
+arbitrary_elements-requires-clause-may c = may_draw_elements c.requires.may c.segment_spaces-spaces.ensures (omega (arith, c.len-2.ensures))
+
+pub arbitrary_elements-requires-clause-kept : goal.arbitrary_elements-requires-clause-kept
+arbitrary_elements-requires-clause-kept c = let over = c.segment_spaces-spaces.ensures in rw (over.types, over.funcs, over.imported_funcs, c.len.ensures) c.requires.grounds
 
 pub arbitrary_data-requires-clause-standing : goal.arbitrary_data-requires-clause-standing
 arbitrary_data-requires-clause-standing c = spaces_valid c.requires.may c.segment_spaces-spaces.ensures (omega (arith, c.len-2.ensures))

@@ -3,8 +3,8 @@ use Rattle.wasm_smith.specs.DrawnSteps.{drawn_next}
 use Rattle.wasm_smith.proofs.EntitiesDrawnLemmas.{may_define_drawn, entities_drawn, defined_refuse}
 use Rattle.wasm_smith.proofs.build.steps.add_definitions.Goals as goal
 
-pub define-requires : goal.define-requires
-define-requires c = record { may = may_define_drawn _ _ c.requires.passes c.requires.sanitized c.requires.valid c.requires.imports }
+pub define-requires-clause-may : goal.define-requires-clause-may
+define-requires-clause-may c = may_define_drawn _ _ c.requires.passes c.requires.sanitized c.requires.valid c.requires.imports
 
 pub returns-clause-drawn : goal.returns-clause-drawn
 returns-clause-drawn c = entities_drawn _ _ c.args.drawn.now _ _ c.requires.imports c.define.ensures.defined c.define.ensures.floats

@@ -1,5 +1,8 @@
+use Rattle.std.proofs.Common.{sym, subst}
 use Rattle.std.proofs.lemmas.Result.{on_ok_weaker, IfErr-weaker}
-use Rattle.wasm_smith.proofs.AddedImportLemmas.{imports_beyond, imports_drawn, may_import, none_there}
+use Rattle.smith_types.specs.Expressions.{Context}
+use Rattle.smith_draw.specs.KeptGrounds.{AreKeptGrounds}
+use Rattle.wasm_smith.proofs.AddedImportLemmas.{imports_beyond, imports_drawn, in_scope, may_import, none_there}
 use Rattle.wasm_smith.proofs.RefusalLemmas.{imports_refuse}
 use Rattle.wasm_smith.proofs.build.steps.add_imports.Goals as goal
 
@@ -7,6 +10,19 @@ pub arbitrary_imports-requires-clause-may : goal.arbitrary_imports-requires-clau
 arbitrary_imports-requires-clause-may c =
     let config = c.args.config.now in
     may_import config c.args.drawn.now c.requires.passes c.requires.sanitized c.requires.types (none_there config.available_imports c.if-is_some.ensures) (none_there config.module_shape c.if-is_some-2.ensures)
+
+pub arbitrary_imports-requires-clause-kept : goal.arbitrary_imports-requires-clause-kept
+arbitrary_imports-requires-clause-kept c =
+    let config = c.args.config.now in
+    subst (λ (context : Context). AreKeptGrounds context c.args.grounds.now)
+    (sym (in_scope config c.args.drawn.now c.requires.passes c.requires.sanitized c.requires.types (none_there config.available_imports c.if-is_some.ensures) (none_there config.module_shape c.if-is_some-2.ensures) c.args.drawn.now.imported)) c.requires.grounds
+
+pub returns-clause-grounds : goal.returns-clause-grounds
+returns-clause-grounds c =
+    let config = c.args.config.now in
+    on_ok_weaker c.arbitrary_imports.result
+    (subst (λ (context : Context). AreKeptGrounds context c.arbitrary_imports.new.grounds)
+    (in_scope config c.args.drawn.now c.requires.passes c.requires.sanitized c.requires.types (none_there config.available_imports c.if-is_some.ensures) (none_there config.module_shape c.if-is_some-2.ensures) c.arbitrary_imports.new.imported)) c.arbitrary_imports.ensures.kept
 
 pub returns-clause-drawn : goal.returns-clause-drawn
 returns-clause-drawn c =
