@@ -16,8 +16,9 @@ use Rattle.smith_types.specs.declared.entity_type.GlobalType.{GlobalType}
 use Rattle.smith_types.proofs.ReferredTypeLemmas.{value_in_range}
 use Rattle.smith_draw.specs.Below.{is_val_below}
 use Rattle.smith_draw.specs.ConstOffers.{each_from, offered_if, global_offers, function_offers}
-use Rattle.smith_draw.specs.KeptOffers.{IsKeptOffer}
+use Rattle.smith_draw.specs.KeptOffers.{IsKeptOffer, offered_before}
 use Rattle.smith_draw.specs.declared.const_expr.kept_offers.KeptOffer.{KeptOffer}
+use Rattle.smith_draw.proofs.BlockCountLemmas.{counted_alike}
 use Rattle.smith_draw.proofs.GroundingLemmas.{within_reference}
 use Rattle.smith_defined.proofs.BelowGrowthLemmas.{value_longer, value_same}
 
@@ -50,6 +51,11 @@ offered_same a b x same = ap (λ (offered : Bool). offered_if offered x) same
 seen_same : {A : Type 0} (n : ℕ) (xs ys : List A) → Extends xs ys → n ≤ length xs → take n xs ≡ take n ys
 seen_same n xs ys longer inside = sym (ap (take n) longer.parts ∙ take-append-le n xs longer.more inside)
 
+-- the first items of a longer list offer as many
+before_same : {A B : Type 0} (P : A → Type 0) (f g : ℕ → A → List B) → ((i : ℕ) (x : A) → P x → f i x ≡ g i x) → (xs ys : List A) → Extends xs ys → All P xs → (n : ℕ) → n ≤ length xs → length (each_from f 0 (take n xs)) ≡ length (each_from g 0 (take n ys))
+before_same {A} P f g same xs ys longer each n inside =
+    ap length (each_same P f g same 0 (take n xs) (All-take P n xs each)) ∙ ap (λ (zs : List A). length (each_from g 0 zs)) (seen_same n xs ys longer inside)
+
 no_shorter : {A : Type 0} (n : ℕ) (xs ys : List A) → Extends xs ys → n ≤ length xs → n ≤ length ys
 no_shorter n xs ys longer inside = let longer = ap length longer.parts ∙ length-append xs longer.more in omega (arith, longer, inside)
 
@@ -77,18 +83,16 @@ module _ (old new : Context) (valid : AreValidOver old) (more : HasMore old new)
   offer_grown : (offer : KeptOffer) → IsKeptOffer old offer → IsKeptOffer new offer
   offer_grown offer kept = record {
     wanted = subst (λ (xs : List SubType). IsValInRange xs offer.wanted) (sym more.types.parts) (value_longer old.types more.types.more offer.wanted kept.wanted);
-    globals_seen = no_shorter offer.globals_seen old.globals new.globals more.globals kept.globals_seen;
+    globals_seen = no_shorter offer.globals.seen old.globals new.globals more.globals kept.globals_seen;
     globals =
-        kept.globals
-        ∙ each_same (IsGlobalValid old.features old.types) (global_offers old offer.wanted) (global_offers new offer.wanted) (global_same offer.wanted kept.wanted) 0 (take offer.globals_seen old.globals)
-        (All-take (IsGlobalValid old.features old.types) offer.globals_seen old.globals valid.globals)
-        ∙ ap (λ (xs : List GlobalType). each_from (global_offers new offer.wanted) 0 xs) (seen_same offer.globals_seen old.globals new.globals more.globals kept.globals_seen);
-    funcs_seen = no_shorter offer.funcs_seen old.funcs new.funcs more.funcs kept.funcs_seen;
+        counted_alike (offered_before (global_offers old offer.wanted) old.globals) (offered_before (global_offers new offer.wanted) new.globals) offer.globals
+        (λ n read. before_same (IsGlobalValid old.features old.types) (global_offers old offer.wanted) (global_offers new offer.wanted) (global_same offer.wanted kept.wanted) old.globals new.globals more.globals valid.globals n (omega (arith, read, kept.globals_seen)))
+        kept.globals;
+    funcs_seen = no_shorter offer.funcs.seen old.funcs new.funcs more.funcs kept.funcs_seen;
     funcs =
-        kept.funcs
-        ∙ each_same (IsFuncTypeIndex old.types) (function_offers old offer.wanted) (function_offers new offer.wanted) (function_same offer.wanted kept.wanted) 0 (take offer.funcs_seen old.funcs)
-        (All-take (IsFuncTypeIndex old.types) offer.funcs_seen old.funcs valid.funcs)
-        ∙ ap (λ (xs : List ℕ). each_from (function_offers new offer.wanted) 0 xs) (seen_same offer.funcs_seen old.funcs new.funcs more.funcs kept.funcs_seen);
+        counted_alike (offered_before (function_offers old offer.wanted) old.funcs) (offered_before (function_offers new offer.wanted) new.funcs) offer.funcs
+        (λ n read. before_same (IsFuncTypeIndex old.types) (function_offers old offer.wanted) (function_offers new offer.wanted) (function_same offer.wanted kept.wanted) old.funcs new.funcs more.funcs valid.funcs n (omega (arith, read, kept.funcs_seen)))
+        kept.funcs;
   }
 
   -- the kept globals and functions are correct

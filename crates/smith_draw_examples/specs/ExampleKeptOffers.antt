@@ -4,11 +4,19 @@ use Rattle.smith_types.specs.declared.value_type.ValType.{ValType}
 use Rattle.smith_types.specs.declared.value_type.ValType.TheVariants.{I32, Ref}
 use Rattle.smith_types.specs.declared.value_type.AbstractHeapType.TheVariants as heap
 use Rattle.smith_types.specs.ExampleTypes.{plain, nullable}
+use Rattle.smith_draw.specs.declared.const_expr.block_counts.BlockCounts.{BlockCounts}
 use Rattle.smith_draw.specs.declared.const_expr.kept_offers.KeptOffer.{KeptOffer}
 
--- the entry for a type: the numbers of globals and functions read, and those that are offered
-abbrev pub kept_for : ValType → ℕ → List ℕ → ℕ → List ℕ → KeptOffer
-kept_for wanted globals_seen globals funcs_seen funcs = record { wanted = wanted; globals_seen = globals_seen; globals = globals; funcs_seen = funcs_seen; funcs = funcs }
+-- the counts of items read: all, those offered, and those offered before each block
+abbrev pub counts : ℕ → ℕ → List ℕ → BlockCounts
+counts seen total starts = record { seen = seen; total = total; starts = starts }
+
+abbrev pub unread : BlockCounts
+unread = counts 0 0 []
+
+-- the entry for a type: the counts of globals and of functions
+abbrev pub kept_for : ValType → BlockCounts → BlockCounts → KeptOffer
+kept_for wanted globals funcs = record { wanted = wanted; globals = globals; funcs = funcs }
 
 -- the type of references to functions
 abbrev pub to_functions : ValType
@@ -16,11 +24,11 @@ to_functions = Ref (nullable (plain heap.Func))
 
 -- correct entries for two immutable globals with a mutable one between them, and for two functions
 abbrev pub numbers : KeptOffer
-numbers = kept_for I32 3 (0 ∷ 2 ∷ []) 2 []
+numbers = kept_for I32 (counts 3 2 (0 ∷ [])) (counts 2 0 (0 ∷ []))
 
 abbrev pub functions : KeptOffer
-functions = kept_for to_functions 3 [] 2 (0 ∷ 1 ∷ [])
+functions = kept_for to_functions (counts 3 0 (0 ∷ [])) (counts 2 2 (0 ∷ []))
 
 -- an entry without one of the functions
 abbrev pub too_few_functions : KeptOffer
-too_few_functions = kept_for to_functions 3 [] 2 (0 ∷ [])
+too_few_functions = kept_for to_functions (counts 3 0 (0 ∷ [])) (counts 2 1 (0 ∷ []))

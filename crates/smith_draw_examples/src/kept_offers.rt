@@ -1,7 +1,7 @@
 // Records of the offered globals and functions: correct ones, and others. The clauses are proved;
 // nothing calls these functions.
 
-ghost use Rattle.std.specs.Prelude.{◌≡◌, [], ◌∷◌};
+ghost use Rattle.std.specs.Prelude.{◌≡◌, ◌*◌, [], ◌∷◌};
 ghost use Rattle.smith_types.specs.declared.value_type.ValType.TheVariants.{I32, I64, Ref};
 ghost use Rattle.smith_types.specs.declared.value_type.HeapType.TheVariants.{Concrete, Exact};
 ghost use Rattle.smith_types.specs.Features.{every_feature};
@@ -9,58 +9,82 @@ ghost use Rattle.smith_types.specs.ExampleFeatures.{usual_features};
 ghost use Rattle.smith_types.specs.ExampleTypes.{nullable, not_null};
 ghost use Rattle.smith_types.specs.ExampleContexts.{context_with};
 ghost use Rattle.smith_draw.specs.ExampleConstExprs.{context_of_types};
-ghost use Rattle.smith_draw.specs.KeptOffers.{AreKeptOffers, IsKeptOffer, IsWhole};
+ghost use Rattle.smith_draw.specs.KeptOffers.{AreKeptOffers, IsCounted, IsKeptOffer, IsWhole};
 ghost use Rattle.smith_draw.specs.declared.const_expr.kept_offers.KeptOffers.{KeptOffers};
-ghost use Rattle.smith_draw_examples.specs.ExampleKeptOffers.{kept_for, to_functions, numbers};
-ghost use Rattle.smith_draw_examples.specs.ExampleKeptOffers.{functions, too_few_functions};
+ghost use Rattle.smith_draw_examples.specs.ExampleKeptOffers.{counts, unread, kept_for};
+ghost use Rattle.smith_draw_examples.specs.ExampleKeptOffers.{to_functions, numbers, functions};
+ghost use Rattle.smith_draw_examples.specs.ExampleKeptOffers.{too_few_functions};
+
+fn counted()
+    ensures nothing_read { IsCounted (λ n. n) unread }
+    ensures one_block { IsCounted (λ n. n) (counts 8 8 (0 ∷ [])) }
+    ensures two_blocks { IsCounted (λ n. n) (counts 9 9 (0 ∷ 8 ∷ [])) }
+    ensures nothing_offered { IsCounted (λ n. 0) (counts 17 0 (0 ∷ 0 ∷ 0 ∷ [])) }
+    ensures two_items_each { IsCounted (λ n. 2 * n) (counts 10 20 (0 ∷ 16 ∷ [])) }
+{}
+
+fn not_counted()
+    ensures a_total_too_low { ¬ IsCounted (λ n. n) (counts 9 8 (0 ∷ 8 ∷ [])) }
+    ensures a_total_too_high { ¬ IsCounted (λ n. n) (counts 9 10 (0 ∷ 8 ∷ [])) }
+    ensures a_start_too_low { ¬ IsCounted (λ n. n) (counts 9 9 (0 ∷ 7 ∷ [])) }
+    ensures a_start_too_high { ¬ IsCounted (λ n. n) (counts 9 9 (0 ∷ 9 ∷ [])) }
+    ensures the_first_start_too_high { ¬ IsCounted (λ n. n) (counts 8 8 (1 ∷ [])) }
+    ensures starts_in_another_order { ¬ IsCounted (λ n. n) (counts 9 9 (8 ∷ 0 ∷ [])) }
+    ensures the_last_block_left_out { ¬ IsCounted (λ n. n) (counts 9 9 (0 ∷ [])) }
+    ensures a_block_too_many { ¬ IsCounted (λ n. n) (counts 8 8 (0 ∷ 8 ∷ [])) }
+    ensures a_block_of_no_items { ¬ IsCounted (λ n. n) (counts 0 0 (0 ∷ [])) }
+{}
 
 #[tactic(auto, unfolding(smith_draw::specs::Below::is_heap_below, smith_draw::specs::Offered::ancestors))]
 fn kept()
-    ensures nothing_seen { IsKeptOffer (context_with usual_features 3) (kept_for I32 0 [] 0 []) }
+    ensures nothing_seen { IsKeptOffer (context_with usual_features 3)
+        (kept_for I32 unread unread) }
     ensures all_globals { IsKeptOffer (context_with usual_features 3) numbers }
     ensures the_first_global { IsKeptOffer (context_with usual_features 3)
-        (kept_for I32 1 (0 ∷ []) 0 []) }
+        (kept_for I32 (counts 1 1 (0 ∷ [])) unread) }
     ensures no_global_of_another_type { IsKeptOffer (context_with usual_features 3)
-        (kept_for I64 3 [] 2 []) }
+        (kept_for I64 (counts 3 0 (0 ∷ [])) (counts 2 0 (0 ∷ []))) }
     ensures all_functions { IsKeptOffer (context_with usual_features 3) functions }
     ensures a_function_that_is_known_exactly { IsKeptOffer (context_with every_feature 3)
-        (kept_for (Ref (not_null (Exact 0))) 3 [] 2 (1 ∷ [])) }
+        (kept_for (Ref (not_null (Exact 0))) (counts 3 0 (0 ∷ [])) (counts 2 1 (0 ∷ []))) }
     ensures for_the_last_type { IsKeptOffer (context_with usual_features 3)
-        (kept_for (Ref (nullable (Concrete 5))) 0 [] 0 []) }
+        (kept_for (Ref (nullable (Concrete 5))) unread unread) }
 {}
 
 #[tactic(auto, unfolding(smith_draw::specs::Below::is_heap_below, smith_draw::specs::Offered::ancestors))]
 fn not_kept()
     ensures a_global_left_out { ¬ IsKeptOffer (context_with usual_features 3)
-        (kept_for I32 3 (0 ∷ []) 2 []) }
+        (kept_for I32 (counts 3 1 (0 ∷ [])) (counts 2 0 (0 ∷ []))) }
     ensures a_mutable_global { ¬ IsKeptOffer (context_with usual_features 3)
-        (kept_for I32 2 (0 ∷ 1 ∷ []) 2 []) }
+        (kept_for I32 (counts 2 2 (0 ∷ [])) (counts 2 0 (0 ∷ []))) }
     ensures a_global_that_was_not_seen { ¬ IsKeptOffer (context_with usual_features 3)
-        (kept_for I32 2 (0 ∷ 2 ∷ []) 2 []) }
-    ensures globals_in_another_order { ¬ IsKeptOffer (context_with usual_features 3)
-        (kept_for I32 3 (2 ∷ 0 ∷ []) 2 []) }
+        (kept_for I32 (counts 1 2 (0 ∷ [])) (counts 2 0 (0 ∷ []))) }
+    ensures a_global_before_the_first { ¬ IsKeptOffer (context_with usual_features 3)
+        (kept_for I32 (counts 3 2 (1 ∷ [])) (counts 2 0 (0 ∷ []))) }
+    ensures a_block_of_globals_left_out { ¬ IsKeptOffer (context_with usual_features 3)
+        (kept_for I32 (counts 3 2 []) (counts 2 0 (0 ∷ []))) }
     ensures a_global_of_another_type { ¬ IsKeptOffer (context_with usual_features 3)
-        (kept_for I64 1 (0 ∷ []) 2 []) }
+        (kept_for I64 (counts 1 1 (0 ∷ [])) (counts 2 0 (0 ∷ []))) }
     ensures more_globals_than_exist { ¬ IsKeptOffer (context_with usual_features 3)
-        (kept_for I32 4 (0 ∷ 2 ∷ []) 2 []) }
+        (kept_for I32 (counts 4 2 (0 ∷ [])) (counts 2 0 (0 ∷ []))) }
     ensures a_function_left_out { ¬ IsKeptOffer (context_with usual_features 3) too_few_functions }
     ensures an_imported_function_exactly { ¬ IsKeptOffer (context_with every_feature 3)
-        (kept_for (Ref (not_null (Exact 0))) 3 [] 2 (0 ∷ 1 ∷ [])) }
+        (kept_for (Ref (not_null (Exact 0))) (counts 3 0 (0 ∷ [])) (counts 2 2 (0 ∷ []))) }
     ensures more_functions_than_exist { ¬ IsKeptOffer (context_with usual_features 3)
-        (kept_for to_functions 3 [] 3 (0 ∷ 1 ∷ [])) }
+        (kept_for to_functions (counts 3 0 (0 ∷ [])) (counts 3 2 (0 ∷ []))) }
     ensures for_a_type_that_does_not_exist { ¬ IsKeptOffer (context_with usual_features 3)
-        (kept_for (Ref (nullable (Concrete 6))) 0 [] 0 []) }
+        (kept_for (Ref (nullable (Concrete 6))) unread unread) }
 {}
 
 #[tactic(auto, unfolding(smith_draw::specs::Below::is_heap_below, smith_draw::specs::Offered::ancestors))]
 fn whole()
-    ensures of_nothing { IsWhole (context_of_types []) I32 (kept_for I32 0 [] 0 []) }
+    ensures of_nothing { IsWhole (context_of_types []) I32 (kept_for I32 unread unread) }
     ensures all_globals { IsWhole (context_with usual_features 3) I32 numbers }
     ensures the_visible_globals { IsWhole (context_with usual_features 2) I32
-        (kept_for I32 2 (0 ∷ []) 2 []) }
+        (kept_for I32 (counts 2 1 (0 ∷ [])) (counts 2 0 (0 ∷ []))) }
     ensures all_functions { IsWhole (context_with usual_features 3) to_functions functions }
     ensures a_global_left_out { ¬ IsWhole (context_with usual_features 3) I32
-        (kept_for I32 2 (0 ∷ []) 2 []) }
+        (kept_for I32 (counts 2 1 (0 ∷ [])) (counts 2 0 (0 ∷ []))) }
     ensures a_global_that_is_not_visible { ¬ IsWhole (context_with usual_features 2) I32 numbers }
     ensures a_function_left_out { ¬ IsWhole (context_with usual_features 3) to_functions
         too_few_functions }
