@@ -2,7 +2,7 @@ use smith_answers::judge;
 use std::test::Fail;
 
 // Each line, and the report after `not ok`.
-const WRONG: [(&str, &str); 28] = [
+static WRONG: [(&str, &str); 28] = [
     ("", " : no object of a case"),
     ("[]", " : no object of a case"),
     ("{}", " : no name"),
@@ -107,7 +107,7 @@ const WRONG: [(&str, &str); 28] = [
 
 #[test]
 fn wrong_cases_are_not_ok(rt: HostRuntime) -> Result<(), Fail> {
-    for (line, wanted) in WRONG {
+    for (line, wanted) in &WRONG {
         let mut report = String::new(rt.alloc());
         assert!(rt; !judge(rt.alloc(), line, &mut report)?, "of {line}");
         let told = report.as_str().strip_prefix("not ok").unwrap_or("");
