@@ -1,6 +1,5 @@
 -- A module holds no ungrounded non-nullable reference if the drawn parts hold none.
 use Rattle.std.proofs.Common.{ℕ, subst}
-use Rattle.std.specs.Prelude.{All}
 use Rattle.std.specs.List.{flat_map}
 use Rattle.std.proofs.lemmas.List.Elements.{All-weaker}
 use Rattle.smith_types.specs.Expressions.{Context}

@@ -32,11 +32,21 @@ module_read distinct config bytes typed imported defined whole flag made content
     let behind_own = subst (λ (own : Exports). in_full (behind_exports_at config whole.types.types (imported_spaces (flattened whole.groups)) whole.spaces own fifth) ≡ Ok (contents, last)) size behind in
     rw (begins, imports, flags, defines, exports, behind_own, counted) refl
 
-lacks_so : {X Z : Type 0} (view : X → ModuleParts × List ℕ) (own : Z → Contents × List ℕ) (e : Error) (read : Result (Contents × List ℕ) Error) (whole : Result (ModuleParts × List ℕ) Error) → (read ≡ Err e → whole ≡ Err e) → Returns is_lack own (Err e) read
+lacks_so : {X Y Z : Type 0} (view : X → ModuleParts × List ℕ) (own : Z → Y) (e : Error) (read : Result Y Error) (whole : Result (ModuleParts × List ℕ) Error) → (read ≡ Err e → whole ≡ Err e) → Returns is_lack own (Err e) read
     → Returns is_lack view (Err e) whole
 lacks_so view own errors.Memory read whole both h = tt
 lacks_so view own errors.EmptyChoose read whole both h = tt
 lacks_so view own e read whole both h = both h
+
+-- if exports are refused, so is the module
+pub exports_refused : {X Z : Type 0} (view : X → ModuleParts × List ℕ) (own : Z → ModuleSoFar × List ℕ) (result : Result X Error) (e : Error) (distinct : Bool) (config : Config) (bytes : List ℕ) (typed imported defined : ModuleSoFar) (flag : Bool)
+    (first second third fourth : List ℕ) → first_parts_typed_at config bytes ≡ Ok (typed, first) → imported_at distinct config typed first ≡ Ok (imported, second) → section_flag_at (length imported.groups) second ≡ (flag, third)
+    → defined_at config imported third ≡ Ok (defined, fourth) → Returns is_lack own (Err e) (exported_at config defined fourth) → IsErrAnd result (λ y. y ≡ e) → Returns is_lack view result (module_at distinct config bytes)
+unfolding module_at
+exports_refused view own (Ok x) e distinct config bytes typed imported defined flag first second third fourth begins imports flags defines refused passed = absurd passed
+exports_refused view own (Err y) e distinct config bytes typed imported defined flag first second third fourth begins imports flags defines refused passed =
+    subst (λ (one : Error). Returns is_lack view (Err one) (module_at distinct config bytes)) (sym passed)
+    (lacks_so view own e (exported_at config defined fourth) (module_at distinct config bytes) (λ fails. rw (begins, imports, flags, defines, fails) refl) refused)
 
 -- if contents are refused, so is the module
 pub module_refused : {X Z : Type 0} (view : X → ModuleParts × List ℕ) (own : Z → Contents × List ℕ) (result : Result X Error) (e : Error) (distinct : Bool) (config : Config) (bytes : List ℕ) (typed imported defined whole : ModuleSoFar) (flag : Bool) (made : Exports)

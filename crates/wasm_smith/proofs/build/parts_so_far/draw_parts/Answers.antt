@@ -1,15 +1,26 @@
 use Rattle.std.proofs.Common.{arith}
 use Rattle.smith_defined.proofs.StandsBehindLemmas.{defined_end}
+use Rattle.smith_contents.specs.declared.exported.Exports.{Exports}
+use Rattle.wasm_smith.specs.FirstParts.{module_so_far}
 use Rattle.wasm_smith.specs.declared.build.contents.Contents.{Contents}
 use Rattle.wasm_smith.specs.declared.build.parts_so_far.PartsSoFar.{PartsSoFar}
 use Rattle.wasm_smith.proofs.ContentsLemmas.{pages_small}
 use Rattle.wasm_smith.proofs.KeptShapeLemmas.{kept_beyond, shapes_kept}
 use Rattle.wasm_smith.proofs.MadeExportsLemmas.{may_hold_contents}
-use Rattle.wasm_smith.proofs.PartsLemmas.{drawn_for, module_read, module_refused, same_imports}
+use Rattle.wasm_smith.proofs.PartsLemmas.{drawn_for, exports_refused, module_read, module_refused, same_imports}
 use Rattle.wasm_smith.proofs.build.parts_so_far.draw_parts.Goals as goal
 
 pub func_grounds-requires : goal.func_grounds-requires
 func_grounds-requires c = omega (arith, defined_end c.in_ok-begin_with_types.ensures.drawn.may.so_far.stands.funcs)
+
+pub returns-in_err-add_definitions-clause-left : goal.returns-in_err-add_definitions-clause-left
+returns-in_err-add_definitions-clause-left c = λ whole h.
+    c.add_definitions.ensures.left whole (c.draw_section_flag-encodes_imports.ensures.draws.left whole (c.add_imports.ensures.left whole (c.begin_with_types.ensures.left whole h)))
+
+pub returns-in_err-made-clause-exact : goal.returns-in_err-made-clause-exact
+returns-in_err-made-clause-exact c =
+    exports_refused _ (λ (made : Exports). (record (module_so_far c.make_exports.new.drawn) { exports = made.exports }, c.make_exports.new.u)) c.from_residual-in_err-made.result c.in_err-made.field-0.0 c.args.distinct c.args.config.now c.args.u.now _ _ _ _ _ _ _ _ c.in_ok-begin_with_types.ensures.exact c.in_ok-add_imports.ensures.exact (rw c.len.ensures at c.draw_section_flag-encodes_imports.ensures.draws.exact)
+    c.in_ok-add_definitions.ensures.exact c.in_err-made.ensures.exact c.from_residual-in_err-made.ensures.1
 
 pub returns-in_err-made-clause-left : goal.returns-in_err-made-clause-left
 returns-in_err-made-clause-left c = λ whole h.
