@@ -12,7 +12,7 @@ use Rattle.smith_instr.specs.declared.instr.Instr.TheVariants as instr
 use Rattle.smith_instr_binary.specs.Aggregate.{IsAggregate}
 use Rattle.smith_instr_binary.specs.Atomic.{atomic_number}
 use Rattle.smith_instr_binary.specs.Control.{IsBlockType, IsBranchCast, IsCatch}
-use Rattle.smith_instr_binary.specs.Memory.{IsLaneAccess, IsMemArg, IsMemory, load_opcode, store_opcode, vector_load_number}
+use Rattle.smith_instr_binary.specs.Memory.{IsLaneAccess, IsLaneAccessWritten, IsMemArg, IsMemArgWritten, IsMemory, load_opcode, store_opcode, vector_load_number}
 use Rattle.smith_instr_binary.specs.Numeric.{IsNumeric}
 use Rattle.smith_instr_binary.specs.References.{IsReference, IsTable}
 use Rattle.smith_instr_binary.specs.Vector.{IsVectorInstr}
@@ -88,3 +88,22 @@ IsInstrs instructions = Each IsInstr instructions
 -- an expression: instructions, then their end (Expressions)
 abbrev pub IsExpr : List Instr → List ℕ → Type 0
 IsExpr instructions = Joined (IsInstrs instructions) (IsByte 0x0B)
+
+-- an instruction as it is written: no access names the first memory
+abbrev pub IsInstrWritten : Instr → List ℕ → Type 0
+IsInstrWritten (instr.Load op at) piece = Joined (IsByte (load_opcode op)) (IsMemArgWritten at) piece
+IsInstrWritten (instr.Store op at) piece = Joined (IsByte (store_opcode op)) (IsMemArgWritten at) piece
+IsInstrWritten (instr.VectorLoad op at) piece = Joined (IsPrefixed 0xFD (vector_load_number op)) (IsMemArgWritten at) piece
+IsInstrWritten (instr.VectorStore at) piece = Joined (IsPrefixed 0xFD 11) (IsMemArgWritten at) piece
+IsInstrWritten (instr.VectorLoadLane log2_bytes at lane) piece = IsLaneAccessWritten 84 log2_bytes at lane piece
+IsInstrWritten (instr.VectorStoreLane log2_bytes at lane) piece = IsLaneAccessWritten 88 log2_bytes at lane piece
+IsInstrWritten (instr.Atomic access at) piece = Joined (IsPrefixed 0xFE (atomic_number access)) (IsMemArgWritten at) piece
+IsInstrWritten instruction piece = IsInstr instruction piece
+
+-- instructions as they are written
+abbrev pub IsInstrsWritten : List Instr → List ℕ → Type 0
+IsInstrsWritten instructions = Each IsInstrWritten instructions
+
+-- an expression as it is written
+abbrev pub IsExprWritten : List Instr → List ℕ → Type 0
+IsExprWritten instructions = Joined (IsInstrsWritten instructions) (IsByte 0x0B)

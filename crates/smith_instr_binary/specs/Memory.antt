@@ -21,6 +21,11 @@ pub data IsMemArg (at : MemArg) (piece : List ℕ) : Type 0 where
   first_memory : at.memory ≡ 0 → at.align < 2 ^ 6 → Joined (IsUnsigned 32 at.align) (IsUnsigned 64 at.offset) piece → IsMemArg at piece
   named_memory : at.align < 2 ^ 6 → Joined (IsUnsigned 32 (at.align + 2 ^ 6)) (Joined (IsIndex at.memory) (IsUnsigned 64 at.offset)) piece → IsMemArg at piece
 
+-- the place as it is written: the first memory is not named
+pub record IsMemArgWritten (at : MemArg) (piece : List ℕ) : Type 0 where
+  pub form : IsMemArg at piece
+  pub unnamed : at.memory ≡ 0 → Joined (IsUnsigned 32 at.align) (IsUnsigned 64 at.offset) piece
+
 -- the opcodes of loads
 abbrev pub load_opcode : Load → ℕ
 load_opcode load.I32 = 0x28
@@ -79,3 +84,7 @@ vector_load_number vector_load.Zero64 = 93
 -- one another from `first` on
 abbrev pub IsLaneAccess : ℕ → ℕ → MemArg → ℕ → List ℕ → Type 0
 IsLaneAccess first log2_bytes at lane piece = (log2_bytes < 4) × Joined (IsPrefixed 0xFD (first + log2_bytes)) (Joined (IsMemArg at) (IsByte lane)) piece
+
+-- an access to a lane as it is written
+abbrev pub IsLaneAccessWritten : ℕ → ℕ → MemArg → ℕ → List ℕ → Type 0
+IsLaneAccessWritten first log2_bytes at lane piece = (log2_bytes < 4) × Joined (IsPrefixed 0xFD (first + log2_bytes)) (Joined (IsMemArgWritten at) (IsByte lane)) piece

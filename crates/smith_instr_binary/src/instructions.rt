@@ -4,7 +4,8 @@ ghost use Rattle.smith_binary.specs.Faults.{IsFault};
 ghost use Rattle.smith_binary.specs.Numbers.{IsLittleEndian, IsSigned};
 ghost use Rattle.smith_binary.specs.Pieces.{IsByte, Joined, Writes};
 ghost use Rattle.smith_sections.specs.Instructions.{IsPrefixed};
-ghost use Rattle.smith_instr_binary.specs.Instructions.{IsExpr, IsInstr, IsInstrs};
+ghost use Rattle.smith_instr_binary.specs.Instructions.{IsExpr, IsExprWritten, IsInstr};
+ghost use Rattle.smith_instr_binary.specs.Instructions.{IsInstrWritten, IsInstrs, IsInstrsWritten};
 ghost use Rattle.smith_instr_binary.specs.Long.{IsLongInstr};
 
 use crate::aggregate::write_aggregate;
@@ -73,17 +74,9 @@ fn write_fence(sink: &mut Sink) -> Result<(), EncodeError>
     sink.write_byte(0x00)
 }
 
-/// Writes `instruction` at the end of `sink`: the standard's section Binary Format, Instructions.
-///
-/// An access to memory names the memory unless it is the first.
-///
-/// # Errors
-///
-/// Returns `TooLong` if a list of `instruction` has 2^32 items or more, if its alignment needs more
-/// than the six bits of the format, or if it accesses a lane of more than eight bytes. Of these
-/// instructions, only those with long lists can be valid.
-pub fn encode_instr(sink: &mut Sink, instruction: &Instr) -> Result<(), EncodeError>
-    ensures writes { OnOk result (Writes (IsInstr instruction.now) sink.old sink.new) }
+// Writes `instruction`.
+fn write_instr(instruction: &Instr, sink: &mut Sink) -> Result<(), EncodeError>
+    ensures writes { OnOk result (Writes (IsInstrWritten instruction.now) sink.old sink.new) }
     ensures fault { IfErr result (IsFault (IsLongInstr instruction.now)) }
 {
     match instruction {
@@ -153,6 +146,23 @@ pub fn encode_instr(sink: &mut Sink, instruction: &Instr) -> Result<(), EncodeEr
     }
 }
 
+/// Writes `instruction` at the end of `sink`: the standard's section Binary Format, Instructions.
+///
+/// An access to memory names the memory unless it is the first.
+///
+/// # Errors
+///
+/// Returns `TooLong` if a list of `instruction` has 2^32 items or more, if its alignment needs more
+/// than the six bits of the format, or if it accesses a lane of more than eight bytes. Of these
+/// instructions, only those with long lists can be valid.
+pub fn encode_instr(sink: &mut Sink, instruction: &Instr) -> Result<(), EncodeError>
+    ensures writes { OnOk result (Writes (IsInstr instruction.now) sink.old sink.new) }
+    ensures written { OnOk result (Writes (IsInstrWritten instruction.now) sink.old sink.new) }
+    ensures fault { IfErr result (IsFault (IsLongInstr instruction.now)) }
+{
+    write_instr(instruction, sink)
+}
+
 /// Writes `instructions` in order, without the `end` of an expression.
 ///
 /// # Errors
@@ -160,6 +170,7 @@ pub fn encode_instr(sink: &mut Sink, instruction: &Instr) -> Result<(), EncodeEr
 /// Returns `TooLong` as [`encode_instr`] does.
 pub fn encode_instrs(sink: &mut Sink, instructions: &[Instr]) -> Result<(), EncodeError>
     ensures writes { OnOk result (Writes (IsInstrs instructions.now) sink.old sink.new) }
+    ensures written { OnOk result (Writes (IsInstrsWritten instructions.now) sink.old sink.new) }
     ensures fault { IfErr result (IsFault (Any IsLongInstr instructions.now)) }
 {
     for instruction in instructions {
@@ -175,6 +186,7 @@ pub fn encode_instrs(sink: &mut Sink, instructions: &[Instr]) -> Result<(), Enco
 /// Returns `TooLong` as [`encode_instr`] does.
 pub fn encode_expr(sink: &mut Sink, instructions: &[Instr]) -> Result<(), EncodeError>
     ensures writes { OnOk result (Writes (IsExpr instructions.now) sink.old sink.new) }
+    ensures written { OnOk result (Writes (IsExprWritten instructions.now) sink.old sink.new) }
     ensures fault { IfErr result (IsFault (Any IsLongInstr instructions.now)) }
 {
     encode_instrs(sink, instructions)?;

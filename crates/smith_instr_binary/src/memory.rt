@@ -4,8 +4,8 @@ ghost use Rattle.smith_binary.specs.Faults.{IsFault};
 ghost use Rattle.smith_binary.specs.Pieces.{IsByte, Joined, Writes};
 ghost use Rattle.smith_sections.specs.Instructions.{IsPrefixed};
 ghost use Rattle.smith_instr_binary.specs.Memory.{
-  IsLaneAccess,
-  IsMemArg,
+  IsLaneAccessWritten,
+  IsMemArgWritten,
   IsMemory,
   load_opcode,
   store_opcode,
@@ -18,7 +18,7 @@ use smith_instr::{Load, MemArg, MemoryInstr, Store, VectorLoad};
 
 // Writes `at`. Names the memory unless it is the first.
 fn write_mem_arg(at: MemArg, sink: &mut Sink) -> Result<(), EncodeError>
-    ensures writes { OnOk result (Writes (IsMemArg at) sink.old sink.new) }
+    ensures writes { OnOk result (Writes (IsMemArgWritten at) sink.old sink.new) }
     ensures fault { IfErr result (IsFault (2 ^ 6 ≤ at.align)) }
 {
     if at.align >= 64 {
@@ -35,7 +35,8 @@ fn write_mem_arg(at: MemArg, sink: &mut Sink) -> Result<(), EncodeError>
 
 // Writes the access to memory with the opcode `opcode`.
 pub(crate) fn write_access(opcode: u8, at: MemArg, sink: &mut Sink) -> Result<(), EncodeError>
-    ensures writes { OnOk result (Writes (Joined (IsByte opcode) (IsMemArg at)) sink.old sink.new) }
+    ensures writes { OnOk result
+        (Writes (Joined (IsByte opcode) (IsMemArgWritten at)) sink.old sink.new) }
     ensures fault { IfErr result (IsFault (2 ^ 6 ≤ at.align)) }
 {
     sink.write_byte(opcode)?;
@@ -50,7 +51,7 @@ pub(crate) fn write_prefixed_access(
     sink: &mut Sink,
 ) -> Result<(), EncodeError>
     ensures writes { OnOk result
-        (Writes (Joined (IsPrefixed prefix number) (IsMemArg at)) sink.old sink.new) }
+        (Writes (Joined (IsPrefixed prefix number) (IsMemArgWritten at)) sink.old sink.new) }
     ensures fault { IfErr result (IsFault (2 ^ 6 ≤ at.align)) }
 {
     write_prefixed(prefix, number, sink)?;
@@ -68,7 +69,7 @@ pub(crate) fn write_lane_access(
 ) -> Result<(), EncodeError>
     requires { first < 200 }
     ensures writes { OnOk result
-        (Writes (IsLaneAccess first log2_bytes at lane) sink.old sink.new) }
+        (Writes (IsLaneAccessWritten first log2_bytes at lane) sink.old sink.new) }
     ensures fault { IfErr result (IsFault ((4 ≤ log2_bytes) ⊎ (2 ^ 6 ≤ at.align))) }
 {
     if log2_bytes >= 4 {

@@ -40,45 +40,14 @@ use Rattle.smith_instr.specs.declared.memory.Store.{Store}
 use Rattle.smith_instr.specs.declared.memory.Store.TheVariants as store
 use Rattle.smith_instr.specs.declared.atomic.AtomicAccess.{AtomicAccess}
 use Rattle.smith_instr.specs.declared.atomic.AtomicAccess.TheVariants as atomic
-use Rattle.smith_instr.specs.declared.atomic.AtomicUpdate.{AtomicUpdate}
 use Rattle.smith_instr.specs.declared.atomic.AtomicUpdate.TheVariants as update
-use Rattle.smith_instr.specs.declared.atomic.AtomicWidth.{AtomicWidth}
 use Rattle.smith_instr.specs.declared.atomic.AtomicWidth.TheVariants as width
 use Rattle.smith_instr.specs.declared.aggregate.Extension.{Extension}
 use Rattle.smith_instr.specs.declared.aggregate.Extension.TheVariants as extension
-use Rattle.smith_instr.specs.declared.vector.VectorLoad.{VectorLoad}
-use Rattle.smith_instr.specs.declared.vector.VectorLoad.TheVariants as vector_load
-use Rattle.smith_instr.specs.declared.vector.VectorUnary.{VectorUnary}
-use Rattle.smith_instr.specs.declared.vector.VectorUnary.TheVariants as unary
-use Rattle.smith_instr.specs.declared.vector.VectorFloatUnary.{VectorFloatUnary}
-use Rattle.smith_instr.specs.declared.vector.VectorFloatUnary.TheVariants as vector_float_unary
-use Rattle.smith_instr.specs.declared.vector.VectorBinary.{VectorBinary}
-use Rattle.smith_instr.specs.declared.vector.VectorBinary.TheVariants as binary
-use Rattle.smith_instr.specs.declared.vector.VectorFloatBinary.{VectorFloatBinary}
-use Rattle.smith_instr.specs.declared.vector.VectorFloatBinary.TheVariants as vector_float_binary
-use Rattle.smith_instr.specs.declared.vector.IntShape.{IntShape}
-use Rattle.smith_instr.specs.declared.vector.IntShape.TheVariants as lane_shape
-use Rattle.smith_instr.specs.declared.vector.LaneShape.{LaneShape}
-use Rattle.smith_instr.specs.declared.vector.LaneShape.TheVariants as any_shape
-use Rattle.smith_instr.specs.declared.vector.LaneExtract.{LaneExtract}
-use Rattle.smith_instr.specs.declared.vector.LaneExtract.TheVariants as extract
-use Rattle.smith_instr.specs.declared.vector.VectorShift.{VectorShift}
-use Rattle.smith_instr.specs.declared.vector.VectorShift.TheVariants as shift
-use Rattle.smith_instr.specs.declared.vector.RelaxedFloatUnary.{RelaxedFloatUnary}
-use Rattle.smith_instr.specs.declared.vector.RelaxedFloatUnary.TheVariants as relaxed_float_unary
-use Rattle.smith_instr.specs.declared.vector.RelaxedBinary.{RelaxedBinary}
-use Rattle.smith_instr.specs.declared.vector.RelaxedBinary.TheVariants as relaxed_binary
-use Rattle.smith_instr.specs.declared.vector.RelaxedFloatBinary.{RelaxedFloatBinary}
-use Rattle.smith_instr.specs.declared.vector.RelaxedFloatBinary.TheVariants as relaxed_float_binary
-use Rattle.smith_instr.specs.declared.vector.RelaxedTernary.{RelaxedTernary}
-use Rattle.smith_instr.specs.declared.vector.RelaxedTernary.TheVariants as relaxed_ternary
-use Rattle.smith_instr.specs.declared.vector.RelaxedFloatTernary.{RelaxedFloatTernary}
-use Rattle.smith_instr.specs.declared.vector.RelaxedFloatTernary.TheVariants as relaxed_float_ternary
 use Rattle.smith_instr.specs.declared.instr.Instr.TheVariants as instr
 use Rattle.smith_instr.specs.declared.numeric.NumericInstr.TheVariants as numeric
 use Rattle.smith_instr.specs.declared.reference.ReferenceInstr.TheVariants as reference
 use Rattle.smith_instr.specs.declared.aggregate.AggregateInstr.TheVariants as aggregate
-use Rattle.smith_instr.specs.declared.vector.VectorInstr.TheVariants as vector
 
 abbrev long_rows : ℕ → List (ℕ × Shape)
 long_rows prefix =

@@ -13,8 +13,9 @@ use Rattle.smith_sections.specs.Instructions.{IsExpression, IsIndex, IsInstr as 
 use Rattle.smith_encode_law.proofs.CheckLemmas.{both}
 use Rattle.smith_instr.specs.declared.instr.Instr.{Instr}
 use Rattle.smith_instr.specs.declared.instr.Instr.TheVariants as instr
-use Rattle.smith_instr_binary.specs.Instructions.{IsInstr}
+use Rattle.smith_instr_binary.specs.Instructions.{IsInstr, IsInstrWritten}
 use Rattle.smith_instr_binary.specs.Memory.{IsMemArg}
+use Rattle.smith_instr_binary.proofs.FormLemmas.{instr_is}
 use Rattle.smith_instr_binary.specs.Nesting.{blocks_after, AreNested}
 use Rattle.smith_instr_binary_law.specs.ExampleInstructions.{load_word}
 use Rattle.smith_instr_binary_law.specs.ExampleSegments.{no_function, start}
@@ -63,11 +64,14 @@ pub other_number : (n m : ℕ) (Second : List ℕ → Type 0) (piece : List ℕ)
 other_number n m Second piece low differ h =
     differ ((unsigned_is_unambiguous 32).one n m h.first (m ∷ []) h.second piece h.is_first (index m low) (sym h.whole)).item
 
--- a load in the first memory
+-- a load in the first memory, as it is written
+pub loaded_as_written : (align offset : ℕ) → align < 64 → offset < 128 → IsInstrWritten (load_word align offset 0) (0x28 ∷ align ∷ offset ∷ [])
+loaded_as_written align offset narrow low =
+    let place : Joined (IsUnsigned 32 align) (IsUnsigned 64 offset) (align ∷ offset ∷ []) = both (align ∷ []) (offset ∷ []) (index align (omega arith)) (small 64 offset low (omega arith)) in
+    both (0x28 ∷ []) (align ∷ offset ∷ []) refl (record { form = IsMemArg.first_memory refl narrow place; unnamed = λ first. place })
+
 pub loaded : (align offset : ℕ) → align < 64 → offset < 128 → IsInstr (load_word align offset 0) (0x28 ∷ align ∷ offset ∷ [])
-loaded align offset narrow low =
-    both (0x28 ∷ []) (align ∷ offset ∷ []) refl
-    (IsMemArg.first_memory refl narrow (both (align ∷ []) (offset ∷ []) (index align (omega arith)) (small 64 offset low (omega arith))))
+loaded align offset narrow low = instr_is (load_word align offset 0) (0x28 ∷ align ∷ offset ∷ []) (loaded_as_written align offset narrow low)
 
 -- the alignment of a load, and the table of an indirect call
 abbrev pub align_of : Instr → ℕ

@@ -1,6 +1,6 @@
 ghost use Rattle.std.specs.Prelude.{ℕ, List, [], ◌∷◌};
 ghost use Rattle.smith_instr.specs.declared.instr.Instr.TheVariants as instr;
-ghost use Rattle.smith_instr_binary.specs.Instructions.{IsInstr};
+ghost use Rattle.smith_instr_binary.specs.Instructions.{IsInstr, IsInstrWritten};
 ghost use Rattle.smith_instr_binary_law.specs.ExampleInstructions.{add, all_true, cast};
 ghost use Rattle.smith_instr_binary_law.specs.ExampleInstructions.{load_word, saturating};
 
@@ -18,6 +18,11 @@ fn accesses()
     ensures first_memory_by_its_index { IsInstr (load_word 2 5 0) (0x28 ∷ 0x42 ∷ 0x00 ∷ 0x05 ∷ []) }
     ensures second_memory { IsInstr (load_word 2 5 1) (0x28 ∷ 0x42 ∷ 0x01 ∷ 0x05 ∷ []) }
     ensures offset_first { ¬ IsInstr (load_word 2 5 0) (0x28 ∷ 0x05 ∷ 0x02 ∷ []) }
+    ensures first_memory_as_written { IsInstrWritten (load_word 2 5 0) (0x28 ∷ 0x02 ∷ 0x05 ∷ []) }
+    ensures second_memory_as_written { IsInstrWritten (load_word 2 5 1)
+        (0x28 ∷ 0x42 ∷ 0x01 ∷ 0x05 ∷ []) }
+    ensures first_memory_is_not_named { ¬ IsInstrWritten (load_word 2 5 0)
+        (0x28 ∷ 0x42 ∷ 0x00 ∷ 0x05 ∷ []) }
     ensures too_wide { (piece : List ℕ) → ¬ IsInstr (load_word 64 0 0) piece }
 {}
 
