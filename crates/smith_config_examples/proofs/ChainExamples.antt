@@ -1,19 +1,5 @@
 -- The depths of types, each a subtype of the one before.
-use Rattle.std.proofs.Common.{◌≡◌, ◌⊎◌, ℕ, zero, suc, ◌<◌, ◌≤◌, List, [], ◌∷◌, Option, Some, None, length, length-append, refl, sym, ap, subst, ◌∙◌, true, false, IsTrue, inl, inr, arith}
-use Rattle.std.specs.Prelude.{slice_get}
-use Rattle.std.specs.List.{All}
-use Rattle.std.proofs.lemmas.List.Elements.{All-cons, All-nil, All-push}
-use Rattle.std.proofs.lemmas.Option.{same_Some, slice_get_within}
-use Rattle.smith_types.specs.Features.{Features}
-use Rattle.smith_types.specs.ValidTypes.{IsValTypeValid, IsTypeValid, IsGroupValid, AreTypesValid}
-use Rattle.smith_types.specs.declared.composite_type.SubType.{SubType}
-use Rattle.smith_types.specs.Types.{IsAlike, IsOrderly}
-use Rattle.smith_types.specs.GroupedTypes.{HasDepth, root, deeper}
-use Rattle.smith_types.specs.ExampleTypes.{open_type, empty_struct, range}
-use Rattle.smith_types.proofs.ListLemmas.{slice_get-grown, slice_get-last}
-use Rattle.smith_types.proofs.SpaceLemmas.{IsOrderly-push, HasDepth-le}
-use Rattle.smith_config.specs.Shapes.{IsShallow}
-use Rattle.smith_config.specs.ExampleShapes.{before, chain}
+use Rattle.smith_config_examples.proofs.Common.{◌≡◌, ◌⊎◌, ℕ, zero, suc, ◌<◌, ◌≤◌, List, [], ◌∷◌, Option, Some, None, length, length-append, refl, sym, ap, subst, ◌∙◌, true, false, IsTrue, inl, inr, arith, slice_get, All, All-cons, All-nil, All-push, same_Some, slice_get_within, Features, IsValTypeValid, IsTypeValid, IsGroupValid, AreTypesValid, SubType, IsAlike, IsOrderly, HasDepth, root, deeper, open_type, empty_struct, range, slice_get-grown, slice_get-last, IsOrderly-push, HasDepth-le, IsShallow, before, chain}
 
 -- a type with a depth exists
 stands : (types : List SubType) {index depth : ℕ} → HasDepth types index depth → index < length types

@@ -1,3 +1,4 @@
+pub mod Common
 mod ChainExamples
 mod ShapeExamples
 mod OneOfEachKindExamples

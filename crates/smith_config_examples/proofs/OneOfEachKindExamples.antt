@@ -1,26 +1,7 @@
 -- A shape that exports one item of each kind is valid.
-use Rattle.std.proofs.Common.{rules, ℕ, List, [], ◌∷◌, Some, refl, arith}
-use Rattle.std.specs.Prelude.{codes}
-use Rattle.std.proofs.lemmas.List.Elements.{All-cons, All-nil, All-from_recursion}
-use Rattle.smith_types.specs.Features.{Features}
-use Rattle.smith_types.specs.Types.{IsOrderly}
-use Rattle.smith_types.specs.ValidTypes.{AreTypesValid}
-use Rattle.smith_types.specs.Entities.{IsTagValid, IsFuncTypeIndex, AreEntitiesValid}
-use Rattle.smith_types.specs.Exports.{IsEntityAt, AreExportsStanding, AreDistinct}
-use Rattle.smith_types.specs.declared.composite_type.CompositeInnerType.TheVariants.{Func}
-use Rattle.smith_types.specs.declared.composite_type.SubType.{SubType}
-use Rattle.smith_types.specs.declared.entity_type.EntityType.{EntityType}
+use Rattle.smith_config_examples.proofs.Common.{rules, ℕ, List, [], ◌∷◌, Some, refl, arith, codes, All-cons, All-nil, All-from_recursion, Features, IsOrderly, AreTypesValid, IsTagValid, IsFuncTypeIndex, AreEntitiesValid, IsEntityAt, AreExportsStanding, AreDistinct, Func, SubType, EntityType, ExportKind, I32, I64, F32, final_type, taking, func, plain, nullable, range, memory, table, constant_global, AreTypesValid-single, no_types, default_config, features_of, IsConsistent, shape_spaces, one_of_each_kind}
 use Rattle.smith_types.specs.declared.entity_type.EntityType.TheVariants as entity
-use Rattle.smith_types.specs.declared.entity_type.ExportKind.{ExportKind}
 use Rattle.smith_types.specs.declared.value_type.AbstractHeapType.TheVariants as heap
-use Rattle.smith_types.specs.declared.value_type.ValType.TheVariants.{I32, I64, F32}
-use Rattle.smith_types.specs.ExampleTypes.{final_type, taking, func, plain, nullable, range}
-use Rattle.smith_types.specs.ExampleEntities.{memory, table, constant_global}
-use Rattle.smith_types.proofs.ValidityLemmas.{AreTypesValid-single, no_types}
-use Rattle.smith_config.specs.Config.{default_config}
-use Rattle.smith_config.specs.Features.{features_of}
-use Rattle.smith_config.specs.Shapes.{IsConsistent, shape_spaces}
-use Rattle.smith_config.specs.ExampleShapes.{one_of_each_kind}
 use Rattle.smith_config_examples.proofs.ChainExamples.{shallow_if_few}
 
 abbrev features : Features

@@ -1,21 +1,7 @@
 -- Lemmas for the examples of shapes.
-use Rattle.std.proofs.Common.{rules, ℕ, List, [], ◌∷◌, refl, arith}
-use Rattle.std.specs.Prelude.{codes}
-use Rattle.std.proofs.lemmas.List.Elements.{All-cons, All-nil}
-use Rattle.smith_types.specs.Features.{Features}
-use Rattle.smith_types.specs.Types.{IsOrderly}
-use Rattle.smith_types.specs.ValidTypes.{IsTypeValid, AreTypesValid}
-use Rattle.smith_types.specs.Imports.{EntitySpaces}
-use Rattle.smith_types.specs.Entities.{IsFuncTypeIndex, AreEntitiesValid}
-use Rattle.smith_types.specs.Exports.{IsEntityAt, AreExportsStanding, AreExportsValid}
-use Rattle.smith_types.specs.declared.composite_type.SubType.{SubType}
-use Rattle.smith_types.specs.declared.entity_type.EntityType.{EntityType}
+use Rattle.smith_config_examples.proofs.Common.{rules, ℕ, List, [], ◌∷◌, refl, arith, codes, All-cons, All-nil, Features, IsOrderly, IsTypeValid, AreTypesValid, EntitySpaces, IsFuncTypeIndex, AreEntitiesValid, IsEntityAt, AreExportsStanding, AreExportsValid, SubType, EntityType, ExportKind, final_type, plain_func, range, AreTypesValid-single, no_types, IsShallow}
 use Rattle.smith_types.specs.declared.entity_type.EntityType.TheVariants as entity
-use Rattle.smith_types.specs.declared.entity_type.ExportKind.{ExportKind}
 use Rattle.smith_types.specs.declared.entity_type.ExportKind.TheVariants as kind
-use Rattle.smith_types.specs.ExampleTypes.{final_type, plain_func, range}
-use Rattle.smith_types.proofs.ValidityLemmas.{AreTypesValid-single, no_types}
-use Rattle.smith_config.specs.Shapes.{IsShallow}
 use Rattle.smith_config_examples.proofs.ChainExamples.{shallow_if_few}
 
 -- the type of the imported function that is exported

@@ -1,16 +1,6 @@
 -- Lemmas for the examples of faulty shapes: types that are not valid.
-use Rattle.std.proofs.Common.{◌≡◌, ◌<◌, true, false, List, [], ◌∷◌, Some, None, refl, sym, subst, arith}
-use Rattle.std.proofs.lemmas.List.Elements.{All-head}
-use Rattle.std.proofs.lemmas.Option.{same_Some}
-use Rattle.smith_types.specs.Features.{Features}
-use Rattle.smith_types.specs.Types.{IsAlike}
-use Rattle.smith_types.specs.ValidTypes.{IsTypeValid, IsGroupValid, AreTypesValid, IsShareable}
+use Rattle.smith_config_examples.proofs.Common.{◌≡◌, ◌<◌, true, false, List, [], ◌∷◌, Some, None, refl, sym, subst, arith, All-head, same_Some, Features, IsAlike, IsTypeValid, IsGroupValid, AreTypesValid, IsShareable, Val, SubType, open_type, final_type, shared_type, struct, empty_struct, plain_func, constant, range, anyref, referring_type, referring_behind, space_of}
 use Rattle.smith_types.specs.declared.value_type.AbstractHeapType.TheVariants as heap
-use Rattle.smith_types.specs.declared.composite_type.StorageType.TheVariants.{Val}
-use Rattle.smith_types.specs.declared.composite_type.SubType.{SubType}
-use Rattle.smith_types.specs.ExampleTypes.{open_type, final_type, shared_type, struct, empty_struct, plain_func, constant, range, anyref, referring_type}
-use Rattle.smith_types_examples.proofs.TypeExamples.{referring_behind}
-use Rattle.smith_config.specs.Shapes.{space_of}
 
 module _ (features : Features) where
   pub below_itself : ¬ AreTypesValid features (space_of ((open_type (Some 0) empty_struct ∷ []) ∷ []))

@@ -1,17 +1,17 @@
--- Accesses to the memories of the managed context.
-use Rattle.std.proofs.Common.{ℕ, ◌≤◌, true, false, [], refl, arith}
-use Rattle.smith_instr.specs.MemoryTypes.{IsAlignedAccess, IsAtomicAccess}
-use Rattle.smith_instr_examples.specs.ExampleBodies.{aligned, narrow_memory, wide_memory}
-use Rattle.smith_instr_examples.specs.ExampleManaged.{managed}
+-- Accesses to the memories and globals of the contexts of the examples, for any operands and results.
+use Rattle.smith_instr_examples.proofs.Common.{◌≡◌, ◌<◌, true, false, List, [], ◌∷◌, Some, refl, arith, ValType, MemArg, GlobalType, IsAccess, To, narrow_memory, wide_memory}
 
-pub narrow_at : (align log2_bytes : ℕ) → align ≤ log2_bytes → IsAlignedAccess (managed [] []) (aligned 0 align) log2_bytes false
-narrow_at align log2_bytes enough = (record { memory = narrow_memory; there = refl; addressed = refl; offset = omega arith }, enough)
+pub narrow_access : (at : MemArg) → at.memory ≡ 0 → at.offset < 4294967296 → IsAccess (narrow_memory ∷ wide_memory ∷ []) at false
+narrow_access at is low = record { memory = narrow_memory; there = rw is refl; addressed = refl; offset = omega arith }
 
-pub wide_at : (align log2_bytes : ℕ) → align ≤ log2_bytes → IsAlignedAccess (managed [] []) (aligned 1 align) log2_bytes true
-wide_at align log2_bytes enough = (record { memory = wide_memory; there = refl; addressed = refl; offset = omega arith }, enough)
+pub wide_access : (at : MemArg) → at.memory ≡ 1 → at.offset < 18446744073709551616 → IsAccess (narrow_memory ∷ wide_memory ∷ []) at true
+wide_access at is low = record { memory = wide_memory; there = rw is refl; addressed = refl; offset = omega arith }
 
-pub narrow_exactly : (align : ℕ) → IsAtomicAccess (managed [] []) (aligned 0 align) align false
-narrow_exactly align = (record { memory = narrow_memory; there = refl; addressed = refl; offset = omega arith }, refl)
+module _ (operands results : List ValType) (g : GlobalType) where
+  pub global_read : To operands results [] (g.val_type ∷ []) → (global : GlobalType) × (Some g ≡ Some global) × To operands results [] (global.val_type ∷ [])
+  global_read is = (g, refl, is)
 
-pub wide_exactly : (align : ℕ) → IsAtomicAccess (managed [] []) (aligned 1 align) align true
-wide_exactly align = (record { memory = wide_memory; there = refl; addressed = refl; offset = omega arith }, refl)
+  pub global_written : g.mutable ≡ true → To operands results (g.val_type ∷ []) [] → (global : GlobalType) × (Some g ≡ Some global) × (global.mutable ≡ true) × To operands results (global.val_type ∷ []) []
+  global_written mutable is = (g, refl, mutable, is)
+
+pub ruleset accesses = (narrow_access, wide_access, global_read, global_written)

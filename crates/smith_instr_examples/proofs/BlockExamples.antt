@@ -1,24 +1,7 @@
 -- Loops, ifs with an else and blocks, taken apart.
-use Rattle.std.proofs.Common.{◌≡◌, ℕ, ◌+◌, ◌<◌, inl, inr, List, [], ◌∷◌, ◌++◌, length, refl, sym, subst, ap, ◌∙◌, arith, Some, length-append}
-use Rattle.std.specs.Prelude.{slice_get}
-use Rattle.std.specs.List.{Contains}
-use Rattle.std.proofs.lemmas.Option.{same_Some}
-use Rattle.smith_types.specs.Entities.{IsFuncAt}
-use Rattle.smith_types.specs.Expressions.{IsDefaultable}
-use Rattle.smith_types.specs.ExampleTypes.{final_type, taking}
-use Rattle.smith_types.specs.declared.composite_type.CompositeInnerType.TheVariants.{Func}
-use Rattle.smith_types.specs.declared.composite_type.FuncType.{FuncType}
-use Rattle.smith_types.specs.declared.composite_type.SubType.{SubType}
-use Rattle.smith_types.specs.declared.value_type.ValType.{ValType}
-use Rattle.smith_types.specs.declared.value_type.ValType.TheVariants.{I32}
-use Rattle.smith_instr.specs.Contexts.{BodyContext, labelled, IsBlockType}
-use Rattle.smith_instr.specs.Sequences.{Stacked, stacked, AreTyped, step, block, loop, if_alone, if_else, try_table}
-use Rattle.smith_instr.specs.declared.control.BlockType.{BlockType}
+use Rattle.smith_instr_examples.proofs.Common.{◌≡◌, ℕ, ◌+◌, ◌<◌, inl, inr, List, [], ◌∷◌, ◌++◌, length, refl, sym, subst, ap, ◌∙◌, arith, Some, length-append, slice_get, Contains, same_Some, IsFuncAt, IsDefaultable, final_type, taking, Func, FuncType, SubType, ValType, I32, BodyContext, labelled, IsBlockType, Stacked, stacked, AreTyped, step, block, loop, if_alone, if_else, try_table, BlockType, Instr, one, framed, finished, function_of, some_func, number}
 use Rattle.smith_instr.specs.declared.control.BlockType.TheVariants as blocks
-use Rattle.smith_instr.specs.declared.instr.Instr.{Instr}
 use Rattle.smith_instr.specs.declared.instr.Instr.TheVariants as instr
-use Rattle.smith_instr.proofs.SequenceLemmas.{one, framed, finished}
-use Rattle.smith_instr_examples.specs.ExampleBodies.{function_of, some_func, number}
 use Rattle.smith_instr_examples.proofs.SequenceExamples.{is_plain, step_of, zip_length, end_height, height, valid_none, valid_one}
 
 -- a function type that takes an i32

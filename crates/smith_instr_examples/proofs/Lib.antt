@@ -1,3 +1,4 @@
+pub mod Common
 pub mod AccessExamples
 pub mod SequenceExamples
 pub mod ManagedExamples

@@ -1,34 +1,6 @@
 -- Subtyping and validity over the types of the managed context.
-use Rattle.std.proofs.Common.{◌≡◌, ℕ, zero, suc, Bool, true, false, List, [], ◌∷◌, ◌++◌, Some, None, IsTrue, refl, sym, subst, ap, ◌∙◌, arith}
-use Rattle.std.specs.Prelude.{slice_get, map}
-use Rattle.std.proofs.lemmas.Option.{same_Some}
-use Rattle.smith_types.specs.Subtyping.{is_abstract_below, IsRefBelow, itself}
-use Rattle.smith_types.specs.Types.{IsOrderly}
-use Rattle.smith_types.specs.ExampleTypes.{constant, variable, struct, taking, final_type, plain}
-use Rattle.smith_types.specs.Flags.{funcref}
-use Rattle.smith_types.specs.declared.value_type.AbstractHeapType.{AbstractHeapType}
+use Rattle.smith_instr_examples.proofs.Common.{◌≡◌, ℕ, zero, suc, Bool, true, false, List, [], ◌∷◌, ◌++◌, Some, None, IsTrue, refl, sym, subst, ap, ◌∙◌, arith, slice_get, map, same_Some, is_abstract_below, IsRefBelow, itself, IsOrderly, constant, variable, struct, taking, final_type, plain, funcref, AbstractHeapType, Concrete, RefType, ValType, I32, I64, Ref, CompositeInnerType, Array, Func, I8, Val, SubType, IsBelow-trans, below_abstract, below_kind, by_cases_from_below, kind, IsFuncAt, IsStructAt, IsArrayAt, FuncType, IsRefValid, IsFunctionTable, IsSegmentOf, IsRefBelow-refl, functions, some_func, managed, managed_types, narrows, anything, something, wide_functions}
 use Rattle.smith_types.specs.declared.value_type.AbstractHeapType.TheVariants as heap
-use Rattle.smith_types.specs.declared.value_type.HeapType.TheVariants.{Concrete}
-use Rattle.smith_types.specs.declared.value_type.RefType.{RefType}
-use Rattle.smith_types.specs.declared.value_type.ValType.{ValType}
-use Rattle.smith_types.specs.declared.value_type.ValType.TheVariants.{I32, I64, Ref}
-use Rattle.smith_types.specs.declared.composite_type.CompositeInnerType.{CompositeInnerType}
-use Rattle.smith_types.specs.declared.composite_type.CompositeInnerType.TheVariants.{Array, Func}
-use Rattle.smith_types.specs.declared.composite_type.StorageType.TheVariants.{I8, Val}
-use Rattle.smith_types.specs.declared.composite_type.SubType.{SubType}
-use Rattle.smith_types.proofs.GrowthLemmas.{IsBelow-trans}
-use Rattle.smith_types.proofs.PathLemmas.{below_abstract, below_kind}
-use Rattle.smith_types.proofs.WalkLemmas.{by_cases_from_below}
-use Rattle.smith_types.specs.Kinds.{kind}
-use Rattle.smith_types.specs.Entities.{IsFuncAt}
-use Rattle.smith_types.specs.Expressions.{IsStructAt, IsArrayAt}
-use Rattle.smith_types.specs.declared.composite_type.FuncType.{FuncType}
-use Rattle.smith_instr.specs.Contexts.{IsRefValid}
-use Rattle.smith_instr.specs.InstrTypes.{IsFunctionTable}
-use Rattle.smith_instr.specs.AggregateTypes.{IsSegmentOf}
-use Rattle.smith_types.proofs.GrowthLemmas.{IsRefBelow-refl}
-use Rattle.smith_instr_examples.specs.ExampleBodies.{functions, some_func}
-use Rattle.smith_instr_examples.specs.ExampleManaged.{managed, managed_types, narrows, anything, something, wide_functions}
 
 none_above : (inners : List CompositeInnerType) (i : ℕ) (t : SubType) → slice_get (map final_type inners) i ≡ Some t → t.supertype ≡ None
 none_above [] i t at = cc

@@ -1,25 +1,7 @@
 -- Sequences of one instruction after another, taken apart.
-use Rattle.std.proofs.Common.{◌≡◌, ℕ, suc, ◌+◌, ◌<◌, ◌≤◌, Bool, true, false, inl, inr, List, [], ◌∷◌, ◌++◌, length, refl, sym, subst, ap, ◌∙◌, arith, length-append}
-use Rattle.std.specs.List.{AllZip}
-use Rattle.std.proofs.lemmas.Option.{same_Some}
-use Rattle.std.proofs.lemmas.List.Elements.{All-nil, All-push}
-use Rattle.smith_types.specs.Expressions.{IsDefaultable}
-use Rattle.smith_types.specs.Subtyping.{IsValBelow, itself}
-use Rattle.smith_types.specs.declared.value_type.ValType.{ValType}
-use Rattle.smith_types.specs.declared.value_type.ValType.TheVariants.{I32, I64, Ref}
-use Rattle.smith_types.specs.Flags.{funcref}
-use Rattle.smith_types.specs.ExampleFeatures.{usual_features}
-use Rattle.smith_types.specs.ExampleTypes.{final_type}
-use Rattle.smith_types.specs.declared.composite_type.CompositeInnerType.TheVariants.{Func}
-use Rattle.smith_instr.specs.Contexts.{BodyContext, labelled, IsValid, AreValid, IsBlockType}
-use Rattle.smith_instr.specs.InstrTypes.{HasInstrType}
-use Rattle.smith_instr.specs.Sequences.{Stacked, stacked, CountsAs, IsStep, AreTyped, IsBodyTyped, nothing, step, block, loop, if_alone, if_else, try_table}
-use Rattle.smith_instr.specs.declared.control.BlockType.{BlockType}
+use Rattle.smith_instr_examples.proofs.Common.{◌≡◌, ℕ, suc, ◌+◌, ◌<◌, ◌≤◌, Bool, true, false, inl, inr, List, [], ◌∷◌, ◌++◌, length, refl, sym, subst, ap, ◌∙◌, arith, length-append, AllZip, same_Some, All-nil, All-push, IsDefaultable, IsValBelow, itself, ValType, I32, I64, Ref, funcref, usual_features, final_type, Func, BodyContext, labelled, IsValid, AreValid, IsBlockType, HasInstrType, Stacked, stacked, CountsAs, IsStep, AreTyped, IsBodyTyped, nothing, step, block, loop, if_alone, if_else, try_table, BlockType, Instr, one, framed, finished, count_as_themselves, weakens, function_of, some_func, number, add}
 use Rattle.smith_instr.specs.declared.control.BlockType.TheVariants as blocks
-use Rattle.smith_instr.specs.declared.instr.Instr.{Instr}
 use Rattle.smith_instr.specs.declared.instr.Instr.TheVariants as instr
-use Rattle.smith_instr.proofs.SequenceLemmas.{one, framed, finished, count_as_themselves}
-use Rattle.smith_instr_examples.specs.ExampleBodies.{weakens, function_of, some_func, number, add}
 
 -- whether an instruction opens no block
 unfoldable pub is_plain : Instr → Bool

@@ -1,6 +1,6 @@
 //! Instructions and bodies that meet the rules of typing, and others that do not. The clauses are
 //! proved, and nothing calls these functions.
-#![tactic(auto)]
+#![tactic(auto, using(crate::proofs::AccessExamples::accesses))]
 
 mod atomics;
 mod basics;

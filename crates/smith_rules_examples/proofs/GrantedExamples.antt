@@ -1,19 +1,6 @@
 -- Lemmas for the examples of non-nullable references.
-use Rattle.std.proofs.Common.{ℕ, zero, suc, List, [], ◌∷◌, length, refl, ap, ◌∙◌, inl, inr}
-use Rattle.std.proofs.lemmas.Option.{same_Some}
+use Rattle.smith_rules_examples.proofs.Common.{ℕ, zero, suc, List, [], ◌∷◌, length, refl, ap, ◌∙◌, inl, inr, same_Some, ValType, Ref, SubType, GlobalType, plain, not_null, Context, Features, IsGrounded, IsGranted, final, taking, ModuleParts, module_features, module_imports, with_references}
 use Rattle.smith_types.specs.declared.value_type.AbstractHeapType.TheVariants as heap
-use Rattle.smith_types.specs.declared.value_type.ValType.{ValType}
-use Rattle.smith_types.specs.declared.value_type.ValType.TheVariants.{Ref}
-use Rattle.smith_types.specs.declared.composite_type.SubType.{SubType}
-use Rattle.smith_types.specs.declared.entity_type.GlobalType.{GlobalType}
-use Rattle.smith_types.specs.ExampleTypes.{plain, not_null}
-use Rattle.smith_types.specs.Expressions.{Context}
-use Rattle.smith_types.specs.Features.{Features}
-use Rattle.smith_types.specs.Grounded.{IsGrounded}
-use Rattle.smith_config.specs.Granted.{IsGranted}
-use Rattle.smith_config.specs.ExampleMembers.{final, taking}
-use Rattle.smith_rules.specs.Module.{ModuleParts, module_features, module_imports}
-use Rattle.smith_rules_examples.specs.ExampleReferences.{with_references}
 
 -- a non-nullable reference to anything
 abbrev pub to_any : ValType

@@ -1,3 +1,4 @@
+pub mod Common
 pub mod GrantedExamples
 pub mod NearNumberLemmas
 pub mod PartExamples

@@ -1,11 +1,5 @@
 -- Numbers that are neither near a power of two nor in a list.
-use Rattle.std.proofs.Common.{◌≡◌, ◌⊎◌, inl, inr, ℕ, zero, suc, ◌+◌, ◌*◌, ◌^◌, ◌<◌, true, false, List, refl, subst, sym, ◌∙◌, arith}
-use Rattle.std.specs.Prelude.{nat_eq}
-use Rattle.std.specs.List.{All, Any, Contains, list_any}
-use Rattle.std.proofs.lemmas.List.Folds.{list_any-from_Any}
-use Rattle.smith_types.specs.declared.entity_type.TableType.{TableType}
-use Rattle.smith_types.specs.declared.entity_type.MemoryType.{MemoryType}
-use Rattle.smith_rules.specs.InterestingValues.{IsNearPower, float_edges, IsNearTable, IsNearMemory, IsInteresting64}
+use Rattle.smith_rules_examples.proofs.Common.{◌≡◌, ◌⊎◌, inl, inr, ℕ, zero, suc, ◌+◌, ◌*◌, ◌^◌, ◌<◌, true, false, List, refl, subst, sym, ◌∙◌, arith, nat_eq, All, Any, Contains, list_any, list_any-from_Any, TableType, MemoryType, IsNearPower, float_edges, IsNearTable, IsNearMemory, IsInteresting64}
 
 power_kind : (i : ℕ) → (2 ^ i ≡ 1) ⊎ ((2 ^ i ≡ 2) ⊎ ((m : ℕ) × (2 ^ i ≡ 4 * m)))
 power_kind zero = inl refl

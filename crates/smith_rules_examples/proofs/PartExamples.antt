@@ -1,29 +1,6 @@
 -- Lemmas for the examples of modules.
-use Rattle.std.proofs.Common.{rules, ◌≡◌, ℕ, ◌+◌, ◌<◌, ◌≤◌, true, false, List, [], ◌∷◌, ◌++◌, Some, None, refl, sym, subst, ◌∙◌}
-use Rattle.std.specs.Prelude.{slice_get, IsTrue}
-use Rattle.std.specs.List.{All}
-use Rattle.std.specs.declared.ops.Range.{Range}
-use Rattle.std.proofs.lemmas.Option.{same_Some}
-use Rattle.std.proofs.lemmas.List.Elements.{All-nil, All-cons}
-use Rattle.smith_types.specs.Features.{Features}
-use Rattle.smith_types.specs.Flags.{funcref, IsInstrEnabled}
-use Rattle.smith_types.specs.Subtyping.{IsValBelow}
-use Rattle.smith_types.specs.ValidTypes.{IsValTypeValid, IsSupertypeValid, IsTypeValid, IsGroupValid, AreTypesValid}
-use Rattle.smith_types.specs.Entities.{IsFuncAt, IsFuncTypeIndex}
-use Rattle.smith_types.specs.Expressions.{Context, HasType, IsVisible, IsConstExpr}
-use Rattle.smith_types.specs.declared.value_type.ValType.{ValType}
-use Rattle.smith_types.specs.declared.value_type.ValType.TheVariants.{I32, Ref}
-use Rattle.smith_types.specs.declared.composite_type.CompositeInnerType.{CompositeInnerType}
-use Rattle.smith_types.specs.declared.composite_type.SubType.{SubType}
-use Rattle.smith_types.specs.declared.const_instr.ConstInstr.{ConstInstr}
-use Rattle.smith_types.specs.declared.const_instr.ConstInstr.TheVariants.{GlobalGet}
-use Rattle.smith_types.proofs.GrowthLemmas.{IsRefBelow-refl}
+use Rattle.smith_rules_examples.proofs.Common.{rules, ◌≡◌, ℕ, ◌+◌, ◌<◌, ◌≤◌, true, false, List, [], ◌∷◌, ◌++◌, Some, None, refl, sym, subst, ◌∙◌, slice_get, IsTrue, All, Range, same_Some, All-nil, All-cons, Features, funcref, IsInstrEnabled, IsValBelow, IsValTypeValid, IsSupertypeValid, IsTypeValid, IsGroupValid, AreTypesValid, IsFuncAt, IsFuncTypeIndex, Context, HasType, IsVisible, IsConstExpr, ValType, I32, Ref, CompositeInnerType, SubType, ConstInstr, GlobalGet, IsRefBelow-refl, taking_a_number, a_type, bytes_array, plain_function, EachFrom, each_place, ModuleParts, IsValid, IsGlobalDefined, group_of, one_function, no_function}
 use Rattle.smith_types.proofs.ConstStepLemmas.{alone as one_instruction}
-use Rattle.smith_config.specs.ExampleMembers.{taking_a_number, a_type, bytes_array, plain_function}
-use Rattle.smith_types.proofs.EachPlaceLemmas.{EachFrom, each_place}
-use Rattle.smith_rules.specs.Module.{ModuleParts, IsValid, IsGlobalDefined}
-use Rattle.smith_rules_examples.specs.ExampleModules.{group_of, one_function}
-use Rattle.smith_rules_examples.specs.ExampleParts.{no_function}
 
 -- an expression of one instruction without operands
 pub alone : (context : Context) (instruction : ConstInstr) (result wanted : ValType)

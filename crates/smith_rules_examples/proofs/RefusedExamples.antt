@@ -1,21 +1,7 @@
 -- Lemmas for the examples of refused modules.
-use Rattle.std.proofs.Common.{arith, ◌≡◌, false, [], ◌∷◌, None, refl, sym, subst}
-use Rattle.std.specs.Prelude.{codes, IsTrue}
-use Rattle.std.specs.List.{All}
-use Rattle.std.proofs.lemmas.Option.{same_Some}
-use Rattle.std.proofs.lemmas.List.Elements.{All-head}
-use Rattle.smith_types.specs.ExampleTypes.{not_null, plain}
-use Rattle.smith_types.specs.Exports.{AreExportsValid}
-use Rattle.smith_types.specs.Segments.{IsElementValid, IsDataValid}
+use Rattle.smith_rules_examples.proofs.Common.{arith, ◌≡◌, false, [], ◌∷◌, None, refl, sym, subst, codes, IsTrue, All, same_Some, All-head, not_null, plain, AreExportsValid, IsElementValid, IsDataValid, TableType, Expressions, Config, default_config, AreDefinitionsValid, module_spaces, segment_context, table, no_function, passive_elements, exported_twice, null_of_no_null, two_elements, passive_bytes}
 use Rattle.smith_types.specs.declared.value_type.AbstractHeapType.TheVariants as heap
-use Rattle.smith_types.specs.declared.entity_type.TableType.{TableType}
-use Rattle.smith_types.specs.declared.segments.Elements.TheVariants.{Expressions}
 use Rattle.smith_types.specs.declared.segments.DataSegmentKind.TheVariants as data_kind
-use Rattle.smith_config.specs.declared.config.Config.{Config}
-use Rattle.smith_config.specs.Config.{default_config}
-use Rattle.smith_rules.specs.Module.{AreDefinitionsValid, module_spaces, segment_context}
-use Rattle.smith_rules_examples.specs.ExampleParts.{table, no_function, passive_elements}
-use Rattle.smith_rules_examples.specs.ExampleModules.{exported_twice, null_of_no_null, two_elements, passive_bytes}
 
 abbrev without_bulk_memory : Config
 without_bulk_memory = record default_config { bulk_memory_enabled = false }

@@ -1,27 +1,8 @@
 -- Lemmas for the examples of shapes.
-use Rattle.std.proofs.Common.{rules, ◌≡◌, ℕ, List, [], ◌∷◌, Some, None, true, false, refl}
-use Rattle.std.specs.Prelude.{codes, slice_get}
-use Rattle.smith_types.specs.Exports.{IsEntityAt}
-use Rattle.smith_types.specs.ExampleTypes.{nullable, plain}
+use Rattle.smith_rules_examples.proofs.Common.{rules, ◌≡◌, ℕ, List, [], ◌∷◌, Some, None, true, false, refl, codes, slice_get, IsEntityAt, nullable, plain, F32, CompositeInnerType, SubType, EntityType, ExportKind, Shape, default_config, FixesExports, FixesImports, shape_types, shape_spaces, a_type, foo_type, quux_type, ModuleParts, module_spaces, IsSameExport, IsSameType, IsSameFuncType, KeepsAvailableImports, KeepsExports, is_fitting, memory, table, global, one_of_each, environment, with_environment, five_exports}
 use Rattle.smith_types.specs.declared.value_type.AbstractHeapType.TheVariants as heap
-use Rattle.smith_types.specs.declared.value_type.ValType.TheVariants.{F32}
-use Rattle.smith_types.specs.declared.composite_type.CompositeInnerType.{CompositeInnerType}
-use Rattle.smith_types.specs.declared.composite_type.SubType.{SubType}
-use Rattle.smith_types.specs.declared.entity_type.EntityType.{EntityType}
 use Rattle.smith_types.specs.declared.entity_type.EntityType.TheVariants as entity
-use Rattle.smith_types.specs.declared.entity_type.ExportKind.{ExportKind}
 use Rattle.smith_types.specs.declared.entity_type.ExportKind.TheVariants as kind
-use Rattle.smith_config.specs.declared.shape.Shape.{Shape}
-use Rattle.smith_config.specs.Config.{default_config}
-use Rattle.smith_config.specs.InUse.{FixesExports, FixesImports}
-use Rattle.smith_config.specs.Shapes.{shape_types, shape_spaces}
-use Rattle.smith_config.specs.ExampleMembers.{a_type, foo_type, quux_type}
-use Rattle.smith_rules.specs.Module.{ModuleParts, module_spaces}
-use Rattle.smith_rules.specs.ShapesKept.{IsSameExport, IsSameType, IsSameFuncType, KeepsAvailableImports, KeepsExports}
-use Rattle.smith_rules.specs.ShapeImports.{is_fitting}
-use Rattle.smith_rules_examples.specs.ExampleParts.{memory, table, global}
-use Rattle.smith_rules_examples.specs.ExampleModules.{one_of_each}
-use Rattle.smith_rules_examples.specs.ExampleShapes.{environment, with_environment, five_exports}
 
 -- without shapes neither exports nor imports are fixed
 pub no_exports_fixed : FixesExports default_config → ⊥

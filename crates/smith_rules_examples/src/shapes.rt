@@ -71,6 +71,7 @@ fn types()
         (record with_environment { groups = group_of 0 2 ∷ [] }) }
 {}
 
+#[tactic(auto, unfolding(smith_rules::specs::ShapeImports::is_fitting))]
 fn available_imports()
     ensures both { taken_from default_config (final taking_a_number ∷ []) (1 ∷ 1 ∷ []) 0 []
         (ping ∷ shared_bytes ∷ [])
@@ -104,6 +105,7 @@ fn available_imports()
         (record with_ping { imports = [] }) }
 {}
 
+#[tactic(auto, unfolding(smith_rules::specs::ShapeImports::is_fitting))]
 fn full_kinds()
     ensures none { taken_from default_config (final taking_a_number ∷ [])
         (1 ∷ 1 ∷ 1 ∷ 1 ∷ 1 ∷ []) 0 [] imported_kinds

@@ -1,25 +1,6 @@
 -- Types that ground a heap type, and types that do not, for the examples.
-use Rattle.std.proofs.Common.{◌≡◌, ℕ, zero, suc, Bool, true, false, List, [], ◌∷◌, Some, None, IsTrue, refl, sym, ◌∙◌, inl, inr, ap, arith, rules, lit<}
-use Rattle.std.specs.Prelude.{slice_get, ◌&&◌}
-use Rattle.std.specs.List.{list_any}
-use Rattle.smith_types.specs.declared.value_type.AbstractHeapType.{AbstractHeapType}
+use Rattle.smith_types_examples.proofs.Common.{◌≡◌, ℕ, zero, suc, Bool, true, false, List, [], ◌∷◌, Some, None, IsTrue, refl, sym, ◌∙◌, inl, inr, ap, arith, rules, lit<, slice_get, ◌&&◌, list_any, AbstractHeapType, Abstract, Concrete, Exact, SubType, GroundKinds, IsOrderly, is_abstract_below, IsBelow, Features, IsGrounded, is_ground, is_ground_of, kind_at, AreGroundKinds, Ref, Val, usual_features, open_type, final_type, struct, empty_struct, constant, not_null, plain, context_of, same_Some, below_alone, concrete_not_below_exact, grounded_is, abstract_grounded}
 use Rattle.smith_types.specs.declared.value_type.AbstractHeapType.TheVariants as heap
-use Rattle.smith_types.specs.declared.value_type.HeapType.TheVariants.{Abstract, Concrete, Exact}
-use Rattle.smith_types.specs.declared.composite_type.SubType.{SubType}
-use Rattle.smith_types.specs.declared.ground.GroundKinds.{GroundKinds}
-use Rattle.smith_types.specs.Types.{IsOrderly}
-use Rattle.smith_types.specs.Subtyping.{is_abstract_below, IsBelow}
-use Rattle.smith_types.specs.Features.{Features}
-use Rattle.smith_types.specs.Grounded.{IsGrounded}
-use Rattle.smith_types.specs.Grounds.{is_ground, is_ground_of, kind_at, AreGroundKinds}
-use Rattle.smith_types.specs.declared.value_type.ValType.TheVariants.{Ref}
-use Rattle.smith_types.specs.declared.composite_type.StorageType.TheVariants.{Val}
-use Rattle.smith_types.specs.ExampleFeatures.{usual_features}
-use Rattle.smith_types.specs.ExampleTypes.{open_type, final_type, struct, empty_struct, constant, not_null, plain}
-use Rattle.smith_types.specs.ExampleContexts.{context_of}
-use Rattle.std.proofs.lemmas.Option.{same_Some}
-use Rattle.smith_types.proofs.WalkLemmas.{below_alone, concrete_not_below_exact}
-use Rattle.smith_types.proofs.GroundedLemmas.{grounded_is, abstract_grounded}
 
 -- the kinds of grounding structs among these types
 abbrev kinds_of : List SubType → GroundKinds

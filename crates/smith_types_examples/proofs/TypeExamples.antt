@@ -1,28 +1,10 @@
 -- Lemmas for several examples.
-use Rattle.std.proofs.Common.{rules, false, List, [], Some, None, IsTrue, ◌≡◌, ◌∙◌, ◌∷◌, ℕ, zero, suc, lit<, refl, sym, subst, arith}
-use Rattle.std.specs.Prelude.{slice_get}
-use Rattle.std.proofs.lemmas.List.Elements.{All-nil, All-cons, All-head}
-use Rattle.std.proofs.lemmas.Option.{same_Some}
-use Rattle.smith_types.specs.declared.value_type.AbstractHeapType.{AbstractHeapType}
+use Rattle.smith_types_examples.proofs.Common.{rules, false, List, [], Some, None, IsTrue, ◌≡◌, ◌∙◌, ◌∷◌, ℕ, zero, suc, lit<, refl, sym, subst, arith, slice_get, All-nil, All-cons, All-head, same_Some, AbstractHeapType, Concrete, Ref, SubType, Features, IsOrderly, is_abstract_below, IsBelow, IsValBelow, IsValTypeValid, IsSupertypeValid, IsTypeValid, IsGroupValid, AreTypesValid, usual_features, open_type, empty_struct, struct_and_below, below_itself, anyref, eqref, nullable, range, referring, referring_type, in_one_group, below_abstract, by_cases_from_below, below_alone, Bool, Abstract, below_declared, itself, TableType, GlobalType, ValType, Context, RefType, Offset, IsRefBelow, IsOffsetValid, IsActiveElement, ◌<◌}
 use Rattle.smith_types.specs.declared.value_type.AbstractHeapType.TheVariants as heap
-use Rattle.smith_types.specs.declared.value_type.HeapType.TheVariants.{Concrete}
-use Rattle.smith_types.specs.declared.value_type.ValType.TheVariants.{Ref}
-use Rattle.smith_types.specs.declared.composite_type.SubType.{SubType}
-use Rattle.smith_types.specs.Features.{Features}
-use Rattle.smith_types.specs.Types.{IsOrderly}
-use Rattle.smith_types.specs.Subtyping.{is_abstract_below, IsBelow, IsValBelow}
-use Rattle.smith_types.specs.ValidTypes.{IsValTypeValid, IsSupertypeValid, IsTypeValid, IsGroupValid, AreTypesValid}
-use Rattle.smith_types.specs.ExampleFeatures.{usual_features}
-use Rattle.smith_types.specs.ExampleTypes.{open_type, empty_struct, struct_and_below, below_itself, anyref, eqref, plain, nullable, range, referring, referring_type, in_one_group}
-use Rattle.smith_types.proofs.PathLemmas.{below_abstract}
-use Rattle.smith_types.proofs.WalkLemmas.{by_cases_from_below, below_alone}
 
 -- abstract types, by the table
-pub abstract_below : (a b : AbstractHeapType) → IsTrue (is_abstract_below a b) → IsBelow [] (plain a) (plain b)
-abstract_below a b below = below_abstract [] false a b below
-
-pub abstract_apart : (a b : AbstractHeapType) → ¬ IsTrue (is_abstract_below a b) → ¬ IsBelow [] (plain a) (plain b)
-abstract_apart a b apart below = let (shares, never) = by_cases_from_below [] (search rules) (plain a) (plain b) below in apart never
+pub abstract_apart : (s r : Bool) (a b : AbstractHeapType) → ¬ ((s ≡ r) × IsTrue (is_abstract_below a b)) → ¬ IsBelow [] (Abstract s a) (Abstract r b)
+abstract_apart s r a b apart below = apart (by_cases_from_below [] (search rules) (Abstract s a) (Abstract r b) below)
 
 pub struct_orderly : IsOrderly struct_and_below
 struct_orderly = search rules
@@ -30,6 +12,9 @@ struct_orderly = search rules
 -- a type does not precede itself
 pub itself_not_before : ¬ IsOrderly below_itself
 itself_not_before orderly = let (before, alike) = orderly.under 0 0 (open_type (Some 0) empty_struct) refl refl in omega (arith, before)
+
+pub lower_below : IsBelow struct_and_below (Concrete 1) (Concrete 0)
+lower_below = below_declared struct_and_below 1 0 (open_type (Some 0) empty_struct) refl refl
 
 pub upper_not_below : ¬ IsBelow struct_and_below (Concrete 0) (Concrete 1)
 upper_not_below below = below_alone struct_and_below struct_orderly 0 1 (open_type None empty_struct) (lit< tt) refl (λ (same : 0 ≡ 1). omega (arith, same)) below
@@ -73,3 +58,19 @@ first_above t u up valid =
     let group = All-head (IsGroupValid usual_features (t ∷ u ∷ [])) (range 0 2) [] valid.groups in
     let (v, at, above) = (group.members 1 u (omega arith) (omega arith) refl).declared 0 up in
     subst (IsSupertypeValid (t ∷ u ∷ []) u) (sym (same_Some t v at)) above
+
+-- entities that are there, with what is known of them
+pub shared_at : (t : SubType) → IsTrue t.composite_type.shared → (u : SubType) × (Some t ≡ Some u) × IsTrue u.composite_type.shared
+shared_at t is = (t, refl, is)
+
+pub visible_at : (g : GlobalType) (index end : ℕ) (value : ValType) → index < end → g.mutable ≡ false → g.val_type ≡ value
+    → (global : GlobalType) × (Some g ≡ Some global) × (index < end) × (global.mutable ≡ false) × (global.val_type ≡ value)
+visible_at g index end value low constant is = (g, refl, low, constant, is)
+
+pub active_first : (context : Context) (t : TableType) (more : List TableType) (ty : RefType) (offset : Offset)
+    → IsRefBelow context.types ty t.element_type → IsOffsetValid context t.table64 offset → IsActiveElement context (t ∷ more) ty 0 offset
+active_first context t more ty offset below valid = record { table = t; stands = refl; below = below; offset_valid = valid }
+
+pub ruleset subtypes = (below_abstract, abstract_apart, lower_below, upper_not_below, itself)
+
+pub ruleset examples = (subtypes, shared_at, visible_at, active_first)

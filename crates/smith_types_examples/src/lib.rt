@@ -1,6 +1,6 @@
 //! Values that meet the definitions of types, entities and expressions, and values that do not.
 //! The clauses are proved, and nothing calls these functions.
-#![tactic(auto)]
+#![tactic(auto, using(crate::proofs::TypeExamples::examples))]
 
 mod bodies;
 mod entities;

@@ -1,22 +1,6 @@
 -- Lemmas for the examples of refused shapes.
-use Rattle.std.proofs.Common.{rules, arith, ◌≡◌, ◌<◌, refl, sym, subst}
-use Rattle.std.specs.Prelude.{IfSome, IsSomeAnd, Option, Some, None}
+use Rattle.wasm_smith_examples.proofs.Common.{rules, arith, ◌≡◌, ◌<◌, refl, sym, subst, IfSome, IsSomeAnd, Option, Some, None, ShapeFault, BadType, Which, AvailableImports, Exports, ModuleShape, nullable, Concrete, Ref, Config, Shape, AreTypesRight, IsFirstShapeFault, IsRefused, IsShapeValid, IsShort, first_bad_type, ComesBefore, IsFaultOf, IsFirstFaulty, shape_for, untyped}
 use Rattle.smith_bytes.specs.declared.error.Error.TheVariants.{Shape as Misshapen}
-use Rattle.smith_bytes.specs.declared.error.ShapeFault.{ShapeFault}
-use Rattle.smith_bytes.specs.declared.error.ShapeFault.TheVariants.{BadType}
-use Rattle.smith_bytes.specs.declared.error.Which.{Which}
-use Rattle.smith_bytes.specs.declared.error.Which.TheVariants.{AvailableImports, Exports, ModuleShape}
-use Rattle.smith_types.specs.ExampleTypes.{nullable}
-use Rattle.smith_types.specs.declared.value_type.HeapType.TheVariants.{Concrete}
-use Rattle.smith_types.specs.declared.value_type.ValType.TheVariants.{Ref}
-use Rattle.smith_config.specs.declared.config.Config.{Config}
-use Rattle.smith_config.specs.declared.shape.Shape.{Shape}
-use Rattle.smith_config.specs.ShapeFaults.{AreTypesRight, IsFirstShapeFault, IsRefused}
-use Rattle.smith_config.specs.Shapes.{IsShapeValid, IsShort}
-use Rattle.smith_config.proofs.FirstFaultLemmas.{first_bad_type}
-use Rattle.wasm_smith.specs.CheckedShapes.{ComesBefore, IsFaultOf, IsFirstFaulty}
-use Rattle.smith_rules.specs.Refusals.{shape_for}
-use Rattle.smith_rules_examples.specs.ExampleShapes.{untyped}
 
 -- a property of each use that comes before another
 pub before_module : (P : Which → Type 0) (other : Which) → ComesBefore other ModuleShape → P other

@@ -1,7 +1,4 @@
-use Rattle.std.proofs.Common.{rules, refl, ◌^◌, ◌+◌, take, drop, []}
-use Rattle.std.proofs.lemmas.List.Elements.{All-from_recursion}
-use Rattle.smith_config.specs.Config.{default_config}
-use Rattle.smith_config.specs.Faults.{HasFault, faults}
+use Rattle.smith_config_examples.proofs.Common.{rules, refl, ◌^◌, ◌+◌, take, drop, [], All-from_recursion, default_config, HasFault, faults}
 use Rattle.smith_config_examples.proofs.configurations.first_faults.Goals as goal
 
 pub returns-clause-alone : goal.returns-clause-alone

@@ -1,4 +1,4 @@
-use Rattle.std.proofs.Common.{rules, refl, arith, [], ◌∷◌}
+use Rattle.smith_config_examples.proofs.Common.{rules, refl, arith, [], ◌∷◌}
 use Rattle.smith_config_examples.proofs.configurations.offset_choices.Goals as goal
 
 pub returns-clause-two : goal.returns-clause-two

@@ -1,4 +1,4 @@
-use Rattle.std.proofs.Common.{arith, ◌≤◌}
+use Rattle.smith_config_examples.proofs.Common.{arith, ◌≤◌}
 use Rattle.smith_bytes.specs.declared.error.Count.TheVariants as counts
 use Rattle.smith_config_examples.proofs.configurations.passing.Goals as goal
 

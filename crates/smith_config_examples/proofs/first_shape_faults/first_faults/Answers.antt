@@ -1,16 +1,4 @@
-use Rattle.std.proofs.Common.{◌≡◌, List, [], ◌∷◌, ◌++◌, Some, subst, rules, arith}
-use Rattle.std.specs.Prelude.{All}
-use Rattle.smith_bytes.specs.declared.error.Which.TheVariants.{ModuleShape}
-use Rattle.smith_bytes.specs.declared.error.ShapeFault.{ShapeFault}
-use Rattle.smith_bytes.specs.declared.error.ShapeFault.TheVariants.{BadType, Index}
-use Rattle.smith_types.specs.Features.{every_feature}
-use Rattle.smith_types.specs.ExampleTypes.{open_type, empty_struct}
-use Rattle.smith_config.specs.declared.shape.Shape.{Shape}
-use Rattle.smith_config.specs.Config.{default_config}
-use Rattle.smith_config.specs.Shapes.{IsShort}
-use Rattle.smith_config.specs.ShapeFaults.{HasShapeFault, AreTypesRight, shape_faults}
-use Rattle.smith_config.specs.ExampleShapes.{empty_shape, of_types}
-use Rattle.smith_config.proofs.FirstFaultLemmas.{first_too_long, first_bad_type}
+use Rattle.smith_config_examples.proofs.Common.{◌≡◌, List, [], ◌∷◌, ◌++◌, Some, subst, rules, arith, ModuleShape, ShapeFault, BadType, Index, every_feature, open_type, empty_struct, Shape, default_config, IsShort, HasShapeFault, AreTypesRight, shape_faults, empty_shape, of_types, first_too_long, first_bad_type, All}
 use Rattle.smith_config_examples.proofs.ShapeFaultExamples as wrong
 use Rattle.smith_config_examples.proofs.first_shape_faults.first_faults.Goals as goal
 
@@ -33,12 +21,10 @@ type_earlier (first ∷ second ∷ before) after order earlier =
     let none : ¬ HasShapeFault ModuleShape default_config twice_wrong second = earlier 1 second (omega arith) in
     subst (λ fault. ¬ HasShapeFault ModuleShape default_config twice_wrong fault) is none
 
-pub returns-clause-type_before_index : goal.returns-clause-type_before_index
-returns-clause-type_before_index c = first_bad_type ModuleShape default_config twice_wrong short wrong_type
-
-pub returns-clause-index_behind_type : goal.returns-clause-index_behind_type
-returns-clause-index_behind_type c = λ first. type_earlier first.before first.after first.order first.earlier wrong_type
-
-pub returns-clause-length_before_all : goal.returns-clause-length_before_all
-returns-clause-length_before_all c = λ tags long.
-    first_too_long ModuleShape default_config (record empty_shape { tags = tags }) (λ short. let few = short.tags in absurd (omega (arith, few, long)))
+pub returns : goal.returns
+returns c = record {
+  type_before_index = first_bad_type ModuleShape default_config twice_wrong short wrong_type;
+  index_behind_type = λ first. type_earlier first.before first.after first.order first.earlier wrong_type;
+  length_before_all = λ tags long.
+      first_too_long ModuleShape default_config (record empty_shape { tags = tags }) (λ short. let few = short.tags in absurd (omega (arith, few, long)));
+}

@@ -1,11 +1,4 @@
-use Rattle.std.proofs.Common.{[], ◌∷◌, Some, refl, rules, arith}
-use Rattle.smith_bytes.specs.declared.error.Which.TheVariants.{ModuleShape}
-use Rattle.smith_types.specs.Features.{every_feature}
-use Rattle.smith_types.specs.ExampleTypes.{open_type, empty_struct}
-use Rattle.smith_config.specs.Config.{default_config}
-use Rattle.smith_config.specs.Shapes.{IsShort}
-use Rattle.smith_config.specs.ExampleShapes.{of_types}
-use Rattle.smith_config.proofs.FirstFaultLemmas.{first_bad_type}
+use Rattle.smith_config_examples.proofs.Common.{[], ◌∷◌, Some, refl, rules, arith, ModuleShape, every_feature, open_type, empty_struct, default_config, IsShort, of_types, first_bad_type}
 use Rattle.smith_config_examples.proofs.ShapeFaultExamples as wrong
 use Rattle.smith_config_examples.proofs.first_shape_faults.refusals.Goals as goal
 

@@ -1,15 +1,4 @@
-use Rattle.std.proofs.Common.{rules, ◌≡◌, true, false, [], Some, None, arith, refl}
-use Rattle.std.proofs.lemmas.List.Elements.{All-cons, All-nil}
-use Rattle.smith_types.specs.Entities.{IsMemoryValid, IsGlobalValid}
-use Rattle.smith_types.specs.ExampleTypes.{open_type, plain_func}
-use Rattle.smith_types.specs.ExampleEntities.{memory, constant_global}
-use Rattle.smith_types.specs.declared.entity_type.GlobalType.{GlobalType}
-use Rattle.smith_types.specs.declared.entity_type.MemoryType.{MemoryType}
-use Rattle.smith_types.specs.declared.value_type.ValType.TheVariants.{I32, V128}
-use Rattle.smith_types.proofs.ValidityLemmas.{AreTypesValid-single, no_types}
-use Rattle.smith_config.specs.Config.{default_config}
-use Rattle.smith_config.specs.Features.{features_of}
-use Rattle.smith_types.specs.Features.{every_feature}
+use Rattle.smith_config_examples.proofs.Common.{rules, ◌≡◌, true, false, [], Some, None, arith, refl, All-cons, All-nil, IsMemoryValid, IsGlobalValid, open_type, plain_func, memory, constant_global, GlobalType, MemoryType, I32, V128, AreTypesValid-single, no_types, default_config, features_of, every_feature}
 use Rattle.smith_config_examples.proofs.ShapeFaultExamples as wrong
 use Rattle.smith_config_examples.proofs.shape_faults.features.Goals as goal
 

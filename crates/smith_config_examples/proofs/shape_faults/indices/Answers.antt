@@ -1,12 +1,5 @@
-use Rattle.std.proofs.Common.{rules, List, [], ◌∷◌, arith, refl}
-use Rattle.std.specs.Prelude.{codes}
-use Rattle.std.proofs.lemmas.List.Elements.{All-cons, All-nil}
-use Rattle.smith_types.specs.Entities.{IsTagValid}
-use Rattle.smith_types.specs.declared.composite_type.SubType.{SubType}
+use Rattle.smith_config_examples.proofs.Common.{rules, List, [], ◌∷◌, arith, refl, codes, All-cons, All-nil, IsTagValid, SubType, I32, final_type, taking, every_feature}
 use Rattle.smith_types.specs.declared.entity_type.ExportKind.TheVariants as kind
-use Rattle.smith_types.specs.declared.value_type.ValType.TheVariants.{I32}
-use Rattle.smith_types.specs.ExampleTypes.{final_type, taking}
-use Rattle.smith_types.specs.Features.{every_feature}
 use Rattle.smith_config_examples.proofs.ShapeExamples.{entities_valid, exports_valid}
 use Rattle.smith_config_examples.proofs.shape_faults.indices.Goals as goal
 

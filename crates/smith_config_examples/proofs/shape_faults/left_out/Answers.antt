@@ -1,7 +1,4 @@
-use Rattle.std.proofs.Common.{◌≡◌, true, false, None, arith}
-use Rattle.smith_types.specs.ExampleTypes.{shared_type, plain_func}
-use Rattle.smith_types.specs.ExampleEntities.{table}
-use Rattle.smith_types.specs.Flags.{funcref}
+use Rattle.smith_config_examples.proofs.Common.{◌≡◌, true, false, None, arith, shared_type, plain_func, table, funcref}
 use Rattle.smith_config_examples.proofs.shape_faults.left_out.Goals as goal
 
 pub returns-clause-shared_type : goal.returns-clause-shared_type

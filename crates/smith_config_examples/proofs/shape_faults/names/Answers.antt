@@ -1,4 +1,4 @@
-use Rattle.std.proofs.Common.{◌≡◌, [], ◌∷◌, arith, refl}
+use Rattle.smith_config_examples.proofs.Common.{◌≡◌, [], ◌∷◌, arith, refl}
 use Rattle.smith_config_examples.proofs.shape_faults.names.Goals as goal
 
 pub returns-clause-a_name_twice : goal.returns-clause-a_name_twice

@@ -1,5 +1,4 @@
-use Rattle.std.proofs.Common.{◌≡◌, true, false, None, arith, refl}
-use Rattle.smith_types.specs.ExampleTypes.{open_type, plain_func}
+use Rattle.smith_config_examples.proofs.Common.{◌≡◌, true, false, None, arith, refl, open_type, plain_func}
 use Rattle.smith_config_examples.proofs.shape_faults.plainness.Goals as goal
 
 pub returns-clause-function_of_a_type_that_is_not_final : goal.returns-clause-function_of_a_type_that_is_not_final

@@ -1,7 +1,4 @@
-use Rattle.std.proofs.Common.{rules, false}
-use Rattle.smith_config.specs.Config.{default_config}
-use Rattle.smith_config.specs.Features.{features_of}
-use Rattle.smith_config.specs.declared.config.Config.{Config}
+use Rattle.smith_config_examples.proofs.Common.{rules, false, default_config, features_of, Config}
 use Rattle.smith_config_examples.proofs.ShapeExamples.{types_valid, shallow, entities_valid, exports_valid}
 use Rattle.smith_config_examples.proofs.shapes.compact_imports.Goals as goal
 

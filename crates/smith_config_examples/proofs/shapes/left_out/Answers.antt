@@ -1,8 +1,4 @@
-use Rattle.std.proofs.Common.{◌≡◌, true, false, None, arith}
-use Rattle.smith_types.specs.declared.value_type.ValType.TheVariants.{I32}
-use Rattle.smith_types.specs.ExampleEntities.{constant_global, table}
-use Rattle.smith_types.specs.ExampleTypes.{shared_type, plain_func}
-use Rattle.smith_types.specs.Flags.{funcref}
+use Rattle.smith_config_examples.proofs.Common.{◌≡◌, true, false, None, arith, I32, constant_global, table, shared_type, plain_func, funcref}
 use Rattle.smith_config_examples.proofs.shapes.left_out.Goals as goal
 
 pub returns-clause-shared_global : goal.returns-clause-shared_global

@@ -1,5 +1,4 @@
-use Rattle.std.proofs.Common.{◌≤◌, length, arith}
-use Rattle.smith_types.specs.ExampleTypes.{final_type, struct, taking, giving}
+use Rattle.smith_config_examples.proofs.Common.{◌≤◌, length, arith, final_type, struct, taking, giving}
 use Rattle.smith_config_examples.proofs.shapes.short_lists.Goals as goal
 
 pub returns-clause-params : goal.returns-clause-params

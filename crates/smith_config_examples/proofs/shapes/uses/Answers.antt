@@ -1,23 +1,7 @@
-use Rattle.std.proofs.Common.{rules, ◌≡◌, false, List, [], ◌∷◌, None, arith, refl}
-use Rattle.std.proofs.lemmas.List.Elements.{All-cons, All-nil}
-use Rattle.smith_types.specs.Features.{Features}
-use Rattle.smith_types.specs.Flags.{funcref}
-use Rattle.smith_types.specs.Types.{IsOrderly}
-use Rattle.smith_types.specs.Entities.{IsTableValid, IsTagValid}
-use Rattle.smith_types.specs.declared.composite_type.SubType.{SubType}
+use Rattle.smith_config_examples.proofs.Common.{rules, arith, common_steps, ◌≡◌, false, List, [], ◌∷◌, None, refl, All-cons, All-nil, Features, funcref, IsOrderly, IsTableValid, IsTagValid, SubType, TableType, I32, memory, table, codes, final_type, empty_struct, taking, default_config, features_of, IsShort, IsInnerShort, HasNothingLeftOut, IsValTypeIncluded, IsConsistent, IsPlain, shape_spaces, passed_on, memory_passed_on, exported_table, AreTypesValid-single, no_types}
 use Rattle.smith_types.specs.declared.entity_type.EntityType.TheVariants as entity
 use Rattle.smith_types.specs.declared.entity_type.ExportKind.TheVariants as kind
-use Rattle.smith_types.specs.declared.entity_type.TableType.{TableType}
-use Rattle.smith_types.specs.declared.value_type.ValType.TheVariants.{I32}
-use Rattle.smith_types.specs.ExampleEntities.{memory, table}
-use Rattle.std.specs.Prelude.{codes}
 use Rattle.smith_types.specs.declared.value_type.AbstractHeapType.TheVariants as heap
-use Rattle.smith_types.specs.ExampleTypes.{final_type, empty_struct, taking}
-use Rattle.smith_config.specs.Config.{default_config}
-use Rattle.smith_config.specs.Features.{features_of}
-use Rattle.smith_config.specs.Shapes.{IsShort, IsInnerShort, HasNothingLeftOut, IsValTypeIncluded, IsConsistent, IsPlain, shape_spaces}
-use Rattle.smith_config.specs.ExampleShapes.{passed_on, memory_passed_on, exported_table}
-use Rattle.smith_types.proofs.ValidityLemmas.{AreTypesValid-single, no_types}
 use Rattle.smith_config_examples.proofs.ChainExamples.{shallow_if_few, chain_all, chain_valid, chain_shallow}
 use Rattle.smith_config_examples.proofs.OneOfEachKindExamples.{consistent as one_of_each_kind_consistent}
 use Rattle.smith_config_examples.proofs.ShapeExamples.{stand_alone, types_valid, shallow, entities_valid, exports_valid}
@@ -35,120 +19,107 @@ consistent = record { types = types_valid (features_of default_config); shallow 
 plain : IsPlain passed_on
 plain = search rules
 
-pub returns-clause-as_available_imports : goal.returns-clause-as_available_imports
-returns-clause-as_available_imports c = record { short = short; nothing_left_out = nothing_left_out; consistent = consistent; counts = tt; plain = λ other. cc }
-
-pub returns-clause-as_exports : goal.returns-clause-as_exports
-returns-clause-as_exports c = record { short = short; nothing_left_out = nothing_left_out; consistent = consistent; counts = search rules; plain = λ _. plain }
-
-pub returns-clause-as_a_module_shape : goal.returns-clause-as_a_module_shape
-returns-clause-as_a_module_shape c = record { short = short; nothing_left_out = nothing_left_out; consistent = consistent; counts = search rules; plain = λ other. cc }
-
-pub returns-clause-a_name_twice : goal.returns-clause-a_name_twice
-returns-clause-a_name_twice c = λ valid. let same : 0 ≡ 1 = valid.consistent.exports.distinct.once 0 1 (codes "a") refl refl in omega (arith, same)
-
-pub returns-clause-exported_struct_type : goal.returns-clause-exported_struct_type
-returns-clause-exported_struct_type c = λ valid. let never : heap.Struct ≡ heap.Func = ((valid.plain refl).types 0 (final_type empty_struct) (omega arith)).function in cc never
-
-pub returns-clause-memory_passed_on : goal.returns-clause-memory_passed_on
-returns-clause-memory_passed_on c = record {
-  short = search rules;
-  nothing_left_out = search rules;
-  consistent = record {
-    types = no_types (features_of default_config);
-    shallow = shallow_if_few [] (search rules) (omega arith);
-    entities = search rules;
-    exports = record {
-      stand = stand_alone (shape_spaces memory_passed_on) (codes "m", kind.Memory, 0) (entity.Memory (memory 1 None)) (memory 1 None, refl, refl);
-      distinct = search rules;
-    };
-  };
-  counts = search rules;
-  plain = λ other. cc;
-}
-
-pub returns-clause-table_without_references : goal.returns-clause-table_without_references
-returns-clause-table_without_references c =
-    let features : Features = features_of (record default_config { reference_types_enabled = false; gc_enabled = false }) in
-    let functions : TableType = table funcref 0 None in
-    let valid : IsTableValid features [] functions = record {
-      limits = search rules;
-      element = search rules;
-      element_enabled = λ other. absurd (other refl);
-      table64 = λ never. cc;
-      shared = λ never. cc;
-    } in
-    record {
-      short = search rules;
-      nothing_left_out = search rules;
-      consistent = record {
-        types = no_types features;
-        shallow = shallow_if_few [] (search rules) (omega arith);
-        entities = record {
-          tags = search rules;
-          funcs = search rules;
-          tables = All-cons (IsTableValid features []) functions [] valid (All-nil (IsTableValid features []));
-          memories = search rules;
-          globals = search rules;
-        };
-        exports = record { stand = stand_alone (shape_spaces exported_table) (codes "t", kind.Table, 0) (entity.Table functions) (functions, refl, refl); distinct = search rules };
-      };
-      counts = search rules;
-      plain = λ _. search rules;
-    }
-
 -- the type of a tag with a number as its parameter
 abbrev tag_types : List SubType
 tag_types = final_type (taking (I32 ∷ [])) ∷ []
 
-pub returns-clause-available_tag_without_exceptions : goal.returns-clause-available_tag_without_exceptions
-returns-clause-available_tag_without_exceptions c =
-    let features : Features = features_of (record default_config { exceptions_enabled = false }) in
-    let orderly : IsOrderly tag_types = search rules in
-    record {
-      short = search rules;
-      nothing_left_out = search rules;
-      consistent = record {
-        types = AreTypesValid-single features [] [] (final_type (taking (I32 ∷ []))) orderly (no_types features) (search rules);
-        shallow = shallow_if_few tag_types orderly (omega arith);
-        entities = record {
-          tags = All-cons (IsTagValid tag_types) 0 [] (record { params = I32 ∷ []; results = [] }, (final_type (taking (I32 ∷ [])), refl, refl), refl) (All-nil (IsTagValid tag_types));
-          funcs = search rules;
-          tables = search rules;
-          memories = search rules;
-          globals = search rules;
-        };
-        exports = search rules;
+pub returns : goal.returns
+returns c = record {
+  as_available_imports = record { short = short; nothing_left_out = nothing_left_out; consistent = consistent; counts = tt; plain = λ other. cc };
+  as_exports = record { short = short; nothing_left_out = nothing_left_out; consistent = consistent; counts = search rules; plain = λ _. plain };
+  one_of_each_kind = record { short = search rules; nothing_left_out = search rules; consistent = one_of_each_kind_consistent; counts = search rules; plain = λ _. search rules };
+  memory_passed_on = record {
+    short = search rules;
+    nothing_left_out = search rules;
+    consistent = record {
+      types = no_types (features_of default_config);
+      shallow = shallow_if_few [] (search rules) (omega arith);
+      entities = search rules;
+      exports = record {
+        stand = stand_alone (shape_spaces memory_passed_on) (codes "m", kind.Memory, 0) (entity.Memory (memory 1 None)) (memory 1 None, refl, refl);
+        distinct = search rules;
       };
-      counts = tt;
-      plain = λ other. cc;
-    }
-
-pub returns-clause-depth_of_63 : goal.returns-clause-depth_of_63
-returns-clause-depth_of_63 c = record {
-  short = record {
-    groups = search rules;
-    types = search rules;
-    inner = chain_all (λ t. IsInnerShort t.composite_type.inner) (λ supertype. omega arith) 63;
-    import_groups = search rules;
-    imports = search rules;
-    funcs = search rules;
-    tags = search rules;
-    tables = search rules;
-    memories = search rules;
-    globals = search rules;
-    exports = search rules;
+    };
+    counts = search rules;
+    plain = λ other. cc;
   };
-  nothing_left_out = record {
-    types = chain_all (λ t. t.composite_type.shared ≡ false) (λ supertype. refl) 63;
-    values = All-nil IsValTypeIncluded;
-    tables = search rules;
-    globals = search rules;
+  table_without_references =
+      let features : Features = features_of (record default_config { reference_types_enabled = false; gc_enabled = false }) in
+      let functions : TableType = table funcref 0 None in
+      let valid : IsTableValid features [] functions = record {
+        limits = search rules;
+        element = search rules;
+        element_enabled = λ other. absurd (other refl);
+        table64 = λ never. cc;
+        shared = λ never. cc;
+      } in
+      record {
+        short = search rules;
+        nothing_left_out = search rules;
+        consistent = record {
+          types = no_types features;
+          shallow = shallow_if_few [] (search rules) (omega arith);
+          entities = record {
+            tags = search rules;
+            funcs = search rules;
+            tables = All-cons (IsTableValid features []) functions [] valid (All-nil (IsTableValid features []));
+            memories = search rules;
+            globals = search rules;
+          };
+          exports = record { stand = stand_alone (shape_spaces exported_table) (codes "t", kind.Table, 0) (entity.Table functions) (functions, refl, refl); distinct = search rules };
+        };
+        counts = search rules;
+        plain = λ _. search rules;
+      };
+  available_tag_without_exceptions =
+      let features : Features = features_of (record default_config { exceptions_enabled = false }) in
+      let orderly : IsOrderly tag_types = search rules in
+      record {
+        short = search rules;
+        nothing_left_out = search rules;
+        consistent = record {
+          types = AreTypesValid-single features [] [] (final_type (taking (I32 ∷ []))) orderly (no_types features) (search rules);
+          shallow = shallow_if_few tag_types orderly (omega arith);
+          entities = record {
+            tags = All-cons (IsTagValid tag_types) 0 [] (record { params = I32 ∷ []; results = [] }, (final_type (taking (I32 ∷ [])), refl, refl), refl) (All-nil (IsTagValid tag_types));
+            funcs = search rules;
+            tables = search rules;
+            memories = search rules;
+            globals = search rules;
+          };
+          exports = search rules;
+        };
+        counts = tt;
+        plain = λ other. cc;
+      };
+  depth_of_63 = record {
+    short = record {
+      groups = search rules;
+      types = search rules;
+      inner = chain_all (λ t. IsInnerShort t.composite_type.inner) (λ supertype. omega arith) 63;
+      import_groups = search rules;
+      imports = search rules;
+      funcs = search rules;
+      tags = search rules;
+      tables = search rules;
+      memories = search rules;
+      globals = search rules;
+      exports = search rules;
+    };
+    nothing_left_out = record {
+      types = chain_all (λ t. t.composite_type.shared ≡ false) (λ supertype. refl) 63;
+      values = All-nil IsValTypeIncluded;
+      tables = search rules;
+      globals = search rules;
+    };
+    consistent = record { types = chain_valid (features_of default_config) refl 63; shallow = chain_shallow 63 (omega arith); entities = search rules; exports = search rules };
+    counts = search rules;
+    plain = λ other. cc;
   };
-  consistent = record { types = chain_valid (features_of default_config) refl 63; shallow = chain_shallow 63 (omega arith); entities = search rules; exports = search rules };
-  counts = search rules;
-  plain = λ other. cc;
+  as_a_module_shape = record { short = short; nothing_left_out = nothing_left_out; consistent = consistent; counts = search rules; plain = λ other. cc };
+  too_long = first_of (search rules, grind (arith, common_steps));
+  something_left_out = first_of (search rules, grind (arith, common_steps));
+  tag_without_exceptions = first_of (search rules, grind (arith, common_steps));
+  exported_struct_type = λ valid. let never : heap.Struct ≡ heap.Func = ((valid.plain refl).types 0 (final_type empty_struct) (omega arith)).function in cc never;
+  a_name_twice = λ valid. let same : 0 ≡ 1 = valid.consistent.exports.distinct.once 0 1 (codes "a") refl refl in omega (arith, same);
 }
-
-pub returns-clause-one_of_each_kind : goal.returns-clause-one_of_each_kind
-returns-clause-one_of_each_kind c = record { short = search rules; nothing_left_out = search rules; consistent = one_of_each_kind_consistent; counts = search rules; plain = λ _. search rules }

@@ -1,4 +1,4 @@
-use Rattle.std.proofs.Common.{rules, arith, ◌≤◌, refl}
+use Rattle.smith_config_examples.proofs.Common.{rules, arith, ◌≤◌, refl}
 use Rattle.smith_bytes.specs.declared.error.Count.TheVariants as counts
 use Rattle.smith_config_examples.proofs.shapes_in_use.passing.Goals as goal
 

@@ -1,8 +1,5 @@
-use Rattle.std.proofs.Common.{[], ◌∷◌, refl}
+use Rattle.smith_instr_examples.proofs.Common.{[], ◌∷◌, refl, constant, variable, I8, Val, I64}
 use Rattle.smith_instr_examples.proofs.ManagedExamples.{struct_there}
-use Rattle.smith_types.specs.ExampleTypes.{constant, variable}
-use Rattle.smith_types.specs.declared.composite_type.StorageType.TheVariants.{I8, Val}
-use Rattle.smith_types.specs.declared.value_type.ValType.TheVariants.{I64}
 use Rattle.smith_instr_examples.proofs.basics.fields.Goals as goal
 
 pub returns-clause-get : goal.returns-clause-get

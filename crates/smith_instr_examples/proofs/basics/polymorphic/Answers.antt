@@ -1,7 +1,5 @@
-use Rattle.std.proofs.Common.{[], ◌∷◌, refl}
+use Rattle.smith_instr_examples.proofs.Common.{[], ◌∷◌, refl, managed, F32, I32}
 use Rattle.smith_instr_examples.proofs.SequenceExamples.{valid_one}
-use Rattle.smith_instr_examples.specs.ExampleManaged.{managed}
-use Rattle.smith_types.specs.declared.value_type.ValType.TheVariants.{F32, I32}
 use Rattle.smith_instr_examples.proofs.basics.polymorphic.Goals as goal
 
 pub returns-clause-unreachable : goal.returns-clause-unreachable

@@ -1,4 +1,4 @@
-use Rattle.std.proofs.Common.{refl}
+use Rattle.smith_instr_examples.proofs.Common.{refl}
 use Rattle.smith_instr_examples.proofs.BlockExamples as example
 use Rattle.smith_instr_examples.proofs.blocks.forgotten_locals.Goals as goal
 

@@ -1,5 +1,4 @@
-use Rattle.std.proofs.Common.{refl}
-use Rattle.smith_instr_examples.specs.ExampleManaged.{narrows}
+use Rattle.smith_instr_examples.proofs.Common.{refl, narrows}
 use Rattle.smith_instr_examples.proofs.ManagedExamples.{narrows_there}
 use Rattle.smith_instr_examples.proofs.calls.by_reference.Goals as goal
 

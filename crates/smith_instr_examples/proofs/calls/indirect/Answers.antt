@@ -1,5 +1,4 @@
-use Rattle.std.proofs.Common.{true, false, [], refl}
-use Rattle.smith_instr_examples.specs.ExampleManaged.{narrows}
+use Rattle.smith_instr_examples.proofs.Common.{true, false, [], refl, narrows}
 use Rattle.smith_instr_examples.proofs.ManagedExamples.{narrows_there, narrow_table, wide_table}
 use Rattle.smith_instr_examples.proofs.calls.indirect.Goals as goal
 

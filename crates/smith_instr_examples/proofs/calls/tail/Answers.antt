@@ -1,13 +1,5 @@
-use Rattle.std.proofs.Common.{◌≡◌, true, false, List, [], ◌∷◌, ◌++◌, refl, subst, ap}
-use Rattle.smith_types.specs.Flags.{funcref}
-use Rattle.smith_types.specs.declared.composite_type.FuncType.{FuncType}
-use Rattle.smith_types.specs.declared.value_type.HeapType.TheVariants.{Abstract, Concrete}
-use Rattle.smith_types.specs.declared.value_type.RefType.{RefType}
+use Rattle.smith_instr_examples.proofs.Common.{◌≡◌, true, false, List, [], ◌∷◌, ◌++◌, refl, subst, ap, funcref, FuncType, Abstract, Concrete, RefType, ValType, F32, I32, I64, Ref, nullable_to, managed, narrows}
 use Rattle.smith_types.specs.declared.value_type.AbstractHeapType.TheVariants as heap
-use Rattle.smith_types.specs.declared.value_type.ValType.{ValType}
-use Rattle.smith_types.specs.declared.value_type.ValType.TheVariants.{F32, I32, I64, Ref}
-use Rattle.smith_instr.specs.Contexts.{nullable_to}
-use Rattle.smith_instr_examples.specs.ExampleManaged.{managed, narrows}
 use Rattle.smith_instr_examples.proofs.SequenceExamples.{valid_one}
 use Rattle.smith_instr_examples.proofs.ManagedExamples.{narrows_there, narrows_alone, narrow_table}
 use Rattle.smith_instr_examples.proofs.calls.tail.Goals as goal

@@ -1,9 +1,4 @@
-use Rattle.std.proofs.Common.{refl}
-use Rattle.smith_types.specs.ExampleTypes.{constant, variable}
-use Rattle.smith_types.specs.Flags.{funcref}
-use Rattle.smith_types.specs.declared.composite_type.StorageType.TheVariants.{Val}
-use Rattle.smith_types.specs.declared.value_type.ValType.TheVariants.{Ref}
-use Rattle.smith_instr_examples.specs.ExampleBodies.{some_func}
+use Rattle.smith_instr_examples.proofs.Common.{refl, constant, variable, funcref, Val, Ref, some_func}
 use Rattle.smith_instr_examples.proofs.ManagedExamples.{references_there, functions_there}
 use Rattle.smith_instr_examples.proofs.creations.arrays.Goals as goal
 

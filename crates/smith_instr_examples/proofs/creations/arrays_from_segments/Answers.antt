@@ -1,8 +1,4 @@
-use Rattle.std.proofs.Common.{[], refl, arith}
-use Rattle.smith_types.specs.ExampleTypes.{constant, variable}
-use Rattle.smith_types.specs.Flags.{funcref}
-use Rattle.smith_types.specs.declared.composite_type.StorageType.TheVariants.{I8, Val}
-use Rattle.smith_types.specs.declared.value_type.ValType.TheVariants.{Ref}
+use Rattle.smith_instr_examples.proofs.Common.{[], refl, arith, constant, variable, funcref, I8, Val, Ref}
 use Rattle.smith_instr_examples.proofs.ManagedExamples.{bytes_there, references_there, element_segment}
 use Rattle.smith_instr_examples.proofs.creations.arrays_from_segments.Goals as goal
 

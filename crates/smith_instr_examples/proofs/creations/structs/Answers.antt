@@ -1,9 +1,4 @@
-use Rattle.std.proofs.Common.{[], ◌∷◌, refl}
-use Rattle.std.proofs.lemmas.List.Elements.{All-from_recursion}
-use Rattle.smith_types.specs.ExampleTypes.{constant, variable}
-use Rattle.smith_types.specs.Expressions.{IsDefaultable, field_values}
-use Rattle.smith_types.specs.declared.composite_type.StorageType.TheVariants.{I8, Val}
-use Rattle.smith_types.specs.declared.value_type.ValType.TheVariants.{I64}
+use Rattle.smith_instr_examples.proofs.Common.{[], ◌∷◌, refl, All-from_recursion, constant, variable, IsDefaultable, field_values, I8, Val, I64}
 use Rattle.smith_instr_examples.proofs.ManagedExamples.{struct_there}
 use Rattle.smith_instr_examples.proofs.creations.structs.Goals as goal
 

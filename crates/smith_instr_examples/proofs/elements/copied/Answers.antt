@@ -1,10 +1,4 @@
-use Rattle.std.proofs.Common.{refl}
-use Rattle.smith_types.specs.ExampleTypes.{constant, variable}
-use Rattle.smith_types.specs.Flags.{funcref}
-use Rattle.smith_types.specs.Subtyping.{itself}
-use Rattle.smith_types.specs.declared.composite_type.StorageType.TheVariants.{Val}
-use Rattle.smith_types.specs.declared.value_type.ValType.TheVariants.{I32, Ref}
-use Rattle.smith_instr_examples.specs.ExampleBodies.{some_func}
+use Rattle.smith_instr_examples.proofs.Common.{refl, constant, variable, funcref, itself, Val, I32, Ref, some_func}
 use Rattle.smith_instr_examples.proofs.ManagedExamples.{numbers_there, references_there, functions_there}
 use Rattle.smith_instr_examples.proofs.elements.copied.Goals as goal
 

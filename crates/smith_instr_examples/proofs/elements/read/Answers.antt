@@ -1,7 +1,4 @@
-use Rattle.std.proofs.Common.{refl}
-use Rattle.smith_types.specs.ExampleTypes.{constant, variable}
-use Rattle.smith_types.specs.declared.composite_type.StorageType.TheVariants.{I8, Val}
-use Rattle.smith_types.specs.declared.value_type.ValType.TheVariants.{I32}
+use Rattle.smith_instr_examples.proofs.Common.{refl, constant, variable, I8, Val, I32}
 use Rattle.smith_instr_examples.proofs.ManagedExamples.{numbers_there, bytes_there}
 use Rattle.smith_instr_examples.proofs.elements.read.Goals as goal
 

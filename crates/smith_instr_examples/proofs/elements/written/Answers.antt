@@ -1,8 +1,4 @@
-use Rattle.std.proofs.Common.{refl}
-use Rattle.smith_types.specs.ExampleTypes.{variable}
-use Rattle.smith_types.specs.Flags.{funcref}
-use Rattle.smith_types.specs.declared.composite_type.StorageType.TheVariants.{Val}
-use Rattle.smith_types.specs.declared.value_type.ValType.TheVariants.{I32, Ref}
+use Rattle.smith_instr_examples.proofs.Common.{refl, variable, funcref, Val, I32, Ref}
 use Rattle.smith_instr_examples.proofs.ManagedExamples.{numbers_there, references_there}
 use Rattle.smith_instr_examples.proofs.elements.written.Goals as goal
 

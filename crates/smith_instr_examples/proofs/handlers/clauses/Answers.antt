@@ -1,7 +1,4 @@
-use Rattle.std.proofs.Common.{[], ◌∷◌, refl}
-use Rattle.smith_types.specs.Subtyping.{itself}
-use Rattle.smith_types.specs.declared.value_type.ValType.TheVariants.{I32}
-use Rattle.smith_instr_examples.specs.ExampleBodies.{exnref}
+use Rattle.smith_instr_examples.proofs.Common.{[], ◌∷◌, refl, itself, I32, exnref}
 use Rattle.smith_instr_examples.proofs.ManagedExamples.{takes_there}
 use Rattle.smith_instr_examples.proofs.handlers.clauses.Goals as goal
 

@@ -1,8 +1,4 @@
-use Rattle.std.proofs.Common.{◌≡◌, List, [], ◌∷◌, ◌++◌, refl}
-use Rattle.smith_types.specs.declared.value_type.ValType.{ValType}
-use Rattle.smith_types.specs.declared.value_type.ValType.TheVariants.{I32, I64}
-use Rattle.smith_instr_examples.specs.ExampleBodies.{exnref}
-use Rattle.smith_instr_examples.specs.ExampleManaged.{managed}
+use Rattle.smith_instr_examples.proofs.Common.{◌≡◌, List, [], ◌∷◌, ◌++◌, refl, ValType, I32, I64, exnref, managed}
 use Rattle.smith_instr_examples.proofs.SequenceExamples.{valid_one}
 use Rattle.smith_instr_examples.proofs.handlers.rethrown.Goals as goal
 

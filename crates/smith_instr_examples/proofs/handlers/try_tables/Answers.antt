@@ -1,14 +1,6 @@
-use Rattle.std.proofs.Common.{[], ◌∷◌, refl}
-use Rattle.std.proofs.lemmas.List.Elements.{All-from_recursion}
-use Rattle.smith_types.specs.declared.value_type.ValType.TheVariants.{I32}
-use Rattle.smith_instr.specs.Contexts.{labelled}
-use Rattle.smith_instr.specs.InstrTypes.{IsCatch}
-use Rattle.smith_instr.specs.Sequences.{step, try_table}
+use Rattle.smith_instr_examples.proofs.Common.{[], ◌∷◌, refl, All-from_recursion, I32, labelled, IsCatch, step, try_table, one, framed, finished, number, managed}
 use Rattle.smith_instr.specs.declared.control.Catch.TheVariants as catch
 use Rattle.smith_instr.specs.declared.instr.Instr.TheVariants as instr
-use Rattle.smith_instr.proofs.SequenceLemmas.{one, framed, finished}
-use Rattle.smith_instr_examples.specs.ExampleBodies.{number}
-use Rattle.smith_instr_examples.specs.ExampleManaged.{managed}
 use Rattle.smith_instr_examples.proofs.SequenceExamples.{valid_none, valid_one}
 use Rattle.smith_instr_examples.proofs.ManagedExamples.{takes_there}
 use Rattle.smith_instr_examples.proofs.handlers.try_tables.Goals as goal

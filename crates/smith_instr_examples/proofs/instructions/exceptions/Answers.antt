@@ -1,7 +1,4 @@
-use Rattle.std.proofs.Common.{[], ◌∷◌, refl}
-use Rattle.smith_types.specs.declared.value_type.ValType.TheVariants.{I32}
-use Rattle.smith_types.specs.ExampleTypes.{final_type, taking}
-use Rattle.smith_instr_examples.specs.ExampleBodies.{function_of}
+use Rattle.smith_instr_examples.proofs.Common.{[], ◌∷◌, refl, I32, final_type, taking, function_of}
 use Rattle.smith_instr_examples.proofs.SequenceExamples.{valid_none}
 use Rattle.smith_instr_examples.proofs.instructions.exceptions.Goals as goal
 

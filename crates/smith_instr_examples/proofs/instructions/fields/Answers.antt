@@ -1,9 +1,4 @@
-use Rattle.std.proofs.Common.{[], ◌∷◌, refl}
-use Rattle.smith_types.specs.declared.value_type.ValType.TheVariants.{I64}
-use Rattle.smith_types.specs.declared.composite_type.StorageType.TheVariants.{I8, Val}
-use Rattle.smith_types.specs.ExampleTypes.{final_type, struct, constant, variable}
-use Rattle.smith_types.specs.Expressions.{IsStructAt}
-use Rattle.smith_instr_examples.specs.ExampleBodies.{function_of}
+use Rattle.smith_instr_examples.proofs.Common.{[], ◌∷◌, refl, I64, I8, Val, final_type, struct, constant, variable, IsStructAt, function_of}
 use Rattle.smith_instr_examples.proofs.instructions.fields.Goals as goal
 
 struct_at : IsStructAt (function_of [] []).types 2 (constant I8 ∷ variable (Val I64) ∷ [])

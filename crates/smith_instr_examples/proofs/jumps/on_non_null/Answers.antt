@@ -1,6 +1,4 @@
-use Rattle.std.proofs.Common.{[], ◌∷◌, refl}
-use Rattle.smith_types.specs.declared.value_type.ValType.TheVariants.{I32}
-use Rattle.smith_instr_examples.specs.ExampleManaged.{any_struct, some_struct}
+use Rattle.smith_instr_examples.proofs.Common.{[], ◌∷◌, refl, I32, any_struct, some_struct}
 use Rattle.smith_instr_examples.proofs.jumps.on_non_null.Goals as goal
 
 pub returns-clause-with_a_value : goal.returns-clause-with_a_value

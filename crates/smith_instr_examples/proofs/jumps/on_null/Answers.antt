@@ -1,6 +1,4 @@
-use Rattle.std.proofs.Common.{[], ◌∷◌, refl, arith}
-use Rattle.smith_types.specs.declared.value_type.HeapType.TheVariants.{Concrete}
-use Rattle.smith_types.specs.declared.value_type.ValType.TheVariants.{I32}
+use Rattle.smith_instr_examples.proofs.Common.{[], ◌∷◌, refl, arith, Concrete, I32}
 use Rattle.smith_instr_examples.proofs.jumps.on_null.Goals as goal
 
 pub returns-clause-with_a_value : goal.returns-clause-with_a_value

@@ -1,5 +1,4 @@
-use Rattle.std.proofs.Common.{ℕ, ◌<◌, refl, arith}
-use Rattle.std.proofs.lemmas.List.Elements.{All-replicate}
+use Rattle.smith_instr_examples.proofs.Common.{ℕ, ◌<◌, refl, arith, All-replicate}
 use Rattle.smith_instr_examples.proofs.lanes.shuffles.Goals as goal
 
 pub returns-clause-of_the_last_lane : goal.returns-clause-of_the_last_lane

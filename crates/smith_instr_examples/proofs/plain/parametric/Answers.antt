@@ -1,6 +1,4 @@
-use Rattle.std.proofs.Common.{[], ◌∷◌, refl}
-use Rattle.smith_types.specs.declared.value_type.ValType.TheVariants.{F32, I32, I64}
-use Rattle.smith_instr_examples.specs.ExampleManaged.{managed}
+use Rattle.smith_instr_examples.proofs.Common.{[], ◌∷◌, refl, F32, I32, I64, managed}
 use Rattle.smith_instr_examples.proofs.SequenceExamples.{valid_one}
 use Rattle.smith_instr_examples.proofs.plain.parametric.Goals as goal
 

@@ -1,11 +1,5 @@
-use Rattle.std.proofs.Common.{arith, ◌≤◌, [], ◌∷◌, refl}
-use Rattle.std.proofs.lemmas.List.Elements.{All-head}
+use Rattle.smith_rules_examples.proofs.Common.{arith, ◌≤◌, [], ◌∷◌, refl, All-head, Expressions, default_config, HasEnough, no_function, passive_elements, elements_asked_for}
 use Rattle.smith_bytes.specs.declared.error.Count.TheVariants as counts
-use Rattle.smith_types.specs.declared.segments.Elements.TheVariants.{Expressions}
-use Rattle.smith_config.specs.Config.{default_config}
-use Rattle.smith_rules.specs.Bounds.{HasEnough}
-use Rattle.smith_rules_examples.specs.ExampleParts.{no_function, passive_elements}
-use Rattle.smith_rules_examples.specs.ExampleModules.{elements_asked_for}
 use Rattle.smith_rules_examples.proofs.ShapeExamples.{no_exports_fixed}
 use Rattle.smith_rules_examples.proofs.bounds.least.Goals as goal
 

@@ -1,4 +1,4 @@
-use Rattle.std.proofs.Common.{arith, ◌≤◌, refl}
+use Rattle.smith_rules_examples.proofs.Common.{arith, ◌≤◌, refl}
 use Rattle.smith_bytes.specs.declared.error.Count.TheVariants as counts
 use Rattle.smith_rules_examples.proofs.ShapeExamples.{no_exports_fixed}
 use Rattle.smith_rules_examples.proofs.bounds.most.Goals as goal

@@ -1,12 +1,4 @@
-use Rattle.std.proofs.Common.{rules, [], refl}
-use Rattle.std.proofs.lemmas.List.Elements.{All-replicate, All-from_recursion}
-use Rattle.smith_types.specs.Flags.{funcref}
-use Rattle.smith_types.specs.Expressions.{IsConstExpr}
-use Rattle.smith_types.specs.Segments.{IsElementValid}
-use Rattle.smith_types.specs.declared.value_type.ValType.TheVariants.{Ref}
-use Rattle.smith_rules.specs.Module.{IsValid, segment_context}
-use Rattle.smith_rules_examples.specs.ExampleParts.{no_function}
-use Rattle.smith_rules_examples.specs.ExampleGiven.{sixty_elements}
+use Rattle.smith_rules_examples.proofs.Common.{rules, [], refl, All-replicate, All-from_recursion, funcref, IsConstExpr, IsElementValid, Ref, IsValid, segment_context, no_function, sixty_elements}
 use Rattle.smith_rules_examples.proofs.PartExamples.{no_function_given}
 use Rattle.smith_rules_examples.proofs.given_modules.elements.Goals as goal
 

@@ -1,4 +1,4 @@
-use Rattle.std.proofs.Common.{rules}
+use Rattle.smith_rules_examples.proofs.Common.{rules}
 use Rattle.smith_rules_examples.proofs.PartExamples.{taking_types, taking_functions}
 use Rattle.smith_rules_examples.proofs.given_modules.imports.Goals as goal
 

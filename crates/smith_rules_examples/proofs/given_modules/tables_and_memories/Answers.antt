@@ -1,11 +1,4 @@
-use Rattle.std.proofs.Common.{rules, None, refl}
-use Rattle.std.proofs.lemmas.List.Elements.{All-from_recursion}
-use Rattle.smith_types.specs.Flags.{funcref}
-use Rattle.smith_types.specs.Segments.{IsDataValid}
-use Rattle.smith_types.proofs.EachPlaceLemmas.{each_place}
-use Rattle.smith_rules.specs.Module.{IsTableDefined, segment_context}
-use Rattle.smith_rules_examples.specs.ExampleParts.{memory, table}
-use Rattle.smith_rules_examples.specs.ExampleGiven.{null_table, last_byte}
+use Rattle.smith_rules_examples.proofs.Common.{rules, None, refl, All-from_recursion, funcref, IsDataValid, each_place, IsTableDefined, segment_context, memory, table, null_table, last_byte}
 use Rattle.smith_rules_examples.proofs.given_modules.tables_and_memories.Goals as goal
 
 pub returns-clause-many_references : goal.returns-clause-many_references

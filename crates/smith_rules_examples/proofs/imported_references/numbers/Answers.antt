@@ -1,7 +1,4 @@
-use Rattle.std.proofs.Common.{rules, arith, ◌≤◌, refl}
-use Rattle.smith_rules.specs.Module.{global_context}
-use Rattle.smith_rules_examples.specs.ExampleParts.{number}
-use Rattle.smith_rules_examples.specs.ExampleReferences.{imported_read}
+use Rattle.smith_rules_examples.proofs.Common.{rules, arith, ◌≤◌, refl, global_context, number, imported_read}
 use Rattle.smith_rules_examples.proofs.PartExamples.{first_read, globals_defined}
 use Rattle.smith_rules_examples.proofs.imported_references.numbers.Goals as goal
 

@@ -1,4 +1,4 @@
-use Rattle.std.proofs.Common.{arith, inl, inr, refl}
+use Rattle.smith_rules_examples.proofs.Common.{arith, inl, inr, refl}
 use Rattle.smith_rules_examples.proofs.interesting_values.floats.Goals as goal
 
 pub returns-clause-least_sum_of_one : goal.returns-clause-least_sum_of_one

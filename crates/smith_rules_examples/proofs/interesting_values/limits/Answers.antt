@@ -1,10 +1,4 @@
-use Rattle.std.proofs.Common.{◌≡◌, ◌⊎◌, ℕ, ◌+◌, [], ◌∷◌, None, arith, inl, inr, refl, subst}
-use Rattle.std.specs.Prelude.{slice_index_or}
-use Rattle.std.specs.List.{Any}
-use Rattle.std.proofs.lemmas.List.Elements.{All-nil, All-cons}
-use Rattle.smith_types.specs.Flags.{funcref}
-use Rattle.smith_rules.specs.InterestingValues.{IsNearTable, IsNearMemory, bytes_of}
-use Rattle.smith_rules_examples.specs.ExampleParts.{memory, table}
+use Rattle.smith_rules_examples.proofs.Common.{◌≡◌, ◌⊎◌, ℕ, ◌+◌, [], ◌∷◌, None, arith, inl, inr, refl, subst, slice_index_or, Any, All-nil, All-cons, funcref, IsNearTable, IsNearMemory, bytes_of, memory, table}
 use Rattle.smith_rules_examples.proofs.NearNumberLemmas.{none_of, not_in, not_interesting}
 use Rattle.smith_rules_examples.proofs.interesting_values.limits.Goals as goal
 

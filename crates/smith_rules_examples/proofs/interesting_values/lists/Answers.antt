@@ -1,7 +1,4 @@
-use Rattle.std.proofs.Common.{ℕ, zero, suc, ◌<◌, [], ◌∷◌, arith, refl}
-use Rattle.std.specs.List.{Contains}
-use Rattle.std.specs.List.Sorted.{IsStrictlyIncreasing}
-use Rattle.std.proofs.lemmas.List.Elements.{All-nil, All-cons}
+use Rattle.smith_rules_examples.proofs.Common.{ℕ, zero, suc, ◌<◌, [], ◌∷◌, arith, refl, Contains, IsStrictlyIncreasing, All-nil, All-cons}
 use Rattle.smith_rules_examples.proofs.interesting_values.lists.Goals as goal
 
 ascending : IsStrictlyIncreasing (0 ∷ 1 ∷ 2 ∷ [])

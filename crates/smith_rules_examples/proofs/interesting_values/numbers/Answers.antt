@@ -1,6 +1,4 @@
-use Rattle.std.proofs.Common.{[], arith, inl, inr, refl}
-use Rattle.std.proofs.lemmas.List.Elements.{All-nil}
-use Rattle.smith_rules.specs.InterestingValues.{IsNearTable, IsNearMemory}
+use Rattle.smith_rules_examples.proofs.Common.{[], arith, inl, inr, refl, All-nil, IsNearTable, IsNearMemory}
 use Rattle.smith_rules_examples.proofs.NearNumberLemmas.{not_interesting}
 use Rattle.smith_rules_examples.proofs.interesting_values.numbers.Goals as goal
 

@@ -1,4 +1,4 @@
-use Rattle.std.proofs.Common.{arith, refl}
+use Rattle.smith_rules_examples.proofs.Common.{arith, refl}
 use Rattle.smith_rules_examples.proofs.interesting_values.patterns.Goals as goal
 
 pub returns-clause-every_second_bit : goal.returns-clause-every_second_bit

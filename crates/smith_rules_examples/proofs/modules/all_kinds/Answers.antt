@@ -1,24 +1,7 @@
-use Rattle.std.proofs.Common.{rules, ℕ, List, [], ◌∷◌, Some, false, refl}
-use Rattle.std.specs.Prelude.{codes}
-use Rattle.std.proofs.lemmas.List.Elements.{All-from_recursion}
-use Rattle.smith_types.specs.ExampleTypes.{plain, nullable}
-use Rattle.smith_types.specs.ValidTypes.{IsTypeValid, IsGroupValid, AreTypesValid}
-use Rattle.smith_types.specs.Entities.{IsFuncTypeIndex, IsTagValid}
-use Rattle.smith_types.specs.Exports.{IsEntityAt, AreDistinct}
+use Rattle.smith_rules_examples.proofs.Common.{rules, ℕ, List, [], ◌∷◌, Some, false, refl, codes, All-from_recursion, plain, nullable, IsTypeValid, IsGroupValid, AreTypesValid, IsFuncTypeIndex, IsTagValid, IsEntityAt, AreDistinct, I32, I64, F32, Ref, EntityType, ExportKind, F32Const, RefNull, IsRefBelow-refl, foo_type, quux_type, each_place, IsTableDefined, module_features, module_types, module_spaces, table_context, global_context, memory, table, global, one_of_each, group_of}
 use Rattle.smith_types.specs.declared.value_type.AbstractHeapType.TheVariants as heap
-use Rattle.smith_types.specs.declared.value_type.ValType.TheVariants.{I32, I64, F32, Ref}
-use Rattle.smith_types.specs.declared.entity_type.EntityType.{EntityType}
 use Rattle.smith_types.specs.declared.entity_type.EntityType.TheVariants as entity
-use Rattle.smith_types.specs.declared.entity_type.ExportKind.{ExportKind}
-use Rattle.smith_types.specs.declared.const_instr.ConstInstr.{ConstInstr}
-use Rattle.smith_types.specs.declared.const_instr.ConstInstr.TheVariants.{F32Const, RefNull}
-use Rattle.smith_types.proofs.GrowthLemmas.{IsRefBelow-refl}
-use Rattle.smith_config.specs.ExampleMembers.{foo_type, quux_type}
-use Rattle.smith_types.proofs.EachPlaceLemmas.{each_place}
-use Rattle.smith_rules.specs.Module.{IsValid, IsTableDefined, IsGlobalDefined, module_features, module_types, module_spaces, table_context, global_context}
-use Rattle.smith_rules_examples.specs.ExampleParts.{memory, table, global}
-use Rattle.smith_rules_examples.specs.ExampleModules.{one_of_each, group_of}
-use Rattle.smith_rules_examples.proofs.PartExamples.{alone, group_valid}
+use Rattle.smith_rules_examples.proofs.PartExamples.{alone, globals_defined, group_valid}
 use Rattle.smith_rules_examples.proofs.modules.all_kinds.Goals as goal
 
 foo_valid : (end : ℕ) → IsTypeValid (module_features one_of_each) one_of_each.types end foo_type
@@ -43,45 +26,19 @@ types_valid =
 five_names : AreDistinct {A = List ℕ} (codes "foo" ∷ codes "bar" ∷ codes "baz" ∷ codes "qux" ∷ codes "quux" ∷ [])
 five_names = search rules
 
-all_valid : IsValid one_of_each
-all_valid =
+pub returns : goal.returns
+returns c =
     let extern = nullable (plain heap.Extern) in
     let null = alone (table_context one_of_each) (RefNull (plain heap.Extern)) (Ref extern) (Ref extern) ((tt, λ never. cc), refl, refl) (IsRefBelow-refl one_of_each.types extern) refl in
-    record {
-      types = types_valid;
-      imports = search rules;
-      spaces = search rules;
-      entities = record {
-        tags = All-from_recursion (IsTagValid one_of_each.types) (1 ∷ []) ((record { params = F32 ∷ []; results = [] }, (quux_type, refl, refl), refl), tt);
-        funcs = All-from_recursion (IsFuncTypeIndex one_of_each.types) (0 ∷ []) ((record { params = I32 ∷ []; results = I64 ∷ [] }, (foo_type, refl, refl)), tt);
-        tables = search rules;
-        memories = search rules;
-        globals = search rules;
-      };
-      counts = search rules;
-      definitions = record {
-        tables = each_place (IsTableDefined one_of_each) one_of_each.defined_tables ((table extern 5 (Some 10), refl, (refl, null)), tt);
-        globals = λ place index initial at. each_place (λ place (one : ℕ × List ConstInstr). IsGlobalDefined one_of_each place one.0 one.1) one_of_each.defined_globals
-            (record { in_order = refl; global = global F32 false; stands = refl; initialised = alone (global_context one_of_each 0) (F32Const 0) F32 F32 (refl, refl) tt tt }, tt) place (index, initial) at;
-      };
-      exports = record {
-        stand = All-from_recursion (λ (one : List ℕ × ExportKind × ℕ). (ty : EntityType) × IsEntityAt (module_spaces one_of_each) one.1 one.2 ty) one_of_each.exports (
-          (entity.Func 0, (0, refl, refl)),
-          (
-            (entity.Global (global F32 false), (global F32 false, refl, refl)),
-            (
-              (entity.Memory (memory 1 (Some 10)), (memory 1 (Some 10), refl, refl)),
-              ((entity.Table (table extern 5 (Some 10)), (table extern 5 (Some 10), refl, refl)), ((entity.Tag 1, (1, refl, refl)), tt)),
-            ),
-          ),
-        );
-        distinct = five_names;
-      };
-      start = tt;
-      elements = search rules;
-      data_segments = search rules;
-      bodies = search rules;
-    }
-
-pub returns : goal.returns
-returns c = record { valid = all_valid }
+    let tags = All-from_recursion (IsTagValid one_of_each.types) (1 ∷ []) ((record { params = F32 ∷ []; results = [] }, (quux_type, refl, refl), refl), tt) in
+    let functions = All-from_recursion (IsFuncTypeIndex one_of_each.types) (0 ∷ []) ((record { params = I32 ∷ []; results = I64 ∷ [] }, (foo_type, refl, refl)), tt) in
+    let tables = each_place (IsTableDefined one_of_each) one_of_each.defined_tables ((table extern 5 (Some 10), refl, (refl, null)), tt) in
+    let globals = globals_defined one_of_each (record { in_order = refl; global = global F32 false; stands = refl; initialised = alone (global_context one_of_each 0) (F32Const 0) F32 F32 (refl, refl) tt tt }, tt) in
+    let stand = All-from_recursion (λ (one : List ℕ × ExportKind × ℕ). (ty : EntityType) × IsEntityAt (module_spaces one_of_each) one.1 one.2 ty) one_of_each.exports (
+      (entity.Func 0, (0, refl, refl)),
+      (
+        (entity.Global (global F32 false), (global F32 false, refl, refl)),
+        ((entity.Memory (memory 1 (Some 10)), (memory 1 (Some 10), refl, refl)), ((entity.Table (table extern 5 (Some 10)), (table extern 5 (Some 10), refl, refl)), ((entity.Tag 1, (1, refl, refl)), tt))),
+      ),
+    ) in
+    record { valid = search (rules, types_valid, tags, functions, tables, globals, stand, five_names) }

@@ -1,12 +1,4 @@
-use Rattle.std.proofs.Common.{rules, ℕ, List, None, pos, true, refl}
-use Rattle.smith_types.specs.Flags.{funcref}
-use Rattle.smith_types.specs.declared.value_type.ValType.TheVariants.{I32}
-use Rattle.smith_types.specs.declared.const_instr.ConstInstr.{ConstInstr}
-use Rattle.smith_types.specs.declared.const_instr.ConstInstr.TheVariants.{I32Const}
-use Rattle.smith_types.proofs.EachPlaceLemmas.{each_place}
-use Rattle.smith_rules.specs.Module.{AreDefinitionsValid, IsTableDefined, IsGlobalDefined, table_context, global_context}
-use Rattle.smith_rules_examples.specs.ExampleParts.{table, global}
-use Rattle.smith_rules_examples.specs.ExampleModules.{one_table, one_number}
+use Rattle.smith_rules_examples.proofs.Common.{rules, ℕ, List, None, pos, true, refl, funcref, I32, ConstInstr, I32Const, each_place, AreDefinitionsValid, IsTableDefined, IsGlobalDefined, table_context, global_context, table, global, one_table, one_number}
 use Rattle.smith_rules_examples.proofs.PartExamples.{alone, no_function_given}
 use Rattle.smith_rules_examples.proofs.modules.entities.Goals as goal
 

@@ -1,8 +1,4 @@
-use Rattle.std.proofs.Common.{rules, [], ◌∷◌, refl}
-use Rattle.std.proofs.lemmas.List.Elements.{All-from_recursion}
-use Rattle.smith_types.specs.ValidTypes.{IsGroupValid, AreTypesValid}
-use Rattle.smith_rules.specs.Module.{module_features, module_types}
-use Rattle.smith_rules_examples.specs.ExampleModules.{group_of, arrays, three_arrays}
+use Rattle.smith_rules_examples.proofs.Common.{rules, [], ◌∷◌, refl, All-from_recursion, IsGroupValid, AreTypesValid, module_features, module_types, group_of, arrays, three_arrays}
 use Rattle.smith_rules_examples.proofs.PartExamples.{one_function_valid, array_valid, array_below, group_valid}
 use Rattle.smith_rules_examples.proofs.modules.types_and_functions.Goals as goal
 

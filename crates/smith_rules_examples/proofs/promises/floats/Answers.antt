@@ -1,8 +1,4 @@
-use Rattle.std.proofs.Common.{[], ◌∷◌}
-use Rattle.std.specs.List.{All}
-use Rattle.std.proofs.lemmas.List.Elements.{All-head}
-use Rattle.smith_types.specs.declared.const_instr.ConstInstr.TheVariants.{F32Const, F64Const}
-use Rattle.smith_types.specs.Floats.{GivesNoFloat}
+use Rattle.smith_rules_examples.proofs.Common.{[], ◌∷◌, All, All-head, F32Const, F64Const, GivesNoFloat}
 use Rattle.smith_rules_examples.proofs.promises.floats.Goals as goal
 
 pub returns-clause-in_an_expression : goal.returns-clause-in_an_expression

@@ -1,15 +1,5 @@
-use Rattle.std.proofs.Common.{[], ◌∷◌, true, None, refl, inr}
-use Rattle.std.proofs.lemmas.List.Elements.{All-head, All-from_recursion}
+use Rattle.smith_rules_examples.proofs.Common.{[], ◌∷◌, true, None, refl, inr, All-head, All-from_recursion, ValType, Ref, plain, not_null, below_kind, IsGranted, a_type, plain_function, module_context, one_function, one_number, with_references}
 use Rattle.smith_types.specs.declared.value_type.AbstractHeapType.TheVariants as heap
-use Rattle.smith_types.specs.declared.value_type.ValType.{ValType}
-use Rattle.smith_types.specs.declared.value_type.ValType.TheVariants.{Ref}
-use Rattle.smith_types.specs.ExampleTypes.{plain, not_null}
-use Rattle.smith_types.proofs.PathLemmas.{below_kind}
-use Rattle.smith_config.specs.Granted.{IsGranted}
-use Rattle.smith_config.specs.ExampleMembers.{a_type, plain_function}
-use Rattle.smith_rules.specs.Module.{module_context}
-use Rattle.smith_rules_examples.specs.ExampleModules.{one_function, one_number}
-use Rattle.smith_rules_examples.specs.ExampleReferences.{with_references}
 use Rattle.smith_rules_examples.proofs.GrantedExamples.{any_not_granted, to_any}
 use Rattle.smith_rules_examples.proofs.promises.locals.Goals as goal
 

@@ -1,7 +1,4 @@
-use Rattle.std.proofs.Common.{rules, arith, ◌≡◌, List, [], ◌∷◌, refl}
-use Rattle.std.specs.Prelude.{codes}
-use Rattle.smith_bytes.specs.declared.error.ConfigFault.{ConfigFault}
-use Rattle.smith_bytes.specs.declared.error.ConfigFault.TheVariants.{MinAboveMax}
+use Rattle.smith_rules_examples.proofs.Common.{rules, arith, ◌≡◌, List, [], ◌∷◌, refl, codes, ConfigFault, MinAboveMax}
 use Rattle.smith_bytes.specs.declared.error.Count.TheVariants as counts
 use Rattle.smith_rules_examples.proofs.refusals.faults.Goals as goal
 

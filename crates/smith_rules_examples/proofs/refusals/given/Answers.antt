@@ -1,7 +1,5 @@
-use Rattle.std.proofs.Common.{arith, ◌≡◌, ◌≤◌, refl}
-use Rattle.std.specs.Prelude.{codes}
+use Rattle.smith_rules_examples.proofs.Common.{arith, ◌≡◌, ◌≤◌, refl, codes, ModuleShape}
 use Rattle.smith_bytes.specs.declared.error.Count.TheVariants as counts
-use Rattle.smith_bytes.specs.declared.error.Which.TheVariants.{ModuleShape}
 use Rattle.smith_rules_examples.proofs.ShapeExamples.{no_imports_fixed}
 use Rattle.smith_rules_examples.proofs.refusals.given.Goals as goal
 

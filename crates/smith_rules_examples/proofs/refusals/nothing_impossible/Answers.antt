@@ -1,4 +1,4 @@
-use Rattle.std.proofs.Common.{◌≡◌}
+use Rattle.smith_rules_examples.proofs.Common.{◌≡◌}
 use Rattle.smith_bytes.specs.declared.error.Count.TheVariants as counts
 use Rattle.smith_rules_examples.proofs.refusals.nothing_impossible.Goals as goal
 

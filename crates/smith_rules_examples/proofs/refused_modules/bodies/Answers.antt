@@ -1,8 +1,4 @@
-use Rattle.std.proofs.Common.{[], false}
-use Rattle.std.proofs.lemmas.List.Elements.{All-head}
-use Rattle.smith_types.specs.Bodies.{IsBodyValid}
-use Rattle.smith_rules.specs.Module.{module_features}
-use Rattle.smith_rules_examples.specs.ExampleGiven.{without_gc, raw_bytes}
+use Rattle.smith_rules_examples.proofs.Common.{[], false, All-head, IsBodyValid, module_features, without_gc, raw_bytes}
 use Rattle.smith_rules_examples.proofs.refused_modules.bodies.Goals as goal
 
 pub returns-clause-raw_bytes_that_are_not_allowed : goal.returns-clause-raw_bytes_that_are_not_allowed

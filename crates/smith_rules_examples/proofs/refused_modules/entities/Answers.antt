@@ -1,13 +1,4 @@
-use Rattle.std.proofs.Common.{arith, false, [], Some}
-use Rattle.std.proofs.lemmas.List.Elements.{All-head}
-use Rattle.smith_types.specs.Flags.{funcref}
-use Rattle.smith_types.specs.ExampleTypes.{nullable}
-use Rattle.smith_types.specs.Entities.{IsTableValid, IsMemoryValid, IsGlobalValid}
-use Rattle.smith_types.specs.declared.value_type.HeapType.TheVariants.{Concrete}
-use Rattle.smith_types.specs.declared.value_type.ValType.TheVariants.{Ref}
-use Rattle.smith_rules.specs.Module.{module_features}
-use Rattle.smith_rules_examples.specs.ExampleParts.{memory, table, global}
-use Rattle.smith_rules_examples.specs.ExampleModules.{one_of_each}
+use Rattle.smith_rules_examples.proofs.Common.{arith, false, [], Some, All-head, funcref, nullable, IsTableValid, IsMemoryValid, IsGlobalValid, Concrete, Ref, module_features, memory, table, global, one_of_each}
 use Rattle.smith_rules_examples.proofs.refused_modules.entities.Goals as goal
 
 pub returns-clause-a_table_above_its_maximum : goal.returns-clause-a_table_above_its_maximum

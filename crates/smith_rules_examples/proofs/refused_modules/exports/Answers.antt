@@ -1,13 +1,6 @@
-use Rattle.std.proofs.Common.{rules, ℕ, List, [], ◌∷◌, refl}
-use Rattle.std.specs.Prelude.{codes}
-use Rattle.std.proofs.lemmas.List.Elements.{All-from_recursion, All-head}
-use Rattle.smith_types.specs.Exports.{IsEntityAt, AreDistinct}
-use Rattle.smith_types.specs.declared.entity_type.EntityType.{EntityType}
+use Rattle.smith_rules_examples.proofs.Common.{rules, ℕ, List, [], ◌∷◌, refl, codes, All-from_recursion, All-head, IsEntityAt, AreDistinct, EntityType, ExportKind, module_spaces, exported_twice, one_number}
 use Rattle.smith_types.specs.declared.entity_type.EntityType.TheVariants as entity
-use Rattle.smith_types.specs.declared.entity_type.ExportKind.{ExportKind}
 use Rattle.smith_types.specs.declared.entity_type.ExportKind.TheVariants as kind
-use Rattle.smith_rules.specs.Module.{module_spaces}
-use Rattle.smith_rules_examples.specs.ExampleModules.{exported_twice, one_number}
 use Rattle.smith_rules_examples.proofs.RefusedExamples.{name_refused}
 use Rattle.smith_rules_examples.proofs.refused_modules.exports.Goals as goal
 

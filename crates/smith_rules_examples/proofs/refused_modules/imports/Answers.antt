@@ -1,14 +1,5 @@
-use Rattle.std.proofs.Common.{arith, [], ◌∷◌, false}
-use Rattle.std.specs.Prelude.{codes}
-use Rattle.std.proofs.lemmas.List.Elements.{All-head}
-use Rattle.smith_types.specs.Imports.{IsImportsValid}
+use Rattle.smith_rules_examples.proofs.Common.{arith, [], ◌∷◌, false, codes, All-head, IsImportsValid, Compact2, default_config, features_of, module_features, number, two_imports}
 use Rattle.smith_types.specs.declared.entity_type.EntityType.TheVariants as entity
-use Rattle.smith_types.specs.declared.imports.Imports.TheVariants.{Compact2}
-use Rattle.smith_config.specs.Config.{default_config}
-use Rattle.smith_config.specs.Features.{features_of}
-use Rattle.smith_rules.specs.Module.{module_features}
-use Rattle.smith_rules_examples.specs.ExampleParts.{number}
-use Rattle.smith_rules_examples.specs.ExampleModules.{two_imports}
 use Rattle.smith_rules_examples.proofs.refused_modules.imports.Goals as goal
 
 pub returns-clause-an_empty_group : goal.returns-clause-an_empty_group

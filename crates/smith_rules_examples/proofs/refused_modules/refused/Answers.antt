@@ -1,9 +1,4 @@
-use Rattle.std.proofs.Common.{arith, [], Some}
-use Rattle.std.proofs.lemmas.List.Elements.{All-head}
-use Rattle.smith_types.specs.Entities.{IsMemoryValid}
-use Rattle.smith_rules.specs.Module.{module_features}
-use Rattle.smith_rules_examples.specs.ExampleParts.{memory}
-use Rattle.smith_rules_examples.specs.ExampleModules.{one_memory}
+use Rattle.smith_rules_examples.proofs.Common.{arith, [], Some, All-head, IsMemoryValid, module_features, memory, one_memory}
 use Rattle.smith_rules_examples.proofs.RefusedExamples.{null_refused, name_refused, elements_refused, bytes_refused}
 use Rattle.smith_rules_examples.proofs.refused_modules.refused.Goals as goal
 

@@ -1,4 +1,4 @@
-use Rattle.std.proofs.Common.{rules}
+use Rattle.smith_rules_examples.proofs.Common.{rules}
 use Rattle.smith_rules_examples.proofs.ShapeExamples.{five_kept, both_kept}
 use Rattle.smith_rules_examples.proofs.shapes.shapes.Goals as goal
 

@@ -1,5 +1,4 @@
-use Rattle.std.proofs.Common.{refl}
-use Rattle.smith_config.specs.ExampleMembers.{foo_type, quux_type}
+use Rattle.smith_rules_examples.proofs.Common.{refl, foo_type, quux_type}
 use Rattle.smith_rules_examples.proofs.ShapeExamples.{same_function}
 use Rattle.smith_rules_examples.proofs.shapes.types_of_exports.Goals as goal
 

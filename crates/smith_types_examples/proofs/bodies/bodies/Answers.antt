@@ -1,9 +1,4 @@
-use Rattle.std.proofs.Common.{arith, ◌≡◌, length, replicate}
-use Rattle.std.proofs.lemmas.List.{length-replicate}
-use Rattle.std.proofs.lemmas.List.Elements.{All-replicate}
-use Rattle.smith_types.specs.declared.value_type.ValType.TheVariants.{I32}
-use Rattle.smith_types.specs.ValidTypes.{IsValTypeValid}
-use Rattle.smith_types.specs.ExampleFeatures.{usual_features}
+use Rattle.smith_types_examples.proofs.Common.{arith, ◌≡◌, length, replicate, length-replicate, All-replicate, I32, IsValTypeValid, usual_features}
 use Rattle.smith_types_examples.proofs.bodies.bodies.Goals as goal
 
 pub returns-clause-a_hundred_locals : goal.returns-clause-a_hundred_locals

@@ -1,13 +1,4 @@
-use Rattle.std.proofs.Common.{rules, arith, [], ◌∷◌, Some, refl, List}
-use Rattle.std.proofs.lemmas.List.Elements.{All-cons, All-nil, All-head}
-use Rattle.smith_types.specs.declared.value_type.HeapType.TheVariants.{Concrete}
-use Rattle.smith_types.specs.declared.value_type.ValType.TheVariants.{Ref}
-use Rattle.smith_types.specs.declared.composite_type.SubType.{SubType}
-use Rattle.smith_types.specs.Flags.{funcref}
-use Rattle.smith_types.specs.Entities.{IsTagValid, IsFuncTypeIndex, IsTableValid, IsMemoryValid, IsGlobalValid}
-use Rattle.smith_types.specs.ExampleFeatures.{usual_features}
-use Rattle.smith_types.specs.ExampleTypes.{final_type, plain_func, nullable}
-use Rattle.smith_types.specs.ExampleEntities.{memory, table, constant_global}
+use Rattle.smith_types_examples.proofs.Common.{rules, arith, [], ◌∷◌, Some, refl, List, All-cons, All-nil, All-head, Concrete, Ref, SubType, funcref, IsTagValid, IsFuncTypeIndex, IsTableValid, IsMemoryValid, IsGlobalValid, usual_features, final_type, plain_func, nullable, memory, table, constant_global}
 use Rattle.smith_types_examples.proofs.entities.entities.Goals as goal
 
 abbrev types : List SubType

@@ -1,6 +1,4 @@
-use Rattle.std.proofs.Common.{[], ◌∷◌, refl}
-use Rattle.smith_types.specs.declared.value_type.ValType.TheVariants.{I32}
-use Rattle.smith_types.specs.ExampleTypes.{final_type, plain_func, giving, taking}
+use Rattle.smith_types_examples.proofs.Common.{[], ◌∷◌, refl, I32, final_type, plain_func, giving, taking}
 use Rattle.smith_types_examples.proofs.entities.functions_and_tags.Goals as goal
 
 pub returns-clause-function : goal.returns-clause-function

@@ -1,4 +1,4 @@
-use Rattle.std.proofs.Common.{◌≡◌, arith, refl}
+use Rattle.smith_types_examples.proofs.Common.{◌≡◌, arith, refl}
 use Rattle.smith_types_examples.proofs.exports.distinct.Goals as goal
 
 pub returns-clause-the_same_twice : goal.returns-clause-the_same_twice

@@ -1,11 +1,5 @@
-use Rattle.std.proofs.Common.{refl}
+use Rattle.smith_types_examples.proofs.Common.{refl, I32, Ref, Val, Array, IsArrayAt, final_type, constant, variable, plain, not_null, context_types}
 use Rattle.smith_types.specs.declared.value_type.AbstractHeapType.TheVariants as heap
-use Rattle.smith_types.specs.declared.value_type.ValType.TheVariants.{I32, Ref}
-use Rattle.smith_types.specs.declared.composite_type.StorageType.TheVariants.{Val}
-use Rattle.smith_types.specs.declared.composite_type.CompositeInnerType.TheVariants.{Array}
-use Rattle.smith_types.specs.Expressions.{IsArrayAt}
-use Rattle.smith_types.specs.ExampleTypes.{final_type, constant, variable, plain, not_null}
-use Rattle.smith_types.specs.ExampleContexts.{context_types}
 use Rattle.smith_types_examples.proofs.expressions.arrays.Goals as goal
 
 numbers_at : IsArrayAt context_types 2 (variable (Val I32))

@@ -1,9 +1,4 @@
-use Rattle.std.proofs.Common.{rules, [], ◌∷◌, pos, refl}
-use Rattle.smith_types.specs.declared.value_type.ValType.TheVariants.{I32}
-use Rattle.smith_types.specs.declared.const_instr.ConstInstr.TheVariants.{I32Const, I32Add}
-use Rattle.smith_types.specs.ExampleFeatures.{usual_features}
-use Rattle.smith_types.specs.ExampleContexts.{context_with}
-use Rattle.smith_types.proofs.ConstStepLemmas.{one_step}
+use Rattle.smith_types_examples.proofs.Common.{rules, [], ◌∷◌, pos, refl, I32, I32Const, I32Add, usual_features, context_with, one_step}
 use Rattle.smith_types_examples.proofs.expressions.constants.Goals as goal
 
 pub returns-clause-sum : goal.returns-clause-sum

@@ -1,13 +1,5 @@
-use Rattle.std.proofs.Common.{rules, [], ◌∷◌, true, false, pos, refl}
+use Rattle.smith_types_examples.proofs.Common.{rules, [], ◌∷◌, true, false, pos, refl, I32, Ref, I32Const, RefNull, RefI31, ExternConvertAny, usual_features, plain, nullable, not_null, anyref, context_types, context_with, IsRefBelow-refl, below_abstract, one_step, after_one}
 use Rattle.smith_types.specs.declared.value_type.AbstractHeapType.TheVariants as heap
-use Rattle.smith_types.specs.declared.value_type.ValType.TheVariants.{I32, Ref}
-use Rattle.smith_types.specs.declared.const_instr.ConstInstr.TheVariants.{I32Const, RefNull, RefI31, ExternConvertAny}
-use Rattle.smith_types.specs.ExampleFeatures.{usual_features}
-use Rattle.smith_types.specs.ExampleTypes.{plain, nullable, not_null, anyref}
-use Rattle.smith_types.specs.ExampleContexts.{context_types, context_with}
-use Rattle.smith_types.proofs.GrowthLemmas.{IsRefBelow-refl}
-use Rattle.smith_types.proofs.PathLemmas.{below_abstract}
-use Rattle.smith_types.proofs.ConstStepLemmas.{one_step, after_one}
 use Rattle.smith_types_examples.proofs.expressions.conversions.Goals as goal
 
 pub returns-clause-null_given_out : goal.returns-clause-null_given_out

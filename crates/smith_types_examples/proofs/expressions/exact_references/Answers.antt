@@ -1,13 +1,4 @@
-use Rattle.std.proofs.Common.{rules, [], ◌∷◌, pos, refl}
-use Rattle.smith_types.specs.declared.value_type.HeapType.TheVariants.{Exact}
-use Rattle.smith_types.specs.declared.value_type.ValType.TheVariants.{I32, Ref}
-use Rattle.smith_types.specs.declared.composite_type.StorageType.TheVariants.{I8}
-use Rattle.smith_types.specs.declared.const_instr.ConstInstr.TheVariants.{I32Const, RefFunc, StructNew}
-use Rattle.smith_types.specs.Features.{every_feature}
-use Rattle.smith_types.specs.ExampleTypes.{final_type, struct, constant, not_null}
-use Rattle.smith_types.specs.ExampleContexts.{context_types, context_with}
-use Rattle.smith_types.proofs.GrowthLemmas.{IsRefBelow-refl}
-use Rattle.smith_types.proofs.ConstStepLemmas.{alone, after_one}
+use Rattle.smith_types_examples.proofs.Common.{rules, [], ◌∷◌, pos, refl, Exact, I32, Ref, I8, I32Const, RefFunc, StructNew, every_feature, final_type, struct, constant, not_null, context_types, context_with, IsRefBelow-refl, alone, after_one}
 use Rattle.smith_types_examples.proofs.expressions.exact_references.Goals as goal
 
 pub returns-clause-of_a_struct : goal.returns-clause-of_a_struct

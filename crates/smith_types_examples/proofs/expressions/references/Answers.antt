@@ -1,15 +1,5 @@
-use Rattle.std.proofs.Common.{rules, false, pos, refl}
+use Rattle.smith_types_examples.proofs.Common.{rules, false, pos, refl, Concrete, I32, Ref, I32Const, RefNull, RefFunc, RefI31, funcref, usual_features, plain, not_null, anyref, context_types, context_with, IsRefBelow-refl, below_abstract, alone, after_one}
 use Rattle.smith_types.specs.declared.value_type.AbstractHeapType.TheVariants as heap
-use Rattle.smith_types.specs.declared.value_type.HeapType.TheVariants.{Concrete}
-use Rattle.smith_types.specs.declared.value_type.ValType.TheVariants.{I32, Ref}
-use Rattle.smith_types.specs.declared.const_instr.ConstInstr.TheVariants.{I32Const, RefNull, RefFunc, RefI31}
-use Rattle.smith_types.specs.Flags.{funcref}
-use Rattle.smith_types.specs.ExampleFeatures.{usual_features}
-use Rattle.smith_types.specs.ExampleTypes.{plain, not_null, anyref}
-use Rattle.smith_types.specs.ExampleContexts.{context_types, context_with}
-use Rattle.smith_types.proofs.GrowthLemmas.{IsRefBelow-refl}
-use Rattle.smith_types.proofs.PathLemmas.{below_abstract}
-use Rattle.smith_types.proofs.ConstStepLemmas.{alone, after_one}
 use Rattle.smith_types_examples.proofs.expressions.references.Goals as goal
 
 pub returns-clause-null_function : goal.returns-clause-null_function

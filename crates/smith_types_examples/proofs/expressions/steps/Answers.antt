@@ -1,17 +1,5 @@
-use Rattle.std.proofs.Common.{◌≡◌, ◌++◌, List, [], ◌∷◌, false, ap, sym, subst, refl}
-use Rattle.std.proofs.lemmas.Option.{same_Some}
-use Rattle.std.specs.Prelude.{slice_get}
-use Rattle.std.specs.List.{AllZip}
+use Rattle.smith_types_examples.proofs.Common.{◌≡◌, ◌++◌, List, [], ◌∷◌, false, ap, sym, subst, refl, same_Some, slice_get, AllZip, ValType, I32, I64, Ref, I32Add, ExternConvertAny, IsValBelow, usual_features, plain, not_null, context_types, context_with, below_abstract, one_step}
 use Rattle.smith_types.specs.declared.value_type.AbstractHeapType.TheVariants as heap
-use Rattle.smith_types.specs.declared.value_type.ValType.{ValType}
-use Rattle.smith_types.specs.declared.value_type.ValType.TheVariants.{I32, I64, Ref}
-use Rattle.smith_types.specs.declared.const_instr.ConstInstr.TheVariants.{I32Add, ExternConvertAny}
-use Rattle.smith_types.specs.Subtyping.{IsValBelow}
-use Rattle.smith_types.specs.ExampleFeatures.{usual_features}
-use Rattle.smith_types.specs.ExampleTypes.{plain, not_null}
-use Rattle.smith_types.specs.ExampleContexts.{context_types, context_with}
-use Rattle.smith_types.proofs.PathLemmas.{below_abstract}
-use Rattle.smith_types.proofs.ConstStepLemmas.{one_step}
 use Rattle.smith_types_examples.proofs.expressions.steps.Goals as goal
 
 pub returns-clause-above_others : goal.returns-clause-above_others

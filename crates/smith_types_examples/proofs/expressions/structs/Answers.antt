@@ -1,14 +1,4 @@
-use Rattle.std.proofs.Common.{rules, [], ◌∷◌, pos, refl}
-use Rattle.smith_types.specs.declared.value_type.HeapType.TheVariants.{Concrete}
-use Rattle.smith_types.specs.declared.value_type.ValType.TheVariants.{I32, I64, Ref}
-use Rattle.smith_types.specs.declared.composite_type.StorageType.TheVariants.{I8, I16, Val}
-use Rattle.smith_types.specs.declared.const_instr.ConstInstr.TheVariants.{I32Const, StructNew, StructNewDefault}
-use Rattle.smith_types.specs.Expressions.{IsStructAt}
-use Rattle.smith_types.specs.ExampleFeatures.{usual_features}
-use Rattle.smith_types.specs.ExampleTypes.{final_type, struct, constant, variable, not_null}
-use Rattle.smith_types.specs.ExampleContexts.{context_types, context_with}
-use Rattle.smith_types.proofs.GrowthLemmas.{IsRefBelow-refl}
-use Rattle.smith_types.proofs.ConstStepLemmas.{alone, after_one}
+use Rattle.smith_types_examples.proofs.Common.{rules, [], ◌∷◌, pos, refl, Concrete, I32, I64, Ref, I8, I16, Val, I32Const, StructNew, StructNewDefault, IsStructAt, usual_features, final_type, struct, constant, variable, not_null, context_types, context_with, IsRefBelow-refl, alone, after_one}
 use Rattle.smith_types_examples.proofs.expressions.structs.Goals as goal
 
 struct_at : IsStructAt context_types 1 (constant I8 ∷ [])

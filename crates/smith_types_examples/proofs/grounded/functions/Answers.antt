@@ -1,7 +1,4 @@
-use Rattle.std.proofs.Common.{[], ◌∷◌, refl, inr}
-use Rattle.smith_types.specs.Subtyping.{itself}
-use Rattle.smith_types.specs.ExampleTypes.{final_type, plain_func}
-use Rattle.smith_types.proofs.PathLemmas.{below_kind}
+use Rattle.smith_types_examples.proofs.Common.{[], ◌∷◌, refl, inr, itself, final_type, plain_func, below_kind}
 use Rattle.smith_types_examples.proofs.grounded.functions.Goals as goal
 
 pub returns-clause-its_type : goal.returns-clause-its_type

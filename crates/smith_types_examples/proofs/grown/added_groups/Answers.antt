@@ -1,8 +1,4 @@
-use Rattle.std.proofs.Common.{arith, [], ◌∷◌, Some, refl}
-use Rattle.std.proofs.lemmas.List.Elements.{All-head}
-use Rattle.smith_types.specs.ValidTypes.{IsGroupValid}
-use Rattle.smith_types.specs.ExampleFeatures.{without_gc}
-use Rattle.smith_types.specs.ExampleTypes.{open_type, final_type, empty_struct, plain_func, range}
+use Rattle.smith_types_examples.proofs.Common.{arith, [], ◌∷◌, Some, refl, All-head, IsGroupValid, without_gc, open_type, final_type, empty_struct, plain_func, range}
 use Rattle.smith_types_examples.proofs.grown.added_groups.Goals as goal
 
 pub returns-clause-below_itself : goal.returns-clause-below_itself

@@ -1,8 +1,4 @@
-use Rattle.std.proofs.Common.{arith, [], ◌∷◌, refl}
-use Rattle.std.proofs.lemmas.List.Elements.{All-head}
-use Rattle.smith_types.specs.ValidTypes.{IsGroupValid}
-use Rattle.smith_types.specs.ExampleFeatures.{usual_features}
-use Rattle.smith_types.specs.ExampleTypes.{final_type, empty_struct, referring, referring_type, range}
+use Rattle.smith_types_examples.proofs.Common.{arith, [], ◌∷◌, refl, All-head, IsGroupValid, usual_features, final_type, empty_struct, referring, referring_type, range}
 use Rattle.smith_types_examples.proofs.TypeExamples.{itself_not_before, referring_behind, referring_alone}
 use Rattle.smith_types_examples.proofs.open_types.open_types.Goals as goal
 

@@ -1,8 +1,4 @@
-use Rattle.std.proofs.Common.{rules, Some, None, refl}
-use Rattle.std.proofs.lemmas.List.Elements.{All-nil}
-use Rattle.smith_types.specs.ValidTypes.{IsValTypeValid}
-use Rattle.smith_types.specs.ExampleFeatures.{usual_features}
-use Rattle.smith_types.specs.ExampleTypes.{open_type, final_type, empty_struct}
+use Rattle.smith_types_examples.proofs.Common.{rules, Some, None, refl, All-nil, IsValTypeValid, usual_features, open_type, final_type, empty_struct}
 use Rattle.smith_types_examples.proofs.TypeExamples.{two_valid, below_first, first_above, struct_orderly}
 use Rattle.smith_types_examples.proofs.refused_types.final_supertype.Goals as goal
 

@@ -1,8 +1,4 @@
-use Rattle.std.proofs.Common.{[], ◌∷◌}
-use Rattle.std.proofs.lemmas.List.Elements.{All-head}
-use Rattle.smith_types.specs.ValidTypes.{IsGroupValid}
-use Rattle.smith_types.specs.ExampleFeatures.{usual_features}
-use Rattle.smith_types.specs.ExampleTypes.{range, referring}
+use Rattle.smith_types_examples.proofs.Common.{[], ◌∷◌, All-head, IsGroupValid, usual_features, range, referring}
 use Rattle.smith_types_examples.proofs.TypeExamples.{referring_behind}
 use Rattle.smith_types_examples.proofs.refused_types.reference_past_its_group.Goals as goal
 

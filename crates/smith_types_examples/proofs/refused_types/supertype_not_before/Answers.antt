@@ -1,10 +1,4 @@
-use Rattle.std.proofs.Common.{◌≡◌, rules, arith, Some, refl, subst}
-use Rattle.std.specs.Prelude.{slice_get}
-use Rattle.std.proofs.lemmas.List.Elements.{All-nil}
-use Rattle.std.proofs.lemmas.Option.{same_Some}
-use Rattle.smith_types.specs.ValidTypes.{IsValTypeValid, IsTypeValid}
-use Rattle.smith_types.specs.ExampleFeatures.{usual_features}
-use Rattle.smith_types.specs.ExampleTypes.{open_type, empty_struct, below_itself}
+use Rattle.smith_types_examples.proofs.Common.{◌≡◌, rules, arith, Some, refl, subst, slice_get, All-nil, same_Some, IsValTypeValid, IsTypeValid, usual_features, open_type, empty_struct, below_itself}
 use Rattle.smith_types_examples.proofs.TypeExamples.{itself_not_before}
 use Rattle.smith_types_examples.proofs.refused_types.supertype_not_before.Goals as goal
 

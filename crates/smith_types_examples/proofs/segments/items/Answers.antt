@@ -1,19 +1,5 @@
-use Rattle.std.proofs.Common.{rules, [], ◌∷◌, refl}
-use Rattle.std.proofs.lemmas.List.Elements.{All-from_recursion}
+use Rattle.smith_types_examples.proofs.Common.{rules, [], ◌∷◌, refl, All-from_recursion, Concrete, Exact, Ref, RefNull, funcref, IsRefBelow, IsItem, IsConstExpr, usual_features, final_type, shared_type, plain_func, plain, not_null, context_types, context_with, IsRefBelow-refl, below_kind, alone}
 use Rattle.smith_types.specs.declared.value_type.AbstractHeapType.TheVariants as heap
-use Rattle.smith_types.specs.declared.value_type.HeapType.TheVariants.{Concrete, Exact}
-use Rattle.smith_types.specs.declared.value_type.ValType.TheVariants.{Ref}
-use Rattle.smith_types.specs.declared.const_instr.ConstInstr.TheVariants.{RefNull}
-use Rattle.smith_types.specs.Flags.{funcref}
-use Rattle.smith_types.specs.Subtyping.{IsRefBelow}
-use Rattle.smith_types.specs.Segments.{IsItem}
-use Rattle.smith_types.specs.Expressions.{IsConstExpr}
-use Rattle.smith_types.specs.ExampleFeatures.{usual_features}
-use Rattle.smith_types.specs.ExampleTypes.{final_type, shared_type, plain_func, plain, not_null}
-use Rattle.smith_types.specs.ExampleContexts.{context_types, context_with}
-use Rattle.smith_types.proofs.GrowthLemmas.{IsRefBelow-refl}
-use Rattle.smith_types.proofs.PathLemmas.{below_kind}
-use Rattle.smith_types.proofs.ConstStepLemmas.{alone}
 use Rattle.smith_types_examples.proofs.segments.items.Goals as goal
 
 below : IsRefBelow context_types (not_null (Concrete 0)) funcref

@@ -1,9 +1,5 @@
-use Rattle.std.proofs.Common.{◌≡◌, [], All, IsTrue, refl}
-use Rattle.std.proofs.lemmas.List.Elements.{All-from_recursion}
-use Rattle.smith_types.specs.declared.value_type.AbstractHeapType.{AbstractHeapType}
+use Rattle.smith_types_examples.proofs.Common.{◌≡◌, [], false, All, IsTrue, refl, All-from_recursion, AbstractHeapType, is_abstract_below, IsBelow, plain, tops, kinds_of_values}
 use Rattle.smith_types.specs.declared.value_type.AbstractHeapType.TheVariants as heap
-use Rattle.smith_types.specs.Subtyping.{is_abstract_below, IsBelow}
-use Rattle.smith_types.specs.ExampleTypes.{plain, tops, kinds_of_values}
 use Rattle.smith_types_examples.proofs.TypeExamples.{abstract_apart}
 use Rattle.smith_types_examples.proofs.subtyping.abstract_types_apart.Goals as goal
 
@@ -12,7 +8,7 @@ abbrev IsApart : AbstractHeapType → AbstractHeapType → Type 0
 IsApart a b = IsBelow [] (plain a) (plain b) → a ≡ b
 
 apart : (a b : AbstractHeapType) → ¬ IsTrue (is_abstract_below a b) → IsApart a b
-apart a b never below = absurd (abstract_apart a b never below)
+apart a b never below = absurd (abstract_apart false false a b (λ both. let (same, under) = both in never under) below)
 
 top_apart : (a : AbstractHeapType) → IsApart a heap.Any → IsApart a heap.Func → IsApart a heap.Extern → IsApart a heap.Exn → All (IsApart a) tops
 top_apart a any func outside exception = All-from_recursion (IsApart a) tops (any, (func, (outside, (exception, tt))))

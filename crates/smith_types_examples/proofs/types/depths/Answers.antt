@@ -1,7 +1,4 @@
-use Rattle.std.proofs.Common.{rules, arith, [], ◌∷◌, ℕ, zero, suc, ◌<◌, Some, None, refl}
-use Rattle.std.specs.Prelude.{slice_index}
-use Rattle.smith_types.specs.GroupedTypes.{HasDepth, root, deeper}
-use Rattle.smith_types.specs.ExampleTypes.{open_type, empty_struct, struct_and_below}
+use Rattle.smith_types_examples.proofs.Common.{rules, arith, [], ◌∷◌, ℕ, zero, suc, ◌<◌, Some, None, refl, slice_index, HasDepth, root, deeper, open_type, empty_struct, struct_and_below}
 use Rattle.smith_types_examples.proofs.types.depths.Goals as goal
 
 on_its_own : HasDepth struct_and_below 0 1

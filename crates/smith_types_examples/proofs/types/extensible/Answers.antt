@@ -1,7 +1,4 @@
-use Rattle.std.proofs.Common.{◌≡◌, ℕ, zero, suc, ◌<◌, List, [], ◌∷◌, None, refl, arith}
-use Rattle.std.specs.Prelude.{slice_index}
-use Rattle.smith_types.specs.GroupedTypes.{HasDepth, root, extensible_from}
-use Rattle.smith_types.specs.ExampleTypes.{open_type, final_type, empty_struct}
+use Rattle.smith_types_examples.proofs.Common.{◌≡◌, ℕ, zero, suc, ◌<◌, List, [], ◌∷◌, None, refl, arith, slice_index, HasDepth, root, extensible_from, open_type, final_type, empty_struct}
 use Rattle.smith_types_examples.proofs.types.extensible.Goals as goal
 
 alone : (i : ℕ) → i < 1 → HasDepth (open_type None empty_struct ∷ []) i (slice_index (1 ∷ []) i)

@@ -1,7 +1,4 @@
-use Rattle.std.proofs.Common.{◌≡◌, arith, rules, Some, refl, subst}
-use Rattle.std.specs.Prelude.{slice_get}
-use Rattle.std.proofs.lemmas.Option.{same_Some}
-use Rattle.smith_types.specs.ExampleTypes.{open_type, empty_struct, struct_and_below}
+use Rattle.smith_types_examples.proofs.Common.{◌≡◌, arith, rules, Some, refl, subst, slice_get, same_Some, open_type, empty_struct, struct_and_below}
 use Rattle.smith_types_examples.proofs.types.following.Goals as goal
 
 pub returns-clause-below_another : goal.returns-clause-below_another

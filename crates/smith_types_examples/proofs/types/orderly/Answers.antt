@@ -1,6 +1,4 @@
-use Rattle.std.proofs.Common.{arith, Some, None, refl}
-use Rattle.smith_types.specs.Types.{IsAlike}
-use Rattle.smith_types.specs.ExampleTypes.{open_type, shared_type, empty_struct, plain_func}
+use Rattle.smith_types_examples.proofs.Common.{arith, Some, None, refl, IsAlike, open_type, shared_type, empty_struct, plain_func}
 use Rattle.smith_types_examples.proofs.TypeExamples.{itself_not_before}
 use Rattle.smith_types_examples.proofs.types.orderly.Goals as goal
 

@@ -1,10 +1,4 @@
-use Rattle.std.proofs.Common.{arith, [], ◌∷◌, refl}
-use Rattle.std.proofs.lemmas.List.Elements.{All-head}
-use Rattle.smith_types.specs.declared.value_type.HeapType.TheVariants.{Concrete}
-use Rattle.smith_types.specs.declared.value_type.ValType.TheVariants.{Ref}
-use Rattle.smith_types.specs.ValidTypes.{IsValTypeValid}
-use Rattle.smith_types.specs.ExampleFeatures.{usual_features}
-use Rattle.smith_types.specs.ExampleTypes.{final_type, struct, nullable, refers_to}
+use Rattle.smith_types_examples.proofs.Common.{arith, [], ◌∷◌, refl, All-head, Concrete, Ref, IsValTypeValid, usual_features, final_type, struct, nullable, refers_to}
 use Rattle.smith_types_examples.proofs.TypeExamples.{referring_behind}
 use Rattle.smith_types_examples.proofs.valid_types.groups.Goals as goal
 

@@ -1,12 +1,4 @@
-use Rattle.std.proofs.Common.{◌≡◌, rules, [], ◌∷◌, Some, None, refl, subst}
-use Rattle.std.proofs.lemmas.Option.{same_Some}
-use Rattle.std.proofs.lemmas.List.Elements.{All-nil, All-cons}
-use Rattle.std.specs.Prelude.{slice_get}
-use Rattle.smith_types.specs.declared.value_type.HeapType.TheVariants.{Concrete}
-use Rattle.smith_types.specs.declared.value_type.ValType.TheVariants.{Ref}
-use Rattle.smith_types.specs.ValidTypes.{IsValTypeValid, IsShareable, IsSupertypeValid}
-use Rattle.smith_types.specs.ExampleFeatures.{usual_features}
-use Rattle.smith_types.specs.ExampleTypes.{open_type, shared_type, struct, plain_func, nullable, refers_to, empty_struct, struct_and_below}
+use Rattle.smith_types_examples.proofs.Common.{◌≡◌, rules, [], ◌∷◌, Some, None, refl, subst, same_Some, All-nil, All-cons, slice_get, Concrete, Ref, IsValTypeValid, IsShareable, IsSupertypeValid, usual_features, open_type, shared_type, struct, plain_func, nullable, refers_to, empty_struct, struct_and_below}
 use Rattle.smith_types_examples.proofs.valid_types.types.Goals as goal
 
 above : IsSupertypeValid struct_and_below (open_type (Some 0) empty_struct) (open_type None empty_struct)

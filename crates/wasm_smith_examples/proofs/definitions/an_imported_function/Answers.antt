@@ -1,30 +1,5 @@
-use Rattle.std.proofs.Common.{refl}
-use Rattle.smith_bytes.specs.Draws.{bool_at, range_at, digit_count, len_at}
-use Rattle.smith_bytes.specs.Growth.{grow_at}
-use Rattle.smith_bytes.specs.Names.{text_at}
-use Rattle.smith_draw.specs.Choices.{chosen_at}
-use Rattle.smith_draw.specs.CompositeTypes.{composite_type_at, func_type_at, val_types_at}
-use Rattle.smith_draw.specs.RecGroups.{types_at, least_types_at, more_types_at, rec_group_at, new_group_at, types_until_at}
-use Rattle.smith_draw.specs.SubTypes.{sub_type_at, sub_type_of_at, root_type_at, supertypes}
-use Rattle.smith_draw.specs.TypeUses.{is_tag_type, is_unshared_function}
-use Rattle.smith_draw.specs.ValueTypes.{val_type_at, sharedness_at}
-use Rattle.std.specs.Str.{is_utf8, chars}
-use Rattle.std.specs.Str.Lossy.{utf8_valid_len}
-use Rattle.smith_contents.specs.AllExports.{exports_at}
-use Rattle.wasm_smith.specs.FirstParts.{first_parts_at}
+use Rattle.wasm_smith_examples.proofs.Common.{refl, bool_at, range_at, digit_count, len_at, grow_at, text_at, chosen_at, composite_type_at, func_type_at, val_types_at, types_at, least_types_at, more_types_at, rec_group_at, new_group_at, types_until_at, sub_type_at, sub_type_of_at, root_type_at, supertypes, is_tag_type, is_unshared_function, val_type_at, sharedness_at, is_utf8, chars, utf8_valid_len, exports_at, first_parts_at, data_at, counting_at, segments_at, definitions_at, items_defined_at, type_indices_at, tags_at, funcs_at, tables_at, memories_at, globals_at, bodies_at, behind_exports_at, all_segments_at, elements_at, element_kinds_at, table_kinds_at, element_segments_at, free_exports_at, exports_from, group_kind_at, import_name_at, kind_at, entity_of_kind_at, entity_at, imports_at, groups_at, group_at, group_of_kind_at, start_at, start_wanted_at, section_flag_at}
 use Rattle.wasm_smith.specs.Build.{module_at, first_parts_typed_at, imported_at, defined_at as defined_behind, exported_at}
-use Rattle.smith_contents.specs.DataSegments.{data_at, counting_at, segments_at}
-use Rattle.smith_defined.specs.Definitions.{definitions_at, items_defined_at, type_indices_at, tags_at, funcs_at, tables_at, memories_at, globals_at}
-use Rattle.smith_contents.specs.DrawnBodies.{bodies_at}
-use Rattle.wasm_smith.specs.DrawnContents.{behind_exports_at, all_segments_at}
-use Rattle.smith_contents.specs.ElementSegments.{elements_at, element_kinds_at, table_kinds_at, element_segments_at}
-use Rattle.smith_contents.specs.Exporting.{free_exports_at, exports_from}
-use Rattle.smith_imports.specs.ImportGroups.{group_kind_at}
-use Rattle.smith_imports.specs.ImportNames.{import_name_at}
-use Rattle.smith_imports.specs.ImportedEntities.{kind_at, entity_of_kind_at, entity_at}
-use Rattle.smith_imports.specs.Importing.{imports_at, groups_at, group_at, group_of_kind_at}
-use Rattle.smith_contents.specs.Start.{start_at, start_wanted_at}
-use Rattle.smith_bytes.specs.Steps.{section_flag_at}
 use Rattle.wasm_smith_examples.proofs.definitions.an_imported_function.Goals as goal
 
 pub returns : goal.returns

@@ -1,9 +1,4 @@
-use Rattle.std.proofs.Common.{◌≡◌, ℕ, [], ◌∷◌, Some, refl, inr}
-use Rattle.std.specs.Prelude.{slice_get, IsTrue}
-use Rattle.std.proofs.lemmas.List.Elements.{All-from_recursion}
-use Rattle.smith_types.specs.ExampleTypes.{shared_type, plain_func}
-use Rattle.smith_types.specs.Kinds.{shared}
-use Rattle.smith_types.specs.declared.composite_type.SubType.{SubType}
+use Rattle.wasm_smith_examples.proofs.Common.{◌≡◌, ℕ, [], ◌∷◌, refl, inr, slice_get, IsTrue, All-from_recursion, shared_type, plain_func, shared, SubType, Some}
 use Rattle.wasm_smith_examples.proofs.element_segments.enough.Goals as goal
 
 pub returns-clause-of_shared_functions : goal.returns-clause-of_shared_functions

@@ -1,21 +1,6 @@
-use Rattle.std.proofs.Common.{refl}
-use lib.Utf8.{encode}
-use Rattle.std.specs.Fmt.{digits}
-use Rattle.std.specs.Str.{is_utf8, chars}
-use Rattle.std.specs.Str.Lossy.{utf8_valid_len}
-use Rattle.smith_bytes.specs.Draws.{range_at, digit_count, len_at}
-use Rattle.smith_bytes.specs.Names.{text_at, new_name}
-use Rattle.smith_contents.specs.Exporting.{export_name_at}
+use Rattle.wasm_smith_examples.proofs.Common.{rules, arith, common_steps, refl, encode, digits, is_utf8, chars, utf8_valid_len, range_at, digit_count, len_at, text_at, new_name, export_name_at}
 use Rattle.wasm_smith_examples.proofs.exports.names.Goals as goal
 
-pub returns-clause-number_behind : goal.returns-clause-number_behind
+pub returns : goal.returns
 unfolding export_name_at new_name text_at len_at range_at digit_count utf8_valid_len is_utf8 chars encode digits
-returns-clause-number_behind c = refl
-
-pub returns-clause-number_twice : goal.returns-clause-number_twice
-unfolding export_name_at new_name text_at len_at range_at digit_count utf8_valid_len is_utf8 chars encode digits
-returns-clause-number_twice c = refl
-
-pub returns-clause-new_as_it_is : goal.returns-clause-new_as_it_is
-unfolding export_name_at new_name text_at len_at range_at digit_count utf8_valid_len is_utf8 chars encode digits
-returns-clause-new_as_it_is c = refl
+returns c = record { taken = first_of (search rules, grind (arith, common_steps)); not_taken = first_of (search rules, grind (arith, common_steps)); number_behind = refl; number_twice = refl; new_as_it_is = refl }

@@ -1,6 +1,4 @@
-use Rattle.std.proofs.Common.{◌≡◌, [], ◌∷◌}
-use Rattle.smith_bytes.specs.declared.error.Error.TheVariants.{EmptyChoose, Memory}
-use Rattle.smith_config.specs.ExampleMembers.{one_function_type}
+use Rattle.wasm_smith_examples.proofs.Common.{◌≡◌, [], ◌∷◌, EmptyChoose, Memory, one_function_type}
 use Rattle.wasm_smith_examples.proofs.ReachedExamples.{function_first}
 use Rattle.wasm_smith_examples.proofs.reached.answers.Goals as goal
 

@@ -1,7 +1,4 @@
-use Rattle.std.proofs.Common.{[], ◌∷◌, length, length-append, ap, arith, refl}
-use Rattle.smith_bytes.specs.Spelling.{Listed}
-use Rattle.smith_spell.specs.Spelling.{SpellsRest}
-use Rattle.smith_spell.proofs.SpelledExamples.{joined, any_byte}
+use Rattle.wasm_smith_examples.proofs.Common.{[], ◌∷◌, length, length-append, ap, arith, refl, Listed, SpellsRest, joined, any_byte}
 use Rattle.wasm_smith_examples.proofs.ReachedExamples.{function_first}
 use Rattle.wasm_smith_examples.proofs.reached.sources.Goals as goal
 
