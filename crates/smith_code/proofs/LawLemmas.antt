@@ -1,6 +1,6 @@
 -- Where `unreachable` is drawn for a value, no other instruction without operands produces one.
-use Rattle.std.proofs.Common.{◌≡◌, ℕ, ◌-◌, ◌<◌, Bool, true, false, List, [], ◌∷◌, Option, Some, None, length, refl, sym, subst, ap, ◌∙◌, arith}
-use Rattle.std.specs.Prelude.{◌^◌, ◌&&◌, ◌||◌, not, option_and_then, option_map, slice_get, unwrap_or, if◌then◌else◌}
+use Rattle.std.proofs.Common.{◌≡◌, ℕ, ◌<◌, Bool, true, false, List, [], ◌∷◌, Option, Some, None, length, refl, sym, subst, ap, ◌∙◌, arith}
+use Rattle.std.specs.Prelude.{◌||◌, not, option_and_then, option_map, slice_get, unwrap_or, if◌then◌else◌}
 use Rattle.std.proofs.lemmas.Option.{slice_get-get_or, slice_get_within}
 use Rattle.smith_bytes.specs.Draws.{choose_at}
 use Rattle.smith_config.specs.declared.config.Config.{Config}
@@ -18,9 +18,8 @@ use Rattle.smith_instr.specs.declared.aggregate.AggregateInstr.TheVariants as ag
 use Rattle.smith_instr.specs.declared.instr.Instr.{Instr}
 use Rattle.smith_instr.specs.declared.instr.Instr.TheVariants as instr
 use Rattle.smith_instr.specs.declared.reference.ReferenceInstr.TheVariants as reference
-use Rattle.smith_code.specs.Drawn.{IsLeaf}
 use Rattle.smith_code.specs.Laws.{HasNoOther, IsIndex, IsNumber, IsOther}
-use Rattle.smith_code.specs.Leaves.{any_leaf_at, constant_instr_at, default_struct, empty_array, first_constant, first_leaf, first_of, if_permitted, leaf_at, leaf_of, named_at, null_or_stop, spare_leaf}
+use Rattle.smith_code.specs.Leaves.{any_leaf_at, constant_instr_at, default_struct, empty_array, first_constant, first_leaf, first_of, if_permitted, leaf_at, leaf_of, named_at, spare_leaf}
 use Rattle.smith_code.specs.declared.families.LeafFamily.TheVariants as leaf
 use Rattle.smith_code_aggregates.specs.Aggregates.{first_created_array, first_created_struct, is_created_empty, is_created_struct}
 use Rattle.smith_code_aggregates.proofs.FirstLemmas.{chosen_first, none_offered}

@@ -1,5 +1,5 @@
 -- Bytes, configurations and contexts of the examples.
-use Rattle.std.specs.Prelude.{ℕ, false, true, List, [], ◌∷◌, ◌++◌, pos}
+use Rattle.std.specs.Prelude.{ℕ, false, true, List, [], ◌∷◌, pos}
 use Rattle.smith_types.specs.ExampleFeatures.{usual_features}
 use Rattle.smith_types.specs.ExampleTypes.{final_type}
 use Rattle.smith_types.specs.declared.value_type.ValType.{ValType}

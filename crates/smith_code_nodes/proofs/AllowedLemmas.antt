@@ -1,6 +1,6 @@
 -- Instructions that may be chosen are allowed.
 use Rattle.std.specs.Prelude.{◌&&◌, ◌||◌, not, IsTrue, All}
-use Rattle.std.proofs.Common.{◌≡◌, Bool, true, false, List, refl, ◌-◌, ◌<◌, length, sym, ◌∙◌}
+use Rattle.std.proofs.Common.{◌≡◌, Bool, true, false, List, refl, ◌<◌, length, sym, ◌∙◌}
 use Rattle.std.proofs.lemmas.Bool.{false≢true}
 use Rattle.std.proofs.lemmas.List.Elements.{All-weaker}
 use Rattle.smith_types.specs.FeatureBits.{features_in}

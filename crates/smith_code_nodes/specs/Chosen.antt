@@ -1,5 +1,5 @@
 -- A choice, and its draw: an item, or none.
-use Rattle.std.specs.Prelude.{ℕ, ◌-◌, Option, unwrap_or, List, [], option_and_then}
+use Rattle.std.specs.Prelude.{ℕ, Option, unwrap_or, List, [], option_and_then}
 use Rattle.smith_instr.specs.declared.instr.Instr.TheVariants as instr
 use Rattle.smith_code_nodes.specs.Nodes.{node_of}
 use Rattle.smith_code_nodes.specs.declared.node.Node.{Node}

@@ -10,26 +10,26 @@ use Rattle.smith_draw.specs.declared.const_expr.block_counts.BlockCounts.{BlockC
 abbrev starts_of : (ℕ → ℕ) → ℕ → List ℕ
 starts_of before blocks = map (λ block. before (8 * block)) (range_with_len 0 blocks)
 
-starts_more : (before : ℕ → ℕ) (seen total : ℕ) (starts : List ℕ) → seen % 8 ≡ 0 → total ≡ before seen → starts ≡ starts_of before ((seen + 7) / 8) → starts ++ total ∷ [] ≡ starts_of before ((seen + 1 + 7) / 8)
-starts_more before seen total starts first total_is is =
+starts_more : (before : ℕ → ℕ) (seen end total : ℕ) (starts : List ℕ) → seen % 8 ≡ 0 → seen < end → end ≤ 8 * (seen / 8 + 1) → total ≡ before seen → starts ≡ starts_of before ((seen + 7) / 8) → starts ++ total ∷ [] ≡ starts_of before ((end + 7) / 8)
+starts_more before seen end total starts first some within total_is is =
     let blocks : ℕ = (seen + 7) / 8 in
     let here : 8 * blocks ≡ seen = omega arith in
-    let more : (seen + 1 + 7) / 8 ≡ blocks + 1 = omega arith in
+    let more : (end + 7) / 8 ≡ blocks + 1 = omega arith in
     ap (λ xs. xs ++ total ∷ []) is
     ∙ ap (λ (each : ℕ). starts_of before blocks ++ each ∷ []) (total_is ∙ ap before (sym here))
     ∙ sym (map-range_with_len_more (λ block. before (8 * block)) 0 blocks blocks (omega arith))
     ∙ ap (starts_of before) (sym more)
 
--- one more item is read, and its block begun with it, or before
-pub counted_next : (before : ℕ → ℕ) (old begun : BlockCounts) (one total : ℕ) → IsCounted before old → before (old.seen + 1) ≡ before old.seen + one → total ≡ old.total + one → begun.seen ≡ old.seen
-    → ((old.seen % 8 ≡ 0) × (begun.starts ≡ old.starts ++ old.total ∷ [])) ⊎ ((old.seen % 8 ≢ 0) × (begun.starts ≡ old.starts))
-    → IsCounted before (record { seen = begun.seen + 1; total = total; starts = begun.starts })
-counted_next before old begun one total counted next total_is seen_is starts_are = record {
-  total = total_is ∙ ap (λ (n : ℕ). n + one) counted.total ∙ sym next ∙ ap (λ (n : ℕ). before (n + 1)) (sym seen_is);
+-- more items of a block are read, and the block begun with them, or before
+pub counted_next : (before : ℕ → ℕ) (old : BlockCounts) (end offered total : ℕ) (starts : List ℕ) → IsCounted before old → old.seen < end → end ≤ 8 * (old.seen / 8 + 1) → before end ≡ before old.seen + offered → total ≡ old.total + offered
+    → ((old.seen % 8 ≡ 0) × (starts ≡ old.starts ++ old.total ∷ [])) ⊎ ((old.seen % 8 ≢ 0) × (starts ≡ old.starts))
+    → IsCounted before (record { seen = end; total = total; starts = starts })
+counted_next before old end offered total starts counted some within next total_is starts_are = record {
+  total = total_is ∙ ap (λ (n : ℕ). n + offered) counted.total ∙ sym next;
   starts = elim starts_are [
-    | inl (first, longer) ↦ longer ∙ starts_more before old.seen old.total old.starts first counted.total counted.starts ∙ ap (λ (n : ℕ). starts_of before ((n + 1 + 7) / 8)) (sym seen_is)
+    | inl (first, longer) ↦ longer ∙ starts_more before old.seen end old.total old.starts first some within counted.total counted.starts
     | inr (later, same) ↦
-        let blocks : (old.seen + 7) / 8 ≡ (begun.seen + 1 + 7) / 8 = omega arith in
+        let blocks : (old.seen + 7) / 8 ≡ (end + 7) / 8 = omega arith in
         same ∙ counted.starts ∙ ap (starts_of before) blocks
   ];
 }
@@ -57,13 +57,13 @@ all_counted before counts block counted past =
     let same : counts.seen ≡ min (8 * block) counts.seen = omega (arith, blocks, past) in
     counted.total ∙ ap before same
 
--- where a block adds nothing to the count, no item of it does
-pub none_near : (before : ℕ → ℕ) (seen index : ℕ) → ((m n : ℕ) → m ≤ n → before m ≤ before n) → index < seen → before (min (8 * (index / 8)) seen) ≡ before (min (8 * (index / 8 + 1)) seen) → before (index + 1) ≡ before index
-none_near before seen index rising inside same =
-    let first = rising (min (8 * (index / 8)) seen) index (omega arith) in
-    let next = rising index (index + 1) (omega arith) in
-    let last = rising (index + 1) (min (8 * (index / 8 + 1)) seen) (omega arith) in
-    omega (arith, first, next, last, same)
+-- where a block adds nothing to the count, no items of it do
+pub none_near : (before : ℕ → ℕ) (seen first end : ℕ) → ((m n : ℕ) → m ≤ n → before m ≤ before n) → first < end → end ≤ 8 * (first / 8 + 1) → end ≤ seen → before (min (8 * (first / 8)) seen) ≡ before (min (8 * (first / 8 + 1)) seen) → before end ≡ before first
+none_near before seen first end rising some within inside same =
+    let start = rising (min (8 * (first / 8)) seen) first (omega arith) in
+    let next = rising first end (omega arith) in
+    let last = rising end (min (8 * (first / 8 + 1)) seen) (omega arith) in
+    omega (arith, start, next, last, same)
 
 -- if any item is offered, there is a block
 pub some_block : (before : ℕ → ℕ) (counts : BlockCounts) (place : ℕ) → before 0 ≡ 0 → IsCounted before counts → place < counts.total → 0 < length counts.starts

@@ -9,8 +9,7 @@ use Rattle.smith_types.specs.Expressions.{Context, function_reference}
 use Rattle.smith_types.specs.declared.value_type.ValType.{ValType}
 use Rattle.smith_draw.specs.Below.{is_val_below}
 use Rattle.smith_draw.specs.ConstOffers.{each_from, offered_if, past, global_offers, function_offers}
-use Rattle.smith_draw.specs.KeptOffers.{IsCounted, IsKeptAt, IsKeptOffer, offered_before}
-use Rattle.smith_draw.specs.declared.const_expr.block_counts.BlockCounts.{BlockCounts}
+use Rattle.smith_draw.specs.KeptOffers.{IsKeptAt, IsKeptOffer, offered_before}
 use Rattle.smith_draw.specs.declared.const_expr.kept_offers.KeptOffer.{KeptOffer}
 use Rattle.smith_draw.specs.declared.const_expr.node_choice.Choice.{Choice}
 use Rattle.smith_draw.specs.declared.const_expr.node_choice.Choice.TheVariants as choice
@@ -55,26 +54,27 @@ length_if : {B : Type 0} (offered : Bool) (x : B) → length (offered_if offered
 length_if true x = refl
 length_if false x = refl
 
--- one more item is read, and counted if it is offered
-pub counted_item : {A : Type 0} (offer : ℕ → A → List Choice) (xs : List A) (old new : BlockCounts) (index : ℕ) (d : A) (offered : Bool) (one : Choice) → old.seen ≡ index → index < length xs → offer index (get_or xs index d) ≡ offered_if offered one
-    → ((before : ℕ → ℕ) → IsCounted before old → before (old.seen + 1) ≡ before old.seen + cond offered 1 0 → IsCounted before new) → IsCounted (offered_before offer xs) old → IsCounted (offered_before offer xs) new
-counted_item offer xs old new index d offered one seen inside is more counted =
-    let next : offered_before offer xs (index + 1) ≡ offered_before offer xs index + cond offered 1 0 = offered_more offer xs index d inside ∙ ap (λ (n : ℕ). offered_before offer xs index + n) (ap length is ∙ length_if offered one) in
-    more (offered_before offer xs) counted (subst (λ (n : ℕ). offered_before offer xs (n + 1) ≡ offered_before offer xs n + cond offered 1 0) (sym seen) next)
+-- one more item is counted if it is offered
+pub counted_item : {A : Type 0} (offer : ℕ → A → List Choice) (xs : List A) (index start count one : ℕ) (d : A) (offered : Bool) (choice : Choice) → index < length xs → offer index (get_or xs index d) ≡ offered_if offered choice → one ≡ cond offered 1 0
+    → offered_before offer xs index ≡ start + count → offered_before offer xs (index + 1) ≡ start + (count + one)
+counted_item offer xs index start count one d offered choice inside is one_is counted =
+    let more = offered_more offer xs index d inside in
+    let here : length (offer index (get_or xs index d)) ≡ cond offered 1 0 = ap length is ∙ length_if offered choice in
+    omega (arith, more, here, one_is, counted)
+
+pub one_at_most : (offered : Bool) (one : ℕ) → one ≡ cond offered 1 0 → one ≤ 1
+one_at_most true one is = omega (arith, is)
+one_at_most false one is = omega (arith, is)
 
 -- each global and each function offers at most one choice
 few_before : {A : Type 0} (offer : ℕ → A → List Choice) (xs : List A) (n : ℕ) → ((i : ℕ) (x : A) → length (offer i x) ≤ 1) → n ≤ length xs → offered_before offer xs n ≤ n
 few_before offer xs n each inside = let few = few_each offer 1 each 0 (take n xs) in omega (arith, few, length-take-le n xs inside)
 
-pub few_globals : (context : Context) (offer : KeptOffer) → IsKeptOffer context offer → offer.globals.total ≤ offer.globals.seen
-few_globals context offer kept =
-    let few = few_before (global_offers context offer.wanted) context.globals offer.globals.seen (λ i global. few_if (not global.mutable && is_val_below context.types global.val_type offer.wanted) (choice.Global i)) kept.globals_seen in
-    omega (arith, few, kept.globals.total)
+pub few_globals : (context : Context) (wanted : ValType) (n : ℕ) → n ≤ length context.globals → offered_before (global_offers context wanted) context.globals n ≤ n
+few_globals context wanted n = few_before (global_offers context wanted) context.globals n (λ i global. few_if (not global.mutable && is_val_below context.types global.val_type wanted) (choice.Global i))
 
-pub few_functions : (context : Context) (offer : KeptOffer) → IsKeptOffer context offer → offer.funcs.total ≤ offer.funcs.seen
-few_functions context offer kept =
-    let few = few_before (function_offers context offer.wanted) context.funcs offer.funcs.seen (λ i index. few_if (is_val_below context.types (function_reference context i index) offer.wanted) (choice.Function i)) kept.funcs_seen in
-    omega (arith, few, kept.funcs.total)
+pub few_functions : (context : Context) (wanted : ValType) (n : ℕ) → n ≤ length context.funcs → offered_before (function_offers context wanted) context.funcs n ≤ n
+few_functions context wanted n = few_before (function_offers context wanted) context.funcs n (λ i index. few_if (is_val_below context.types (function_reference context i index) wanted) (choice.Function i))
 
 -- a search that begins at an item, with the place counted from there
 pub past_from : {A : Type 0} (offer : ℕ → A → List Choice) (xs : List A) (first place rest : ℕ) → first ≤ length xs → offered_before offer xs first + rest ≡ place → past (each_from offer first (drop first xs)) rest ≡ past (each_from offer 0 xs) place

@@ -1,5 +1,5 @@
-ghost use Rattle.std.specs.Prelude.{◌≡◌, ℕ, ◌+◌, ◌*◌, ◌<◌, ◌≤◌, ◌^◌, false, min, length, OnOk, IfErr};
-ghost use Rattle.std.specs.Prelude.{slice_index, if◌then◌else◌};
+ghost use Rattle.std.specs.Prelude.{◌≡◌, ℕ, ◌+◌, ◌*◌, ◌/◌, ◌<◌, ◌≤◌, ◌^◌, false, min, length, OnOk};
+ghost use Rattle.std.specs.Prelude.{IfErr, slice_index};
 ghost use Rattle.smith_draw.specs.KeptOffers.{IsCounted};
 
 use smith_bytes::Error;
@@ -35,21 +35,30 @@ impl BlockCounts {
         }
     }
 
-    /// Reads the next item, which is on offer if `offered` is `true`.
-    pub fn push(&mut self, offered: bool) -> Result<(), Error>
-        requires few_seen { self.old.seen < 2 ^ 32 }
-        requires few_offered { self.old.total < 2 ^ 32 }
+    /// Returns the index after the last item of the block of the first item that has not been read.
+    pub fn block_end(&self) -> usize
+        requires { self.now.seen < 2 ^ 32 }
+        ensures { result ≡ 8 * (self.now.seen / 8 + 1) }
+    {
+        (self.seen / BLOCK + 1) * BLOCK
+    }
+
+    /// Reads the items up to the index `end`, of which `offered` are on offer. They belong to one
+    /// block.
+    pub fn read_to(&mut self, end: usize, offered: usize) -> Result<(), Error>
+        requires some { self.old.seen < end }
+        requires one_block { end ≤ 8 * (self.old.seen / 8 + 1) }
+        requires few { self.old.total + offered < 2 ^ 32 }
         ensures counted { (before : ℕ → ℕ) → IsCounted before self.old
-            → before (self.old.seen + 1) ≡ before self.old.seen + (if offered then 1 else 0)
-            → OnOk result (IsCounted before self.new) }
-        ensures seen { OnOk result (self.new.seen ≡ self.old.seen + 1) }
+            → before end ≡ before self.old.seen + offered → OnOk result (IsCounted before self.new) }
+        ensures seen { OnOk result (self.new.seen ≡ end) }
         ensures memory { IfErr result (λ e. e ≡ Error.Memory) }
     {
         if self.seen % BLOCK == 0 {
             self.starts.push(self.total as u32)?;
         }
-        self.seen += 1;
-        self.total += usize::from(offered);
+        self.seen = end;
+        self.total += offered;
         Ok(())
     }
 
@@ -66,17 +75,18 @@ impl BlockCounts {
         self.total
     }
 
-    /// Returns whether the item `index` may be on offer: it has not been read, or an item of its
-    /// block is on offer.
-    pub fn may_offer(&self, index: usize) -> bool
+    /// Returns whether an item from the index `first` up to `end` may be on offer. They belong to one
+    /// block, and either not all of them have been read or an item of their block is on offer.
+    pub fn may_offer(&self, first: usize, end: usize) -> bool
+        requires { first < end × end ≤ 8 * (first / 8 + 1) }
         ensures { (before : ℕ → ℕ) → IsCounted before self.now
             → ((m n : ℕ) → m ≤ n → before m ≤ before n)
-            → result ≡ false → before (index + 1) ≡ before index }
+            → result ≡ false → before end ≡ before first }
     {
-        if index >= self.seen {
+        if end > self.seen {
             return true;
         }
-        let block = index / BLOCK;
+        let block = first / BLOCK;
         self.start_of(block) != self.start_of(block + 1)
     }
 

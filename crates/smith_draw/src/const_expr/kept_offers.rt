@@ -1,14 +1,12 @@
-ghost use Rattle.std.specs.Prelude.{◌≡◌, ◌+◌, ◌<◌, ◌≤◌, ◌↔◌, ℕ, false, Some, IsTrue, IfSome, OnOk};
-ghost use Rattle.std.specs.Prelude.{IfOk, IfErr, length, slice_get};
+ghost use Rattle.std.specs.Prelude.{◌≡◌, ◌+◌, ◌*◌, ◌/◌, ◌<◌, ◌≤◌, ◌↔◌, ℕ, false, IsTrue, IfSome};
+ghost use Rattle.std.specs.Prelude.{IfOk, IfErr, OnOk, length};
 ghost use Rattle.smith_types.specs.Expressions.{Context};
 ghost use Rattle.smith_types.specs.Subtyping.{IsValInRange};
 ghost use Rattle.smith_types.specs.declared.value_type.ValType.{ValType as Wanted};
-ghost use Rattle.smith_types.specs.declared.entity_type.GlobalType.{GlobalType};
-ghost use Rattle.smith_draw.specs.ConstOffers.{global_offers, offered_if};
+ghost use Rattle.smith_draw.specs.ConstOffers.{function_offers, global_offers};
 ghost use Rattle.smith_draw.specs.ConstScopes.{context_of, IsScope};
 ghost use Rattle.smith_draw.specs.KeptOffers.{AreKeptOffers, IsCounted, IsKeptAt, IsKeptOffer};
-ghost use Rattle.smith_draw.specs.KeptOffers.{IsWhole, IsWiderOffer};
-ghost use Rattle.smith_draw.specs.declared.const_expr.node_choice.Choice.TheVariants as choice;
+ghost use Rattle.smith_draw.specs.KeptOffers.{IsWhole, IsWiderOffer, offered_before};
 
 use super::block_counts::BlockCounts;
 use super::references::{function_reference, is_below, is_readable, widest};
@@ -159,35 +157,86 @@ fn find(kept: &[KeptOffer], wanted: ValType, visible: usize) -> Option<usize>
     None
 }
 
-/// Returns whether the global `index` may be offered: `wider`, an entry for a wider type, does not
-/// exclude it.
-fn may_offer(wider: Option<&KeptOffer>, index: usize) -> bool
+/// Returns whether a global from the index `first` up to `end` may be offered: `wider`, an entry for
+/// a wider type, does not exclude them. They belong to one block.
+fn may_offer(wider: Option<&KeptOffer>, first: usize, end: usize) -> bool
+    requires { first < end × end ≤ 8 * (first / 8 + 1) }
     ensures { (before : ℕ → ℕ) → IfSome wider.entry (λ offer. IsCounted before offer.now.globals)
         → ((m n : ℕ) → m ≤ n → before m ≤ before n)
-        → result ≡ false → before (index + 1) ≡ before index }
+        → result ≡ false → before end ≡ before first }
 {
     match wider {
-        Some(wider) => wider.globals.may_offer(index),
+        Some(wider) => wider.globals.may_offer(first, end),
         None => true,
     }
 }
 
-/// Returns whether the global `index` is offered for the type `wanted`. Does not test it if
-/// `wider`, an entry for a wider type, excludes it.
-fn is_offered(scope: &Scope<'_>, index: usize, wanted: ValType, wider: Option<&KeptOffer>) -> bool
+/// Returns the number of globals from the index `first` up to `end` that are offered for the type
+/// `wanted`. Tests none of them if `wider`, an entry for a wider type, excludes them. They belong to
+/// one block.
+fn count_globals(
+    scope: &Scope<'_>,
+    first: usize,
+    end: usize,
+    wanted: ValType,
+    wider: Option<&KeptOffer>,
+) -> usize
     requires scope { IsScope (context_of scope.now) }
     requires upper { IsValInRange (context_of scope.now).types wanted }
-    requires there { index < length (context_of scope.now).globals }
+    requires there { end ≤ length (context_of scope.now).globals }
+    requires one_block { first < end × end ≤ 8 * (first / 8 + 1) }
     requires wider { IfSome wider (λ offer.
         IsWiderOffer (context_of scope.now) wanted offer.now) }
-    ensures { (global : GlobalType)
-        → slice_get (context_of scope.now).globals index ≡ Some global
-        → global_offers (context_of scope.now) wanted index global
-        ≡ offered_if result (choice.Global index) }
+    ensures { offered_before (global_offers (context_of scope.now) wanted)
+        (context_of scope.now).globals end
+        ≡ offered_before (global_offers (context_of scope.now) wanted)
+        (context_of scope.now).globals first + result }
+{
+    if !may_offer(wider, first, end) {
+        return 0;
+    }
+    count_readable(scope, first, end, wanted)
+}
+
+/// Returns the number of globals from the index `first` up to `end` that are offered for the type
+/// `wanted`. Tests each.
+fn count_readable(scope: &Scope<'_>, first: usize, end: usize, wanted: ValType) -> usize
+    requires scope { IsScope (context_of scope.now) }
+    requires upper { IsValInRange (context_of scope.now).types wanted }
+    requires there { first ≤ end × end ≤ length (context_of scope.now).globals }
+    ensures { offered_before (global_offers (context_of scope.now) wanted)
+        (context_of scope.now).globals end
+        ≡ offered_before (global_offers (context_of scope.now) wanted)
+        (context_of scope.now).globals first + result }
 {
     let entities = scope.spaces.entities;
-    let global = entities.globals[index];
-    may_offer(wider, index) && is_readable(scope.spaces.types, global, wanted)
+    let mut count = 0;
+    for index in first..end {
+        let offered = is_readable(scope.spaces.types, entities.globals[index], wanted);
+        count += usize::from(offered);
+    }
+    count
+}
+
+/// Returns the number of functions from the index `first` up to `end` that are offered for the type
+/// `wanted`.
+fn count_funcs(scope: &Scope<'_>, first: usize, end: usize, wanted: ValType) -> usize
+    requires scope { IsScope (context_of scope.now) }
+    requires upper { IsValInRange (context_of scope.now).types wanted }
+    requires there { first ≤ end × end ≤ length (context_of scope.now).funcs }
+    ensures { offered_before (function_offers (context_of scope.now) wanted)
+        (context_of scope.now).funcs end
+        ≡ offered_before (function_offers (context_of scope.now) wanted)
+        (context_of scope.now).funcs first + result }
+{
+    let entities = scope.spaces.entities;
+    let mut count = 0;
+    for index in first..end {
+        let reference = function_reference(scope, index, entities.funcs[index]);
+        let offered = is_below(scope.spaces.types, reference, wanted);
+        count += usize::from(offered);
+    }
+    count
 }
 
 impl KeptOffer {
@@ -236,8 +285,8 @@ impl KeptOffer {
         self.look_at_funcs(scope)
     }
 
-    /// Reads the globals of `scope` that have not been read. Tests only those that `wider`, if
-    /// given, does not exclude: an entry for a wider type.
+    /// Reads the globals of `scope` that have not been read, a block at a time. Tests only those that
+    /// `wider`, if given, does not exclude: an entry for a wider type.
     fn look_at_globals(&mut self, scope: &Scope<'_>, wider: Option<&KeptOffer>) -> Result<(), Error>
         requires scope { IsScope (context_of scope.now) }
         requires kept { IsKeptOffer (context_of scope.now) self.old }
@@ -247,15 +296,16 @@ impl KeptOffer {
         ensures wanted { OnOk result (self.new.wanted ≡ self.old.wanted) }
         ensures memory { IfErr result (λ e. e ≡ Error.Memory) }
     {
-        let seen = self.globals.seen;
-        for index in seen..scope.visible {
-            let offered = is_offered(scope, index, self.wanted, wider);
-            self.globals.push(offered)?;
+        while self.globals.seen < scope.visible {
+            let first = self.globals.seen;
+            let end = self.globals.block_end().min(scope.visible);
+            let offered = count_globals(scope, first, end, self.wanted, wider);
+            self.globals.read_to(end, offered)?;
         }
         Ok(())
     }
 
-    /// Reads the functions of `scope` that have not been read.
+    /// Reads the functions of `scope` that have not been read, a block at a time.
     fn look_at_funcs(&mut self, scope: &Scope<'_>) -> Result<(), Error>
         requires scope { IsScope (context_of scope.now) }
         requires kept { IsKeptOffer (context_of scope.now) self.old }
@@ -264,11 +314,11 @@ impl KeptOffer {
         ensures memory { IfErr result (λ e. e ≡ Error.Memory) }
     {
         let entities = scope.spaces.entities;
-        let seen = self.funcs.seen;
-        for index in seen..entities.funcs.len() {
-            let reference = function_reference(scope, index, entities.funcs[index]);
-            let offered = is_below(scope.spaces.types, reference, self.wanted);
-            self.funcs.push(offered)?;
+        while self.funcs.seen < entities.funcs.len() {
+            let first = self.funcs.seen;
+            let end = self.funcs.block_end().min(entities.funcs.len());
+            let offered = count_funcs(scope, first, end, self.wanted);
+            self.funcs.read_to(end, offered)?;
         }
         Ok(())
     }

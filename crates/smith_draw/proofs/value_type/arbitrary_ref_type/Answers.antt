@@ -1,5 +1,7 @@
-use Rattle.std.proofs.Common.{◌≡◌, false, refl}
+use Rattle.std.proofs.Common.{◌≡◌, true, false, refl}
+use Rattle.smith_types.specs.Expressions.{Context}
 use Rattle.smith_types.specs.Grounded.{IsGrounded}
+use Rattle.smith_types.specs.declared.value_type.HeapType.{HeapType}
 use Rattle.smith_types.specs.declared.value_type.RefType.{RefType}
 use Rattle.smith_draw.specs.Grounding.{standing_in}
 use Rattle.smith_draw.proofs.GroundingLemmas.{grounded_if}
@@ -7,13 +9,16 @@ use Rattle.smith_draw.proofs.ValueTypeLemmas.{drawn_is, IsRefTypeDrawn, ref_type
 use Rattle.smith_draw.proofs.TakenLemmas.{ref_type_taken}
 use Rattle.smith_draw.proofs.value_type.arbitrary_ref_type.Goals as goal
 
+ungranted : (context : Context) (heap_type : HeapType) → true ≡ false → IsGrounded context heap_type
+ungranted context heap_type never = cc
+
 pub returns-clause-granted : goal.returns-clause-granted
 returns-clause-granted c =
     let context = standing_in c.args.config.now c.args.spaces.now in
     let exact = rw c.over-standing.ensures at c.draw_ref_type.ensures.exact in
     let granted : c.draw_ref_type.result.nullable ≡ false → IsGrounded context c.draw_ref_type.result.heap_type =
     drawn_is (λ (ty : RefType). ty.nullable ≡ false → IsGrounded context ty.heap_type) _ (λ e. grounded_if context _ c.orderly.ensures (ref_type_granted _ _ _ _ _ e).1) exact in
-    search granted
+    search (granted, ungranted)
 
 pub returns-clause-reach : goal.returns-clause-reach
 returns-clause-reach c = λ no. ref_type_taken c.args.config.now (standing_in c.args.config.now c.args.spaces.now) refl _ _ _ _ _ c.orderly.ensures no (rw c.over-standing.ensures at c.draw_ref_type.ensures.exact)

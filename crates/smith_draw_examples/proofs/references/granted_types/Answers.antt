@@ -1,7 +1,6 @@
 use Rattle.std.proofs.Common.{zero, suc, true, false, List, [], ◌∷◌, None, refl, ap, ◌∙◌, inl, inr}
 use Rattle.std.proofs.lemmas.List.Elements.{All-nil, All-head, All-from_recursion}
 use Rattle.std.proofs.lemmas.Option.{same_Some}
-use Rattle.smith_types.specs.Expressions.{Context}
 use Rattle.smith_types.specs.Grounded.{IsGrounded}
 use Rattle.smith_types.specs.Subtyping.{itself}
 use Rattle.smith_types.specs.declared.value_type.AbstractHeapType.TheVariants as heap

@@ -1,11 +1,13 @@
-use Rattle.std.proofs.Common.{◌≡◌}
+use Rattle.std.proofs.Common.{◌≡◌, ◌-◌, length}
 use Rattle.smith_draw.specs.ConstScopes.{context_of}
 use Rattle.smith_draw.specs.KeptOffers.{IsKeptOffer}
 use Rattle.smith_draw.proofs.const_expr.kept_offers.KeptOffer.look_at_funcs.Given as goal
 
-abbrev pub invariant-loop-index : goal.invariant-loop-index
-invariant-loop-index l = record {
+abbrev pub invariant-loop-self : goal.invariant-loop-self
+invariant-loop-self l = record {
   kept : IsKeptOffer (context_of l.scope) l.self;
-  seen : l.self.funcs.seen ≡ l.index;
   wanted : l.self.wanted ≡ l.fn.self.wanted;
 }
+
+abbrev pub decreases-loop-self : goal.decreases-loop-self
+decreases-loop-self l = length (context_of l.scope).funcs - l.self.funcs.seen

@@ -1,8 +1,8 @@
-use Rattle.std.proofs.Common.{◌≡◌, ◌≢◌, ◌⊎◌, ◌%◌, ◌∷◌, ◌++◌, [], ◌∙◌, inl, inr, ap, arith, cond, rules}
+use Rattle.std.proofs.Common.{◌≡◌, ◌≢◌, ◌⊎◌, ◌%◌, ◌∷◌, ◌++◌, [], ◌∙◌, inl, inr, ap, arith}
 use Rattle.smith_draw.specs.declared.const_expr.block_counts.BlockCounts.{BlockCounts}
 use Rattle.smith_draw.proofs.BlockCountLemmas.{counted_next}
-use Rattle.smith_draw.proofs.const_expr.block_counts.BlockCounts.push.Goals as goal
-use Rattle.smith_draw.proofs.const_expr.block_counts.BlockCounts.push.Goals.{then-self-eq0+in_ok-push, else-self-eq0}
+use Rattle.smith_draw.proofs.const_expr.block_counts.BlockCounts.read_to.Goals as goal
+use Rattle.smith_draw.proofs.const_expr.block_counts.BlockCounts.read_to.Goals.{then-self-eq0+in_ok-push, else-self-eq0}
 
 pub returns-clause-counted : goal.returns-clause-counted
 returns-clause-counted c = λ before counted next.
@@ -14,9 +14,4 @@ returns-clause-counted c = λ before counted next.
       | then-self-eq0+in_ok-push w ↦ ap (λ (s : BlockCounts). s.total) w.self-is
       | else-self-eq0 w ↦ ap (λ (s : BlockCounts). s.total) w.self-is
     ] in
-    let seen : c.if-self-eq0.self.seen ≡ c.args.self.now.seen = elim c.if-self-eq0.branch [
-      | then-self-eq0+in_ok-push w ↦ ap (λ (s : BlockCounts). s.seen) w.self-is
-      | else-self-eq0 w ↦ ap (λ (s : BlockCounts). s.seen) w.self-is
-    ] in
-    let one : c.from.result ≡ cond c.args.offered 1 0 = search (rules, c.from.ensures) in
-    counted_next before c.args.self.now c.if-self-eq0.self _ _ counted next (omega (arith, total, one)) seen begun
+    counted_next before c.args.self.now c.args.end c.args.offered _ _ counted c.requires.some c.requires.one_block next (omega (arith, total)) begun
