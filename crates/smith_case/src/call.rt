@@ -17,6 +17,8 @@ pub enum Call {
     Name(NameCall),
     /// A parse of a text, or a set of kinds.
     Parser(ParserCall),
+    /// `config`.
+    ReadConfig,
     /// A subtype test.
     Subtype(SubtypeCall),
     /// A call on a type space.
@@ -269,7 +271,7 @@ pub enum SpaceCall {
 pub const RECORDED: &str = "recorded";
 
 // Each call by its name.
-static CALLS: [(&str, Call); 81] = [
+static CALLS: [(&str, Call); 82] = [
     ("Module::new", Call::Module(ModuleCall::New)),
     (
         "Module::new_internal",
@@ -481,6 +483,7 @@ static CALLS: [(&str, Call); 81] = [
         "InstructionKinds::default",
         Call::Parser(ParserCall::DefaultKinds),
     ),
+    ("config", Call::ReadConfig),
     (
         "TypeSpace::heap_type_is_sub_type",
         Call::Subtype(SubtypeCall::HeapType),

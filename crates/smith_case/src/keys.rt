@@ -65,7 +65,7 @@ fn keys_of(call: Call) -> Keys {
             input: true,
             ..NONE
         },
-        Call::Parser(_) => Keys { args: true, ..NONE },
+        Call::Parser(_) | Call::ReadConfig => Keys { args: true, ..NONE },
         Call::Subtype(_) | Call::Space(_) => Keys {
             types: true,
             args: true,

@@ -1,8 +1,9 @@
 use json::{Reader, Scratch};
+use smith_case::arguments::word;
 use smith_case::{Case, Fault, goes_to_config};
 use smith_case_shapes::shape_named;
 use smith_config::{Config, Shape};
-use smith_json::{ConfigRefusal, Refusal, read_config};
+use smith_json::{ConfigRefusal, Refusal, config, read_config};
 use std::alloc::Global;
 use std::mem;
 
@@ -16,6 +17,26 @@ pub fn set_config(
 ) -> Result<(), Fault> {
     set_fields(alloc, line, config)?;
     set_shapes(alloc, case, config)
+}
+
+/// Appends a line for each argument, a text: its configuration, or the refusal of the text.
+pub fn answer_read_config(alloc: Global, case: &Case, answer: &mut String) -> Result<(), Fault> {
+    let _first = word(case, 0)?;
+    for text in case.args() {
+        tell_read(config(alloc, text.as_str()), answer)?;
+    }
+    Ok(())
+}
+
+fn tell_read(read: Result<Config, ConfigRefusal>, answer: &mut String) -> Result<(), Fault> {
+    match read {
+        Ok(config) => writeln!(answer, "{config:?}")?,
+        Err(refusal) if refusal.fault == smith_json::Fault::OutOfMemory => return Err(
+            Fault::Memory,
+        ),
+        Err(refusal) => writeln!(answer, "refused: {refusal}")?,
+    }
+    Ok(())
 }
 
 /// Returns the configuration `config`, and leaves the default in its place.

@@ -20,7 +20,7 @@ mod told;
 mod type_spaces;
 
 pub use configs::{answer_config, answer_drawn_config};
-pub use configured::{set_config, taken};
+pub use configured::{answer_read_config, set_config, taken};
 pub use copies::answer_copies;
 pub use draws::answer_draw;
 pub use names::answer_name;

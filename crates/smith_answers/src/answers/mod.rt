@@ -12,7 +12,7 @@ use smith_case::{Case, Fault, check_keys};
 use smith_config::Config;
 use smith_part_answers::{
     answer_config, answer_copies, answer_draw, answer_drawn_config, answer_name, answer_parser,
-    answer_source, answer_space, answer_subtype, set_config,
+    answer_read_config, answer_source, answer_space, answer_subtype, set_config,
 };
 use std::alloc::Global;
 
@@ -45,6 +45,7 @@ fn append_answer(
         Call::Source(call) => answer_source(alloc, case, call, input, answer),
         Call::Name(call) => answer_name(alloc, case, call, input, answer),
         Call::Parser(call) => answer_parser(case, call, answer),
+        Call::ReadConfig => answer_read_config(alloc, case, answer),
         Call::Subtype(call) => answer_subtype(alloc, case, call, answer),
         Call::Space(call) => answer_space(alloc, case, call, answer),
         Call::Copies => answer_copies(alloc, case, answer),
