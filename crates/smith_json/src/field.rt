@@ -30,7 +30,7 @@ impl fmt::Display for FieldKind {
                 "a whole number below 2^12 or names of kinds of instructions between commas",
             ),
             FieldKind::OffsetChoices => f.write_str("a list of three whole numbers below 2^32"),
-            FieldKind::File => f.write_str("null alone, since no file is read"),
+            FieldKind::File => f.write_str("only null, since no file is read"),
         }
     }
 }

@@ -87,9 +87,9 @@ impl fmt::Display for ConfigRefusal {
         let field = self.field.as_str();
         write!(f, "line {}, column {}: ", self.line, self.column)?;
         match self.fault {
-            Fault::NotAnObject => f.write_str("this is no JSON object")?,
+            Fault::NotAnObject => f.write_str("not a JSON object")?,
             Fault::UnknownField => write!(f, "there is no field `{field}`")?,
-            Fault::RepeatedField => write!(f, "the field `{field}` stands twice")?,
+            Fault::RepeatedField => write!(f, "the field `{field}` occurs twice")?,
             Fault::WrongType => write!(f, "the value of `{field}` has the wrong type")?,
             Fault::OutOfRange => write!(f, "the value of `{field}` is out of range")?,
             Fault::TextAfter => f.write_str("text follows the object")?,

@@ -35,7 +35,7 @@ impl Failure {
 
 // The refusal of a binary for a terminal.
 const TERMINAL: &str =
-    "a binary is not written to a terminal: name a file by --output, or ask for text by --wat";
+    "a binary is not written to a terminal: name a file with --output, or use --wat for text";
 
 impl fmt::Display for Failure {
     fn fmt<W: fmt::Write>(&self, f: &mut fmt::Formatter<W>) -> fmt::Result {
@@ -43,7 +43,7 @@ impl fmt::Display for Failure {
             Failure::File(path, error) => write!(f, "{path}: {error}"),
             Failure::Stream(error) => write!(f, "{error}"),
             Failure::Config(path, refusal) => write!(f, "{path}: {refusal}"),
-            Failure::Word(name, value) => write!(f, "{value:?} is no value of --{name}"),
+            Failure::Word(name, value) => write!(f, "{value:?} is not a value of --{name}"),
             Failure::Output(fault) => write!(f, "{fault}"),
             Failure::Terminal => f.write_str(TERMINAL),
             Failure::Memory => f.write_str("refused: Memory"),

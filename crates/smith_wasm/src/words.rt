@@ -57,7 +57,7 @@ static WORDS: [Word; 10] = [
         takes: Takes::Text("FILE"),
         needs: None,
         excludes: &[],
-        about: "Writes to this file, in place of standard output.",
+        about: "Writes to this file instead of standard output.",
     },
     Word {
         name: WAT,
@@ -65,7 +65,7 @@ static WORDS: [Word; 10] = [
         takes: Takes::Nothing,
         needs: None,
         excludes: &[],
-        about: "Writes the text format, in place of the binary format.",
+        about: "Writes the text format instead of the binary format.",
     },
     Word {
         name: CONFIG,
@@ -97,7 +97,7 @@ static WORDS: [Word; 10] = [
         takes: Takes::Number,
         needs: Some(ENSURE_TERMINATION),
         excludes: &[],
-        about: "The number of calls and iterations before the module traps; 100 where it is left out.",
+        about: "The number of calls and iterations before the module traps. The default is 100.",
     },
     Word {
         name: COUNT,
@@ -105,7 +105,7 @@ static WORDS: [Word; 10] = [
         takes: Takes::Number,
         needs: Some(OUTPUT_DIR),
         excludes: &[INPUT, OUTPUT],
-        about: "Makes this number of modules, from inputs of a random generator.",
+        about: "Makes this number of modules from pseudorandom inputs.",
     },
     Word {
         name: SEED,
@@ -113,7 +113,7 @@ static WORDS: [Word; 10] = [
         takes: Takes::Number,
         needs: Some(COUNT),
         excludes: &[],
-        about: "The seed of the random generator; 0 where it is left out.",
+        about: "The seed of the pseudorandom inputs. The default is 0.",
     },
     Word {
         name: SIZE,
@@ -121,7 +121,7 @@ static WORDS: [Word; 10] = [
         takes: Takes::Number,
         needs: Some(COUNT),
         excludes: &[],
-        about: "The length of each of these inputs in bytes; 1024 where it is left out.",
+        about: "The length of each of these inputs in bytes. The default is 1024.",
     },
     Word {
         name: OUTPUT_DIR,
@@ -138,9 +138,9 @@ pub(crate) fn command<'a>(alloc: Global) -> Result<Command<'a>, Failure> {
     let command = Command::new(alloc, "smith_wasm").version("0.1.0").about(
         "Makes a valid WebAssembly module from the bytes of a file or of standard input.",
     );
-    let input = Arg::new(alloc, INPUT).value_name("INPUT").help(
-        "The file of the input; standard input where it is - or left out.",
-    );
+    let input = Arg::new(alloc, INPUT)
+        .value_name("INPUT")
+        .help("The input file; standard input if it is - or omitted.");
     with_fields(alloc, with_words(alloc, command.arg(input)?)?)
 }
 
