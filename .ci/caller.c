@@ -1,12 +1,12 @@
-/* Reads a configuration and inputs from standard input, each as its length in four bytes, the lowest first, and then its bytes.
+/* Reads a configuration and inputs from standard input, each as its length in four bytes, least significant first, and then its bytes.
  * Writes for each input a status and the module, or the reason in words, in the same form.
  *
- * It also looks at what each call left of its buffer, with too little room, with as much as is needed, and with more. It ends with
- * status 3 where that isn't what smith.h says, and with 4 where it has no memory, or can't read or write.
+ * It also checks the buffer after each call, with too little room, with just enough, and with more. The exit status is 3 if the buffer is
+ * not as smith.h says, and 4 if memory runs out, or a read or a write fails.
  */
 #include "smith.h"
 
-/* What it needs of the C library, whose headers the kit lacks. */
+/* The parts of the C library that are needed. The kit lacks its headers. */
 long read(int file, void *buffer, size_t length);
 long write(int file, const void *buffer, size_t length);
 void *malloc(size_t length);
@@ -40,7 +40,7 @@ static void write_number(uint32_t number) {
     write_all(bytes, 4);
 }
 
-/* Takes a record from the front of what was read. */
+/* Takes a record from the front of the input. */
 static struct bytes record(struct bytes *given) {
     need(given->length >= 4, 4);
     const uint8_t *at = given->at;
@@ -50,7 +50,7 @@ static struct bytes record(struct bytes *given) {
     return (struct bytes){at + 4, length};
 }
 
-/* Calls with this room in a buffer of marks. All but what is written must still be marks, bytes beyond the room too. */
+/* Calls with `room` bytes of a buffer of marks. All bytes that are not written must still be marks, even those beyond the room. */
 static struct smith_answer marked(call *make, struct bytes config, struct bytes input, uint8_t *out, size_t room, uint32_t writes) {
     memset(out, MARK, room + BEYOND);
     struct smith_answer answer = make(config.at, config.length, input.at, input.length, out, room);
@@ -60,7 +60,7 @@ static struct smith_answer marked(call *make, struct bytes config, struct bytes 
     return answer;
 }
 
-/* Calls with all the room there is, then with as little as the output takes, and with one byte less. */
+/* Calls with all the room, then with exactly the room that the output needs, and with one byte less. */
 static struct smith_answer tried(call *make, struct bytes config, struct bytes input, uint8_t *out, uint32_t writes) {
     struct smith_answer first = marked(make, config, input, out, ROOM, writes);
     need(first.status != SMITH_SHORT, 3);

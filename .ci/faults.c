@@ -1,10 +1,10 @@
-/* Faults that a preloaded library makes: the numbers are environment variables, and each counts from 1 over the whole process.
+/* Faults that a preloaded library injects. The numbers are environment variables, and each counts from 1 over the whole process.
  *
- *   FAULT_MEMORY       the request for memory that is refused, and with FAULT_FROM all from that one on
+ *   FAULT_MEMORY       the request for memory that is refused; with FAULT_FROM, all later ones too
  *   FAULT_READ         the read that fails
  *   FAULT_WRITE        the write that fails
  *   FAULT_SHORT        reads and writes move a single byte
- *   FAULT_REQUESTS     the number of requests goes to standard error when the process exits
+ *   FAULT_REQUESTS     the number of requests is written to standard error when the process exits
  *
  * No header is included, since the kit has none. */
 
@@ -21,7 +21,7 @@ enum { INPUT_OUTPUT_ERROR = 5 };
 
 static size requests, reads, writes;
 
-/* The number that the environment has under a name, or 0. */
+/* Returns the number in the environment variable of this name, or 0. */
 static size number(const char *name) {
     const char *text = getenv(name);
     size found = 0;
@@ -44,7 +44,7 @@ static long failed(void) {
     return -1;
 }
 
-/* At most one byte where moves are short. */
+/* Returns 1 for a short move of bytes, else their number. */
 static size moved(size count) { return count && number("FAULT_SHORT") ? 1 : count; }
 
 long read(int file, void *bytes, size count) {
@@ -52,7 +52,7 @@ long read(int file, void *bytes, size count) {
     return reads == number("FAULT_READ") ? failed() : __read(file, bytes, moved(count));
 }
 
-/* Standard error tells the fault, so its writes are left alone. */
+/* Standard error reports the fault, so its writes never fail. */
 long write(int file, const void *bytes, size count) {
     if (file == 2) return __write(file, bytes, count);
     writes++;
