@@ -5,13 +5,13 @@ use std::alloc::{AllocError, AllocFailed};
 #[derive(Clone, Copy, Debug, thiserror::Error)]
 pub enum Fault {
     /// The line is not a JSON object of strings and lists of strings, from this byte on.
-    #[error("no object of a case, from byte {0} on")]
+    #[error("not a JSON object of a case, from byte {0}")]
     Syntax(usize),
     /// A key that no case has.
     #[error("an unknown key before byte {0}")]
     UnknownKey(usize),
     /// The same key twice.
-    #[error("a key for the second time before byte {0}")]
+    #[error("the key before byte {0} occurs twice")]
     RepeatedKey(usize),
     /// No name, or an empty one.
     #[error("no name")]
@@ -26,19 +26,19 @@ pub enum Fault {
     #[error("an unknown type space")]
     UnknownTypes,
     /// An input that is not hexadecimal.
-    #[error("the input isn't hexadecimal")]
+    #[error("the input is not hexadecimal")]
     Input,
     /// An unknown way to make several inputs.
     #[error("unknown inputs")]
     UnknownInputs,
     /// The argument at this place, from 0, is missing, or is not valid for the call.
-    #[error("argument {0} isn't one of the call")]
+    #[error("argument {0} is missing or not valid for the call")]
     Argument(usize),
     /// More arguments than the call has.
-    #[error("an argument too many")]
+    #[error("more arguments than the call has")]
     TooManyArguments,
     /// A key that the call does not read.
-    #[error("a key of which the call has no use")]
+    #[error("a key that the call does not read")]
     UselessKey,
     /// Nothing is wanted, or an empty list.
     #[error("nothing is wanted")]
@@ -47,7 +47,7 @@ pub enum Fault {
     #[error("an empty piece is wanted")]
     EmptyPiece,
     /// The second run returns a different answer.
-    #[error("the second run gives another answer")]
+    #[error("the second run returned a different answer")]
     Unsteady,
     /// The call may not be made: the configuration, or its context, does not meet the conditions of
     /// the call.

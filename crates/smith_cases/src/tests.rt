@@ -1,10 +1,13 @@
 use smith_answers::judge;
 use std::test::Fail;
 
+const RIGHT: &str =
+    r#"{"name": "a", "call": "Module::new", "lines": ["(module", ")"], "absent": ["start"]}"#;
+
 // Each line, and the report after `not ok`.
 static WRONG: [(&str, &str); 28] = [
-    ("", " : no object of a case"),
-    ("[]", " : no object of a case"),
+    ("", " : not a JSON object of a case"),
+    ("[]", " : not a JSON object of a case"),
     ("{}", " : no name"),
     (
         r#"{"name": "", "call": "Module::new", "may": ["Ok"]}"#,
@@ -45,23 +48,23 @@ static WRONG: [(&str, &str); 28] = [
     (r#"{"name": "a", "may": ["Ok"]}"#, " a: an unknown call"),
     (
         r#"{"name": "a", "name": "b", "may": ["Ok"]}"#,
-        " a: a key for the second time",
+        " a: the key before byte",
     ),
     (
         r#"{"name": "a", "config": {}, "config": {}}"#,
-        " a: a key for the second time",
+        " a: the key before byte",
     ),
     (
         r#"{"name": "a", "call": "Module::new", "may": ["Ok"]} {}"#,
-        " a: no object of a case",
+        " a: not a JSON object of a case",
     ),
     (
         r#"{"name": "a", "call": "Module::new", "input": "0", "may": ["Ok"]}"#,
-        " a: the input isn't hexadecimal",
+        " a: the input is not hexadecimal",
     ),
     (
         r#"{"name": "a", "call": "Module::new", "input": "00*x", "may": ["Ok"]}"#,
-        " a: the input isn't hexadecimal",
+        " a: the input is not hexadecimal",
     ),
     (
         r#"{"name": "a", "call": "Module::new", "inputs": "each bit", "may": ["Ok"]}"#,
@@ -77,15 +80,15 @@ static WRONG: [(&str, &str); 28] = [
     ),
     (
         r#"{"name": "a", "call": "Module::arbitrary", "args": ["1"], "may": ["Ok"]}"#,
-        " a: a key of which the call has no use",
+        " a: a key that the call does not read",
     ),
     (
         r#"{"name": "a", "call": "Module::new", "args": ["left", "1"], "may": ["Ok"]}"#,
-        " a: argument 1 isn't one of the call",
+        " a: argument 1 is missing or not valid",
     ),
     (
         r#"{"name": "a", "call": "Unstructured::arbitrary", "args": ["u7"], "may": ["Ok"]}"#,
-        " a: argument 0 isn't one of the call",
+        " a: argument 0 is missing or not valid",
     ),
     (
         r#"{"name": "a", "call": "Module::new", "may": ["EmptyChoose"]}"#,
@@ -106,22 +109,18 @@ static WRONG: [(&str, &str); 28] = [
 ];
 
 #[test]
-fn wrong_cases_are_not_ok(rt: HostRuntime) -> Result<(), Fail> {
+fn a_right_case_is_ok_and_wrong_ones_are_not(rt: HostRuntime) -> Result<(), Fail> {
     for (line, wanted) in &WRONG {
         let mut report = String::new(rt.alloc());
         assert!(rt; !judge(rt.alloc(), line, &mut report)?, "of {line}");
         let told = report.as_str().strip_prefix("not ok").unwrap_or("");
         assert!(rt; told.starts_with(wanted), "{report} of {line}");
     }
-    Ok(())
-}
-
-#[test]
-fn a_right_case_is_ok(rt: HostRuntime) -> Result<(), Fail> {
-    let line =
-        r#"{"name": "a", "call": "Module::new", "lines": ["(module", ")"], "absent": ["start"]}"#;
     let mut report = String::new(rt.alloc());
-    assert!(rt; judge(rt.alloc(), line, &mut report)?);
+    assert!(rt;
+        judge(rt.alloc(), RIGHT, &mut report)?,
+        "{report} of {RIGHT}"
+    );
     assert_eq!(rt; report.as_str(), "ok a\n");
     Ok(())
 }

@@ -1,6 +1,6 @@
 -- No value type of a drawn type is an ungrounded non-nullable reference if none is in the type that
 -- it matches and in the types before it.
-use Rattle.std.proofs.Common.{ℕ, zero, suc, ◌∙◌, Bool, true, false, Some, List, [], ◌∷◌, ◌++◌, length, sym}
+use Rattle.std.proofs.Common.{ℕ, zero, suc, ◌∙◌, Bool, false, Some, List, [], ◌∷◌, ◌++◌, length, sym}
 use Rattle.std.specs.Prelude.{All}
 use Rattle.std.specs.List.{AllByRecursion as Each}
 use Rattle.std.proofs.lemmas.Bool.{true≢false}

@@ -1,8 +1,8 @@
-ghost use Rattle.std.specs.Prelude.{◌≡◌, [], ◌&&◌, nat_le, OnOk, IfOk, IfErr};
+ghost use Rattle.std.specs.Prelude.{◌≡◌, ◌<◌, [], ◌&&◌, nat_le, length, IsTrue, OnOk, IfOk, IfErr};
 ghost use Rattle.smith_types.specs.Expressions.{Context};
 ghost use Rattle.smith_types.specs.FuncGrounds.{AreFuncGrounds, IsFunctionAdded};
 ghost use Rattle.smith_draw.specs.Grounding.{standing_in, with_functions};
-ghost use Rattle.smith_draw.specs.KeptGrounds.{AreKeptGrounds};
+ghost use Rattle.smith_draw.specs.KeptGrounds.{AreKeptGrounds, HasBegun};
 
 use crate::spaces::Spaces;
 use crate::standing::Standing;
@@ -32,6 +32,7 @@ impl KeptGrounds {
     pub fn begin(&mut self, alloc: Global, config: &Config, types: &TypeSpace) -> Result<(), Error>
         ensures none { (context : Context) → context.types ≡ types.now.types → context.funcs ≡ []
             → OnOk result (AreKeptGrounds context self.new) }
+        ensures begun { IsTrue config.now.non_nullable_enabled → OnOk result (HasBegun self.new) }
         ensures memory { IfErr result (λ e. e ≡ Error.Memory) }
     {
         self.kept = None;
@@ -56,6 +57,8 @@ impl KeptGrounds {
     /// Records the heap types that the functions of `spaces` ground, if there are functions.
     pub fn keep(&mut self, alloc: Global, config: &Config, spaces: &Spaces<'_>) -> Result<(), Error>
         ensures kept { OnOk result (AreKeptGrounds (standing_in config.now spaces.now) self.new) }
+        ensures begun { IsTrue config.now.non_nullable_enabled
+            → 0 < length spaces.now.entities.funcs → OnOk result (HasBegun self.new) }
         ensures memory { IfErr result (λ e. e ≡ Error.Memory) }
     {
         self.kept = None;

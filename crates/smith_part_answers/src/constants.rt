@@ -147,7 +147,7 @@ fn element_of(over: &Over<'_>) -> Result<RefType, Fault>
         return Err(Fault::NotCallable("the element type isn't valid"));
     }
     if !element.nullable && !over.config.gc_enabled {
-        return Err(Fault::NotCallable("nothing makes an element"));
+        return Err(Fault::NotCallable("no element can be drawn"));
     }
     Ok(element)
 }

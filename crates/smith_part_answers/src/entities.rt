@@ -41,7 +41,7 @@ pub(crate) fn answer_entity(
 
 fn answer_tag(over: &Over<'_>, u: &mut Unstructured<'_>, answer: &mut String) -> Result<(), Fault> {
     if count_types(TypeUse::Tag, over.types.types()) == 0 {
-        return Err(Fault::NotCallable("no type may be that of a tag"));
+        return Err(Fault::NotCallable("no type can be the type of a tag"));
     }
     let spaces = spaces_of(over.types);
     tell_drawn(

@@ -112,7 +112,7 @@ fn add_group(
 {
     let Over { alloc, config, .. } = *over;
     if types.types().len() >= config.max_types {
-        return Err(Fault::NotCallable("no type is left"));
+        return Err(Fault::NotCallable("no further type is allowed"));
     }
     Ok(arbitrary_rec_group(alloc, config, types, &Entities::none(), allow_empty, u)?)
 }

@@ -62,7 +62,7 @@ fn is_value_standing(types: &TypeSpace, value: ValType) -> bool
 }
 
 // The fault of a name of a type that does not exist.
-const MISSING: Fault = Fault::NotCallable("a type doesn't stand");
+const MISSING: Fault = Fault::NotCallable("a type is not defined");
 
 fn is_heap_below(types: &TypeSpace, case: &Case) -> Result<bool, Fault> {
     let (a, b) = (read(case, 0, heap_type_of)?, read(case, 1, heap_type_of)?);

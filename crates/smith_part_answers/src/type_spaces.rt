@@ -46,7 +46,7 @@ fn answer_over(
 }
 
 // The fault of a name of a type that does not exist.
-const MISSING: Fault = Fault::NotCallable("a type doesn't stand");
+const MISSING: Fault = Fault::NotCallable("a type is not defined");
 
 // Appends the depth of the type at the index of the argument.
 fn answer_depth(types: &TypeSpace, case: &Case, answer: &mut String) -> Result<(), Fault> {
@@ -173,7 +173,7 @@ fn push_group(
     for ty in group {
         let added = ty.clone(alloc)?;
         if !types.may_follow(&added) {
-            return Err(Fault::NotCallable("a type may not follow"));
+            return Err(Fault::NotCallable("a type cannot be added"));
         }
         let index = push(call, types, added)?;
         writeln!(answer, "index {index}")?;

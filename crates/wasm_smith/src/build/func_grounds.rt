@@ -1,7 +1,7 @@
 //! The record of the heap types that functions ground, while a module is drawn.
 
-ghost use Rattle.std.specs.Prelude.{◌≡◌, ◌≤◌, length, IfOk, IfErr};
-ghost use Rattle.smith_draw.specs.KeptGrounds.{AreKeptGrounds};
+ghost use Rattle.std.specs.Prelude.{◌≡◌, ◌≤◌, length, IsTrue, IfOk, IfErr};
+ghost use Rattle.smith_draw.specs.KeptGrounds.{AreKeptGrounds, HasBegun};
 ghost use Rattle.wasm_smith.specs.DrawnSteps.{drawn_next};
 
 use crate::build::parts_so_far::PartsSoFar;
@@ -21,6 +21,7 @@ pub(crate) fn func_grounds(
 ) -> Result<KeptGrounds, Error>
     requires { drawn.now.definitions.num_funcs ≤ length drawn.now.imported.spaces.funcs }
     ensures kept { IfOk result (AreKeptGrounds (drawn_next config.now drawn.now)) }
+    ensures begun { IsTrue config.now.non_nullable_enabled → IfOk result HasBegun }
     ensures memory { IfErr result (λ e. e ≡ Error.Memory) }
 {
     let types = &drawn.types;
