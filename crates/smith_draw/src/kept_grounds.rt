@@ -58,7 +58,7 @@ impl KeptGrounds {
     pub fn keep(&mut self, alloc: Global, config: &Config, spaces: &Spaces<'_>) -> Result<(), Error>
         ensures kept { OnOk result (AreKeptGrounds (standing_in config.now spaces.now) self.new) }
         ensures begun { IsTrue config.now.non_nullable_enabled
-            → 0 < length spaces.now.entities.funcs → OnOk result (HasBegun self.new) }
+            → 0 < length spaces.now.entities.funcs.now → OnOk result (HasBegun self.new) }
         ensures memory { IfErr result (λ e. e ≡ Error.Memory) }
     {
         self.kept = None;
