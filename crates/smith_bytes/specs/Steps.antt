@@ -28,8 +28,9 @@ abbrev pub Returns : {X Y : Type 0} → (Error → Bool) → (X → Y) → Resul
 Returns is_open view (Ok x) read = read ≡ Ok (view x)
 Returns is_open view (Err e) read = Unless (is_open e) (read ≡ Err e)
 
--- A step returns the result of `read`, with the bytes left, except if memory runs out or there is
--- nothing to choose from. Separate clauses state when these two may occur.
+-- As `Returns`, for a `read` that fails only with a `Why`, which the step returns as an incorrect
+-- format: lack of memory, and an empty choice, are left open, and there is no other refusal.
+-- Separate clauses state when these two may occur.
 abbrev pub ReturnsWhy : {X Y : Type 0} → (X → Y) → Result X Error → Result Y Why → Type 0
 ReturnsWhy view (Ok x) read = read ≡ Ok (view x)
 ReturnsWhy view (Err errors.Memory) read = Unit {0}

@@ -15,8 +15,8 @@ use Rattle.smith_draw.specs.declared.const_expr.kept_offers.KeptOffers.{KeptOffe
 abbrev pub offered_before : {A : Type 0} → (ℕ → A → List Choice) → List A → ℕ → ℕ
 offered_before offer xs n = length (each_from offer 0 (take n xs))
 
--- the counts of what is offered, given how many of the first items are: among all items read, and
--- before each block of eight of them
+-- the counts of the items on offer, where `before n` is the number on offer among the first n:
+-- among all items read, and before each block of eight of them
 pub record IsCounted (before : ℕ → ℕ) (counts : BlockCounts) : Type 0 where
   pub total : counts.total ≡ before counts.seen
   pub starts : counts.starts ≡ map (λ block. before (8 * block)) (range_with_len 0 ((counts.seen + 7) / 8))

@@ -13,7 +13,7 @@ use Rattle.smith_sections.specs.Data.{IsData}
 use Rattle.smith_sections.specs.Sections.{IsOptionalSection, IsListSection}
 use Rattle.smith_sections.specs.Modules.{Contents, IsPreamble, IsStartSection, IsDataCount}
 
--- a module as in `IsModule`, with these bytes for its code section
+-- a module as in `IsModule`, with these bytes for its code section (Binary Format, Modules)
 abbrev pub IsModuleAround : Contents → (List ℕ → Type 0) → List ℕ → Type 0
 IsModuleAround m Code =
     Joined IsPreamble

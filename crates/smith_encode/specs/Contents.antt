@@ -15,7 +15,7 @@ use Rattle.smith_sections.specs.Modules.{Contents}
 abbrev pub defined : {A : Type 0} → ℕ → List A → List A
 defined count space = drop (length space - count) space
 
--- the parts of a module in the abstract syntax
+-- the parts of a module in the abstract syntax (Structure, Modules)
 abbrev pub contents_of : ModuleParts → Contents
 contents_of m = record {
   types = map (group_at m.types) m.groups;

@@ -113,6 +113,6 @@ IsBlockTypeOver features types (block.Func index) params results =
 abbrev pub IsBlockType : BodyContext → BlockType → List ValType → List ValType → Type 0
 IsBlockType context ty params results = IsBlockTypeOver context.features context.types ty params results
 
--- `operands` and `results` are `these` and `those`
+-- `operands` and `results` are `these` and `those` (Validation, Instruction Types)
 abbrev pub To : List ValType → List ValType → List ValType → List ValType → Type 0
 To operands results these those = (operands ≡ these) × (results ≡ those)

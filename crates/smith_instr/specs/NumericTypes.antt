@@ -19,11 +19,11 @@ pub record Signature : Type 0 where
   pub operands : List ValType
   pub results : List ValType
 
--- the signature from some operands to one result
+-- the signature from some operands to one result (Validation, Instruction Types)
 abbrev pub to : List ValType → ValType → Signature
 to operands result = record { operands = operands; results = result ∷ [] }
 
--- the signature from one operand to one result
+-- the signature from one operand to one result (Validation, Instruction Types)
 abbrev pub of : ValType → ValType → Signature
 of operand result = to (operand ∷ []) result
 

@@ -16,7 +16,7 @@ pub record Stacked : Type 0 where
   pub stack : List ValType
   pub set : List ℕ
 
--- these values and these set locals
+-- these values and these set locals (Validation, Conventions, Types)
 abbrev pub stacked : List ValType → List ℕ → Stacked
 stacked stack set = record { stack = stack; set = set }
 

@@ -10,20 +10,21 @@ use Rattle.smith_instr.specs.declared.aggregate.Extension.{Extension}
 use Rattle.smith_instr.specs.declared.aggregate.Extension.TheVariants as extension
 
 -- the number of a get: `first` for an unpacked field; the numbers of gets that extend follow it
+-- (Aggregate Instructions)
 abbrev pub get_number : ℕ → Extension → ℕ
 get_number first extension.Unpacked = first
 get_number first extension.Signed = first + 1
 get_number first extension.Unsigned = first + 2
 
--- two indices after a number and the prefix of aggregates
+-- two indices after a number and the prefix of aggregates (Aggregate Instructions)
 abbrev pub IsOnTwo : ℕ → ℕ → ℕ → List ℕ → Type 0
 IsOnTwo number first second = Joined (IsPrefixed 0xFB number) (Joined (IsIndex first) (IsIndex second))
 
--- one index after a number and the prefix of aggregates
+-- one index after a number and the prefix of aggregates (Aggregate Instructions)
 abbrev pub IsOn : ℕ → ℕ → List ℕ → Type 0
 IsOn number index = Joined (IsPrefixed 0xFB number) (IsIndex index)
 
--- an aggregate instruction
+-- an aggregate instruction (Aggregate Instructions)
 abbrev pub IsAggregate : AggregateInstr → List ℕ → Type 0
 IsAggregate (aggregate.StructNew ty) piece = IsOn 0 ty piece
 IsAggregate (aggregate.StructNewDefault ty) piece = IsOn 1 ty piece

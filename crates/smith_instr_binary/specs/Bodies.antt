@@ -15,10 +15,10 @@ IsFunc locals instructions = Joined (IsLocals locals) (IsExpr instructions)
 abbrev pub IsFuncBody : List ValType → List Instr → List ℕ → Type 0
 IsFuncBody locals instructions = IsSized (IsFunc locals instructions)
 
--- the content of a body as it is written: each local is a run of its own
+-- the content of a body as it is written: each local is a run of its own (own rule)
 abbrev pub IsFuncWritten : List ValType → List Instr → List ℕ → Type 0
 IsFuncWritten locals instructions = Joined (IsLocalsWritten locals) (IsExpr instructions)
 
--- a body as it is written
+-- a body as it is written (own rule)
 abbrev pub IsFuncBodyWritten : List ValType → List Instr → List ℕ → Type 0
 IsFuncBodyWritten locals instructions = IsSized (IsFuncWritten locals instructions)

@@ -17,7 +17,7 @@ use Rattle.smith_instr_binary.specs.Numeric.{IsNumeric}
 use Rattle.smith_instr_binary.specs.References.{IsReference, IsTable}
 use Rattle.smith_instr_binary.specs.Vector.{IsVectorInstr}
 
--- an instruction
+-- an instruction (Instructions)
 abbrev pub IsInstr : Instr → List ℕ → Type 0
 -- Parametric Instructions, the first two
 IsInstr instr.Unreachable piece = IsByte 0x00 piece
@@ -81,7 +81,7 @@ IsInstr (instr.Vector op) piece = IsVectorInstr op piece
 IsInstr (instr.Atomic access at) piece = Joined (IsPrefixed 0xFE (atomic_number access)) (IsMemArg at) piece
 IsInstr instr.AtomicFence piece = Joined (IsPrefixed 0xFE 3) (IsByte 0x00) piece
 
--- instructions in order
+-- instructions in order (Instructions)
 abbrev pub IsInstrs : List Instr → List ℕ → Type 0
 IsInstrs instructions = Each IsInstr instructions
 
@@ -89,7 +89,7 @@ IsInstrs instructions = Each IsInstr instructions
 abbrev pub IsExpr : List Instr → List ℕ → Type 0
 IsExpr instructions = Joined (IsInstrs instructions) (IsByte 0x0B)
 
--- an instruction as it is written: no access names the first memory
+-- an instruction as it is written: no access names the first memory (own rule)
 abbrev pub IsInstrWritten : Instr → List ℕ → Type 0
 IsInstrWritten (instr.Load op at) piece = Joined (IsByte (load_opcode op)) (IsMemArgWritten at) piece
 IsInstrWritten (instr.Store op at) piece = Joined (IsByte (store_opcode op)) (IsMemArgWritten at) piece
@@ -100,10 +100,10 @@ IsInstrWritten (instr.VectorStoreLane log2_bytes at lane) piece = IsLaneAccessWr
 IsInstrWritten (instr.Atomic access at) piece = Joined (IsPrefixed 0xFE (atomic_number access)) (IsMemArgWritten at) piece
 IsInstrWritten instruction piece = IsInstr instruction piece
 
--- instructions as they are written
+-- instructions as they are written (own rule)
 abbrev pub IsInstrsWritten : List Instr → List ℕ → Type 0
 IsInstrsWritten instructions = Each IsInstrWritten instructions
 
--- an expression as it is written
+-- an expression as it is written (own rule)
 abbrev pub IsExprWritten : List Instr → List ℕ → Type 0
 IsExprWritten instructions = Joined (IsInstrsWritten instructions) (IsByte 0x0B)

@@ -1,5 +1,5 @@
--- Memory instructions: the section Binary Format, Instructions, Memory Instructions, of the
--- WebAssembly Core Specification 3.0.
+-- Memory instructions: the sections Binary Format, Instructions, Memory Instructions and Vector
+-- Instructions, of the WebAssembly Core Specification 3.0.
 use Rattle.std.specs.Prelude.{◌≡◌, ℕ, ◌+◌, ◌^◌, ◌<◌, List}
 use Rattle.smith_binary.specs.Numbers.{IsUnsigned}
 use Rattle.smith_binary.specs.Pieces.{IsByte, Joined}
@@ -16,17 +16,17 @@ use Rattle.smith_instr.specs.declared.vector.VectorLoad.TheVariants as vector_lo
 
 -- the place of an access to a memory: for the first memory the alignment, then the offset; for any
 -- memory the alignment with the bit after its six bits set, then the index of the memory and the
--- offset
+-- offset (Memory Instructions)
 pub data IsMemArg (at : MemArg) (piece : List ℕ) : Type 0 where
   first_memory : at.memory ≡ 0 → at.align < 2 ^ 6 → Joined (IsUnsigned 32 at.align) (IsUnsigned 64 at.offset) piece → IsMemArg at piece
   named_memory : at.align < 2 ^ 6 → Joined (IsUnsigned 32 (at.align + 2 ^ 6)) (Joined (IsIndex at.memory) (IsUnsigned 64 at.offset)) piece → IsMemArg at piece
 
--- the place as it is written: the first memory is not named
+-- the place as it is written: the first memory is not named (own rule)
 pub record IsMemArgWritten (at : MemArg) (piece : List ℕ) : Type 0 where
   pub form : IsMemArg at piece
   pub unnamed : at.memory ≡ 0 → Joined (IsUnsigned 32 at.align) (IsUnsigned 64 at.offset) piece
 
--- the opcodes of loads
+-- the opcodes of loads (Memory Instructions)
 abbrev pub load_opcode : Load → ℕ
 load_opcode load.I32 = 0x28
 load_opcode load.I64 = 0x29
@@ -43,7 +43,7 @@ load_opcode load.I64From16U = 0x33
 load_opcode load.I64From32S = 0x34
 load_opcode load.I64From32U = 0x35
 
--- the opcodes of stores
+-- the opcodes of stores (Memory Instructions)
 abbrev pub store_opcode : Store → ℕ
 store_opcode store.I32 = 0x36
 store_opcode store.I64 = 0x37
@@ -55,7 +55,7 @@ store_opcode store.I64To8 = 0x3C
 store_opcode store.I64To16 = 0x3D
 store_opcode store.I64To32 = 0x3E
 
--- an instruction on a whole memory or a data segment
+-- an instruction on a whole memory or a data segment (Memory Instructions)
 abbrev pub IsMemory : MemoryInstr → List ℕ → Type 0
 IsMemory (memory.Size index) piece = Joined (IsByte 0x3F) (IsIndex index) piece
 IsMemory (memory.Grow index) piece = Joined (IsByte 0x40) (IsIndex index) piece
@@ -64,7 +64,7 @@ IsMemory (memory.DataDrop segment) piece = Joined (IsPrefixed 0xFC 9) (IsIndex s
 IsMemory (memory.Copy to from) piece = Joined (IsPrefixed 0xFC 10) (Joined (IsIndex to) (IsIndex from)) piece
 IsMemory (memory.Fill index) piece = Joined (IsPrefixed 0xFC 11) (IsIndex index) piece
 
--- the numbers of loads of vectors, after the prefix of vectors
+-- the numbers of loads of vectors, after the prefix of vectors (Vector Instructions)
 abbrev pub vector_load_number : VectorLoad → ℕ
 vector_load_number vector_load.V128 = 0
 vector_load_number vector_load.I8x8S = 1
@@ -81,10 +81,10 @@ vector_load_number vector_load.Zero32 = 92
 vector_load_number vector_load.Zero64 = 93
 
 -- an access to a lane of `2 ^ log2_bytes` bytes, of which there are four sizes: the numbers follow
--- one another from `first` on
+-- one another from `first` on (Vector Instructions)
 abbrev pub IsLaneAccess : ℕ → ℕ → MemArg → ℕ → List ℕ → Type 0
 IsLaneAccess first log2_bytes at lane piece = (log2_bytes < 4) × Joined (IsPrefixed 0xFD (first + log2_bytes)) (Joined (IsMemArg at) (IsByte lane)) piece
 
--- an access to a lane as it is written
+-- an access to a lane as it is written (own rule)
 abbrev pub IsLaneAccessWritten : ℕ → ℕ → MemArg → ℕ → List ℕ → Type 0
 IsLaneAccessWritten first log2_bytes at lane piece = (log2_bytes < 4) × Joined (IsPrefixed 0xFD (first + log2_bytes)) (Joined (IsMemArgWritten at) (IsByte lane)) piece

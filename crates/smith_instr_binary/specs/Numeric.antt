@@ -27,13 +27,13 @@ use Rattle.smith_instr.specs.declared.numeric.NumericInstr.{NumericInstr}
 use Rattle.smith_instr.specs.declared.numeric.NumericInstr.TheVariants as numeric
 
 -- the opcodes of the operators of a type, which follow one another from the first on; unary
--- operators of integers
+-- operators of integers (Numeric Instructions)
 abbrev pub int_unary_opcode : ℕ → IntUnary → ℕ
 int_unary_opcode first int_unary.Clz = first
 int_unary_opcode first int_unary.Ctz = first + 1
 int_unary_opcode first int_unary.Popcnt = first + 2
 
--- binary operators of integers
+-- binary operators of integers (Numeric Instructions)
 abbrev pub int_binary_opcode : ℕ → IntBinary → ℕ
 int_binary_opcode first int_binary.Add = first
 int_binary_opcode first int_binary.Sub = first + 1
@@ -51,7 +51,7 @@ int_binary_opcode first int_binary.ShrU = first + 12
 int_binary_opcode first int_binary.Rotl = first + 13
 int_binary_opcode first int_binary.Rotr = first + 14
 
--- comparisons of integers
+-- comparisons of integers (Numeric Instructions)
 abbrev pub int_compare_opcode : ℕ → IntCompare → ℕ
 int_compare_opcode first int_compare.Eq = first
 int_compare_opcode first int_compare.Ne = first + 1
@@ -64,7 +64,7 @@ int_compare_opcode first int_compare.LeU = first + 7
 int_compare_opcode first int_compare.GeS = first + 8
 int_compare_opcode first int_compare.GeU = first + 9
 
--- unary operators of floats
+-- unary operators of floats (Numeric Instructions)
 abbrev pub float_unary_opcode : ℕ → FloatUnary → ℕ
 float_unary_opcode first float_unary.Abs = first
 float_unary_opcode first float_unary.Neg = first + 1
@@ -74,7 +74,7 @@ float_unary_opcode first float_unary.Trunc = first + 4
 float_unary_opcode first float_unary.Nearest = first + 5
 float_unary_opcode first float_unary.Sqrt = first + 6
 
--- binary operators of floats
+-- binary operators of floats (Numeric Instructions)
 abbrev pub float_binary_opcode : ℕ → FloatBinary → ℕ
 float_binary_opcode first float_binary.Add = first
 float_binary_opcode first float_binary.Sub = first + 1
@@ -84,7 +84,7 @@ float_binary_opcode first float_binary.Min = first + 4
 float_binary_opcode first float_binary.Max = first + 5
 float_binary_opcode first float_binary.Copysign = first + 6
 
--- comparisons of floats
+-- comparisons of floats (Numeric Instructions)
 abbrev pub float_compare_opcode : ℕ → FloatCompare → ℕ
 float_compare_opcode first float_compare.Eq = first
 float_compare_opcode first float_compare.Ne = first + 1
@@ -93,7 +93,7 @@ float_compare_opcode first float_compare.Gt = first + 3
 float_compare_opcode first float_compare.Le = first + 4
 float_compare_opcode first float_compare.Ge = first + 5
 
--- the opcodes of conversions
+-- the opcodes of conversions (Numeric Instructions)
 abbrev pub conversion_opcode : Conversion → ℕ
 conversion_opcode convert.I32WrapI64 = 0xA7
 conversion_opcode convert.I32TruncF32S = 0xA8
@@ -121,7 +121,7 @@ conversion_opcode convert.I64ReinterpretF64 = 0xBD
 conversion_opcode convert.F32ReinterpretI32 = 0xBE
 conversion_opcode convert.F64ReinterpretI64 = 0xBF
 
--- the opcodes of extensions of a sign
+-- the opcodes of extensions of a sign (Numeric Instructions)
 abbrev pub extension_opcode : SignExtension → ℕ
 extension_opcode extend.I32From8 = 0xC0
 extension_opcode extend.I32From16 = 0xC1
@@ -129,7 +129,7 @@ extension_opcode extend.I64From8 = 0xC2
 extension_opcode extend.I64From16 = 0xC3
 extension_opcode extend.I64From32 = 0xC4
 
--- the numbers of conversions that saturate, after their prefix
+-- the numbers of conversions that saturate, after their prefix (Numeric Instructions)
 abbrev pub saturating_number : SaturatingConversion → ℕ
 saturating_number saturate.I32TruncSatF32S = 0
 saturating_number saturate.I32TruncSatF32U = 1
@@ -147,7 +147,7 @@ wide_number wide.Sub128 = 20
 wide_number wide.MulWideS = 21
 wide_number wide.MulWideU = 22
 
--- a numeric instruction without immediates
+-- a numeric instruction without immediates (Numeric Instructions)
 abbrev pub IsNumeric : NumericInstr → List ℕ → Type 0
 IsNumeric numeric.I32Eqz piece = IsByte 0x45 piece
 IsNumeric (numeric.I32Compare op) piece = IsByte (int_compare_opcode 0x46 op) piece

@@ -11,16 +11,16 @@ use Rattle.smith_instr.specs.declared.table.TableInstr.{TableInstr}
 use Rattle.smith_instr.specs.declared.table.TableInstr.TheVariants as table
 
 -- the number of a test or a cast to a reference type: `first` for a non-nullable one, and the next
--- for a nullable one
+-- for a nullable one (Reference Instructions)
 abbrev pub cast_number : ℕ → Bool → ℕ
 cast_number first false = first
 cast_number first true = first + 1
 
--- a test or a cast to a reference type
+-- a test or a cast to a reference type (Reference Instructions)
 abbrev pub IsCast : ℕ → RefType → List ℕ → Type 0
 IsCast first ty = Joined (IsPrefixed 0xFB (cast_number first ty.nullable)) (IsHeapType ty.heap_type)
 
--- a reference instruction
+-- a reference instruction (Reference Instructions)
 abbrev pub IsReference : ReferenceInstr → List ℕ → Type 0
 IsReference (reference.Null heap) piece = Joined (IsByte 0xD0) (IsHeapType heap) piece
 IsReference reference.IsNull piece = IsByte 0xD1 piece
@@ -30,7 +30,7 @@ IsReference reference.AsNonNull piece = IsByte 0xD4 piece
 IsReference (reference.Test ty) piece = IsCast 20 ty piece
 IsReference (reference.Cast ty) piece = IsCast 22 ty piece
 
--- a table instruction
+-- a table instruction (Table Instructions)
 abbrev pub IsTable : TableInstr → List ℕ → Type 0
 IsTable (table.Get index) piece = Joined (IsByte 0x25) (IsIndex index) piece
 IsTable (table.Set index) piece = Joined (IsByte 0x26) (IsIndex index) piece

@@ -7,15 +7,15 @@ use Rattle.smith_instr.specs.declared.vector.VectorInstr.{VectorInstr}
 use Rattle.smith_instr.specs.declared.vector.VectorInstr.TheVariants as vector
 use Rattle.smith_instr_binary.specs.VectorNumbers.{all_true_number, bitmask_number, extract_number, relaxed_binary_number, relaxed_float_binary_number, relaxed_float_ternary_number, relaxed_float_unary_number, relaxed_ternary_number, replace_number, shift_number, splat_number, vector_binary_number, vector_float_binary_number, vector_float_unary_number, vector_unary_number}
 
--- an instruction of a number, after the prefix of vectors
+-- an instruction of a number, after the prefix of vectors (Vector Instructions)
 abbrev pub IsNumbered : ℕ → List ℕ → Type 0
 IsNumbered number = IsPrefixed 0xFD number
 
--- sixteen lanes, a byte each
+-- sixteen lanes, a byte each (Vector Instructions)
 abbrev pub IsLanes : List ℕ → List ℕ → Type 0
 IsLanes lanes piece = (length lanes ≡ 16) × Is lanes piece
 
--- a vector instruction that accesses no memory
+-- a vector instruction that accesses no memory (Vector Instructions)
 abbrev pub IsVectorInstr : VectorInstr → List ℕ → Type 0
 IsVectorInstr (vector.Shuffle lanes) piece = Joined (IsNumbered 13) (IsLanes lanes) piece
 IsVectorInstr (vector.Splat shape) piece = IsNumbered (splat_number shape) piece

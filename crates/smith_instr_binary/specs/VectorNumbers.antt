@@ -28,7 +28,7 @@ use Rattle.smith_instr.specs.declared.vector.RelaxedTernary.TheVariants as relax
 use Rattle.smith_instr.specs.declared.vector.RelaxedFloatTernary.{RelaxedFloatTernary}
 use Rattle.smith_instr.specs.declared.vector.RelaxedFloatTernary.TheVariants as relaxed_float_ternary
 
--- the numbers of operators on one vector, without floats
+-- the numbers of operators on one vector, without floats (Vector Instructions)
 abbrev pub vector_unary_number : VectorUnary → ℕ
 vector_unary_number unary.V128Not = 77
 vector_unary_number unary.I8x16Abs = 96
@@ -57,7 +57,7 @@ vector_unary_number unary.I64x2ExtendHighI32x4S = 200
 vector_unary_number unary.I64x2ExtendLowI32x4U = 201
 vector_unary_number unary.I64x2ExtendHighI32x4U = 202
 
--- the numbers of operators on one vector, with floats
+-- the numbers of operators on one vector, with floats (Vector Instructions)
 abbrev pub vector_float_unary_number : VectorFloatUnary → ℕ
 vector_float_unary_number float_unary.F32x4DemoteF64x2Zero = 94
 vector_float_unary_number float_unary.F64x2PromoteLowF32x4 = 95
@@ -84,7 +84,7 @@ vector_float_unary_number float_unary.I32x4TruncSatF64x2UZero = 253
 vector_float_unary_number float_unary.F64x2ConvertLowI32x4S = 254
 vector_float_unary_number float_unary.F64x2ConvertLowI32x4U = 255
 
--- the numbers of operators on two vectors, without floats
+-- the numbers of operators on two vectors, without floats (Vector Instructions)
 unfoldable pub vector_binary_number : VectorBinary → ℕ
 vector_binary_number binary.I8x16Swizzle = 14
 vector_binary_number binary.I8x16Eq = 35
@@ -179,7 +179,7 @@ vector_binary_number binary.I64x2ExtMulHighI32x4S = 221
 vector_binary_number binary.I64x2ExtMulLowI32x4U = 222
 vector_binary_number binary.I64x2ExtMulHighI32x4U = 223
 
--- the numbers of operators on two vectors, with floats
+-- the numbers of operators on two vectors, with floats (Vector Instructions)
 abbrev pub vector_float_binary_number : VectorFloatBinary → ℕ
 vector_float_binary_number float_binary.F32x4Eq = 65
 vector_float_binary_number float_binary.F32x4Ne = 66
@@ -210,28 +210,28 @@ vector_float_binary_number float_binary.F64x2Max = 245
 vector_float_binary_number float_binary.F64x2Pmin = 246
 vector_float_binary_number float_binary.F64x2Pmax = 247
 
--- the numbers of `all_true`
+-- the numbers of `all_true` (Vector Instructions)
 abbrev pub all_true_number : IntShape → ℕ
 all_true_number shape.I8x16 = 99
 all_true_number shape.I16x8 = 131
 all_true_number shape.I32x4 = 163
 all_true_number shape.I64x2 = 195
 
--- the numbers of `bitmask`
+-- the numbers of `bitmask` (Vector Instructions)
 abbrev pub bitmask_number : IntShape → ℕ
 bitmask_number shape.I8x16 = 100
 bitmask_number shape.I16x8 = 132
 bitmask_number shape.I32x4 = 164
 bitmask_number shape.I64x2 = 196
 
--- the numbers of `shl`
+-- the numbers of `shl` (Vector Instructions)
 abbrev pub shl_number : IntShape → ℕ
 shl_number shape.I8x16 = 107
 shl_number shape.I16x8 = 139
 shl_number shape.I32x4 = 171
 shl_number shape.I64x2 = 203
 
--- the numbers of `splat`
+-- the numbers of `splat` (Vector Instructions)
 abbrev pub splat_number : LaneShape → ℕ
 splat_number lanes.I8x16 = 15
 splat_number lanes.I16x8 = 16
@@ -240,7 +240,7 @@ splat_number lanes.I64x2 = 18
 splat_number lanes.F32x4 = 19
 splat_number lanes.F64x2 = 20
 
--- the numbers of `extract_lane`
+-- the numbers of `extract_lane` (Vector Instructions)
 abbrev pub extract_number : LaneExtract → ℕ
 extract_number extract.I8x16S = 21
 extract_number extract.I8x16U = 22
@@ -251,7 +251,7 @@ extract_number extract.I64x2 = 29
 extract_number extract.F32x4 = 31
 extract_number extract.F64x2 = 33
 
--- the numbers of `replace_lane`
+-- the numbers of `replace_lane` (Vector Instructions)
 abbrev pub replace_number : LaneShape → ℕ
 replace_number lanes.I8x16 = 23
 replace_number lanes.I16x8 = 26
@@ -260,27 +260,27 @@ replace_number lanes.I64x2 = 30
 replace_number lanes.F32x4 = 32
 replace_number lanes.F64x2 = 34
 
--- the numbers of relaxed operators on one vector
+-- the numbers of relaxed operators on one vector (Vector Instructions)
 abbrev pub relaxed_float_unary_number : RelaxedFloatUnary → ℕ
 relaxed_float_unary_number relaxed_float_unary.I32x4TruncF32x4S = 257
 relaxed_float_unary_number relaxed_float_unary.I32x4TruncF32x4U = 258
 relaxed_float_unary_number relaxed_float_unary.I32x4TruncF64x2SZero = 259
 relaxed_float_unary_number relaxed_float_unary.I32x4TruncF64x2UZero = 260
 
--- the numbers of relaxed operators on two vectors, without floats
+-- the numbers of relaxed operators on two vectors, without floats (Vector Instructions)
 abbrev pub relaxed_binary_number : RelaxedBinary → ℕ
 relaxed_binary_number relaxed_binary.I8x16Swizzle = 256
 relaxed_binary_number relaxed_binary.I16x8Q15MulrS = 273
 relaxed_binary_number relaxed_binary.I16x8DotI8x16I7x16S = 274
 
--- the numbers of relaxed operators on two vectors, with floats
+-- the numbers of relaxed operators on two vectors, with floats (Vector Instructions)
 abbrev pub relaxed_float_binary_number : RelaxedFloatBinary → ℕ
 relaxed_float_binary_number relaxed_float_binary.F32x4Min = 269
 relaxed_float_binary_number relaxed_float_binary.F32x4Max = 270
 relaxed_float_binary_number relaxed_float_binary.F64x2Min = 271
 relaxed_float_binary_number relaxed_float_binary.F64x2Max = 272
 
--- the numbers of relaxed operators on three vectors, without floats
+-- the numbers of relaxed operators on three vectors, without floats (Vector Instructions)
 abbrev pub relaxed_ternary_number : RelaxedTernary → ℕ
 relaxed_ternary_number relaxed_ternary.I8x16Laneselect = 265
 relaxed_ternary_number relaxed_ternary.I16x8Laneselect = 266
@@ -288,14 +288,14 @@ relaxed_ternary_number relaxed_ternary.I32x4Laneselect = 267
 relaxed_ternary_number relaxed_ternary.I64x2Laneselect = 268
 relaxed_ternary_number relaxed_ternary.I32x4DotI8x16I7x16AddS = 275
 
--- the numbers of relaxed operators on three vectors, with floats
+-- the numbers of relaxed operators on three vectors, with floats (Vector Instructions)
 abbrev pub relaxed_float_ternary_number : RelaxedFloatTernary → ℕ
 relaxed_float_ternary_number relaxed_float_ternary.F32x4Madd = 261
 relaxed_float_ternary_number relaxed_float_ternary.F32x4Nmadd = 262
 relaxed_float_ternary_number relaxed_float_ternary.F64x2Madd = 263
 relaxed_float_ternary_number relaxed_float_ternary.F64x2Nmadd = 264
 
--- the numbers of shifts: those of a shape follow one another
+-- the numbers of shifts: those of a shape follow one another (Vector Instructions)
 abbrev pub shift_number : VectorShift → IntShape → ℕ
 shift_number shift.Shl lane_shape = shl_number lane_shape
 shift_number shift.ShrS lane_shape = shl_number lane_shape + 1

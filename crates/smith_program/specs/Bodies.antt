@@ -39,7 +39,7 @@ function_context m function locals = record {
   results = function.results;
 }
 
--- the type of the defined function at a place: imported functions come first
+-- the type of the defined function at a place: imported functions come first (Structure, Indices)
 abbrev pub HasDefinedType : ModuleParts → ℕ → FuncType → Type 0
 HasDefinedType m place function =
     (index : ℕ) × (slice_get m.funcs (length (module_imports m).funcs + place) ≡ Some index) × IsFuncAt m.types index function
@@ -64,15 +64,15 @@ abbrev pub IsOfBody : (List Instr → Type 0) → Code → Body → Type 0
 IsOfBody Is code body.Raw = IsRaw code.instructions
 IsOfBody Is code (body.Drawn instructions) = (¬ IsRaw code.instructions) × Is instructions
 
--- a body for each function that a module defines
+-- a body for each function that a module defines (Validation, Functions)
 pub record AreBodiesBy (Is : ℕ → Code → List Instr → Type 0) (m : ModuleParts) (bodies : List Body) : Type 0 where
   pub each : length bodies ≡ length m.code
   pub in_place : (place : ℕ) (code : Code) (body : Body) → slice_get m.code place ≡ Some code → slice_get bodies place ≡ Some body → IsOfBody (Is place code) code body
 
--- bodies of the functions of a module
+-- bodies of the functions of a module (Validation, Functions)
 abbrev pub AreBodiesOf : ModuleParts → List Body → Type 0
 AreBodiesOf m bodies = AreBodiesBy (IsBodyAt m) m bodies
 
--- bodies that were drawn for a module
+-- bodies that were drawn for a module (own rule)
 abbrev pub AreDrawnBodies : ModuleParts → List Body → Type 0
 AreDrawnBodies m bodies = AreBodiesBy (IsDrawnAt m) m bodies

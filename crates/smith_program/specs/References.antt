@@ -21,7 +21,7 @@ abbrev pub named_in : List ConstInstr → List ℕ
 named_in expression = flat_map named_by expression
 
 -- the functions that an export names, the items of an element segment, and the initialiser of a
--- table
+-- table (Validation, Modules, C.refs)
 abbrev pub exported_by : ExportKind → ℕ → List ℕ
 exported_by kind.Func index = index ∷ []
 exported_by _ index = []

@@ -10,17 +10,17 @@ use Rattle.smith_program.specs.Counted.{counted}
 use Rattle.smith_program.specs.declared.program.Body.{Body}
 use Rattle.smith_program.specs.declared.program.Body.TheVariants as body
 
--- the expression of a function: the drawn instructions with the checks of the counters, or the raw
--- bytes of the module
+-- the expression of a function: the drawn instructions (Expressions) with the checks of the
+-- counters, or the raw bytes of the module (own rule)
 abbrev pub IsExpressionOf : List ℕ → Code → Body → List ℕ → Type 0
 IsExpressionOf counters code (body.Drawn instructions) piece = IsExpr (counted counters instructions) piece
 IsExpressionOf counters code body.Raw piece = Is (body_bytes counters code.instructions) piece
 
--- a body as it is written: the number of its bytes, then its locals, each as a run of its own, and
--- its expression
+-- a body as it is written (Code Section): the number of its bytes, then its locals, each as a run
+-- of its own (own rule), and its expression
 abbrev pub IsBodyOf : List ℕ → Code × Body → List ℕ → Type 0
 IsBodyOf counters given = IsSized (Joined (IsLocalsWritten given.0.locals) (IsExpressionOf counters given.0 given.1))
 
--- the list of the bodies as they are written
+-- the list of the bodies as they are written (Code Section)
 abbrev pub AreBodiesOf : List ℕ → List Code → List Body → List ℕ → Type 0
 AreBodiesOf counters codes bodies = IsList (IsBodyOf counters) (zip codes bodies)

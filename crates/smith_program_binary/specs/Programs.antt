@@ -18,12 +18,12 @@ AreExpressionsOf counters given expressions = AllZip (λ (pair : Code × Body). 
 abbrev pub with_expressions : List Code → List (List ℕ) → List (List ValType × List ℕ)
 with_expressions codes expressions = zip (map (λ (code : Code). code.locals) codes) expressions
 
--- the module, with these bytes of expressions
+-- the module, with these bytes of expressions (Structure, Modules)
 abbrev pub program_contents : ModuleParts → List (List ℕ) → Contents
 program_contents m expressions = record (contents_of m) { bodies = with_expressions m.code expressions }
 
 -- bytes are the module in the binary format, in which the bytes of each function's expression are
--- those of its body
+-- those of its body (Modules)
 pub record IsProgramBinary (m : ModuleParts) (bodies : List Body) (bytes : List ℕ) : Type 0 where
   pub expressions : List (List ℕ)
   pub each : AreExpressionsOf m.fuel_globals (zip m.code bodies) expressions

@@ -10,11 +10,11 @@ use Rattle.smith_types.specs.declared.entity_type.TableType.{TableType}
 use Rattle.smith_sections.specs.Instructions.{IsExpression}
 use Rattle.smith_sections.specs.Entities.{IsGlobalType, IsTableType}
 
--- the expression of the null reference of a type
+-- the expression of the null reference of a type (Table Section)
 abbrev pub null_of : RefType → List ConstInstr
 null_of reference = RefNull reference.heap_type ∷ []
 
--- two bytes, the type of a table and the expression of its elements
+-- two bytes, the type of a table and the expression of its elements (Table Section)
 abbrev pub IsInitialisedTable : TableType → List ConstInstr → List ℕ → Type 0
 IsInitialisedTable ty initial = Joined (Is (0x40 ∷ 0x00 ∷ [])) (Joined (IsTableType ty) (IsExpression initial))
 
@@ -27,15 +27,15 @@ pub data IsTable (table : TableType × List ConstInstr) (piece : List ℕ) : Typ
 abbrev pub IsGlobal : GlobalType × List ConstInstr → List ℕ → Type 0
 IsGlobal global = Joined (IsGlobalType global.0) (IsExpression global.1)
 
--- a table of a type with an initialiser, or with null references if it has none
+-- a table of a type with an initialiser, or with null references if it has none (own rule)
 abbrev pub initialised_table : TableType × Option (List ConstInstr) → TableType × List ConstInstr
 initialised_table table = (table.0, unwrap_or table.1 (null_of table.0.element_type))
 
--- a global of a type with the initialiser of its definition, which names its index too
+-- a global of a type with the initialiser of its definition, which names its index too (own rule)
 abbrev pub initialised_global : GlobalType × (ℕ × List ConstInstr) → GlobalType × List ConstInstr
 initialised_global global = (global.0, global.1.1)
 
--- a table as it is written: its type alone if it has no initialiser
+-- a table as it is written: its type alone if it has no initialiser (own rule)
 abbrev pub IsTableAs : TableType → Option (List ConstInstr) → List ℕ → Type 0
 IsTableAs ty None = IsTableType ty
 IsTableAs ty (Some initial) = IsInitialisedTable ty initial

@@ -12,17 +12,18 @@ use Rattle.smith_types.specs.declared.entity_type.EntityType.TheVariants as enti
 use Rattle.smith_sections.specs.Types.{IsRefType, IsValType}
 use Rattle.smith_sections.specs.Instructions.{IsIndex}
 
--- a flag that is set, and one that is not
+-- a flag that is set, and one that is not (Limits)
 abbrev pub flag : Bool → ℕ → ℕ
 flag true n = n
 flag false n = 0
 
--- whether there is a value
+-- whether there is a value (Limits)
 abbrev pub is_there : Option ℕ → Bool
 is_there (Some n) = true
 is_there None = false
 
--- an integer of 64 bits, or of 32 bits; no byte if there is none
+-- an integer of 64 bits (Limits), or of 32 bits (custom page sizes proposal); no byte if there is
+-- none
 abbrev pub IsMaximum : Option ℕ → List ℕ → Type 0
 IsMaximum (Some n) piece = IsUnsigned 64 n piece
 IsMaximum None piece = Is [] piece

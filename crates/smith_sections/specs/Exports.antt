@@ -6,7 +6,7 @@ use Rattle.smith_binary.specs.Pieces.{IsByte, Joined, IsName}
 use Rattle.smith_types.specs.declared.entity_type.ExportKind.{ExportKind}
 use Rattle.smith_types.specs.declared.entity_type.ExportKind.TheVariants.{Func, Table, Memory, Global, Tag}
 
--- the byte of an index space
+-- the byte of an index space (Export Section)
 abbrev pub kind_byte : ExportKind → ℕ
 kind_byte Func = 0x00
 kind_byte Table = 0x01
@@ -14,6 +14,6 @@ kind_byte Memory = 0x02
 kind_byte Global = 0x03
 kind_byte Tag = 0x04
 
--- an export: its name, then the index space and the index of its item
+-- an export: its name, then the index space and the index of its item (Export Section)
 abbrev pub IsExport : List ℕ × ExportKind × ℕ → List ℕ → Type 0
 IsExport item = Joined (IsName item.0) (Joined (IsByte (kind_byte item.1)) (IsUnsigned 32 item.2))

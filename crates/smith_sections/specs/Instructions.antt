@@ -13,7 +13,7 @@ use Rattle.smith_sections.specs.Types.{IsHeapType}
 abbrev pub IsIndex : ℕ → List ℕ → Type 0
 IsIndex = IsUnsigned 32
 
--- an instruction of several bytes: a prefix, then a number
+-- an instruction of several bytes: a prefix, then a number (Instructions)
 abbrev pub IsPrefixed : ℕ → ℕ → List ℕ → Type 0
 IsPrefixed prefix number = Joined (IsByte prefix) (IsUnsigned 32 number)
 

@@ -3,16 +3,16 @@
 use Rattle.std.specs.Prelude.{◌≡◌, ℕ, Bool, true, false, List, []}
 use Rattle.smith_binary.specs.Pieces.{Is, IsList, IsSection}
 
--- a section, which may be left out if it is empty
+-- a section, which may be left out if it is empty (Sections)
 pub data IsOptionalSection (id : ℕ) (SaysNothing : Type 0) (Content : List ℕ → Type 0) (piece : List ℕ) : Type 0 where
   present : IsSection id Content piece → IsOptionalSection id SaysNothing Content piece
   absent : SaysNothing → piece ≡ [] → IsOptionalSection id SaysNothing Content piece
 
--- the section of a list
+-- the section of a list (Sections)
 abbrev pub IsListSection : {A : Type 0} → ℕ → (A → List ℕ → Type 0) → List A → List ℕ → Type 0
 IsListSection id Item xs = IsOptionalSection id (xs ≡ []) (IsList Item xs)
 
--- a section if it is to be written, else no byte
+-- a section if it is to be written, else no byte (Sections)
 abbrev pub IsSectionIf : Bool → ℕ → (List ℕ → Type 0) → List ℕ → Type 0
 IsSectionIf true id Content = IsSection id Content
 IsSectionIf false id Content = Is []

@@ -44,11 +44,12 @@ IsHeapType (Abstract true ty) piece = Joined (IsByte 0x65) (IsByte (abstract_byt
 IsHeapType (Concrete index) piece = IsSigned 33 (pos index) piece
 IsHeapType (Exact index) piece = Joined (IsByte 0x62) (IsUnsigned 32 index) piece
 
--- an abstract heap type alone
+-- an abstract heap type alone (Reference Types)
 abbrev pub IsAbstractAlone : HeapType → List ℕ → Type 0
 IsAbstractAlone (Abstract false ty) piece = IsByte (abstract_byte ty) piece
 IsAbstractAlone _ piece = ⊥
 
+-- the byte of a reference type, by whether it is nullable (Reference Types)
 abbrev pub null_byte : Bool → ℕ
 null_byte true = 0x63
 null_byte false = 0x64
@@ -74,6 +75,7 @@ IsStorageType storage.I8 piece = IsByte 0x78 piece
 IsStorageType storage.I16 piece = IsByte 0x77 piece
 IsStorageType (storage.Val value) piece = IsValType value piece
 
+-- the byte of a field, by whether it is mutable (Composite Types)
 abbrev pub mutability_byte : Bool → ℕ
 mutability_byte false = 0x00
 mutability_byte true = 0x01
@@ -97,9 +99,11 @@ abbrev pub shared_bytes : Bool → List ℕ
 shared_bytes true = 0x65 ∷ []
 shared_bytes false = []
 
+-- a composite type, after the byte of a shared one (Composite Types)
 abbrev pub IsCompositeType : CompositeType → List ℕ → Type 0
 IsCompositeType composite = Joined (Is (shared_bytes composite.shared)) (IsInnerType composite.inner)
 
+-- the byte of a sub type, by whether it is final (Recursive Types)
 abbrev pub final_byte : Bool → ℕ
 final_byte true = 0x4F
 final_byte false = 0x50
@@ -115,6 +119,6 @@ pub data IsRecGroup (group : List SubType) (piece : List ℕ) : Type 0 where
   full : Joined (IsByte 0x4E) (IsList IsSubType group) piece → IsRecGroup group piece
   short : (t : SubType) → group ≡ t ∷ [] → IsSubType t piece → IsRecGroup group piece
 
--- the types of a range of indices
+-- the types of a range of indices (Structure, Recursive Types)
 abbrev pub group_at : List SubType → Range ℕ → List SubType
 group_at types range = drop range.start (take range.end types)

@@ -42,7 +42,8 @@ pub record IsSubTypeEnabled (features : Features) (t : SubType) : Type 0 where
   pub supertype : IsSome t.supertype → IsTrue features.gc
   pub shared : IsTrue t.composite_type.shared → IsTrue features.shared_everything_threads
 
--- the only element type of tables if reference types are disabled: nullable, to unshared functions
+-- the only element type of tables if reference types are disabled (own rule): nullable, to unshared
+-- functions
 abbrev pub funcref : RefType
 funcref = record { nullable = true; heap_type = Abstract false abstract.Func }
 

@@ -8,7 +8,7 @@ pub record GroupedTypes : Type 0 where
   pub types : List SubType
   pub groups : List (Range ℕ)
 
--- the invariant of a type space; types after the last group belong to no group yet
+-- the invariant of a type space; types after the last group belong to no group yet (own rule)
 pub record IsSound (space : GroupedTypes) : Type 0 where
   pub orderly : IsOrderly space.types
   pub consecutive : AreConsecutive 0 space.groups
@@ -21,12 +21,12 @@ pub record MayFollow (types : List SubType) (t : SubType) : Type 0 where
   pub below : (s : ℕ) → t.supertype ≡ Some s → (u : SubType) × (slice_get types s ≡ Some u) × IsAlike t u
   pub room : length types + 1 < 2 ^ 32
 
--- the number of types on the path along declared supertypes, including the type itself
+-- the number of types on the path along declared supertypes, including the type itself (own rule)
 pub data HasDepth (types : List SubType) : ℕ → ℕ → Type 0 where
   root : {i : ℕ} {t : SubType} → slice_get types i ≡ Some t → t.supertype ≡ None → HasDepth types i 1
   deeper : {i s d : ℕ} {t : SubType} → slice_get types i ≡ Some t → t.supertype ≡ Some s → HasDepth types s d → HasDepth types i (suc d)
 
--- the depth of each type, by its index
+-- the depth of each type, by its index (own rule)
 pub record AreDepths (types : List SubType) (depths : List ℕ) : Type 0 where
   pub long : length depths ≡ length types
   pub each : (i : ℕ) → i < length types → HasDepth types i (slice_index depths i)

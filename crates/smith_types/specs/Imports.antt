@@ -35,18 +35,22 @@ abbrev pub tag_of : EntityType → List ℕ
 tag_of (entity.Tag index) = index ∷ []
 tag_of _ = []
 
+-- the function of an imported entity, if it is one (Validation, Modules)
 abbrev pub func_of : EntityType → List ℕ
 func_of (entity.Func index) = index ∷ []
 func_of _ = []
 
+-- the table of an imported entity, if it is one (Validation, Modules)
 abbrev pub table_of : EntityType → List TableType
 table_of (entity.Table table) = table ∷ []
 table_of _ = []
 
+-- the memory of an imported entity, if it is one (Validation, Modules)
 abbrev pub memory_of : EntityType → List MemoryType
 memory_of (entity.Memory memory) = memory ∷ []
 memory_of _ = []
 
+-- the global of an imported entity, if it is one (Validation, Modules)
 abbrev pub global_of : EntityType → List GlobalType
 global_of (entity.Global global) = global ∷ []
 global_of _ = []

@@ -59,21 +59,21 @@ pub record IsCompositeMatch (types : List SubType) (a b : CompositeType) : Type 
   pub inner : IsInnerMatch types a.inner b.inner
   pub shared : a.shared ≡ b.shared
 
--- the type that a storage type refers to exists
+-- the type that a storage type refers to exists (own rule)
 abbrev pub IsStorageInRange : List SubType → StorageType → Type 0
 IsStorageInRange types (Val v) = IsValInRange types v
 IsStorageInRange types _ = Unit {0}
 
--- the type that a field refers to exists
+-- the type that a field refers to exists (own rule)
 abbrev pub IsFieldInRange : List SubType → FieldType → Type 0
 IsFieldInRange types f = IsStorageInRange types f.element_type
 
--- the types that parameters and results refer to exist
+-- the types that parameters and results refer to exist (own rule)
 pub record IsFuncInRange (types : List SubType) (f : FuncType) : Type 0 where
   pub params : All (IsValInRange types) f.params
   pub results : All (IsValInRange types) f.results
 
--- the types that a composite type refers to exist
+-- the types that a composite type refers to exist (own rule)
 abbrev pub IsInnerInRange : List SubType → CompositeInnerType → Type 0
 IsInnerInRange types (Array a) = IsFieldInRange types a.0
 IsInnerInRange types (Func f) = IsFuncInRange types f

@@ -18,7 +18,7 @@ abbrev pub size_in : List SubType → EntityType → ℕ
 size_in types (Func i) = 1 + unwrap_or (option_map (λ t. value_count t.composite_type.inner) (slice_get types i)) 0
 size_in types _ = 1
 
--- the type of a function exists
+-- the type of a function exists (own rule)
 abbrev pub IsTyped : List SubType → EntityType → Type 0
 IsTyped types (Func i) = i < length types
 IsTyped types _ = Unit {0}

@@ -65,13 +65,13 @@ IsValBelow types V128 V128 = Unit {0}
 IsValBelow types (Ref a) (Ref b) = IsRefBelow types a b
 IsValBelow types _ _ = ⊥
 
--- the type that a heap type refers to exists
+-- the type that a heap type refers to exists (own rule)
 abbrev pub IsInRange : List SubType → HeapType → Type 0
 IsInRange types (Abstract s a) = Unit {0}
 IsInRange types (Concrete i) = i < length types
 IsInRange types (Exact i) = i < length types
 
--- the type that a value type refers to exists
+-- the type that a value type refers to exists (own rule)
 abbrev pub IsValInRange : List SubType → ValType → Type 0
 IsValInRange types (Ref r) = IsInRange types r.heap_type
 IsValInRange types _ = Unit {0}
