@@ -158,6 +158,12 @@ impl Error {
     ghost use Rattle.smith_bytes.specs.ErrorNames.{refusal_name};
 
     /// Returns the name of the variant without its fields, such as `Memory` or `Config`.
+    ///
+    /// # Examples
+    ///
+    /// ```rust
+    /// assert_eq!(rt; Error::Memory.name(), "Memory");
+    /// ```
     pub fn name(&self) -> &'static str
         ensures name { result.now ≡ refusal_name self.now }
         ensures short { length result.now ≤ 15 }

@@ -2,7 +2,9 @@ ghost use Rattle.std.specs.Prelude.{◌≡◌, [], ◌∷◌, ◌++◌, false};
 ghost use Rattle.smith_types.specs.ExampleFeatures.{usual_features};
 ghost use Rattle.smith_types.specs.Instructions.{no_kind};
 ghost use Rattle.smith_types.specs.declared.instruction_kind.InstructionKind.TheVariants.{Control};
-ghost use Rattle.smith_types.specs.declared.instruction_kind.InstructionKind.TheVariants.{NumericInt};
+ghost use Rattle.smith_types.specs.declared.instruction_kind.InstructionKind.TheVariants.{
+  NumericInt,
+};
 ghost use Rattle.smith_types.specs.declared.value_type.ValType.TheVariants.{I32, I64, F32};
 ghost use Rattle.smith_config.specs.Config.{default_config};
 ghost use Rattle.smith_instr.specs.declared.instr.Instr.TheVariants as instr;

@@ -2,7 +2,9 @@
 
 ghost use Rattle.std.specs.Prelude.{◌≡◌, [], ◌∷◌};
 ghost use Rattle.smith_types.specs.Types.{IsOrderly};
-ghost use Rattle.smith_types.specs.declared.instruction_kind.InstructionKind.TheVariants.{NumericInt};
+ghost use Rattle.smith_types.specs.declared.instruction_kind.InstructionKind.TheVariants.{
+  NumericInt,
+};
 ghost use Rattle.smith_types.specs.declared.value_type.AbstractHeapType.TheVariants as heap;
 ghost use Rattle.smith_types.specs.declared.value_type.HeapType.TheVariants.{Concrete};
 ghost use Rattle.smith_instr.specs.declared.aggregate.AggregateInstr.TheVariants as aggregate;

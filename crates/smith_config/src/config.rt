@@ -11,8 +11,9 @@ use smith_types::InstructionKinds;
 /// struct update changes a field: `Config { max_types: 3, ..Config::default() }`.
 ///
 /// [`Config::sanitize`] resolves contradictions between fields, and [`Config::check`] finds fields
-/// out of range. Calls that generate a whole module do both. Drawing calls do neither: they require
-/// a sanitised configuration that passes its check.
+/// out of range. Calls that generate a whole module do both. Drawing calls do neither: most require
+/// a sanitised configuration, and some, such as those that draw groups of types, require one that
+/// also passes its check.
 ///
 /// Counts cover whole index spaces: imported items and items defined in the module. A maximum is at
 /// most `2^31`, and a minimum at most its maximum.

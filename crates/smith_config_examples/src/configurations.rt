@@ -17,10 +17,16 @@ ghost use Rattle.smith_config.specs.Sanitized.{sanitized, IsSanitized, IsLowered
 ghost use Rattle.smith_config.specs.Features.{features_of, number_of};
 ghost use Rattle.smith_config.specs.Faults.{Passes, HasFault, IsFirstFault};
 ghost use Rattle.smith_config.specs.OffsetChoices.{AreReadChoices, zero_choices};
-ghost use Rattle.smith_config.specs.declared.offset_choices.OffsetChoicesFault.TheVariants.{NeedThree};
+ghost use Rattle.smith_config.specs.declared.offset_choices.OffsetChoicesFault.TheVariants.{
+  NeedThree,
+};
 ghost use Rattle.smith_config.specs.declared.offset_choices.OffsetChoicesFault.TheVariants.{Number};
-ghost use Rattle.smith_config.specs.declared.offset_choices.OffsetChoicesFault.TheVariants.{TooMany};
-ghost use Rattle.smith_config.specs.declared.offset_choices.OffsetChoicesFault.TheVariants.{AllZero};
+ghost use Rattle.smith_config.specs.declared.offset_choices.OffsetChoicesFault.TheVariants.{
+  TooMany,
+};
+ghost use Rattle.smith_config.specs.declared.offset_choices.OffsetChoicesFault.TheVariants.{
+  AllZero,
+};
 
 fn defaults()
     ensures one_table { default_config.max_tables ≡ 1 }

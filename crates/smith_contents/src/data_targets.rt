@@ -76,8 +76,8 @@ impl<'a> Targets<'a> {
         self.offered.is_empty()
     }
 
-    /// Draws a memory that segments may be copied into, of which there is at least one. Returns its
-    /// index and its type.
+    /// Draws a memory that segments may be copied into. Returns its index and its type. Requires at
+    /// least one such memory.
     #[tactic(auto, unfolding(smith_draw::specs::Choices::chosen_at))]
     pub(crate) fn choose(&self, u: &mut Unstructured<'_>) -> (u32, MemoryType)
         requires { 0 < length self.now.memories }

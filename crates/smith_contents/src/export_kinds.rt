@@ -229,7 +229,7 @@ pub(crate) fn has_candidates(types: &TypeSpace, spaces: &EntitySpaces, most: u32
     count_enabled(&candidate_rows(types, spaces, most, left)) > 0
 }
 
-/// Draws a kind of which an item may be exported.
+/// Draws the kind of an item to export.
 pub(crate) fn choose_export_kind(
     types: &TypeSpace,
     spaces: &EntitySpaces,

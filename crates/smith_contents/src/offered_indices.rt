@@ -87,7 +87,7 @@ impl OfferedIndices {
         place as u32 + below as u32
     }
 
-    /// Draws an offered index, of which there is at least one.
+    /// Draws an offered index. Requires at least one.
     #[tactic(auto, unfolding(smith_draw::specs::Choices::chosen_at))]
     pub(crate) fn choose(&self, u: &mut Unstructured<'_>) -> u32
         requires { 0 < length self.now.offered }

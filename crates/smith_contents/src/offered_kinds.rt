@@ -85,7 +85,7 @@ impl<'a> OfferedKinds<'a> {
         named_at(self.tables, &self.offered, place - kept - unnamed)
     }
 
-    /// Draws a kind, of which there is at least one.
+    /// Draws a kind. Requires at least one.
     #[tactic(auto, unfolding(smith_draw::specs::Choices::chosen_at))]
     pub(crate) fn choose(&self, u: &mut Unstructured<'_>) -> KindChoice
         requires { 0 < length self.now }

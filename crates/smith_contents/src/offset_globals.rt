@@ -71,8 +71,7 @@ impl<'a> OffsetGlobals<'a> {
         find_telling(self.globals, self.wide, place)
     }
 
-    /// Draws the index of a global that the offset may be read from, of which there is at least
-    /// one.
+    /// Draws the index of a global that the offset may be read from. Requires at least one.
     #[tactic(auto, unfolding(smith_draw::specs::Choices::chosen_at))]
     pub(crate) fn choose(&self, u: &mut Unstructured<'_>) -> u32
         requires { 0 < length self.now }

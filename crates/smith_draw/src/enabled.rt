@@ -28,7 +28,7 @@ fn enabled_at(table: &[(ExportKind, bool)], mut place: usize) -> ExportKind
     ExportKind::Memory
 }
 
-/// Draws one of the offered kinds of `table`, of which there is at least one.
+/// Draws one of the offered kinds of `table`. Requires at least one.
 #[tactic(auto, using(crate::proofs::EnabledLemmas::length_enabled), unfolding(crate::specs::Choices::chosen_at))]
 pub fn choose_enabled(table: &[(ExportKind, bool)], u: &mut Unstructured<'_>) -> ExportKind
     requires { 0 < length (enabled table.now) }

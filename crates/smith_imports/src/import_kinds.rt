@@ -46,7 +46,7 @@ fn kind_row(
     (kind, offered)
 }
 
-/// Draws a kind of which another entity may be imported. Returns `None` if no kind is offered.
+/// Draws the kind of another entity to import. Returns `None` if no kind is offered.
 #[tactic(auto, using(smith_draw::proofs::EnabledLemmas::length_enabled), unfolding(crate::specs::ImportedEntities::kind_at))]
 pub(crate) fn draw_kind(
     config: &Config,

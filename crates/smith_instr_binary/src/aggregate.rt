@@ -7,7 +7,8 @@ use crate::opcodes::{write_prefixed, write_prefixed_index, write_prefixed_indice
 use smith_binary::{EncodeError, Sink};
 use smith_instr::{AggregateInstr, Extension};
 
-// Returns the number of a get, of which `first` is that of an unpacked field.
+// Returns the number of a get with the extension `extension`. `first` is the number for an unpacked
+// field.
 fn get_number(first: u32, extension: Extension) -> u32
     requires { first < 200 }
     ensures { result ≡ get_number first extension }

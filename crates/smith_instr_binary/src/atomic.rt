@@ -3,7 +3,7 @@ ghost use Rattle.smith_instr_binary.specs.Atomic.{atomic_number, update_number, 
 
 use smith_instr::{AtomicAccess, AtomicUpdate, AtomicWidth};
 
-// Returns the number of the access of a width, of which `first` is the number of the first width.
+// Returns the number of the access of the width `width`. `first` is that of the first width.
 fn sized_number(first: u32, width: AtomicWidth) -> u32
     requires { first < 200 }
     ensures { result ≡ first + width_number width }

@@ -22,7 +22,8 @@ use smith_instr::{
     NumericInstr, SaturatingConversion, SignExtension, WideArithmetic,
 };
 
-// Returns the opcode of one of the unary operators of integers, of which `first` is the first.
+// Returns the opcode of the unary operator `op` of integers. `first` is the lowest of these
+// opcodes.
 fn int_unary_opcode(first: u8, op: IntUnary) -> u8
     requires { first < 200 }
     ensures { result ≡ int_unary_opcode first op }
@@ -34,7 +35,8 @@ fn int_unary_opcode(first: u8, op: IntUnary) -> u8
     }
 }
 
-// Returns the opcode of one of the binary operators of integers, of which `first` is the first.
+// Returns the opcode of the binary operator `op` of integers. `first` is the lowest of these
+// opcodes.
 fn int_binary_opcode(first: u8, op: IntBinary) -> u8
     requires { first < 200 }
     ensures { result ≡ int_binary_opcode first op }
@@ -58,7 +60,7 @@ fn int_binary_opcode(first: u8, op: IntBinary) -> u8
     }
 }
 
-// Returns the opcode of one of the comparisons of integers, of which `first` is the first.
+// Returns the opcode of the comparison `op` of integers. `first` is the lowest of these opcodes.
 fn int_compare_opcode(first: u8, op: IntCompare) -> u8
     requires { first < 200 }
     ensures { result ≡ int_compare_opcode first op }
@@ -77,7 +79,7 @@ fn int_compare_opcode(first: u8, op: IntCompare) -> u8
     }
 }
 
-// Returns the opcode of one of the unary operators of floats, of which `first` is the first.
+// Returns the opcode of the unary operator `op` of floats. `first` is the lowest of these opcodes.
 fn float_unary_opcode(first: u8, op: FloatUnary) -> u8
     requires { first < 200 }
     ensures { result ≡ float_unary_opcode first op }
@@ -93,7 +95,7 @@ fn float_unary_opcode(first: u8, op: FloatUnary) -> u8
     }
 }
 
-// Returns the opcode of one of the binary operators of floats, of which `first` is the first.
+// Returns the opcode of the binary operator `op` of floats. `first` is the lowest of these opcodes.
 fn float_binary_opcode(first: u8, op: FloatBinary) -> u8
     requires { first < 200 }
     ensures { result ≡ float_binary_opcode first op }
@@ -109,7 +111,7 @@ fn float_binary_opcode(first: u8, op: FloatBinary) -> u8
     }
 }
 
-// Returns the opcode of one of the comparisons of floats, of which `first` is the first.
+// Returns the opcode of the comparison `op` of floats. `first` is the lowest of these opcodes.
 fn float_compare_opcode(first: u8, op: FloatCompare) -> u8
     requires { first < 200 }
     ensures { result ≡ float_compare_opcode first op }

@@ -34,7 +34,7 @@ impl<'a> BodyText for Bodies<'a> {
     }
 }
 
-/// Writes `program` in the text format, to `sink`, of which no write has failed.
+/// Writes `program` in the text format to `sink`. Requires that no write to it has failed.
 ///
 /// All parts but the bodies are written as the text of the module. The checks of its counters of
 /// fuel are written at the start of each drawn body, and after each `loop` in it.

@@ -34,9 +34,9 @@ fn write_trap<S: Sink>(fuel_globals: &[u32], sink: &mut S) -> fmt::Result
 
 /// The instructions of the bodies of a module, as text.
 pub trait BodyText {
-    /// Writes the instructions of the defined function `place` to `sink`, of which no write has
-    /// failed: one line each, at least four spaces deep. `body` is the module's, and `fuel_globals`
-    /// are the indices of its globals that count fuel.
+    /// Writes the instructions of the defined function `place` to `sink`: one line each, at least
+    /// four spaces deep. `body` is the module's, and `fuel_globals` are the indices of its globals
+    /// that count fuel. Requires that no write to `sink` has failed.
     ///
     /// # Errors
     ///

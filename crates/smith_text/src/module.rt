@@ -98,8 +98,8 @@ fn write_exports<S: Sink>(
     }
 }
 
-/// Writes `module` as [`TextForm::write_text`] does, to `sink`, of which no write has failed.
-/// `bodies` writes the instructions of its bodies.
+/// Writes `module` to `sink` as [`TextForm::write_text`] does. `bodies` writes the instructions of
+/// its bodies. Requires that no write to `sink` has failed.
 ///
 /// # Errors
 ///

@@ -7,7 +7,7 @@ use std::fmt::Display;
 
 /// Plain data with a form in the text format of the standard, and texts made of such parts.
 pub trait TextForm {
-    /// Writes the value in the text format, to `sink`, of which no write has failed.
+    /// Writes the value in the text format to `sink`. Requires that no write to it has failed.
     ///
     /// # Errors
     ///

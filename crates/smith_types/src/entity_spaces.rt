@@ -57,7 +57,7 @@ impl EntitySpaces {
     }
 }
 
-// Appends the entities of `group`, of which there may be none.
+// Appends the entities of `group`, if any.
 fn push_group(spaces: &mut EntitySpaces, group: &Imports) -> Result<(), Error>
     ensures ok { OnOk result
         (spaces_in spaces.new ≡ with_entities (spaces_in spaces.old) (entities_of group.now)) }

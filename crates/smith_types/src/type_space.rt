@@ -411,7 +411,7 @@ impl TypeSpace {
         Ok(())
     }
 
-    /// Adds a group of the types after the last group, of which there may be none.
+    /// Adds a group of the types after the last group. The group may be empty.
     pub fn push_group(&mut self) -> Result<(), Error>
         ensures ok { OnOk result (self.new ≡ record self.old {
           groups = self.old.groups ++ next_group self.old.types self.old.groups ∷ [];

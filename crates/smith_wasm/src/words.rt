@@ -81,7 +81,7 @@ static WORDS: [Word; 10] = [
         takes: Takes::Nothing,
         needs: None,
         excludes: &[],
-        about: "Draws the configuration from the input first, and the module from the bytes after it.",
+        about: "Draws the configuration from the input first, then the module from the bytes left.",
     },
     Word {
         name: ENSURE_TERMINATION,

@@ -50,7 +50,8 @@ impl BlockCounts {
         requires one_block { end ≤ 8 * (self.old.seen / 8 + 1) }
         requires few { self.old.total + offered < 2 ^ 32 }
         ensures counted { (before : ℕ → ℕ) → IsCounted before self.old
-            → before end ≡ before self.old.seen + offered → OnOk result (IsCounted before self.new) }
+            → before end ≡ before self.old.seen + offered
+            → OnOk result (IsCounted before self.new) }
         ensures seen { OnOk result (self.new.seen ≡ end) }
         ensures memory { IfErr result (λ e. e ≡ Error.Memory) }
     {
@@ -75,8 +76,8 @@ impl BlockCounts {
         self.total
     }
 
-    /// Returns whether an item from the index `first` up to `end` may be on offer. They belong to one
-    /// block, and either not all of them have been read or an item of their block is on offer.
+    /// Returns whether an item from the index `first` up to `end` may be on offer. They belong to
+    /// one block, and either not all of them have been read or an item of their block is on offer.
     pub fn may_offer(&self, first: usize, end: usize) -> bool
         requires { first < end × end ≤ 8 * (first / 8 + 1) }
         ensures { (before : ℕ → ℕ) → IsCounted before self.now

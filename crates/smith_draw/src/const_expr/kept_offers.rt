@@ -157,8 +157,8 @@ fn find(kept: &[KeptOffer], wanted: ValType, visible: usize) -> Option<usize>
     None
 }
 
-/// Returns whether a global from the index `first` up to `end` may be offered: `wider`, an entry for
-/// a wider type, does not exclude them. They belong to one block.
+/// Returns whether a global from the index `first` up to `end` may be offered: `wider`, an entry
+/// for a wider type, does not exclude them. They belong to one block.
 fn may_offer(wider: Option<&KeptOffer>, first: usize, end: usize) -> bool
     requires { first < end × end ≤ 8 * (first / 8 + 1) }
     ensures { (before : ℕ → ℕ) → IfSome wider.entry (λ offer. IsCounted before offer.now.globals)
@@ -172,8 +172,8 @@ fn may_offer(wider: Option<&KeptOffer>, first: usize, end: usize) -> bool
 }
 
 /// Returns the number of globals from the index `first` up to `end` that are offered for the type
-/// `wanted`. Tests none of them if `wider`, an entry for a wider type, excludes them. They belong to
-/// one block.
+/// `wanted`. Tests none of them if `wider`, an entry for a wider type, excludes them. They belong
+/// to one block.
 fn count_globals(
     scope: &Scope<'_>,
     first: usize,
@@ -285,8 +285,8 @@ impl KeptOffer {
         self.look_at_funcs(scope)
     }
 
-    /// Reads the globals of `scope` that have not been read, a block at a time. Tests only those that
-    /// `wider`, if given, does not exclude: an entry for a wider type.
+    /// Reads the globals of `scope` that have not been read, a block at a time. Tests only those
+    /// that `wider`, if given, does not exclude: an entry for a wider type.
     fn look_at_globals(&mut self, scope: &Scope<'_>, wider: Option<&KeptOffer>) -> Result<(), Error>
         requires scope { IsScope (context_of scope.now) }
         requires kept { IsKeptOffer (context_of scope.now) self.old }
