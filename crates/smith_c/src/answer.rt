@@ -1,5 +1,5 @@
 ghost use Rattle.std.specs.Prelude.{◌≡◌};
-ghost use Rattle.smith_c.specs.Answers.{IsPut};
+ghost use Rattle.smith_c.specs.CallAnswers.{IsPut};
 
 /// The answer to a call of the library.
 #[repr(C)]

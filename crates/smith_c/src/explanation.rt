@@ -1,4 +1,4 @@
-ghost use Rattle.smith_c.specs.Answers.{PutsText};
+ghost use Rattle.smith_c.specs.CallAnswers.{PutsText};
 ghost use Rattle.smith_request.specs.Refusals.{status_of};
 
 use crate::answer::{Answer, put};

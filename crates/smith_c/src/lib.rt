@@ -2,7 +2,7 @@
 //! input, with bodies of instructions, into the caller's memory.
 #![tactic(auto)]
 
-ghost use Rattle.smith_c.specs.Answers.{IsAnswered, IsExplained};
+ghost use Rattle.smith_c.specs.CallAnswers.{IsAnswered, IsExplained};
 ghost use Rattle.smith_request.specs.Made.{IsBinary, HasBinary, HasProgram};
 ghost use Rattle.smith_request.specs.Refusals.{IsRefusal, IsTextRefusal};
 

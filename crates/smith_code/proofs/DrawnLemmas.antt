@@ -19,7 +19,7 @@ use Rattle.smith_instr.proofs.SequenceLemmas.{below_themselves, finished}
 use Rattle.smith_instr.proofs.CompositionLemmas.{typed_append}
 use Rattle.smith_code_nodes.specs.Scopes.{context_of, bare, where_stands, widest, most, AreLabels, IsAllowedIn}
 use Rattle.smith_code_nodes.specs.Nodes.{block_cost, IsNode, HasHeadType, MayOpen, head_sets, head_instruction, opened, label_of, taken_by}
-use Rattle.smith_code.specs.Drawn.{IsDrawn, IsWritten, IsOpened, IsEnded, IsLeaf}
+use Rattle.smith_code.specs.DraftSteps.{IsDrawn, IsWritten, IsOpened, IsEnded, IsLeaf}
 use Rattle.smith_code_nodes.specs.declared.node.Head.{Head}
 use Rattle.smith_code_nodes.specs.declared.node.Head.TheVariants as heads
 use Rattle.smith_code_nodes.specs.declared.node.Node.{Node}

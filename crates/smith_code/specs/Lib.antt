@@ -1,5 +1,5 @@
-pub mod Choices
-pub mod Leaves
 pub mod Bodies
-pub mod Drawn
+pub mod Choices
+pub mod DraftSteps
 pub mod Laws
+pub mod Leaves

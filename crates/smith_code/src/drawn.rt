@@ -8,7 +8,7 @@ ghost use Rattle.smith_instr.specs.InstrTypes.{IsCatch};
 ghost use Rattle.smith_instr.specs.declared.instr.Instr.TheVariants as instr;
 ghost use Rattle.smith_code.specs.Bodies.{drawing_at, enclosed_at, head_at, inside_at, node_at};
 ghost use Rattle.smith_code.specs.Bodies.{statement_at, values_at, whole_at, written};
-ghost use Rattle.smith_code.specs.Drawn.{IsDrawn, state_of};
+ghost use Rattle.smith_code.specs.DraftSteps.{IsDrawn, state_of};
 ghost use Rattle.smith_code_nodes.specs.Nodes.{AreSidesValid, HasHeadType, IsHeadAllowed};
 ghost use Rattle.smith_code_nodes.specs.Nodes.{IsHeadValid, IsNode, IsNodeAllowed, MayOpen};
 ghost use Rattle.smith_code_nodes.specs.Nodes.{block_cost, head_sets, label_of, opened, taken_by};

@@ -1,6 +1,6 @@
 ghost use Rattle.std.specs.Prelude.{◌≡◌, List, ◌∷◌, ◌++◌, replicate, IfErr, OnOk};
 ghost use Rattle.smith_types.specs.declared.value_type.ValType.{ValType as Val};
-ghost use Rattle.smith_code.specs.Drawn.{IsWritten, IsOpened, IsEnded};
+ghost use Rattle.smith_code.specs.DraftSteps.{IsWritten, IsOpened, IsEnded};
 
 use smith_bytes::Error;
 use smith_code_nodes::Draft;

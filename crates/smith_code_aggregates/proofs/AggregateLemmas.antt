@@ -21,14 +21,14 @@ use Rattle.smith_types.specs.declared.composite_type.SubType.{SubType}
 use Rattle.smith_types.proofs.GroundedLemmas.{defaults_each, default_for}
 use Rattle.smith_draw.specs.ConstScopes.{fields_of}
 use Rattle.smith_bytes.specs.Draws.{choose_at}
-use Rattle.smith_instr.specs.AggregateTypes.{IsFieldAt, IsOfBytes, IsReadBy, IsSegmentOf, value_of}
+use Rattle.smith_instr.specs.AggregateTypes.{IsFieldAt, IsOfBytes, IsReadBy, IsElemOf, value_of}
 use Rattle.smith_instr.specs.Contexts.{BodyContext, IsValid, AreValid, nullable_to}
 use Rattle.smith_code_aggregates.specs.Aggregates.{array_at, array_there, created_array_at, field_at, field_in, field_there, fields_with, is_array, is_created_array, is_field, is_struct, names_types}
 use Rattle.smith_code_aggregates.specs.Fields.{AreFieldsValid, element_in, element_of, extension_of, is_of_bytes, is_of_references, is_storage_below, is_usable, is_usable_in, struct_in, struct_of}
 use Rattle.smith_code_nodes.specs.Items.{continued}
 use Rattle.smith_code_nodes.specs.Offered.{chunk_at}
 use Rattle.smith_code_nodes.specs.Scopes.{IsScope, indexed}
-use Rattle.smith_code_tables.specs.TableChoices.{is_segment_below}
+use Rattle.smith_code_tables.specs.TableChoices.{is_elem_below}
 use Rattle.smith_code_aggregates.specs.declared.fields.FieldUse.{FieldUse}
 use Rattle.smith_code_aggregates.specs.declared.fields.FieldUse.TheVariants as field_use
 use Rattle.smith_code_nodes.proofs.ItemLemmas.{given_none, given_some}
@@ -108,10 +108,10 @@ of_bytes (storage.Val V128) is = tt
 of_bytes (storage.Val (Ref reference)) is = cc
 
 -- an element segment whose type matches that of an element
-segment_for : (context : BodyContext) (segment : ℕ) (element : FieldType) (stored : StorageType) → IsOrderly context.types → element.element_type ≡ stored → is_of_references stored ≡ true → is_segment_below context (unpacked stored) segment ≡ true
-    → IsSegmentOf context segment element
+segment_for : (context : BodyContext) (segment : ℕ) (element : FieldType) (stored : StorageType) → IsOrderly context.types → element.element_type ≡ stored → is_of_references stored ≡ true → is_elem_below context (unpacked stored) segment ≡ true
+    → IsElemOf context segment element
 segment_for context segment element (storage.Val (Ref reference)) orderly is of below =
-    let (held, there, under) = segment_below_at context (Ref reference) segment (slice_get context.elements segment) orderly refl below in
+    let (held, there, under) = segment_below_at context (Ref reference) segment (slice_get context.elems segment) orderly refl below in
     record { held = held; there = there; reference = reference; of_references = is; below = under }
 segment_for context segment element (storage.Val I32) orderly is of below = cc
 segment_for context segment element (storage.Val I64) orderly is of below = cc
@@ -121,7 +121,7 @@ segment_for context segment element (storage.Val V128) orderly is of below = cc
 segment_for context segment element storage.I8 orderly is of below = cc
 segment_for context segment element storage.I16 orderly is of below = cc
 
-pub segment_of : (context : BodyContext) (segment : ℕ) (element : FieldType) → IsOrderly context.types → is_of_references element.element_type ≡ true → is_segment_below context (value_of element) segment ≡ true → IsSegmentOf context segment element
+pub segment_of : (context : BodyContext) (segment : ℕ) (element : FieldType) → IsOrderly context.types → is_of_references element.element_type ≡ true → is_elem_below context (value_of element) segment ≡ true → IsElemOf context segment element
 segment_of context segment element orderly of below = segment_for context segment element element.element_type orderly refl of below
 
 -- the read of a field, by its extension

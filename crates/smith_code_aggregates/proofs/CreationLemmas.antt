@@ -22,7 +22,7 @@ use Rattle.smith_code_aggregates.specs.Aggregates.{created_struct_at, is_creatab
 use Rattle.smith_code_aggregates.specs.CreationChoices.{aggregate_of, created_at, creation_of, creations, struct_new_at, struct_new_node}
 use Rattle.smith_code_aggregates.specs.Fields.{is_of_bytes, is_of_references, struct_in}
 use Rattle.smith_code_nodes.specs.Nodes.{IsNode}
-use Rattle.smith_code_tables.specs.TableChoices.{is_segment_below}
+use Rattle.smith_code_tables.specs.TableChoices.{is_elem_below}
 use Rattle.smith_code_aggregates.specs.declared.creations.Creation.{Creation}
 use Rattle.smith_code_aggregates.specs.declared.creations.Creation.TheVariants as creation
 use Rattle.smith_code_aggregates.proofs.AggregateLemmas.{all_default, of_bytes, one_default, segment_of, struct_there}
@@ -93,7 +93,7 @@ array_data_gives context set wanted ty segment element orderly valid there of be
     created_gives context set wanted ty (I32 ∷ I32 ∷ []) (aggregate.ArrayNewData ty segment) orderly valid below (element, there, of_bytes element.element_type of, inside, (refl, refl)) (omega arith) (two_valid context I32 I32 tt tt)
 
 pub array_elem_gives : (context : BodyContext) (set : List ℕ) (wanted : ValType) (ty segment : ℕ) (element : FieldType) → IsOrderly context.types → IsValid context wanted → IsArrayAt context.types ty element → is_of_references element.element_type ≡ true → is_created_below context wanted ty ≡ true
-    → is_segment_below context (value_of element) segment ≡ true → IsNode context set (wanted ∷ []) (aggregate_of (I32 ∷ I32 ∷ []) (aggregate.ArrayNewElem ty segment))
+    → is_elem_below context (value_of element) segment ≡ true → IsNode context set (wanted ∷ []) (aggregate_of (I32 ∷ I32 ∷ []) (aggregate.ArrayNewElem ty segment))
 array_elem_gives context set wanted ty segment element orderly valid there of below held =
     created_gives context set wanted ty (I32 ∷ I32 ∷ []) (aggregate.ArrayNewElem ty segment) orderly valid below (element, there, segment_of context segment element orderly of held, (refl, refl)) (omega arith) (two_valid context I32 I32 tt tt)
 

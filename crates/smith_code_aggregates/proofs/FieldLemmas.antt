@@ -14,12 +14,12 @@ use Rattle.smith_instr.specs.declared.aggregate.AggregateInstr.TheVariants as ag
 use Rattle.smith_instr.specs.declared.instr.Instr.TheVariants as instr
 use Rattle.smith_code_aggregates.specs.Aggregates.{names_types}
 use Rattle.smith_code_nodes.specs.Chosen.{or_nop}
-use Rattle.smith_code_aggregates.specs.CreationChoices.{aggregate_of, segment_at}
+use Rattle.smith_code_aggregates.specs.CreationChoices.{aggregate_of, chosen_elem_at}
 use Rattle.smith_code_aggregates.specs.FieldChoices.{array_get_at, elem_initialized, field_read_at, field_write_at, field_writes, filled, init_elem_node, read_at, struct_get_at, write_at, write_of}
 use Rattle.smith_code_aggregates.specs.Fields.{extension_of, is_of_bytes, is_of_references, is_usable}
 use Rattle.smith_code_nodes.specs.Nodes.{IsNode}
 use Rattle.smith_code_nodes.specs.Scopes.{bare, context_of}
-use Rattle.smith_code_tables.specs.TableChoices.{is_segment_below}
+use Rattle.smith_code_tables.specs.TableChoices.{is_elem_below}
 use Rattle.smith_code_aggregates.specs.declared.aggregates.StructField.{StructField}
 use Rattle.smith_code_aggregates.specs.declared.field_writes.FieldWrite.{FieldWrite}
 use Rattle.smith_code_aggregates.specs.declared.field_writes.FieldWrite.TheVariants as write
@@ -116,20 +116,20 @@ init_data_gives context set ty segment element named there usable inside =
     (filled_valid context ty element named there)
 
 pub init_elem_gives : (context : BodyContext) (set : List ℕ) (ty segment : ℕ) (element : FieldType) → IsOrderly context.types → names_types context ≡ true → IsArrayAt context.types ty element → is_usable context.types field_use.SetReferences element ≡ true
-    → is_segment_below context (value_of element) segment ≡ true
+    → is_elem_below context (value_of element) segment ≡ true
     → IsNode context set [] (aggregate_of (nullable_to (Concrete ty) ∷ I32 ∷ I32 ∷ I32 ∷ []) (aggregate.ArrayInitElem ty segment))
 init_elem_gives context set ty segment element orderly named there usable held =
     let (mutable, of) = both element.mutable (is_of_references element.element_type) usable in
     gives_none context set (nullable_to (Concrete ty) ∷ I32 ∷ I32 ∷ I32 ∷ []) (instr.Aggregate (aggregate.ArrayInitElem ty segment)) (λ more. (element, there, mutable, segment_of context segment element orderly of held, (refl, refl))) refl (omega arith)
     (filled_valid context ty element named there)
 
-pub init_elem_none : (context : BodyContext) (array : ℕ × FieldType) (bytes left : List ℕ) → segment_at context (value_of array.1) bytes ≡ (None, left) → elem_initialized context array bytes ≡ (None, left)
-init_elem_none context array bytes left drawn = given_none (init_elem_node array) (segment_at context (value_of array.1) bytes) left drawn
+pub init_elem_none : (context : BodyContext) (array : ℕ × FieldType) (bytes left : List ℕ) → chosen_elem_at context (value_of array.1) bytes ≡ (None, left) → elem_initialized context array bytes ≡ (None, left)
+init_elem_none context array bytes left drawn = given_none (init_elem_node array) (chosen_elem_at context (value_of array.1) bytes) left drawn
 
-pub init_elem_some : (context : BodyContext) (array : ℕ × FieldType) (bytes left : List ℕ) (segment : ℕ) → segment_at context (value_of array.1) bytes ≡ (Some segment, left)
+pub init_elem_some : (context : BodyContext) (array : ℕ × FieldType) (bytes left : List ℕ) (segment : ℕ) → chosen_elem_at context (value_of array.1) bytes ≡ (Some segment, left)
     → elem_initialized context array bytes ≡ (Some (aggregate_of (filled array) (aggregate.ArrayInitElem array.0 segment)), left)
 init_elem_some context array bytes left segment drawn =
-    given_some (init_elem_node array) (segment_at context (value_of array.1) bytes) left segment (Some (aggregate_of (filled array) (aggregate.ArrayInitElem array.0 segment))) drawn refl
+    given_some (init_elem_node array) (chosen_elem_at context (value_of array.1) bytes) left segment (Some (aggregate_of (filled array) (aggregate.ArrayInitElem array.0 segment))) drawn refl
 
 pub write_by : (context : BodyContext) (bytes left : List ℕ) (rows : List FieldWrite) (drawn kind : FieldWrite) → rows ≡ field_writes → chosen_at write.StructSet rows bytes ≡ (drawn, left) → drawn ≡ kind
     → or_nop (write_at context bytes) ≡ or_nop (write_of context kind left)

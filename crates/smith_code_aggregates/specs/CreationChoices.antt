@@ -20,7 +20,7 @@ use Rattle.smith_code_nodes.specs.Items.{continued, index_at}
 use Rattle.smith_code_nodes.specs.Nodes.{node_of}
 use Rattle.smith_code_nodes.specs.Offered.{chunk_at}
 use Rattle.smith_code_nodes.specs.Scopes.{indexed}
-use Rattle.smith_code_tables.specs.TableChoices.{is_segment_below}
+use Rattle.smith_code_tables.specs.TableChoices.{is_elem_below}
 use Rattle.smith_code_aggregates.specs.declared.creations.Creation.{Creation}
 use Rattle.smith_code_aggregates.specs.declared.creations.Creation.TheVariants as creation
 use Rattle.smith_code_aggregates.specs.declared.fields.FieldUse.TheVariants as field_use
@@ -64,14 +64,14 @@ array_data_node array segment = Some (aggregate_of (I32 ∷ I32 ∷ []) (aggrega
 abbrev pub array_data : BodyContext → ℕ × FieldType → List ℕ → Chosen
 array_data context array bytes = giving (array_data_node array) (index_at context.datas bytes)
 
-abbrev pub segment_at : BodyContext → ValType → List ℕ → Option ℕ × List ℕ
-segment_at context wanted bytes = chunk_at (is_segment_below context wanted) (indexed (length context.elements)) bytes
+abbrev pub chosen_elem_at : BodyContext → ValType → List ℕ → Option ℕ × List ℕ
+chosen_elem_at context wanted bytes = chunk_at (is_elem_below context wanted) (indexed (length context.elems)) bytes
 
 abbrev pub array_elem_node : ℕ × FieldType → ℕ → Option Node
 array_elem_node array segment = Some (aggregate_of (I32 ∷ I32 ∷ []) (aggregate.ArrayNewElem array.0 segment))
 
 abbrev pub array_elem : BodyContext → ℕ × FieldType → List ℕ → Chosen
-array_elem context array bytes = giving (array_elem_node array) (segment_at context (value_of array.1) bytes)
+array_elem context array bytes = giving (array_elem_node array) (chosen_elem_at context (value_of array.1) bytes)
 
 -- the creations; the number of times that each is listed is its weight
 abbrev pub creations : List Creation

@@ -12,7 +12,7 @@ use Rattle.smith_instr.specs.Contexts.{BodyContext, nullable_to}
 use Rattle.smith_instr.specs.declared.aggregate.AggregateInstr.TheVariants as aggregate
 use Rattle.smith_code_aggregates.specs.Aggregates.{array_at, field_at, names_types}
 use Rattle.smith_code_nodes.specs.Chosen.{Chosen, giving}
-use Rattle.smith_code_aggregates.specs.CreationChoices.{aggregate_of, segment_at}
+use Rattle.smith_code_aggregates.specs.CreationChoices.{aggregate_of, chosen_elem_at}
 use Rattle.smith_code_aggregates.specs.Fields.{extension_of}
 use Rattle.smith_code_nodes.specs.Items.{continued, index_at}
 use Rattle.smith_code_aggregates.specs.declared.aggregates.StructField.{StructField}
@@ -89,7 +89,7 @@ abbrev pub init_elem_node : ℕ × FieldType → ℕ → Option Node
 init_elem_node array segment = Some (aggregate_of (filled array) (aggregate.ArrayInitElem array.0 segment))
 
 abbrev pub elem_initialized : BodyContext → ℕ × FieldType → List ℕ → Chosen
-elem_initialized context array bytes = giving (init_elem_node array) (segment_at context (value_of array.1) bytes)
+elem_initialized context array bytes = giving (init_elem_node array) (chosen_elem_at context (value_of array.1) bytes)
 
 abbrev pub init_elem_at : BodyContext → List ℕ → Chosen
 init_elem_at context bytes = let array = array_at context field_use.SetReferences bytes in continued (elem_initialized context) array.0 array.1

@@ -29,7 +29,7 @@ holding tables = record (function_of [] []) { tables = tables }
 
 -- a context with three tables, and element segments of functions and of external references
 abbrev pub tabled : BodyContext
-tabled = record (holding (functions ∷ externals ∷ wide_functions ∷ [])) { elements = funcref ∷ external ∷ [] }
+tabled = record (holding (functions ∷ externals ∷ wide_functions ∷ [])) { elems = funcref ∷ external ∷ [] }
 
 -- a context with these labels, the innermost first
 abbrev pub among : List (List ValType) → BodyContext

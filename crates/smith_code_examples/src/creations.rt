@@ -54,7 +54,7 @@ fn segments()
     ensures without_data_segments { creation_at (record (aggregates []) { datas = 0 })
         (some 3) (5 ∷ 9 ∷ [])
         ≡ (None, 9 ∷ []) }
-    ensures without_element_segments { creation_at (record (aggregates []) { elements = [] })
+    ensures without_element_segments { creation_at (record (aggregates []) { elems = [] })
         (some 4) (6 ∷ 9 ∷ [])
         ≡ (None, 9 ∷ []) }
 {}

@@ -62,6 +62,6 @@ fn segments()
         ≡ (None, 0 ∷ []) }
     ensures dropped { table_change_at tabled (4 ∷ 1 ∷ [])
         ≡ (Some (node_of [] (instr.Table (table.ElemDrop 1)) 0), []) }
-    ensures none_to_drop { table_change_at (record tabled { elements = [] }) (4 ∷ 1 ∷ [])
+    ensures none_to_drop { table_change_at (record tabled { elems = [] }) (4 ∷ 1 ∷ [])
         ≡ (None, 1 ∷ []) }
 {}

@@ -33,7 +33,7 @@ context_of scope labels = record {
   memories = scope.memories.now;
   globals = scope.globals.now;
   tags = scope.tags.now;
-  elements = scope.elements.now;
+  elems = scope.elems.now;
   datas = scope.datas;
   references = scope.references.now;
   locals = scope.locals.now;
@@ -87,7 +87,7 @@ pub record IsScope (context : BodyContext) : Type 0 where
   pub tables : All (λ (table : TableType). IsRefValid context table.element_type) context.tables
   pub tags : All (IsTagValid context.types) context.tags
   pub memories : All (IsMemoryValid context.features) context.memories
-  pub elements : All (IsRefValid context) context.elements
+  pub elems : All (IsRefValid context) context.elems
   pub locals : AreValid context context.locals
   pub results : AreValid context context.results
   pub results_few : length context.results ≤ widest context.types

@@ -31,7 +31,7 @@ pub struct Scope<'a> {
     /// The index of the type of each tag.
     pub tags: &'a [u32],
     /// The type of each element segment.
-    pub elements: &'a [RefType],
+    pub elems: &'a [RefType],
     /// The number of data segments.
     pub datas: usize,
     /// The functions that `ref.func` may name.

@@ -20,7 +20,7 @@ use Rattle.smith_code_nodes.specs.Nodes.{IsNode, node_of}
 use Rattle.smith_code_nodes.specs.Offered.{chunk_at, is_below_at}
 use Rattle.smith_code_nodes.specs.Scopes.{indexed}
 use Rattle.smith_code_nodes.specs.declared.node.Node.{Node}
-use Rattle.smith_code_tables.specs.TableChoices.{is_segment_below, is_table_addressed, is_table_addressed_at, is_table_below, table_change_at, table_change_of, table_changes, table_get_at, table_growth_at, table_growth_node, table_value_at}
+use Rattle.smith_code_tables.specs.TableChoices.{is_elem_below, is_table_addressed, is_table_addressed_at, is_table_below, table_change_at, table_change_of, table_changes, table_get_at, table_growth_at, table_growth_node, table_value_at}
 use Rattle.smith_code_tables.specs.declared.tables.TableChange.{TableChange}
 use Rattle.smith_code_tables.specs.declared.tables.TableChange.TheVariants as change
 use Rattle.smith_code_nodes.proofs.ChosenLemmas.{chosen_by}
@@ -35,8 +35,8 @@ table_below context wanted index d orderly inside is =
     tested context.types orderly (Ref (get_or context.tables index d).element_type) wanted
     (subst (λ (o : Option TableType). is_below_at context.types wanted (option_map (λ (table : TableType). Ref table.element_type) o) ≡ true) (slice_get-get_or context.tables index d inside) is)
 
-pub segment_below_at : (context : BodyContext) (wanted : ValType) (segment : ℕ) (o : Option RefType) → IsOrderly context.types → slice_get context.elements segment ≡ o → is_below_at context.types wanted (option_map Ref o) ≡ true
-    → (element : RefType) × (slice_get context.elements segment ≡ Some element) × IsValBelow context.types (Ref element) wanted
+pub segment_below_at : (context : BodyContext) (wanted : ValType) (segment : ℕ) (o : Option RefType) → IsOrderly context.types → slice_get context.elems segment ≡ o → is_below_at context.types wanted (option_map Ref o) ≡ true
+    → (element : RefType) × (slice_get context.elems segment ≡ Some element) × IsValBelow context.types (Ref element) wanted
 segment_below_at context wanted segment (Some element) orderly at is = (element, at, tested context.types orderly (Ref element) wanted is)
 segment_below_at context wanted segment None orderly at is = cc
 
@@ -98,10 +98,10 @@ copy_node context set to from into d orderly there inside is =
     (λ more. (into, out, there, slice_get-get_or context.tables from d inside, table_below context (Ref into.element_type) from d orderly inside is, (refl, refl))) refl (omega arith)
     (three_valid context (address into.table64) (address out.table64) (narrower into.table64 out.table64) (address_valid context into.table64) (address_valid context out.table64) (narrower_valid context into.table64 out.table64))
 
-pub init_node : (context : BodyContext) (set : List ℕ) (index segment : ℕ) (ty : TableType) → IsOrderly context.types → IsTable context index ty → is_segment_below context (Ref ty.element_type) segment ≡ true
+pub init_node : (context : BodyContext) (set : List ℕ) (index segment : ℕ) (ty : TableType) → IsOrderly context.types → IsTable context index ty → is_elem_below context (Ref ty.element_type) segment ≡ true
     → IsNode context set [] (node_of (address ty.table64 ∷ I32 ∷ I32 ∷ []) (instr.Table (table_instr.Init index segment)) 0)
 init_node context set index segment ty orderly there is =
-    let (element, there', below) = segment_below_at context (Ref ty.element_type) segment (slice_get context.elements segment) orderly refl is in
+    let (element, there', below) = segment_below_at context (Ref ty.element_type) segment (slice_get context.elems segment) orderly refl is in
     gives_none context set (address ty.table64 ∷ I32 ∷ I32 ∷ []) (instr.Table (table_instr.Init index segment)) (λ more. (ty, element, there, there', below, (refl, refl))) refl (omega arith)
     (three_valid context (address ty.table64) I32 I32 (address_valid context ty.table64) tt tt)
 

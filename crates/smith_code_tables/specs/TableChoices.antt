@@ -25,8 +25,8 @@ is_table_below context wanted index =
     is_below_at context.types wanted (option_map (λ (table : TableType). Ref table.element_type) (slice_get context.tables index))
 
 -- an element segment whose type matches the wanted type
-abbrev pub is_segment_below : BodyContext → ValType → ℕ → Bool
-is_segment_below context wanted index = is_below_at context.types wanted (option_map Ref (slice_get context.elements index))
+abbrev pub is_elem_below : BodyContext → ValType → ℕ → Bool
+is_elem_below context wanted index = is_below_at context.types wanted (option_map Ref (slice_get context.elems index))
 
 -- a table whose addresses have the wanted type, with reference types on
 abbrev pub is_table_addressed_at : ValType → Option TableType → Bool
@@ -98,7 +98,7 @@ table_init_node into segment =
 
 abbrev pub table_initialized : BodyContext → ℕ × TableType → List ℕ → Chosen
 table_initialized context into bytes =
-    giving (table_init_node into) (chunk_at (is_segment_below context (Ref into.1.element_type)) (indexed (length context.elements)) bytes)
+    giving (table_init_node into) (chunk_at (is_elem_below context (Ref into.1.element_type)) (indexed (length context.elems)) bytes)
 
 abbrev pub table_init_at : BodyContext → List ℕ → Chosen
 table_init_at context bytes = let into = item_at context.tables bytes in continued (table_initialized context) into.0 into.1
@@ -108,7 +108,7 @@ abbrev pub elem_drop_node : ℕ → Option Node
 elem_drop_node segment = Some (node_of [] (instr.Table (table_instr.ElemDrop segment)) 0)
 
 abbrev pub elem_drop_at : BodyContext → List ℕ → Chosen
-elem_drop_at context bytes = giving elem_drop_node (index_at (length context.elements) bytes)
+elem_drop_at context bytes = giving elem_drop_node (index_at (length context.elems) bytes)
 
 -- the statements on a table or an element segment, each with the same weight
 abbrev pub table_changes : List TableChange

@@ -11,7 +11,7 @@ ghost use Rattle.smith_code_nodes.specs.Nodes.{IsNode, IsOffer};
 ghost use Rattle.smith_code_nodes.specs.Offered.{chunk_at};
 ghost use Rattle.smith_code_nodes.specs.Scopes.{IsScope, bare, indexed, where_stands};
 ghost use Rattle.smith_code_tables.specs.TableChoices.{elem_drop_at, held_table_at};
-ghost use Rattle.smith_code_tables.specs.TableChoices.{is_segment_below, is_table_addressed};
+ghost use Rattle.smith_code_tables.specs.TableChoices.{is_elem_below, is_table_addressed};
 ghost use Rattle.smith_code_tables.specs.TableChoices.{is_table_below, table_change_at};
 ghost use Rattle.smith_code_tables.specs.TableChoices.{table_changes, table_copied, table_copy_at};
 ghost use Rattle.smith_code_tables.specs.TableChoices.{table_fill_node, table_get_at};
@@ -92,21 +92,21 @@ impl<'a> Offer for SegmentOffer<'a> {
     ghost use Rattle.std.specs.Prelude.{length};
     ghost use Rattle.smith_types.specs.Subtyping.{IsValInRange};
     ghost use Rattle.smith_code_nodes.specs.Scopes.{IsScope, bare, indexed};
-    ghost use Rattle.smith_code_tables.specs.TableChoices.{is_segment_below};
+    ghost use Rattle.smith_code_tables.specs.TableChoices.{is_elem_below};
 
     ghost ready = { λ self.
         IsScope (bare self.scope.now) × IsValInRange (bare self.scope.now).types self.wanted };
 
-    ghost size = { λ self. indexed (length self.scope.now.elements.now) };
+    ghost size = { λ self. indexed (length self.scope.now.elems.now) };
 
-    ghost test = { λ self index. is_segment_below (bare self.scope.now) self.wanted index };
+    ghost test = { λ self index. is_elem_below (bare self.scope.now) self.wanted index };
 
     fn count(&self) -> usize {
-        indexed(self.scope.elements.len())
+        indexed(self.scope.elems.len())
     }
 
     fn is_offered(&self, index: usize) -> bool {
-        let held = ValType::Ref(self.scope.elements[index]);
+        let held = ValType::Ref(self.scope.elems[index]);
         is_sub_type(self.scope, held, self.wanted)
     }
 }
@@ -478,11 +478,11 @@ pub fn choose_segment_below(
 ) -> Option<u32>
     requires scope { IsScope (bare scope.now) }
     requires wanted { IsValInRange (bare scope.now).types wanted }
-    ensures exact { chunk_at (is_segment_below (bare scope.now) wanted)
-        (indexed (length scope.now.elements.now)) u.old
+    ensures exact { chunk_at (is_elem_below (bare scope.now) wanted)
+        (indexed (length scope.now.elems.now)) u.old
         ≡ (result, u.new) }
     ensures offered { IfSome result (λ segment.
-        is_segment_below (bare scope.now) wanted segment ≡ true) }
+        is_elem_below (bare scope.now) wanted segment ≡ true) }
     ensures left { KeepsPieces u.old u.new }
 {
     let segment = choose_in_chunk(&SegmentOffer { scope, wanted }, u)?;
@@ -501,7 +501,7 @@ fn choose_elem_drop(
     ensures memory { IfErr result (λ e. e ≡ Error.Memory) }
     ensures left { KeepsPieces u.old u.new }
 {
-    let Some(segment) = draw_index(scope.elements.len(), u) else {
+    let Some(segment) = draw_index(scope.elems.len(), u) else {
         return plain(alloc, &[], Instr::Nop, 0);
     };
     plain(alloc, &[], Instr::Table(TableInstr::ElemDrop(segment)), 0)

@@ -22,7 +22,7 @@ use Rattle.smith_draw.specs.ConstScopes.{IsReadable}
 use Rattle.smith_draw.proofs.FloatLemmas.{stands_in}
 use Rattle.smith_draw.proofs.SupertypeLemmas.{chosen_of}
 use Rattle.smith_draw.proofs.ValueTypeLemmas.{drawn_is}
-use Rattle.smith_contents.specs.DataSegments.{Targets, Indexed, HasPages, no_memory, least_bytes, segment_at, segments_at}
+use Rattle.smith_contents.specs.DataSegments.{Targets, Indexed, HasPages, no_memory, least_bytes, data_segment_at, data_segments_at}
 use Rattle.smith_contents.specs.DataTargets.{StandsIn, TellOffsets, IsDataFit}
 
 -- a property of all memories that count holds for the chosen memory
@@ -71,13 +71,13 @@ pub passive_fit : {config : Config} {context : Context} {memories : List MemoryT
 passive_fit bulk = record { valid = bulk; inside = λ on. tt }
 
 -- the number of segments
-pub segments_most : (config : Config) (targets : Targets) (bytes : List ℕ) → length (segments_at config targets bytes).0 ≤ config.max_data_segments
-unfolding segments_at
-segments_most config targets bytes = grow_most (λ _. segment_at config targets) config.min_data_segments config.max_data_segments config.max_data_segments [] bytes (omega arith)
+pub segments_most : (config : Config) (targets : Targets) (bytes : List ℕ) → length (data_segments_at config targets bytes).0 ≤ config.max_data_segments
+unfolding data_segments_at
+segments_most config targets bytes = grow_most (λ _. data_segment_at config targets) config.min_data_segments config.max_data_segments config.max_data_segments [] bytes (omega arith)
 
-pub segments_least : (config : Config) (targets : Targets) (bytes : List ℕ) → config.min_data_segments ≤ config.max_data_segments → config.min_data_segments ≤ length (segments_at config targets bytes).0
-unfolding segments_at
-segments_least config targets bytes ordered = grow_least (λ _. segment_at config targets) config.min_data_segments config.max_data_segments [] bytes (omega arith)
+pub segments_least : (config : Config) (targets : Targets) (bytes : List ℕ) → config.min_data_segments ≤ config.max_data_segments → config.min_data_segments ≤ length (data_segments_at config targets bytes).0
+unfolding data_segments_at
+segments_least config targets bytes ordered = grow_least (λ _. data_segment_at config targets) config.min_data_segments config.max_data_segments [] bytes (omega arith)
 
 -- a valid memory has pages of 64 KiB, or of the stated number of bytes
 page_fits : (features : Features) (stated : Option ℕ) → IfSome stated (λ log2. ((log2 ≡ 0) ⊎ (log2 ≡ 16)) × IsTrue features.custom_page_sizes) → page_log2 stated ≤ 16

@@ -15,7 +15,7 @@ use Rattle.smith_types.specs.declared.entity_type.TableType.{TableType}
 use Rattle.smith_types.specs.declared.segments.ElementSegment.{ElementSegment}
 use Rattle.smith_config.specs.declared.config.Config.{Config}
 use Rattle.smith_bytes.specs.Spelling.{SpellsEmpty}
-use Rattle.smith_contents.specs.ElementSegments.{KindChoice, table_kinds_at, element_kinds_at, element_segments_at, elements_at}
+use Rattle.smith_contents.specs.ElementSegments.{KindChoice, table_kinds_at, element_kinds_at, element_segments_at, all_element_segments_at}
 use Rattle.smith_bytes.specs.Steps.{ReturnsWhy, ◌>>=◌}
 use Rattle.smith_contents.specs.declared.element_kinds.KindChoice.TheVariants.{Passive, Declared}
 use Rattle.smith_bytes.proofs.StepLemmas.{given_takes}
@@ -41,8 +41,8 @@ segments_least config context kinds (suc most) made bytes enough =
     (λ off. ltb-false (length made) config.min_element_segments (stops_by (ltb (length made) config.min_element_segments) bytes off))
 
 -- at least the minimum
-pub elements_least : (config : Config) (context : Context) (tables : List TableType) (bytes : List ℕ) → config.min_element_segments ≤ config.max_element_segments → IfOk (elements_at config context tables bytes) (λ drawn. config.min_element_segments ≤ length drawn.0)
-unfolding elements_at
+pub elements_least : (config : Config) (context : Context) (tables : List TableType) (bytes : List ℕ) → config.min_element_segments ≤ config.max_element_segments → IfOk (all_element_segments_at config context tables bytes) (λ drawn. config.min_element_segments ≤ length drawn.0)
+unfolding all_element_segments_at
 elements_least config context tables bytes ordered =
     let kinds = element_kinds_at config tables bytes in
     let Least = λ (drawn : List ElementSegment × List ℕ). config.min_element_segments ≤ length drawn.0 in
@@ -66,13 +66,13 @@ none_by config context true piece after none spelled = segments_none config cont
 none_by config context false piece after none spelled = rw (none, spelled) refl
 
 pub elements_none : (config : Config) (context : Context) (tables : List TableType) (segments : List ElementSegment) (piece after : List ℕ) → config.min_element_segments ≡ 0 → tables ≡ []
-    → SpellsEmpty (SpellsNone (if config.bulk_memory_enabled then config.max_element_segments else 0)) segments piece → elements_at config context tables (piece ++ after) ≡ Ok (segments, after)
-unfolding elements_at element_kinds_at table_kinds_at
+    → SpellsEmpty (SpellsNone (if config.bulk_memory_enabled then config.max_element_segments else 0)) segments piece → all_element_segments_at config context tables (piece ++ after) ≡ Ok (segments, after)
+unfolding all_element_segments_at element_kinds_at table_kinds_at
 elements_none config context tables segments piece after none empty h = rw (empty, h.none) (none_by config context config.bulk_memory_enabled piece after none h.spelled)
 
 -- if there is no table, that piece is taken
-pub elements_taken : (config : Config) (context : Context) (tables : List TableType) (old new : List ℕ) (result : Result (List ElementSegment) Error) → config.min_element_segments ≡ 0 → tables ≡ [] → ReturnsWhy (λ segments. (segments, new)) result (elements_at config context tables old)
+pub elements_taken : (config : Config) (context : Context) (tables : List TableType) (old new : List ℕ) (result : Result (List ElementSegment) Error) → config.min_element_segments ≡ 0 → tables ≡ [] → ReturnsWhy (λ segments. (segments, new)) result (all_element_segments_at config context tables old)
     → IfOk result (λ segments. Takes (SpellsEmpty (SpellsNone (if config.bulk_memory_enabled then config.max_element_segments else 0))) old segments new)
 elements_taken config context tables old new result none empty given =
-    given_takes (SpellsEmpty (SpellsNone (if config.bulk_memory_enabled then config.max_element_segments else 0))) (λ segments. segments) (elements_at config context tables) old new result
+    given_takes (SpellsEmpty (SpellsNone (if config.bulk_memory_enabled then config.max_element_segments else 0))) (λ segments. segments) (all_element_segments_at config context tables) old new result
     (λ segments piece after h. elements_none config context tables segments piece after none empty h) given

@@ -9,7 +9,7 @@ use Rattle.smith_bytes.specs.declared.error.Why.{Why}
 use Rattle.smith_bytes.proofs.GrownLemmas.{grow_all, grow_least}
 use Rattle.smith_types.specs.Entities.{IsFuncTypeIndex}
 use Rattle.smith_types.specs.Expressions.{Context, created, reference_to, function_reference}
-use Rattle.smith_types.specs.Flags.{IsElementEnabled, funcref}
+use Rattle.smith_types.specs.Flags.{IsElementTypeEnabled, funcref}
 use Rattle.smith_types.specs.Kinds.{kind_of, shared}
 use Rattle.smith_types.specs.Segments.{IsItem}
 use Rattle.smith_types.specs.Subtyping.{IsBelow, itself, by_step, IsValBelow}
@@ -66,7 +66,7 @@ listed_by ty true bytes after drawn enabled listed = of_funcref (is_funcref ty) 
     of_funcref false e = ap (λ (r : Bool × List ℕ). r.0) e
 
 -- items are listed as functions only if their type is funcref
-pub functions_listed : (config : Config) (ty : RefType) (bytes after : List ℕ) (listed : Bool) → IsElementEnabled (features_of config) ty → are_functions_at config ty bytes ≡ (listed, after) → listed ≡ true → is_funcref ty ≡ true
+pub functions_listed : (config : Config) (ty : RefType) (bytes after : List ℕ) (listed : Bool) → IsElementTypeEnabled (features_of config) ty → are_functions_at config ty bytes ≡ (listed, after) → listed ≡ true → is_funcref ty ≡ true
 unfolding are_functions_at
 functions_listed config ty bytes after listed enabled drawn on = listed_by ty config.reference_types_enabled bytes after _ enabled (rw on at drawn)
 

@@ -5,7 +5,7 @@ use Rattle.std.proofs.lemmas.Option.{slice_get-get_or, slice_get_within, get_or_
 use Rattle.smith_bytes.specs.declared.error.Error.{Error}
 use Rattle.smith_bytes.proofs.GrownLemmas.{grow_most}
 use Rattle.smith_types.specs.Expressions.{Context}
-use Rattle.smith_types.specs.Flags.{IsElementEnabled}
+use Rattle.smith_types.specs.Flags.{IsElementTypeEnabled}
 use Rattle.smith_types.specs.Segments.{table_index}
 use Rattle.smith_types.specs.declared.entity_type.TableType.{TableType}
 use Rattle.smith_types.specs.Types.{IsOrderly}
@@ -26,7 +26,7 @@ use Rattle.smith_draw.specs.Grounding.{standing_in}
 use Rattle.smith_draw.proofs.MatchingLemmas.{matching_ref_below, matching_ref_valid}
 use Rattle.smith_draw.proofs.TableTypeLemmas.{element_enabled}
 use Rattle.smith_draw.proofs.ValueTypeLemmas.{ref_type_drawn}
-use Rattle.smith_contents.specs.DrawnElements.{IsKindOffered, FitsAddresses, FitsTable, HasUngroundedElements, MayDrawElements, MayHoldItems, MayRefuseItems, MayRefuseSegment}
+use Rattle.smith_contents.specs.DrawnElements.{IsKindOffered, FitsAddresses, FitsTable, HasUngroundedElements, MayDrawElements, MayHoldItems, MayRefuseItems, MayRefuseElementSegment}
 use Rattle.smith_contents.specs.ElementSegments.{KindChoice, item_type_at, chosen_functions_at, expression_item_at, drawn_expressions_at}
 use Rattle.smith_contents.specs.declared.element_kinds.KindChoice.TheVariants as choice
 
@@ -41,7 +41,7 @@ matching_same : (config : Config) (context : Context) (element : RefType) (bytes
 matching_same config context element bytes off = ap (λ (drawn : RefType × List ℕ). drawn.0) (references_without_gc config context element bytes off)
 
 -- a type that matches an element type is enabled if the element type is
-matching_enabled : (config : Config) (context : Context) (element : RefType) (bytes : List ℕ) (gc : Bool) → config.gc_enabled ≡ gc → IsSanitized config → IsElementEnabled (features_of config) element → IsElementEnabled (features_of config) (matching_ref_type_at config context element bytes).0
+matching_enabled : (config : Config) (context : Context) (element : RefType) (bytes : List ℕ) (gc : Bool) → config.gc_enabled ≡ gc → IsSanitized config → IsElementTypeEnabled (features_of config) element → IsElementTypeEnabled (features_of config) (matching_ref_type_at config context element bytes).0
 matching_enabled config context element bytes true is sanitized enabled other = sanitized.gc is
 matching_enabled config context element bytes false is sanitized enabled other = enabled (λ same. other (matching_same config context element bytes is ∙ same))
 
@@ -78,7 +78,7 @@ item_type_needed config context tables (choice.Active index table) bytes orderly
     (place, table, slice_get_within tables place table offered.stands, get_or_from_slice_get tables place table table offered.stands, matching_ref_ungrounded config context orderly table.element_type bytes needed)
 
 -- a segment is refused if its items are
-pub segment_refused : (config : Config) (context : Context) (tables : List TableType) (ty : RefType) (e : Error) → (IsUngrounded config context (Ref ty) → HasUngroundedElements config context tables) → MayRefuseItems config context ty e → MayRefuseSegment config context tables e
+pub segment_refused : (config : Config) (context : Context) (tables : List TableType) (ty : RefType) (e : Error) → (IsUngrounded config context (Ref ty) → HasUngroundedElements config context tables) → MayRefuseItems config context ty e → MayRefuseElementSegment config context tables e
 segment_refused config context tables ty e from_table (inl unmet) = inl unmet
 segment_refused config context tables ty e from_table (inr (empty, inl needed)) = inr (empty, inr (from_table needed))
 segment_refused config context tables ty e from_table (inr (empty, inr field)) = inr (empty, inl field)

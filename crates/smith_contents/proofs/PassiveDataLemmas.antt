@@ -15,7 +15,7 @@ use Rattle.smith_types.specs.declared.entity_type.MemoryType.{MemoryType}
 use Rattle.smith_types.specs.declared.segments.DataSegment.{DataSegment}
 use Rattle.smith_config.specs.declared.config.Config.{Config}
 use Rattle.smith_bytes.specs.Steps.{ReturnsWhy}
-use Rattle.smith_contents.specs.DataSegments.{Targets, counting_at, targets_of, passive_at, segment_at, segments_at, data_at}
+use Rattle.smith_contents.specs.DataSegments.{Targets, counting_at, targets_of, passive_at, data_segment_at, data_segments_at, data_at}
 use Rattle.smith_contents.specs.PassiveData.{passive_data, SpellsPassive}
 use Rattle.smith_draw.specs.SpelledParts.{SpellsBytes}
 use Rattle.smith_bytes.proofs.StepLemmas.{given_takes}
@@ -48,12 +48,12 @@ bytes_read bytes piece after h = bytes_grown (length (piece ++ after)) [] bytes 
 
 -- with bulk memory and no memory that counts, a spelled byte list is a passive segment
 segment_read : (config : Config) (targets : Targets) (bytes piece after : List ℕ) → config.bulk_memory_enabled ≡ true → targets.memories ≡ [] → SpellsBytes bytes piece
-    → segment_at config targets (piece ++ after) ≡ (passive_data bytes, after)
-unfolding segment_at passive_at
+    → data_segment_at config targets (piece ++ after) ≡ (passive_data bytes, after)
+unfolding data_segment_at passive_at
 segment_read config targets bytes piece after bulk none h = rw (bytes_read bytes piece after h, bulk, none) refl
 
 segments_grown : (config : Config) (targets : Targets) (most : ℕ) (made : List DataSegment) (lists : List (List ℕ)) (piece after : List ℕ) → config.bulk_memory_enabled ≡ true → targets.memories ≡ [] → Listed SpellsBytes most lists piece
-    → grow_at (λ _. segment_at config targets) 0 most made (piece ++ after) ≡ (made ++ map (λ bytes. passive_data bytes) lists, after)
+    → grow_at (λ _. data_segment_at config targets) 0 most made (piece ++ after) ≡ (made ++ map (λ bytes. passive_data bytes) lists, after)
 unfolding grow_at Listed
 segments_grown config targets zero made [] piece after bulk none h = rw (h, append-nil) refl
 segments_grown config targets zero made (bytes ∷ lists) piece after bulk none h = absurd h
@@ -71,10 +71,10 @@ no_lists [] piece h = (h, refl)
 no_lists (bytes ∷ lists) piece h = absurd h
 
 segments_read : (config : Config) (targets : Targets) (lists : List (List ℕ)) (piece after : List ℕ) → config.bulk_memory_enabled ≡ true → config.min_data_segments ≡ 0 → targets.memories ≡ []
-    → Listed SpellsBytes config.max_data_segments lists piece → segments_at config targets (piece ++ after) ≡ (map (λ bytes. passive_data bytes) lists, after)
-unfolding segments_at
+    → Listed SpellsBytes config.max_data_segments lists piece → data_segments_at config targets (piece ++ after) ≡ (map (λ bytes. passive_data bytes) lists, after)
+unfolding data_segments_at
 segments_read config targets lists piece after bulk least none h =
-    ap (λ (n : ℕ). grow_at (λ _. segment_at config targets) n config.max_data_segments [] (piece ++ after)) least ∙ segments_grown config targets config.max_data_segments [] lists piece after bulk none h
+    ap (λ (n : ℕ). grow_at (λ _. data_segment_at config targets) n config.max_data_segments [] (piece ++ after)) least ∙ segments_grown config targets config.max_data_segments [] lists piece after bulk none h
 
 with_bulk : {A : Type 0} (bulk empty : Bool) (x y : A) → bulk ≡ true → cond (not bulk && empty) x y ≡ y
 with_bulk true empty x y on = refl

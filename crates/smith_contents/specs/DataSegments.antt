@@ -116,14 +116,14 @@ passive_at config targets bytes =
     if config.bulk_memory_enabled then (if length targets.memories == 0 then (true, bytes) else bool_at bytes)
     else (false, bytes)
 
-unfoldable pub segment_at : Config → Targets → List ℕ → DataSegment × List ℕ
-segment_at config targets bytes =
+unfoldable pub data_segment_at : Config → Targets → List ℕ → DataSegment × List ℕ
+data_segment_at config targets bytes =
     let init = byte_list_at bytes in
     let passive = passive_at config targets init.1 in
     if passive.0 then (record { kind = Passive; init = init.0 }, passive.1) else active_at config targets init.0 passive.1
 
-unfoldable pub segments_at : Config → Targets → List ℕ → List DataSegment × List ℕ
-segments_at config targets bytes = grow_at (λ _. segment_at config targets) config.min_data_segments config.max_data_segments [] bytes
+unfoldable pub data_segments_at : Config → Targets → List ℕ → List DataSegment × List ℕ
+data_segments_at config targets bytes = grow_at (λ _. data_segment_at config targets) config.min_data_segments config.max_data_segments [] bytes
 
 -- the data segments for these memories, in a context with the visible globals; none if there is no
 -- bulk memory and no memory may be copied into
@@ -132,4 +132,4 @@ data_at config context memories bytes =
     let counting = counting_at [] 0 memories bytes in
     if not config.bulk_memory_enabled && (length counting.0 == 0)
     then (if config.min_data_segments == 0 then Ok ([], counting.1) else Err (Unmet counts.DataSegments))
-    else Ok (segments_at config (targets_of config context counting.0) counting.1)
+    else Ok (data_segments_at config (targets_of config context counting.0) counting.1)

@@ -7,9 +7,9 @@ use Rattle.smith_bytes.specs.declared.error.Error.TheVariants.{EmptyChoose, Inco
 use Rattle.smith_bytes.specs.declared.error.Why.TheVariants.{Unmet}
 use Rattle.smith_types.specs.Entities.{IsTableValid, most_elements}
 use Rattle.smith_types.specs.Expressions.{Context}
-use Rattle.smith_types.specs.Flags.{IsElementEnabled}
+use Rattle.smith_types.specs.Flags.{IsElementTypeEnabled}
 use Rattle.smith_types.specs.Floats.{HasNoFloat, GivesNoFloat}
-use Rattle.smith_types.specs.Segments.{table_index, AreItemsValid, IsOffsetValid, IsOffsetInside, IsElementValid, IsElementInside}
+use Rattle.smith_types.specs.Segments.{table_index, AreItemsValid, IsOffsetValid, IsOffsetInside, IsElementSegmentValid, IsElementInside}
 use Rattle.smith_types.specs.Subtyping.{IsRefBelow}
 use Rattle.smith_types.specs.ValidTypes.{IsRefTypeValid}
 use Rattle.smith_types.specs.declared.composite_type.SubType.{SubType}
@@ -80,7 +80,7 @@ FitsTable types _ ty = Unit {0}
 pub record MayHoldItems (config : Config) (spaces : Spaces) (ty : RefType) : Type 0 where
   pub standing : AreSpacesValid config spaces
   pub valid : IsRefTypeValid (features_of config) (length spaces.types.now.types) ty
-  pub enabled : IsElementEnabled (features_of config) ty
+  pub enabled : IsElementTypeEnabled (features_of config) ty
 
 -- items of a type are valid and enough, and have no float constant if no type holds a float
 pub record AreItemsFit (config : Config) (context : Context) (ty : RefType) (items : Elements) : Type 0 where
@@ -97,7 +97,7 @@ HasUngroundedElements config context tables = Any (λ (table : TableType). IsUng
 -- `disallow_traps` the items it copies fit, and its items are nullable or grounded if the elements
 -- of all tables are
 pub record IsElementFit (config : Config) (context : Context) (tables : List TableType) (segment : ElementSegment) : Type 0 where
-  pub valid : IsElementValid context tables segment
+  pub valid : IsElementSegmentValid context tables segment
   pub inside : IsTrue config.disallow_traps → IsElementInside tables segment
   pub enough : HasItems config context.types context.funcs segment.items
   pub floats : All HasNoFloat context.types → All (All GivesNoFloat) (expressions_of segment.items)
@@ -117,11 +117,11 @@ abbrev pub MayRefuseItems : Config → Context → RefType → Error → Type 0
 MayRefuseItems config context ty e = MayRefuseFunctions config e ⊎ ((e ≡ EmptyChoose) × MayLack config context (Ref ty))
 
 -- errors of a segment with these tables
-abbrev pub MayRefuseSegment : Config → Context → List TableType → Error → Type 0
-MayRefuseSegment config context tables e = MayRefuseFunctions config e ⊎ ((e ≡ EmptyChoose) × MayLackItem config context tables)
+abbrev pub MayRefuseElementSegment : Config → Context → List TableType → Error → Type 0
+MayRefuseElementSegment config context tables e = MayRefuseFunctions config e ⊎ ((e ≡ EmptyChoose) × MayLackItem config context tables)
 
 -- errors of the step of element segments: those of a segment, or no kind is offered
 abbrev pub MayRefuseElements : Config → Context → List TableType → Error → Type 0
 MayRefuseElements config context tables e =
-    MayRefuseSegment config context tables e
+    MayRefuseElementSegment config context tables e
     ⊎ ((e ≡ IncorrectFormat (Unmet counts.ElementSegments)) × (0 < config.min_element_segments) × (config.bulk_memory_enabled ≡ false))

@@ -212,8 +212,8 @@ element_segments_at config context kinds (suc most) made bytes =
 
 -- the element segments of a module with these tables; none if no kind is offered, refused if some
 -- are required
-unfoldable pub elements_at : Config → Context → List TableType → List ℕ → Result (List ElementSegment × List ℕ) Why
-elements_at config context tables bytes =
+unfoldable pub all_element_segments_at : Config → Context → List TableType → List ℕ → Result (List ElementSegment × List ℕ) Why
+all_element_segments_at config context tables bytes =
     let kinds = element_kinds_at config tables bytes in
     if length kinds.0 == 0 then (if config.min_element_segments == 0 then Ok ([], kinds.1) else Err (Unmet counts.ElementSegments))
     else element_segments_at config context kinds.0 config.max_element_segments [] kinds.1

@@ -16,7 +16,7 @@ ghost use Rattle.smith_bytes.specs.Steps.{ReturnsWhy};
 ghost use Rattle.smith_contents.specs.DataSegments.{HasPages, least_bytes, last_address};
 ghost use Rattle.smith_contents.specs.DataSegments.{constant_offset, address_at};
 ghost use Rattle.smith_contents.specs.DataSegments.{constant_placed_at, placed_at, active_at};
-ghost use Rattle.smith_contents.specs.DataSegments.{passive_at, segment_at, segments_at, data_at};
+ghost use Rattle.smith_contents.specs.DataSegments.{passive_at, data_segment_at, data_segments_at, data_at};
 ghost use Rattle.smith_contents.specs.DataTargets.{TellOffsets, AreTargets, IsDataFit};
 ghost use Rattle.smith_contents.specs.DataTargets.{MayRefuseData};
 ghost use Rattle.smith_contents.specs.PassiveData.{SpellsPassive};
@@ -181,7 +181,7 @@ fn is_passive(config: &Config, targets: &Targets<'_>, u: &mut Unstructured<'_>) 
     targets.is_empty() || u.arbitrary()
 }
 
-#[tactic(auto, unfolding(crate::specs::DataSegments::segment_at))]
+#[tactic(auto, unfolding(crate::specs::DataSegments::data_segment_at))]
 fn draw_segment(
     alloc: Global,
     config: &Config,
@@ -190,7 +190,7 @@ fn draw_segment(
 ) -> Result<DataSegment, Error>
     requires some { config.now.bulk_memory_enabled ≡ false → 0 < length targets.now.memories }
     requires pages { All HasPages targets.now.memories }
-    ensures draws { Draws (segment_at config.now targets.now u.old) result u.old u.new }
+    ensures draws { Draws (data_segment_at config.now targets.now u.old) result u.old u.new }
     ensures fit { (context : Context) (memories : List MemoryType)
         → AreTargets config.now context memories targets.now
         → IfOk result (IsDataFit config.now context memories) }
@@ -205,7 +205,7 @@ fn draw_segment(
     Ok(draw_active(config, targets, init, u))
 }
 
-#[tactic(auto, unfolding(crate::specs::DataSegments::segments_at))]
+#[tactic(auto, unfolding(crate::specs::DataSegments::data_segments_at))]
 fn draw_segments(
     alloc: Global,
     config: &Config,
@@ -214,7 +214,7 @@ fn draw_segments(
 ) -> Result<Items<DataSegment>, Error>
     requires some { config.now.bulk_memory_enabled ≡ false → 0 < length targets.now.memories }
     requires pages { All HasPages targets.now.memories }
-    ensures draws { Draws (segments_at config.now targets.now u.old) result u.old u.new }
+    ensures draws { Draws (data_segments_at config.now targets.now u.old) result u.old u.new }
     ensures fit { (context : Context) (memories : List MemoryType)
         → AreTargets config.now context memories targets.now
         → IfOk result (All (IsDataFit config.now context memories)) }

@@ -4,7 +4,7 @@ ghost use Rattle.std.specs.List.{flat_map};
 ghost use Rattle.smith_bytes.specs.Source.{KeepsPieces};
 ghost use Rattle.smith_bytes.specs.Takes.{Takes};
 ghost use Rattle.smith_types.specs.Floats.{HasNoFloat, GivesNoFloat};
-ghost use Rattle.smith_types.specs.Segments.{item_count, IsElementValid, IsElementInside};
+ghost use Rattle.smith_types.specs.Segments.{item_count, IsElementSegmentValid, IsElementInside};
 ghost use Rattle.smith_types.specs.declared.segments.ElementSegment.{ElementSegment};
 ghost use Rattle.smith_draw.specs.Grounding.{standing_in};
 ghost use Rattle.smith_draw.specs.KeptGrounds.{AreKeptGrounds};
@@ -15,9 +15,9 @@ ghost use Rattle.smith_rules.specs.Held.{HasItems, expressions_of};
 ghost use Rattle.smith_config.specs.Granted.{HasGroundedItems};
 ghost use Rattle.smith_contents.specs.DrawnElements.{HasUngroundedElements, IsKindOffered};
 ghost use Rattle.smith_contents.specs.DrawnElements.{IsElementFit, MayDrawElements};
-ghost use Rattle.smith_contents.specs.DrawnElements.{MayRefuseSegment, MayRefuseElements};
+ghost use Rattle.smith_contents.specs.DrawnElements.{MayRefuseElementSegment, MayRefuseElements};
 ghost use Rattle.smith_contents.specs.ElementSegments.{most_items, items_in, element_segment_at};
-ghost use Rattle.smith_contents.specs.ElementSegments.{element_segments_at, elements_at};
+ghost use Rattle.smith_contents.specs.ElementSegments.{element_segments_at, all_element_segments_at};
 ghost use Rattle.smith_bytes.specs.Spelling.{SpellsNone};
 
 use crate::element_items::{draw_item_type, draw_items};
@@ -67,7 +67,7 @@ fn draw_segment(
         (element_segment_at config.now (seen_by config.now spaces.now true) kinds.now total u.old) }
     ensures fit { IfOk result (IsElementFit config.now
         (seen_by config.now spaces.now true) spaces.now.entities.tables.now) }
-    ensures refusal { IfErr result (MayRefuseSegment config.now
+    ensures refusal { IfErr result (MayRefuseElementSegment config.now
         (standing_in config.now spaces.now) spaces.now.entities.tables.now) }
     ensures left { KeepsPieces u.old u.new }
 {
@@ -110,7 +110,7 @@ fn draw_segments(
         (seen_by config.now spaces.now true) spaces.now.entities.tables.now)) }
     ensures most { IfOk result (λ segments. (length segments ≤ config.now.max_element_segments)
         × (items_in segments ≤ config.now.max_elements)) }
-    ensures refusal { IfErr result (MayRefuseSegment config.now
+    ensures refusal { IfErr result (MayRefuseElementSegment config.now
         (standing_in config.now spaces.now) spaces.now.entities.tables.now) }
     ensures left { KeepsPieces u.old u.new }
 {
@@ -140,7 +140,7 @@ fn none(alloc: Global, config: &Config) -> Result<Items<ElementSegment>, Error>
     Ok(Items::new(alloc))
 }
 
-#[tactic(auto, unfolding(crate::specs::ElementSegments::elements_at))]
+#[tactic(auto, unfolding(crate::specs::ElementSegments::all_element_segments_at))]
 fn draw_elements(
     alloc: Global,
     config: &Config,
@@ -150,7 +150,7 @@ fn draw_elements(
 ) -> Result<Items<ElementSegment>, Error>
     requires may { MayDrawElements config.now spaces.now }
     requires kept { AreKeptGrounds (standing_in config.now spaces.now) grounds.now }
-    ensures exact { ReturnsWhy (λ segments. (segments, u.new)) result (elements_at config.now
+    ensures exact { ReturnsWhy (λ segments. (segments, u.new)) result (all_element_segments_at config.now
         (seen_by config.now spaces.now true) spaces.now.entities.tables.now u.old) }
     ensures fit { IfOk result (All (IsElementFit config.now
         (seen_by config.now spaces.now true) spaces.now.entities.tables.now)) }
@@ -196,12 +196,12 @@ pub fn arbitrary_elements(
     requires kept { AreKeptGrounds (standing_in config.now spaces.now) grounds.now }
 
     // The draw.
-    ensures exact { ReturnsWhy (λ segments. (segments, u.new)) result (elements_at config.now
+    ensures exact { ReturnsWhy (λ segments. (segments, u.new)) result (all_element_segments_at config.now
         (seen_by config.now spaces.now true) spaces.now.entities.tables.now u.old) }
 
     // Validity and traps.
     ensures valid { IfOk result
-        (All (IsElementValid (seen_by config.now spaces.now true) spaces.now.entities.tables.now)) }
+        (All (IsElementSegmentValid (seen_by config.now spaces.now true) spaces.now.entities.tables.now)) }
     ensures inside { IsTrue config.now.disallow_traps
         → IfOk result (All (IsElementInside spaces.now.entities.tables.now)) }
 

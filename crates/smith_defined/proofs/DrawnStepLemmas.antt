@@ -17,7 +17,7 @@ use Rattle.smith_config.specs.declared.config.Config.{Config}
 use Rattle.smith_config.specs.Features.{features_of}
 use Rattle.smith_config.specs.Granted.{IsUngrounded}
 use Rattle.smith_draw.specs.ConstBounds.{MayRefuseConstExpr}
-use Rattle.smith_draw.specs.Grounding.{context_of}
+use Rattle.smith_draw.specs.Grounding.{function_context}
 use Rattle.smith_draw.specs.KeptGrounds.{AreKeptGrounds}
 use Rattle.smith_draw.specs.declared.kept_grounds.KeptGrounds.{KeptGrounds}
 use Rattle.smith_draw.proofs.FilledLemmas.{fields_before}
@@ -68,8 +68,8 @@ refused_before config types before so_far funcs e extends (inr (empty, holds)) =
 
 -- the record after the added functions are noted
 pub functions_noted : (config : Config) (types : List SubType) (before : EntitySpaces) (so_far : Definitions) (funcs : List ℕ) (old new : KeptGrounds) → Extends before.funcs funcs → so_far.num_funcs ≤ length before.funcs
-    → ((imported : ℕ) → imported ≤ length before.funcs → AreKeptGrounds (context_of (features_of config) types (take (length before.funcs) funcs) imported) old → AreKeptGrounds (context_of (features_of config) types funcs imported) new)
-    → AreKeptGrounds (drawn_beside config types before so_far) old → AreKeptGrounds (context_of (features_of config) types funcs (length before.funcs - so_far.num_funcs)) new
+    → ((imported : ℕ) → imported ≤ length before.funcs → AreKeptGrounds (function_context (features_of config) types (take (length before.funcs) funcs) imported) old → AreKeptGrounds (function_context (features_of config) types funcs imported) new)
+    → AreKeptGrounds (drawn_beside config types before so_far) old → AreKeptGrounds (function_context (features_of config) types funcs (length before.funcs - so_far.num_funcs)) new
 functions_noted config types before so_far funcs old new extends within noted kept =
     let front : take (length before.funcs) funcs ≡ before.funcs = rw extends.parts (take-append_seam before.funcs extends.more) in
     noted (length before.funcs - so_far.num_funcs) (omega (arith, within)) (rw front kept)

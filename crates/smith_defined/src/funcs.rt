@@ -10,7 +10,7 @@ ghost use Rattle.smith_config.specs.Sanitized.{IsSanitized};
 ghost use Rattle.smith_bytes.specs.Steps.{ReturnsWhy};
 ghost use Rattle.smith_defined.specs.Defined.{IsFilled};
 ghost use Rattle.smith_defined.specs.Definitions.{funcs_at};
-ghost use Rattle.smith_draw.specs.Grounding.{context_of};
+ghost use Rattle.smith_draw.specs.Grounding.{function_context};
 ghost use Rattle.smith_draw.specs.KeptGrounds.{AreKeptGrounds};
 ghost use Rattle.smith_draw.specs.TypeUses.{func_types};
 ghost use Rattle.smith_draw.specs.SpelledParts.{SpellsFuncs};
@@ -94,9 +94,9 @@ pub(crate) fn note_defined(
     grounds: &mut KeptGrounds,
 )
     ensures { (imported : ℕ) → imported ≤ before
-        → AreKeptGrounds (context_of (features_of config.now) types.now.types
+        → AreKeptGrounds (function_context (features_of config.now) types.now.types
         (take before funcs.now) imported) grounds.old
-        → AreKeptGrounds (context_of (features_of config.now) types.now.types funcs.now imported)
+        → AreKeptGrounds (function_context (features_of config.now) types.now.types funcs.now imported)
         grounds.new }
 {
     for function in before..funcs.len() {

@@ -14,7 +14,7 @@ use Rattle.smith_types.specs.Kinds.{kind, kind_of, bottom, bottom_of, shared}
 use Rattle.smith_types.specs.Subtyping.{is_abstract_below}
 use Rattle.smith_types.specs.Families.{is_index, is_directly_below}
 use Rattle.smith_config.specs.declared.config.Config.{Config}
-use Rattle.smith_draw.specs.Offered.{abstract_subtypes, abstract_supertypes, supertypes_of_inner, kinds_below, kinds_above, is_of_kind, is_shared_as, is_kind, picked_from, of_kinds, direct_subtypes, ancestors, of_standing, bottom_at, kinds_at, exact_subtypes, gc_subtypes, gc_supertypes}
+use Rattle.smith_draw.specs.Offered.{abstract_subtypes, abstract_supertypes, supertypes_of_inner, kinds_below, kinds_above, is_of_kind, is_shared_as, is_kind, picked_from, of_kinds, offered_direct_subtypes, ancestors, of_standing, bottom_at, kinds_at, exact_subtypes, gc_subtypes, gc_supertypes}
 
 -- lists
 each_append : {A : Type 0} (P : A → Type 0) (xs ys : List A) → Each P xs → Each P ys → Each P (xs ++ ys)
@@ -133,7 +133,7 @@ above_abstract_each P types s a abstracts concretes =
     (each_map P (λ b. IsTrue (is_abstract_below a b)) (Abstract s) abstracts (abstract_supertypes a) (supertypes_above a))
     (kinds_each P (IsBottomOfKind a) types s (λ k t at same is_bottom. concretes k t at same (is_bottom t.composite_type.inner refl)) (kinds_above a) (kinds_are_above a))
 
-direct_each : (P : HeapType → Type 0) (types : List SubType) (i : ℕ) → ((k : ℕ) (t : SubType) → slice_get types k ≡ Some t → t.supertype ≡ Some i → P (Concrete k)) → Each P (direct_subtypes types i)
+direct_each : (P : HeapType → Type 0) (types : List SubType) (i : ℕ) → ((k : ℕ) (t : SubType) → slice_get types k ≡ Some t → t.supertype ≡ Some i → P (Concrete k)) → Each P (offered_direct_subtypes types i)
 direct_each P types i each = picked_all P (is_directly_below i) types (λ k t at on. each k t at (supertype_is i t.supertype on))
 
 -- subtypes of a concrete type
@@ -145,9 +145,9 @@ pub below_concrete_each : (P : HeapType → Type 0) (config : Config) (types : L
 below_concrete_each P config types i own direct exact bottoms =
     let subtypes = direct_each P types i direct in
     let bottoms_each = standing_each P (λ t. Abstract (shared t) (bottom t) ∷ []) types i (λ t at. (bottoms t at, tt)) (slice_get types i) refl in
-    let exacts = each_cond P config.custom_descriptors_enabled (Exact i ∷ direct_subtypes types i) (λ on. (exact on, subtypes)) in (
+    let exacts = each_cond P config.custom_descriptors_enabled (Exact i ∷ offered_direct_subtypes types i) (λ on. (exact on, subtypes)) in (
       own,
-      each_append P (direct_subtypes types i) (exact_subtypes config types i ++ bottom_at types i) subtypes
+      each_append P (offered_direct_subtypes types i) (exact_subtypes config types i ++ bottom_at types i) subtypes
           (each_append P (exact_subtypes config types i) (bottom_at types i) exacts bottoms_each),
     )
 

@@ -3,7 +3,7 @@ use Rattle.std.proofs.Common.{◌≡◌, ◌⊎◌, ℕ, zero, suc, ◌≤◌, m
 use Rattle.std.specs.Prelude.{IsTrue, IsSome, IfSome}
 use Rattle.smith_types.specs.Expressions.{Context}
 use Rattle.smith_types.specs.Entities.{most_elements}
-use Rattle.smith_types.specs.Flags.{IsElementEnabled, funcref}
+use Rattle.smith_types.specs.Flags.{IsElementTypeEnabled, funcref}
 use Rattle.smith_types.specs.declared.value_type.RefType.{RefType}
 use Rattle.smith_types.specs.declared.entity_type.TableType.{TableType}
 use Rattle.smith_config.specs.declared.config.Config.{Config}
@@ -45,6 +45,6 @@ element_by true drawn bytes other = refl
 element_by false drawn bytes other = absurd (other refl)
 
 -- an element type other than `funcref` requires reference types
-pub element_enabled : (config : Config) (context : Context) (must_share : Bool) (limit : ℕ) (bytes : List ℕ) → IsElementEnabled (features_of config) (ref_type_at config context must_share limit bytes).0
+pub element_enabled : (config : Config) (context : Context) (must_share : Bool) (limit : ℕ) (bytes : List ℕ) → IsElementTypeEnabled (features_of config) (ref_type_at config context must_share limit bytes).0
 unfolding ref_type_at
 element_enabled config context must_share limit bytes other = element_by config.reference_types_enabled _ bytes other

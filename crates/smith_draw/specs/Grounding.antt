@@ -17,8 +17,8 @@ abbrev pub without_globals : Context → Context
 without_globals context = record context { globals = []; imported_globals = 0; visible = 0 }
 
 -- the context of these types and functions, without globals
-abbrev pub context_of : Features → List SubType → List ℕ → ℕ → Context
-context_of features types funcs imported_funcs = record {
+abbrev pub function_context : Features → List SubType → List ℕ → ℕ → Context
+function_context features types funcs imported_funcs = record {
   features = features;
   types = types;
   funcs = funcs;
@@ -30,7 +30,7 @@ context_of features types funcs imported_funcs = record {
 
 -- the context of these functions, without types and globals
 abbrev pub functions_in : Config → Entities → Context
-functions_in config entities = context_of (features_of config) [] entities.funcs.now entities.imported_funcs
+functions_in config entities = function_context (features_of config) [] entities.funcs.now entities.imported_funcs
 
 -- a context over these types
 abbrev pub over : Context → List SubType → Context

@@ -94,8 +94,8 @@ abbrev pub of_kinds : List SubType → Bool → List AbstractHeapType → List H
 of_kinds types is_shared kinds = flat_map (λ kind. picked_from (is_kind is_shared kind) 0 types) kinds
 
 -- the types that declare the type at this index as their supertype, by index (own rule)
-abbrev pub direct_subtypes : List SubType → ℕ → List HeapType
-direct_subtypes types index = picked_from (is_directly_below index) 0 types
+abbrev pub offered_direct_subtypes : List SubType → ℕ → List HeapType
+offered_direct_subtypes types index = picked_from (is_directly_below index) 0 types
 
 -- the declared supertype of a type, if it exists (Structure, Recursive Types)
 abbrev pub supertype_of : Option SubType → Option ℕ
@@ -137,12 +137,12 @@ kinds_at types index = of_standing (λ t. map (Abstract (shared t)) (supertypes_
 
 -- with custom descriptors, the exact type, and the direct subtypes again (own rule)
 abbrev pub exact_subtypes : Config → List SubType → ℕ → List HeapType
-exact_subtypes config types index = if config.custom_descriptors_enabled then Exact index ∷ direct_subtypes types index else []
+exact_subtypes config types index = if config.custom_descriptors_enabled then Exact index ∷ offered_direct_subtypes types index else []
 
 -- the subtypes that are offered with garbage collection, the type itself first (own rule)
 abbrev pub gc_subtypes : Config → List SubType → HeapType → List HeapType
 gc_subtypes config types (Abstract is_shared ty) = map (Abstract is_shared) (abstract_subtypes ty) ++ of_kinds types is_shared (kinds_below ty)
-gc_subtypes config types (Concrete index) = Concrete index ∷ direct_subtypes types index ++ (exact_subtypes config types index ++ bottom_at types index)
+gc_subtypes config types (Concrete index) = Concrete index ∷ offered_direct_subtypes types index ++ (exact_subtypes config types index ++ bottom_at types index)
 gc_subtypes config types (Exact index) = Exact index ∷ []
 
 -- the supertypes that are offered with garbage collection, the type itself first (own rule)

@@ -28,13 +28,13 @@ unfoldable pub table_type_at : Config → Context → List ℕ → TableType × 
 table_type_at config context bytes =
     let table64 = memory64_at config bytes in
     let limits = limits64_at (least_elements config) (drawn_elements config table64.0) config.table_max_size_required (likely_elements config table64.0) table64.1 in
-    let element = ref_type_at config context false (length context.types) limits.1 in (
+    let element_type = ref_type_at config context false (length context.types) limits.1 in (
       record {
-        element_type = element.0;
+        element_type = element_type.0;
         minimum = limits.0.0;
         maximum = limits.0.1;
         table64 = table64.0;
-        shared = is_heap_type_shared context.types element.0.heap_type;
+        shared = is_heap_type_shared context.types element_type.0.heap_type;
       },
-      element.1,
+      element_type.1,
     )

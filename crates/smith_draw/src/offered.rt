@@ -24,7 +24,7 @@ ghost use Rattle.smith_draw.specs.Offered.{
   kinds_below,
   kinds_above,
   of_kinds,
-  direct_subtypes,
+  offered_direct_subtypes,
   ancestors,
   bottom_at,
   kinds_at,
@@ -312,7 +312,7 @@ fn offered_below(
     place: usize,
 ) -> HeapType
     requires few { direct < 2 ^ 32 }
-    requires counted { direct ≡ length (direct_subtypes space.now.types index) }
+    requires counted { direct ≡ length (offered_direct_subtypes space.now.types index) }
     requires inside { place < length (exact_subtypes config.now space.now.types index
         ++ bottom_at space.now.types index) }
     ensures { slice_get
@@ -347,7 +347,7 @@ fn offered_bottom(types: &[SubType], index: u32) -> HeapType
 
 /// Returns the number of types that declare the type `supertype` as their supertype.
 fn count_direct(space: &TypeSpace, supertype: u32) -> usize
-    ensures count { result ≡ length (direct_subtypes space.now.types supertype) }
+    ensures count { result ≡ length (offered_direct_subtypes space.now.types supertype) }
     ensures few { result < 2 ^ 32 }
 {
     space.count_of_direct_subtypes(supertype) as usize
@@ -357,8 +357,8 @@ fn count_direct(space: &TypeSpace, supertype: u32) -> usize
 /// order.
 fn offered_direct(space: &TypeSpace, supertype: u32, place: usize) -> u32
     requires few { place < 2 ^ 32 }
-    requires inside { place < length (direct_subtypes space.now.types supertype) }
-    ensures { slice_get (direct_subtypes space.now.types supertype) place ≡ Some (Concrete result) }
+    requires inside { place < length (offered_direct_subtypes space.now.types supertype) }
+    ensures { slice_get (offered_direct_subtypes space.now.types supertype) place ≡ Some (Concrete result) }
 {
     space.direct_subtype(supertype, place as u32)
 }

@@ -27,15 +27,15 @@ impl<'a> Model for Standing<'a> {
     ghost use Rattle.smith_types.specs.Expressions.{Context};
     ghost use Rattle.smith_types.specs.FuncGrounds.{AreFuncGrounds};
     ghost use Rattle.smith_config.specs.Features.{features_of};
-    ghost use Rattle.smith_draw.specs.Grounding.{context_of};
+    ghost use Rattle.smith_draw.specs.Grounding.{function_context};
 
     ghost Value = { Context };
 
     ghost view = { λ a.
-        context_of (features_of a.config.now) a.types.now.types a.funcs.now a.imported_funcs };
+        function_context (features_of a.config.now) a.types.now.types a.funcs.now a.imported_funcs };
 
     ghost invariant = { λ a. IfSome a.grounds (λ grounds. AreFuncGrounds
-        (context_of (features_of a.config.now) a.types.now.types a.funcs.now a.imported_funcs)
+        (function_context (features_of a.config.now) a.types.now.types a.funcs.now a.imported_funcs)
         grounds.now) };
 }
 

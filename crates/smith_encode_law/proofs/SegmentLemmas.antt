@@ -5,7 +5,7 @@ use Rattle.std.proofs.lemmas.List.Elements.{All-map, All-weaker}
 use Rattle.smith_types.specs.Expressions.{Context, HasType, IsConstExpr, reference_to, function_reference}
 use Rattle.smith_types.specs.Features.{Features}
 use Rattle.smith_types.specs.Flags.{funcref}
-use Rattle.smith_types.specs.Segments.{address_type, IsOffsetValid, IsItem, AreItemsValid, IsActiveElement, IsElementKindValid, IsElementValid, IsDataKindValid, IsDataValid}
+use Rattle.smith_types.specs.Segments.{address_type, IsOffsetValid, IsItem, AreItemsValid, IsActiveElementSegment, IsElementKindValid, IsElementSegmentValid, IsDataKindValid, IsDataValid}
 use Rattle.smith_types.specs.Subtyping.{itself, IsInRange, IsRefBelow, IsValBelow}
 use Rattle.smith_types.specs.ValidTypes.{IsHeapTypeValid}
 use Rattle.smith_types.specs.declared.composite_type.SubType.{SubType}
@@ -94,7 +94,7 @@ type_in_range : (features : Features) (types : List SubType) (items : Elements) 
 type_in_range features types (Functions functions) ty valid = tt
 type_in_range features types (Expressions expressions) ty valid = in_range features types ty.heap_type valid
 
-taken : (context : Context) (tables : List TableType) (ty given : RefType) (index : ℕ) (offset : Offset) → IsRefBelow context.types given ty → IsActiveElement context tables ty index offset → IsTaken context tables given index (offset_of offset)
+taken : (context : Context) (tables : List TableType) (ty given : RefType) (index : ℕ) (offset : Offset) → IsRefBelow context.types given ty → IsActiveElementSegment context tables ty index offset → IsTaken context tables given index (offset_of offset)
 taken context tables ty given index offset below valid = record {
   table = valid.table;
   stands = valid.stands;
@@ -108,7 +108,7 @@ mode_typed context tables ty given kind.Declared below valid = tt
 mode_typed context tables ty given (kind.Active None offset) below valid = taken context tables ty given 0 offset below valid
 mode_typed context tables ty given (kind.Active (Some index) offset) below valid = taken context tables ty given index offset below valid.1
 
-pub elem_typed : (context : Context) (tables : List TableType) (segment : ElementSegment) → IsElementValid context tables segment → AreListedAsFuncref segment.items segment.ty → IsElemTyped context tables (elem_of segment)
+pub elem_typed : (context : Context) (tables : List TableType) (segment : ElementSegment) → IsElementSegmentValid context tables segment → AreListedAsFuncref segment.items segment.ty → IsElemTyped context tables (elem_of segment)
 elem_typed context tables segment valid listed = record {
   ty = type_in_range context.features context.types segment.items segment.ty valid.ty.heap_type;
   items = items_typed context segment.ty segment.items valid.items listed;

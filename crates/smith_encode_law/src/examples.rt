@@ -6,7 +6,7 @@ ghost use Rattle.smith_types.specs.ExampleEntities.{memory, all_addresses, table
 ghost use Rattle.smith_types.specs.ExampleFeatures.{usual_features};
 ghost use Rattle.smith_types.specs.ExampleTypes.{nullable, plain};
 ghost use Rattle.smith_types.specs.Flags.{funcref};
-ghost use Rattle.smith_types.specs.Segments.{IsElementValid};
+ghost use Rattle.smith_types.specs.Segments.{IsElementSegmentValid};
 ghost use Rattle.smith_types.specs.declared.const_instr.ConstInstr.TheVariants.{I32Const, I64Const};
 ghost use Rattle.smith_types.specs.declared.const_instr.ConstInstr.TheVariants.{RefNull};
 ghost use Rattle.smith_types.specs.declared.segments.ElementKind.TheVariants as kind;
@@ -77,7 +77,7 @@ fn element_segments()
 
 // A list of functions of one type is valid as a part of a module, but not in the abstract syntax.
 fn lists_of_functions_of_one_type()
-    ensures part { IsElementValid (context_with usual_features 3)
+    ensures part { IsElementSegmentValid (context_with usual_features 3)
         (table (nullable (Concrete 0)) 1 None ∷ []) (record {
           kind = kind.Active None (Const32 (pos 0));
           ty = nullable (Concrete 0);

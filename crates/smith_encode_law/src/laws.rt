@@ -1,6 +1,6 @@
 ghost use Rattle.std.specs.Prelude.{◌≡◌, ◌<◌, ◌^◌, ℕ, List, All};
 ghost use Rattle.smith_types.specs.Expressions.{Context};
-ghost use Rattle.smith_types.specs.Segments.{IsElementValid, IsDataValid};
+ghost use Rattle.smith_types.specs.Segments.{IsElementSegmentValid, IsDataValid};
 ghost use Rattle.smith_types.specs.Subtyping.{IsRefBelow};
 ghost use Rattle.smith_types.specs.declared.code.Instructions.TheVariants.{Unreachable};
 ghost use Rattle.smith_types.specs.declared.composite_type.SubType.{SubType};
@@ -33,7 +33,7 @@ pub fn bodies_are_checked()
 /// only for the type `funcref`. Its type there matches its own.
 pub fn valid_elements_stay_valid()
     ensures typed { (context : Context) (tables : List TableType) (segment : ElementSegment)
-        → IsElementValid context tables segment → AreListedAsFuncref segment.items segment.ty
+        → IsElementSegmentValid context tables segment → AreListedAsFuncref segment.items segment.ty
         → IsElemTyped context tables (elem_of segment) }
     ensures below { (types : List SubType) (segment : ElementSegment)
         → AreListedAsFuncref segment.items segment.ty

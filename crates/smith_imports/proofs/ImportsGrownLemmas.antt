@@ -40,7 +40,7 @@ use Rattle.smith_config.specs.Granted.{IsUngrounded}
 use Rattle.smith_imports.specs.ImportNames.{has_names, is_taken, KnowsPairs}
 use Rattle.smith_imports.specs.ImportedEntities.{has_room, import_scope, sizes}
 use Rattle.smith_imports.specs.Importing.{module_name, with_import}
-use Rattle.smith_imports.specs.Imported.{Counts, IsCounted, AreNumbersWithin, AreSpacesWithin, AreImportsFit, IsEntityFit, IsFitBeside, IsNext, IsOpen, IsOfGroup, IsCompact, IsImported, MayEnd, MayEndAt, spaces_of}
+use Rattle.smith_imports.specs.Imported.{Counts, AreImportsCounted, AreNumbersWithin, AreSpacesWithin, AreImportsFit, IsEntityFit, IsFitBeside, IsNext, IsOpen, IsOfGroup, IsCompact, IsImported, MayEnd, MayEndAt, spaces_of}
 use Rattle.smith_types.specs.Floats.{HasNoFloatValue}
 use Rattle.smith_types.proofs.DistinctLemmas.{distinct_push}
 use Rattle.smith_imports.specs.declared.imported.Imported.{Imported}
@@ -186,7 +186,7 @@ entity_behind spaces (entity.Memory x) = simp append-nil refl
 entity_behind spaces (entity.Global x) = simp append-nil refl
 
 pub counts_more : {types : List SubType} {distinct : Bool} {old new : Imported} {imports : List Import} {pairs : HashSet (String Global × String Global) (BuildHasherDefault FoldHasher)} (one : Import)
-    → Counts types distinct old imports → KnowsPairs distinct pairs (imports ++ one ∷ []) → IsCounted types one.entity_type (record old { pairs = pairs }) new → Counts types distinct new (imports ++ one ∷ [])
+    → Counts types distinct old imports → KnowsPairs distinct pairs (imports ++ one ∷ []) → AreImportsCounted types one.entity_type (record old { pairs = pairs }) new → Counts types distinct new (imports ++ one ∷ [])
 counts_more {types = types} {old = old} {imports = imports} one counts knows counted = record {
   spaces = counted.spaces ∙ entity_behind (spaces_of old) one.entity_type ∙ ap (λ spaces. joined spaces (entity_spaces one.entity_type)) counts.spaces ∙ sym (spaces_more imports one);
   count = counted.count ∙ rw (counts.count, length-append) refl;
@@ -259,7 +259,7 @@ none_added imports group none = nothing_behind (imports_of group) none
 
 -- a single import after the groups
 pub single_added : {config : Config} {types : List SubType} {distinct : Bool} {old counted : Imported} {pairs : HashSet (String Global × String Global) (BuildHasherDefault FoldHasher)} {groups : List Imports} (one : Import)
-    → IsImported config types distinct old → KnowsPairs distinct pairs (flattened old.groups ++ one ∷ []) → IsCounted types one.entity_type (record old { pairs = pairs }) counted → groups ≡ counted.groups ++ Single one ∷ []
+    → IsImported config types distinct old → KnowsPairs distinct pairs (flattened old.groups ++ one ∷ []) → AreImportsCounted types one.entity_type (record old { pairs = pairs }) counted → groups ≡ counted.groups ++ Single one ∷ []
     → IsNext config types (spaces_of old) old.type_size one.entity_type → old.count < config.max_imports → (IsTrue distinct → is_taken (flattened old.groups) one.«module» one.name ≡ false) → IsImported config types distinct (record counted { groups = groups })
 single_added {config = config} {types = types} {distinct = distinct} {old = old} {counted = counted} {groups = groups} one so_far knows is pushed_is next room fresh =
     let imports = flattened old.groups in

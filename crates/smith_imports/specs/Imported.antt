@@ -57,7 +57,7 @@ pub record HasNoImports (imported : Imported) : Type 0 where
   pub pairs : IsEmpty imported.pairs
 
 -- an import of an entity is counted, and nothing else changes
-pub record IsCounted (types : List SubType) (added : EntityType) (old new : Imported) : Type 0 where
+pub record AreImportsCounted (types : List SubType) (added : EntityType) (old new : Imported) : Type 0 where
   pub groups : new.groups ≡ old.groups
   pub spaces : spaces_of new ≡ with_entity (spaces_of old) added
   pub count : new.count ≡ old.count + 1

@@ -21,7 +21,7 @@ use smith_draw::{
 use smith_types::{EntityType, ExportKind, TypeSpace};
 
 /// Returns the kind of the entity `added`.
-pub(crate) fn kind_of(added: &EntityType) -> ExportKind
+pub(crate) fn entity_kind(added: &EntityType) -> ExportKind
     ensures { result ≡ entity_kind added.now }
 {
     match added {
@@ -163,7 +163,7 @@ pub(crate) fn again(
     ensures ended { result ≡ None
         → MayEndAt config.now (spaces_of imported.now) imported.now.type_size }
 {
-    if !has_room(config, imported, kind_of(&added)) {
+    if !has_room(config, imported, entity_kind(&added)) {
         return None;
     }
     if_fits(config, types, imported, added)

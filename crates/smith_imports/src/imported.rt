@@ -1,6 +1,6 @@
 ghost use Rattle.std.specs.Prelude.{◌≡◌, ◌<◌, ◌+◌, ◌^◌, IfErr, OnOk};
 ghost use Rattle.smith_types.specs.Sizes.{IsTyped, size_in};
-ghost use Rattle.smith_imports.specs.Imported.{HasNoImports, IsCounted};
+ghost use Rattle.smith_imports.specs.Imported.{HasNoImports, AreImportsCounted};
 
 use smith_bytes::Error;
 use smith_types::{EntitySpaces, EntityType, Imports, Items, TypeSpace};
@@ -42,7 +42,7 @@ impl Imported {
         requires typed { IsTyped types.now.types added }
         requires count { self.old.count + 1 < 2 ^ 64 }
         requires fits { self.old.type_size + (size_in types.now.types added + 1) < 2 ^ 32 }
-        ensures counted { OnOk result (IsCounted types.now.types added self.old self.new) }
+        ensures counted { OnOk result (AreImportsCounted types.now.types added self.old self.new) }
         ensures memory { IfErr result (λ e. e ≡ Error.Memory) }
     {
         self.spaces.push(added)?;

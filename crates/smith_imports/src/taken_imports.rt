@@ -6,7 +6,7 @@ ghost use Rattle.smith_imports.specs.AvailableImports.{picked_at, fits_beside, C
 ghost use Rattle.smith_imports.specs.AvailableImports.{IsImportSized};
 ghost use Rattle.smith_rules.specs.ShapeImports.{is_allowed, is_fitting};
 
-use crate::import_entities::kind_of;
+use crate::import_entities::entity_kind;
 use crate::import_kinds::has_room;
 use crate::imported::Imported;
 use smith_bytes::{Error, Unstructured};
@@ -35,7 +35,7 @@ fn fits(config: &Config, types: &TypeSpace, imported: &Imported, added: &EntityT
     let size = types.size_of(added);
     let most = config.max_type_size;
     imported.count < config.max_imports
-        && has_room(config, imported, kind_of(added))
+        && has_room(config, imported, entity_kind(added))
         && is_allowed(config, added)
         && u64::from(imported.type_size) + u64::from(size) <= u64::from(most)
 }

@@ -42,9 +42,9 @@ pub record IsFieldAt (context : BodyContext) (ty index : ℕ) (field : FieldType
 
 -- an element segment whose references an array of this element may hold (Validation, Aggregate
 -- Instructions, array.new_elem)
-pub record IsSegmentOf (context : BodyContext) (segment : ℕ) (element : FieldType) : Type 0 where
+pub record IsElemOf (context : BodyContext) (segment : ℕ) (element : FieldType) : Type 0 where
   pub held : RefType
-  pub there : slice_get context.elements segment ≡ Some held
+  pub there : slice_get context.elems segment ≡ Some held
   pub reference : RefType
   pub of_references : element.element_type ≡ storage.Val (Ref reference)
   pub below : IsRefBelow context.types held reference
@@ -90,7 +90,7 @@ HasAggregateType context (aggregate.ArrayNewData ty segment) operands results =
     (element : FieldType) × IsArrayAt context.types ty element × IsOfBytes element.element_type × (segment < context.datas)
     × To operands results (I32 ∷ I32 ∷ []) (created_reference context ty ∷ [])
 HasAggregateType context (aggregate.ArrayNewElem ty segment) operands results =
-    (element : FieldType) × IsArrayAt context.types ty element × IsSegmentOf context segment element
+    (element : FieldType) × IsArrayAt context.types ty element × IsElemOf context segment element
     × To operands results (I32 ∷ I32 ∷ []) (created_reference context ty ∷ [])
 HasAggregateType context (aggregate.ArrayGet ty extension) operands results =
     (element : FieldType) × IsArrayAt context.types ty element × IsReadBy extension element.element_type
@@ -111,7 +111,7 @@ HasAggregateType context (aggregate.ArrayInitData ty segment) operands results =
     (element : FieldType) × IsArrayAt context.types ty element × (element.mutable ≡ true) × IsOfBytes element.element_type × (segment < context.datas)
     × To operands results (nullable_to (Concrete ty) ∷ I32 ∷ I32 ∷ I32 ∷ []) []
 HasAggregateType context (aggregate.ArrayInitElem ty segment) operands results =
-    (element : FieldType) × IsArrayAt context.types ty element × (element.mutable ≡ true) × IsSegmentOf context segment element
+    (element : FieldType) × IsArrayAt context.types ty element × (element.mutable ≡ true) × IsElemOf context segment element
     × To operands results (nullable_to (Concrete ty) ∷ I32 ∷ I32 ∷ I32 ∷ []) []
 HasAggregateType context aggregate.RefI31 operands results = To operands results (I32 ∷ []) (reference_to (Abstract false abstract.I31) ∷ [])
 HasAggregateType context aggregate.RefI31Shared operands results = To operands results (I32 ∷ []) (reference_to (Abstract true abstract.I31) ∷ [])

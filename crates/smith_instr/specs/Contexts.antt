@@ -34,7 +34,7 @@ pub record BodyContext : Type 0 where
   pub memories : List MemoryType
   pub globals : List GlobalType
   pub tags : List ℕ
-  pub elements : List RefType
+  pub elems : List RefType
   pub datas : ℕ
   pub references : List ℕ
   pub locals : List ValType

@@ -61,6 +61,6 @@ HasTableType context (table.Copy to from) operands results =
     (into : TableType) × (out : TableType) × IsTable context to into × IsTable context from out × IsRefBelow context.types out.element_type into.element_type
     × To operands results (address into.table64 ∷ address out.table64 ∷ narrower into.table64 out.table64 ∷ []) []
 HasTableType context (table.Init index segment) operands results =
-    (ty : TableType) × (element : RefType) × IsTable context index ty × (slice_get context.elements segment ≡ Some element)
-    × IsRefBelow context.types element ty.element_type × To operands results (address ty.table64 ∷ I32 ∷ I32 ∷ []) []
-HasTableType context (table.ElemDrop segment) operands results = (segment < length context.elements) × To operands results [] []
+    (ty : TableType) × (held : RefType) × IsTable context index ty × (slice_get context.elems segment ≡ Some held)
+    × IsRefBelow context.types held ty.element_type × To operands results (address ty.table64 ∷ I32 ∷ I32 ∷ []) []
+HasTableType context (table.ElemDrop segment) operands results = (segment < length context.elems) × To operands results [] []

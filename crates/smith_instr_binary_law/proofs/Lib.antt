@@ -1,13 +1,13 @@
 pub mod ImmediateLemmas
 pub mod InstructionLemmas
 pub mod ListedLemmas
-pub mod LongRows
+pub mod LongRowLemmas
 pub mod NestingLemmas
 pub mod OpcodeLemmas
 pub mod RowLemmas
 pub mod ShapeLemmas
-pub mod ShortRows
+pub mod ShortRowLemmas
 pub mod SpelledExamples
 pub mod VectorListedLemmas
-pub mod VectorRows
+pub mod VectorRowLemmas
 pub mod ViewLemmas

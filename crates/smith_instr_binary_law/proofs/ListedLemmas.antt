@@ -11,9 +11,9 @@ use Rattle.smith_instr_binary_law.proofs.OpcodeLemmas.Opcode.{short, long}
 use Rattle.smith_instr_binary_law.proofs.RowLemmas.{at_row}
 use Rattle.smith_instr_binary_law.proofs.ShapeLemmas.{Shape}
 use Rattle.smith_instr_binary_law.proofs.ShapeLemmas.{Shape as form}
-use Rattle.smith_instr_binary_law.proofs.ShortRows.{short_rows}
-use Rattle.smith_instr_binary_law.proofs.LongRows.{aggregate_rows, further_rows, atomic_rows, reference_of}
-use Rattle.smith_instr_binary_law.proofs.VectorRows.{vector_rows}
+use Rattle.smith_instr_binary_law.proofs.ShortRowLemmas.{short_rows}
+use Rattle.smith_instr_binary_law.proofs.LongRowLemmas.{aggregate_rows, further_rows, atomic_rows, reference_of}
+use Rattle.smith_instr_binary_law.proofs.VectorRowLemmas.{vector_rows}
 use Rattle.smith_instr.specs.declared.numeric.IntUnary.{IntUnary}
 use Rattle.smith_instr.specs.declared.numeric.IntUnary.TheVariants as int_unary
 use Rattle.smith_instr.specs.declared.numeric.IntBinary.{IntBinary}

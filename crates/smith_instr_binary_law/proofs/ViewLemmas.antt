@@ -13,7 +13,7 @@ use Rattle.smith_instr_binary_law.proofs.OpcodeLemmas.{Opcode, IsOpcode, alone}
 use Rattle.smith_instr_binary_law.proofs.OpcodeLemmas.Opcode.{short, long}
 use Rattle.smith_instr_binary_law.proofs.ShapeLemmas.{Shape, Immediates, instr_of, AreImmediates}
 use Rattle.smith_instr_binary_law.proofs.ShapeLemmas.{Shape as form}
-use Rattle.smith_instr_binary_law.proofs.LongRows.{reference_of}
+use Rattle.smith_instr_binary_law.proofs.LongRowLemmas.{reference_of}
 use Rattle.smith_instr_binary_law.proofs.ListedLemmas.{shape_at, Listed, i32_compare_listed, i64_compare_listed, f32_compare_listed, f64_compare_listed, i32_unary_listed, i32_binary_listed, i64_unary_listed, i64_binary_listed, f32_unary_listed, f32_binary_listed, f64_unary_listed, f64_binary_listed, convert_listed, extend_listed, saturate_listed, wide_listed, load_listed, store_listed, test_listed, cast_listed, struct_get_listed, array_get_listed, atomic_listed}
 use Rattle.smith_instr_binary_law.proofs.VectorListedLemmas.{vector_unary_listed, vector_float_unary_listed, vector_binary_listed, vector_float_binary_listed, all_true_listed, bitmask_listed, splat_listed, relaxed_float_unary_listed, relaxed_binary_listed, relaxed_float_binary_listed, relaxed_ternary_listed, relaxed_float_ternary_listed, shift_listed, extract_listed, replace_listed, vector_load_listed, load_lane_listed, store_lane_listed}
 use Rattle.smith_instr.specs.declared.instr.Instr.{Instr}

@@ -6,7 +6,7 @@ pub use Rattle.std.proofs.lemmas.Option.{same_Some}
 pub use Rattle.std.specs.List.{AllZip, Contains}
 pub use Rattle.std.specs.Prelude.{map, slice_get}
 pub use Rattle.smith_instr.proofs.SequenceLemmas.{below_themselves, count_as_themselves, finished, framed, one}
-pub use Rattle.smith_instr.specs.AggregateTypes.{IsSegmentOf}
+pub use Rattle.smith_instr.specs.AggregateTypes.{IsElemOf}
 pub use Rattle.smith_instr.specs.Contexts.{AreValid, BodyContext, IsBlockType, IsRefValid, IsValid, labelled, nullable_to, To}
 pub use Rattle.smith_instr.specs.InstrTypes.{HasInstrType, IsCatch, IsFunctionTable, IsLabel, IsTaken}
 pub use Rattle.smith_instr.specs.MemoryTypes.{IsAccess}

@@ -69,7 +69,7 @@ managed labels results = record (function_of [] results) {
   funcs = 6 ∷ 7 ∷ [];
   tables = functions ∷ externals ∷ wide_functions ∷ [];
   tags = 7 ∷ [];
-  elements = funcref ∷ external ∷ not_null (plain heap.Func) ∷ [];
+  elems = funcref ∷ external ∷ not_null (plain heap.Func) ∷ [];
   labels = labels;
 }
 

@@ -8,7 +8,7 @@ use Rattle.std.proofs.lemmas.Option.{slice_get_within, slice_get-get_or, slice_g
 use Rattle.smith_types.specs.Features.{Features}
 use Rattle.smith_types.specs.GroupedTypes.{GroupedTypes}
 use Rattle.smith_types.specs.Entities.{IsFuncAt, IsFuncTypeIndex, IsGlobalValid, IsTableValid}
-use Rattle.smith_types.specs.Segments.{IsElementValid}
+use Rattle.smith_types.specs.Segments.{IsElementSegmentValid}
 use Rattle.smith_types.specs.ValidTypes.{IsRefTypeValid, IsValTypeValid, IsGroupValid, AreTypesValid, values_of}
 use Rattle.smith_types.specs.declared.code.Code.{Code}
 use Rattle.smith_types.specs.declared.code.Instructions.{Instructions}
@@ -78,8 +78,8 @@ module_scope m valid index function there locals locals_valid =
       tables = All-weaker (IsTableValid features m.types) (λ (table : TableType). R table.element_type) (λ (table : TableType) (h : IsTableValid features m.types table). h.element) m.tables valid.entities.tables;
       tags = valid.entities.tags;
       memories = valid.entities.memories;
-      elements = All-map R (λ (segment : ElementSegment). segment.ty) m.elems
-          (All-weaker (IsElementValid (segment_context m) m.tables) (λ (segment : ElementSegment). R segment.ty) (λ (segment : ElementSegment) (h : IsElementValid (segment_context m) m.tables segment). h.ty) m.elems valid.elements);
+      elems = All-map R (λ (segment : ElementSegment). segment.ty) m.elems
+          (All-weaker (IsElementSegmentValid (segment_context m) m.tables) (λ (segment : ElementSegment). R segment.ty) (λ (segment : ElementSegment) (h : IsElementSegmentValid (segment_context m) m.tables segment). h.ty) m.elems valid.elems);
       locals = All-append P function.params locals params locals_valid;
       results = results;
       results_few = let wide = func_wide m.types index function there in omega arith;

@@ -8,7 +8,7 @@ use Rattle.std.proofs.lemmas.List.{length-map}
 use Rattle.std.proofs.lemmas.List.Elements.{recursion_from_All, All-weaker}
 use Rattle.std.proofs.lemmas.Option.{same_Some, slice_get_within, slice_get-get_or, slice_get-map}
 use Rattle.smith_bytes.specs.declared.error.Error.{Error}
-use Rattle.smith_types.specs.Bodies.{IsFuel}
+use Rattle.smith_types.specs.Bodies.{IsCounterGlobal}
 use Rattle.smith_types.specs.declared.code.Code.{Code}
 use Rattle.smith_types.specs.declared.composite_type.FuncType.{FuncType}
 use Rattle.smith_types.specs.declared.const_instr.ConstInstr.{ConstInstr}
@@ -17,7 +17,7 @@ use Rattle.smith_types.specs.declared.value_type.ValType.{ValType}
 use Rattle.smith_rules.specs.Module.{ModuleParts, IsValid, module_imports}
 use Rattle.smith_instr.specs.Sequences.{IsBodyTyped}
 use Rattle.smith_instr.specs.declared.instr.Instr.{Instr}
-use Rattle.wasm_smith.specs.Termination.{AddsFuel, AnswersFuel, counter}
+use Rattle.wasm_smith.specs.Termination.{AddsCounter, AnswersCounter, counter}
 use Rattle.smith_program.specs.Bodies.{AreBodiesOf, IsBodyAt, IsOfBody, function_context}
 use Rattle.smith_program.specs.Counted.{counted_body}
 use Rattle.smith_program.specs.References.{named_in, references_of}
@@ -53,7 +53,7 @@ still_at fuel index old place code body.Raw raw = raw
 still_at fuel index old place code (body.Drawn instructions) (not_raw, is) =
     (not_raw, record { function = is.function; there = is.there; typed = still_typed fuel index old is.function code.locals instructions is.typed })
 
-still_bodies : (fuel index : ℕ) (old new : ModuleParts) (bodies : List Body) → AddsFuel fuel index old new → AreBodiesOf old bodies → AreBodiesOf new bodies
+still_bodies : (fuel index : ℕ) (old new : ModuleParts) (bodies : List Body) → AddsCounter fuel index old new → AreBodiesOf old bodies → AreBodiesOf new bodies
 still_bodies fuel index old new bodies adds are =
     subst (λ (m : ModuleParts). AreBodiesOf m bodies) (sym adds.added) (record {
       each = are.each;
@@ -61,7 +61,7 @@ still_bodies fuel index old new bodies adds are =
     })
 
 -- the bodies after an attempt to add a counter
-pub answered_bodies : (fuel : ℕ) (old new : ModuleParts) (result : Result ℕ Error) (bodies : List Body) → AnswersFuel fuel old new result → AreBodiesOf old bodies → AreBodiesOf new bodies
+pub answered_bodies : (fuel : ℕ) (old new : ModuleParts) (result : Result ℕ Error) (bodies : List Body) → AnswersCounter fuel old new result → AreBodiesOf old bodies → AreBodiesOf new bodies
 answered_bodies fuel old new (Ok index) bodies (none, adds) are = still_bodies fuel index old new bodies adds are
 answered_bodies fuel old new (Err error) bodies (may, kept) are = rw kept are
 
@@ -69,7 +69,7 @@ answered_bodies fuel old new (Err error) bodies (may, kept) are = rw kept are
 counters_count : (m : ModuleParts) → IsValid m → (function : FuncType) (locals : List ValType) → Each (IsCounter (function_context m function locals)) m.fuel_globals
 counters_count m valid function locals =
     recursion_from_All (IsCounter (function_context m function locals)) m.fuel_globals
-    (All-weaker (IsFuel m.globals (length (module_imports m).globals)) (IsCounter (function_context m function locals)) (λ (index : ℕ) (fuel : IsFuel m.globals (length (module_imports m).globals) index). fuel.stands) m.fuel_globals valid.bodies.fuel)
+    (All-weaker (IsCounterGlobal m.globals (length (module_imports m).globals)) (IsCounter (function_context m function locals)) (λ (index : ℕ) (fuel : IsCounterGlobal m.globals (length (module_imports m).globals) index). fuel.stands) m.fuel_globals valid.bodies.counters)
 
 counted_at : (m : ModuleParts) → IsValid m → (place : ℕ) (code : Code) (given : Body) → IsOfBody (IsBodyAt m place code) code given → IsOfBody (IsBodyAt m place code) code (counted_body m.fuel_globals given)
 counted_at m valid place code body.Raw raw = raw

@@ -4,7 +4,7 @@ use Rattle.std.proofs.lemmas.List.Elements.{All-weaker}
 use Rattle.smith_types.specs.declared.entity_type.GlobalType.{GlobalType}
 use Rattle.smith_types.specs.declared.value_type.ValType.{ValType}
 use Rattle.smith_types.proofs.ListLemmas.{slice_get-grown}
-use Rattle.smith_instr.specs.AggregateTypes.{HasAggregateType, IsFieldAt, IsSegmentOf}
+use Rattle.smith_instr.specs.AggregateTypes.{HasAggregateType, IsFieldAt, IsElemOf}
 use Rattle.smith_instr.specs.Contexts.{BodyContext}
 use Rattle.smith_instr.specs.InstrTypes.{HasInstrType, IsBranchCast, IsCatch, IsFunctionTable}
 use Rattle.smith_instr.specs.MemoryTypes.{HasAtomicType, HasMemoryType}
@@ -47,7 +47,7 @@ wider_framed more f = record {
 wider_field : {context : BodyContext} {ty index : ℕ} {field : FieldType} (more : List GlobalType) → IsFieldAt context ty index field → IsFieldAt (wider context more) ty index field
 wider_field more h = record { fields = h.fields; structure = h.structure; there = h.there }
 
-wider_segment : {context : BodyContext} {segment : ℕ} {element : FieldType} (more : List GlobalType) → IsSegmentOf context segment element → IsSegmentOf (wider context more) segment element
+wider_segment : {context : BodyContext} {segment : ℕ} {element : FieldType} (more : List GlobalType) → IsElemOf context segment element → IsElemOf (wider context more) segment element
 wider_segment more h = record { held = h.held; there = h.there; reference = h.reference; of_references = h.of_references; below = h.below }
 
 wider_aggregate : (context : BodyContext) (more : List GlobalType) (op : AggregateInstr) (operands results : List ValType) → HasAggregateType context op operands results → HasAggregateType (wider context more) op operands results

@@ -7,5 +7,5 @@ use Rattle.smith_program.specs.declared.bodies.Named.{Named}
 
 -- the types of the element segments, and the functions that `ref.func` may name
 pub record IsNamed (m : ModuleParts) (named : Named) : Type 0 where
-  pub elements : named.elements ≡ map (λ (segment : ElementSegment). segment.ty) m.elems
+  pub elems : named.elems ≡ map (λ (segment : ElementSegment). segment.ty) m.elems
   pub references : named.references ≡ references_of m

@@ -46,7 +46,7 @@ pub fn draw_bodies(
     ensures left { KeepsPieces u.old u.new }
 {
     let named = Named {
-        elements: segment_types(alloc, module)?,
+        elems: segment_types(alloc, module)?,
         references: references_of(alloc, module)?,
     };
     draw_each(alloc, module, &named, u)
@@ -56,7 +56,7 @@ pub fn draw_bodies(
 #[derive(Drop)]
 pub(crate) struct Named {
     /// The type of each element segment.
-    elements: Items<RefType>,
+    elems: Items<RefType>,
     /// The functions that `ref.func` may name.
     references: Items<u32>,
 }
@@ -178,7 +178,7 @@ fn draw_instructions(
         memories: module.memories(),
         globals: module.globals(),
         tags: module.tags(),
-        elements: named.elements.as_slice(),
+        elems: named.elems.as_slice(),
         datas: module.data().len(),
         references: named.references.as_slice(),
         locals: locals.as_slice(),

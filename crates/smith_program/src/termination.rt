@@ -1,6 +1,6 @@
 ghost use Rattle.std.specs.Prelude.{◌≡◌, ◌<◌, ◌-◌, ◌^◌, length, map};
 ghost use Rattle.smith_rules.specs.Module.{IsValid};
-ghost use Rattle.wasm_smith.specs.Termination.{AnswersFuel};
+ghost use Rattle.wasm_smith.specs.Termination.{AnswersCounter};
 ghost use Rattle.smith_program.specs.Bodies.{AreBodiesOf};
 ghost use Rattle.smith_program.specs.Counted.{counted_body};
 
@@ -26,7 +26,7 @@ impl Program {
     /// [`Module::ensure_termination`]: wasm_smith::Module::ensure_termination
     pub fn ensure_termination(&mut self, alloc: Global, default_fuel: u32) -> Result<u32, Error>
         requires room { length self.old.«module».globals < 2 ^ 32 - 1 }
-        ensures answer { AnswersFuel default_fuel self.old.«module» self.new.«module» result }
+        ensures answer { AnswersCounter default_fuel self.old.«module» self.new.«module» result }
         ensures valid { IsValid self.old.«module» → IsValid self.new.«module» }
         ensures bodies { self.new.bodies ≡ self.old.bodies }
         ensures typed { AreBodiesOf self.old.«module» self.old.bodies

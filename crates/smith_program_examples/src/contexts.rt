@@ -79,7 +79,7 @@ fn parts()
     ensures results { (function_context plain (func I64 I32) (F32 ∷ [])).results ≡ I32 ∷ [] }
     ensures element_segments { (function_context
         (record plain { elems = passive_elements (elements.Functions []) ∷ [] })
-        (func I64 I32) []).elements
+        (func I64 I32) []).elems
         ≡ funcref ∷ [] }
     ensures data_segments { (function_context (record plain { datas = active_data (pos 0) [] ∷ [] })
         (func I64 I32) []).datas

@@ -141,4 +141,4 @@ HasEnough config m segment = HasItems config m.types m.funcs segment.items
 -- no fewer than the configuration requires
 pub record MeetsMinimums (config : Config) (m : ModuleParts) : Type 0 where
   pub least : (count : Count) → MinimumApplies config count → minimum_of config count ≤ count_of m count
-  pub elements : All (HasEnough config m) m.elems
+  pub elems : All (HasEnough config m) m.elems

@@ -9,9 +9,9 @@ use Rattle.smith_types.specs.ValidTypes.{AreTypesValid}
 use Rattle.smith_types.specs.Imports.{EntitySpaces, Defines, IsImportsValid, flattened, imported_spaces}
 use Rattle.smith_types.specs.Entities.{AreEntitiesValid, AreCountsEnabled}
 use Rattle.smith_types.specs.Expressions.{Context, IsConstExpr, seeing, seen_by_tables, seen_by_global, seen_by_segments}
-use Rattle.smith_types.specs.Segments.{IsElementValid, IsDataValid}
+use Rattle.smith_types.specs.Segments.{IsElementSegmentValid, IsDataValid}
 use Rattle.smith_types.specs.Exports.{AreExportsValid, IsStartValid}
-use Rattle.smith_types.specs.Bodies.{IsBodyValid, IsFuel}
+use Rattle.smith_types.specs.Bodies.{IsBodyValid, IsCounterGlobal}
 use Rattle.smith_types.specs.declared.value_type.ValType.TheVariants.{Ref}
 use Rattle.smith_types.specs.declared.composite_type.SubType.{SubType}
 use Rattle.smith_types.specs.declared.entity_type.TableType.{TableType}
@@ -138,7 +138,7 @@ pub record AreDefinitionsValid (m : ModuleParts) : Type 0 where
 pub record AreBodiesValid (m : ModuleParts) : Type 0 where
   pub each : length m.code ≡ m.num_defined_funcs
   pub bodies : All (IsBodyValid (module_features m) (length m.types) m.config.allow_invalid_funcs) m.code
-  pub fuel : All (IsFuel m.globals (length (module_imports m).globals)) m.fuel_globals
+  pub counters : All (IsCounterGlobal m.globals (length (module_imports m).globals)) m.fuel_globals
 
 -- a valid module, under the features of its configuration, except for raw bodies (Validation,
 -- Modules); the rules for features and for shared and exact types are own rules, and so is the rule
@@ -152,6 +152,6 @@ pub record IsValid (m : ModuleParts) : Type 0 where
   pub definitions : AreDefinitionsValid m
   pub exports : AreExportsValid (module_spaces m) m.exports
   pub start : IsStartValid m.types m.funcs m.start
-  pub elements : All (IsElementValid (segment_context m) m.tables) m.elems
+  pub elems : All (IsElementSegmentValid (segment_context m) m.tables) m.elems
   pub data_segments : All (IsDataValid (segment_context m) m.memories) m.datas
   pub bodies : AreBodiesValid m

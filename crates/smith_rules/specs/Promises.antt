@@ -53,7 +53,7 @@ pub record HasNoFloats (m : ModuleParts) : Type 0 where
 -- `non_nullable_enabled` is on and they are grounded
 pub record HoldsGranted (config : Config) (m : ModuleParts) : Type 0 where
   pub values : All (IsGranted config (module_context m)) (values_in m.types (module_spaces m))
-  pub elements : All (λ (segment : ElementSegment). IsGranted config (module_context m) (Ref segment.ty)) m.elems
+  pub elems : All (λ (segment : ElementSegment). IsGranted config (module_context m) (Ref segment.ty)) m.elems
 
 -- the references that are types of locals are nullable, or `non_nullable_enabled` is on and they
 -- are grounded
@@ -71,7 +71,7 @@ HasNoStart m = m.start ≡ None
 -- each segment that is copied has a constant offset and fits within the minimum size of its table
 -- or memory
 pub record IsInside (m : ModuleParts) : Type 0 where
-  pub elements : All (IsElementInside m.tables) m.elems
+  pub elems : All (IsElementInside m.tables) m.elems
   pub data_segments : All (IsDataInside m.memories) m.datas
 
 -- the type section is written if there are types, the import section if there are imports
@@ -81,8 +81,8 @@ pub record WritesSections (m : ModuleParts) : Type 0 where
 
 -- no global counts fuel, as in every module that is drawn: a counter is added later, to make a
 -- module's calls end
-abbrev pub HasNoFuel : ModuleParts → Type 0
-HasNoFuel m = m.fuel_globals ≡ []
+abbrev pub HasNoCounter : ModuleParts → Type 0
+HasNoCounter m = m.fuel_globals ≡ []
 
 -- the properties of a drawn module that the configuration or the call requires: distinct names of
 -- imports by the call, unless a shape fixes the imports; all exports, unless a shape fixes them; no
@@ -98,4 +98,4 @@ pub record KeepsPromises (distinct : Bool) (config : Config) (m : ModuleParts) :
   pub no_start : config.allow_start_export ≡ false → HasNoStart m
   pub inside : IsTrue config.disallow_traps → IsInside m
   pub sections : WritesSections m
-  pub no_fuel : HasNoFuel m
+  pub no_fuel : HasNoCounter m

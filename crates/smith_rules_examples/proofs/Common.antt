@@ -49,7 +49,7 @@ pub use Rattle.smith_types.specs.Floats.{GivesNoFloat}
 pub use Rattle.smith_types.specs.Grounded.{IsGrounded}
 pub use Rattle.smith_types.specs.Imports.{IsImportsValid}
 pub use Rattle.smith_types.specs.Kinds.{shared}
-pub use Rattle.smith_types.specs.Segments.{IsDataInside, IsDataValid, IsElementInside, IsElementValid, IsItem}
+pub use Rattle.smith_types.specs.Segments.{IsDataInside, IsDataValid, IsElementInside, IsElementSegmentValid, IsItem}
 pub use Rattle.smith_types.specs.Subtyping.{IsRefBelow, IsValBelow, itself}
 pub use Rattle.smith_types.specs.ValidTypes.{AreTypesValid, IsGroupValid, IsSupertypeValid, IsTypeValid, IsValTypeValid}
 pub use Rattle.smith_types.specs.declared.composite_type.CompositeInnerType.{CompositeInnerType}

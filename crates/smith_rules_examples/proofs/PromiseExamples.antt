@@ -6,6 +6,6 @@ not_distinct distinct = let same : 0 ≡ 1 = distinct.once 0 1 ([], []) refl ref
 
 pub past_the_table : ¬ IsInside (filled_table (Const32 (pos 1)))
 past_the_table inside =
-    let (stands, at, within) = All-head (IsElementInside (table funcref 1 None ∷ [])) (into_a_table (Const32 (pos 1))) [] inside.elements in
+    let (stands, at, within) = All-head (IsElementInside (table funcref 1 None ∷ [])) (into_a_table (Const32 (pos 1))) [] inside.elems in
     let never : 2 ≤ 1 = subst (λ (one : TableType). 2 ≤ one.minimum) (sym (same_Some (table funcref 1 None) stands at)) within in
     omega (arith, never)

@@ -1,5 +1,5 @@
 -- Lemmas for the examples of refused modules.
-use Rattle.smith_rules_examples.proofs.Common.{arith, ◌≡◌, false, [], ◌∷◌, None, refl, sym, subst, codes, IsTrue, All, same_Some, All-head, not_null, plain, AreExportsValid, IsElementValid, IsDataValid, TableType, Expressions, Config, default_config, AreDefinitionsValid, module_spaces, segment_context, table, no_function, passive_elements, exported_twice, null_of_no_null, two_elements, passive_bytes}
+use Rattle.smith_rules_examples.proofs.Common.{arith, ◌≡◌, false, [], ◌∷◌, None, refl, sym, subst, codes, IsTrue, All, same_Some, All-head, not_null, plain, AreExportsValid, IsElementSegmentValid, IsDataValid, TableType, Expressions, Config, default_config, AreDefinitionsValid, module_spaces, segment_context, table, no_function, passive_elements, exported_twice, null_of_no_null, two_elements, passive_bytes}
 use Rattle.smith_types.specs.declared.value_type.AbstractHeapType.TheVariants as heap
 use Rattle.smith_types.specs.declared.segments.DataSegmentKind.TheVariants as data_kind
 
@@ -15,9 +15,9 @@ null_refused valid =
 pub name_refused : ¬ AreExportsValid (module_spaces (exported_twice [] [])) (exported_twice (codes "a") (codes "a")).exports
 name_refused valid = let same : 0 ≡ 1 = valid.distinct.once 0 1 (codes "a") refl refl in omega (arith, same)
 
-pub elements_refused : ¬ All (IsElementValid (segment_context (record two_elements { config = without_bulk_memory })) []) two_elements.elems
+pub elements_refused : ¬ All (IsElementSegmentValid (segment_context (record two_elements { config = without_bulk_memory })) []) two_elements.elems
 elements_refused valid =
-    let segment = All-head (IsElementValid (segment_context (record two_elements { config = without_bulk_memory })) []) (passive_elements (Expressions (no_function ∷ no_function ∷ []))) [] valid in
+    let segment = All-head (IsElementSegmentValid (segment_context (record two_elements { config = without_bulk_memory })) []) (passive_elements (Expressions (no_function ∷ no_function ∷ []))) [] valid in
     cc segment.kind
 
 pub bytes_refused : ¬ All (IsDataValid (segment_context (record passive_bytes { config = without_bulk_memory })) []) passive_bytes.datas

@@ -103,7 +103,7 @@ memories_one_by_one =
 
 -- a table of this number of references, without an initialiser
 abbrev pub null_table : ℕ → ModuleParts
-null_table elements = record (empty_module (record default_config { min_tables = 1 })) { tables = table funcref elements None ∷ []; defined_tables = None ∷ [] }
+null_table minimum = record (empty_module (record default_config { min_tables = 1 })) { tables = table funcref minimum None ∷ []; defined_tables = None ∷ [] }
 
 -- a module with this memory only
 abbrev pub memory_alone : Config → MemoryType → ModuleParts

@@ -14,7 +14,7 @@ ghost use Rattle.smith_config.specs.Config.{default_config};
 ghost use Rattle.smith_config.specs.ExampleMembers.{final, taking};
 ghost use Rattle.smith_rules.specs.Promises.{HasDistinctImports, HasNoFloats, HoldsGranted};
 ghost use Rattle.smith_rules.specs.Promises.{HasGrantedLocals, ExportsEverything, HasNoStart};
-ghost use Rattle.smith_rules.specs.Promises.{HasNoFuel, IsInside, WritesSections, KeepsPromises};
+ghost use Rattle.smith_rules.specs.Promises.{HasNoCounter, IsInside, WritesSections, KeepsPromises};
 ghost use Rattle.smith_rules_examples.specs.ExampleShapes.{for_module, for_imports, for_exports};
 ghost use Rattle.smith_rules_examples.specs.ExampleShapes.{environment, exporting};
 ghost use Rattle.smith_rules_examples.specs.ExampleShapes.{memories_in_and_out, non_nullable};
@@ -133,8 +133,8 @@ fn sections()
 {}
 
 fn fuel()
-    ensures none { HasNoFuel one_number }
-    ensures a_counter { ¬ HasNoFuel counting_fuel }
+    ensures none { HasNoCounter one_number }
+    ensures a_counter { ¬ HasNoCounter counting_fuel }
 {}
 
 fn asked_for()

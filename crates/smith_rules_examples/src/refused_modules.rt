@@ -2,7 +2,7 @@ ghost use Rattle.std.specs.Prelude.{[], ◌∷◌, true, false, pos, Some, None,
 ghost use Rattle.smith_types.specs.Flags.{funcref};
 ghost use Rattle.smith_types.specs.Imports.{IsImportsValid};
 ghost use Rattle.smith_types.specs.Entities.{AreEntitiesValid, AreCountsEnabled};
-ghost use Rattle.smith_types.specs.Segments.{IsElementValid, IsDataValid};
+ghost use Rattle.smith_types.specs.Segments.{IsElementSegmentValid, IsDataValid};
 ghost use Rattle.smith_types.specs.Exports.{AreExportsValid, IsStartValid};
 ghost use Rattle.smith_types.specs.ValidTypes.{AreTypesValid};
 ghost use Rattle.smith_types.specs.ExampleTypes.{anyref, eqref, nullable, plain};
@@ -153,12 +153,12 @@ fn exports()
 {}
 
 fn segments()
-    ensures elements_without_bulk_memory { ¬ All (IsElementValid (segment_context
+    ensures elements_without_bulk_memory { ¬ All (IsElementSegmentValid (segment_context
         (record two_elements { config = record default_config { bulk_memory_enabled = false } }))
         []) two_elements.elems }
-    ensures elements_in_no_table { ¬ All (IsElementValid (segment_context one_function) [])
+    ensures elements_in_no_table { ¬ All (IsElementSegmentValid (segment_context one_function) [])
         (filled_table (Const32 (pos 0))).elems }
-    ensures from_where_a_defined_number_says_without_gc { ¬ All (IsElementValid
+    ensures from_where_a_defined_number_says_without_gc { ¬ All (IsElementSegmentValid
         (segment_context (table_from_a_number false)) (table_from_a_number false).tables)
         (table_from_a_number false).elems }
     ensures bytes_in_no_memory { ¬ All (IsDataValid (segment_context last_byte) [])

@@ -43,8 +43,8 @@ module _ (types more : List SubType) where
   pub IsFuncAt-grown : (index : ℕ) (function : FuncType) → IsFuncAt types index function → IsFuncAt (types ++ more) index function
   IsFuncAt-grown index function (t, at, is) = (t, slice_get-grown types more index t at, is)
 
-  pub IsFuncValid-grown : (index : ℕ) → IsFuncTypeIndex types index → IsFuncTypeIndex (types ++ more) index
-  IsFuncValid-grown index (function, at) = (function, IsFuncAt-grown index function at)
+  pub IsFuncTypeIndex-grown : (index : ℕ) → IsFuncTypeIndex types index → IsFuncTypeIndex (types ++ more) index
+  IsFuncTypeIndex-grown index (function, at) = (function, IsFuncAt-grown index function at)
 
   pub IsTagValid-grown : (index : ℕ) → IsTagValid types index → IsTagValid (types ++ more) index
   IsTagValid-grown index (function, at, none) = (function, IsFuncAt-grown index function at, none)
@@ -68,7 +68,7 @@ module _ (features : Features) (types more : List SubType) where
   pub AreEntitiesValid-grown : (spaces : EntitySpaces) → AreEntitiesValid features types spaces → AreEntitiesValid features (types ++ more) spaces
   AreEntitiesValid-grown spaces h = record {
     tags = All-weaker (IsTagValid types) (IsTagValid (types ++ more)) (IsTagValid-grown types more) spaces.tags h.tags;
-    funcs = All-weaker (IsFuncTypeIndex types) (IsFuncTypeIndex (types ++ more)) (IsFuncValid-grown types more) spaces.funcs h.funcs;
+    funcs = All-weaker (IsFuncTypeIndex types) (IsFuncTypeIndex (types ++ more)) (IsFuncTypeIndex-grown types more) spaces.funcs h.funcs;
     tables = All-weaker (IsTableValid features types) (IsTableValid features (types ++ more)) IsTableValid-grown spaces.tables h.tables;
     memories = h.memories;
     globals = All-weaker (IsGlobalValid features types) (IsGlobalValid features (types ++ more)) IsGlobalValid-grown spaces.globals h.globals;

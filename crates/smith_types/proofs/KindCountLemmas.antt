@@ -7,10 +7,10 @@ use Rattle.smith_types.specs.declared.composite_type.CompositeInnerType.{Composi
 use Rattle.smith_types.specs.declared.composite_type.SubType.{SubType}
 use Rattle.smith_types.specs.declared.kind_counts.KindCounts.{KindCounts}
 use Rattle.smith_types.specs.Kinds.{shared}
-use Rattle.smith_types.specs.KindCounts.{is_inner_of_kind, is_of_kind, indices_from, indices_of_kind, count_where, count_at, counts_with, AreCounts}
+use Rattle.smith_types.specs.KindCounts.{is_inner_of_kind, is_of_kind, indices_from, indices_of_kind, count_where, kind_count_at, counts_with, AreCounts}
 
 -- the count of a kind with one more type
-counted : (counts : KindCounts) (s : Bool) (kind : AbstractHeapType) (is_shared : Bool) (inner : CompositeInnerType) → count_at (counts_with is_shared inner counts) s kind ≡ (if is_inner_of_kind s kind is_shared inner then count_at counts s kind + 1 else count_at counts s kind)
+counted : (counts : KindCounts) (s : Bool) (kind : AbstractHeapType) (is_shared : Bool) (inner : CompositeInnerType) → kind_count_at (counts_with is_shared inner counts) s kind ≡ (if is_inner_of_kind s kind is_shared inner then kind_count_at counts s kind + 1 else kind_count_at counts s kind)
 counted counts s kind is_shared inner = search rules
 
 one_behind : (b : Bool) (n m l : ℕ) (c : Bool) → l ≡ (if c then m + 1 else m) → n ≡ (if b then l + 1 else l) → n ≡ (if c then (if b then m + 1 else m) + 1 else (if b then m + 1 else m))
@@ -35,7 +35,7 @@ AreCounts-push types t counts before = record {
 pub AreCounts-none : AreCounts [] (record { arrays = 0; funcs = 0; structs = 0; shared_arrays = 0; shared_funcs = 0; shared_structs = 0 })
 AreCounts-none = record { each = λ s kind. none s kind }
   where
-    none : (s : Bool) (kind : AbstractHeapType) → count_at (record { arrays = 0; funcs = 0; structs = 0; shared_arrays = 0; shared_funcs = 0; shared_structs = 0 }) s kind ≡ 0
+    none : (s : Bool) (kind : AbstractHeapType) → kind_count_at (record { arrays = 0; funcs = 0; structs = 0; shared_arrays = 0; shared_funcs = 0; shared_structs = 0 }) s kind ≡ 0
     none s kind = search rules
 
 most_turn : (b : Bool) (n m : ℕ) → n ≤ m → (if b then n + 1 else n) ≤ suc m

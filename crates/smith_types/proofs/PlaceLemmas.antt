@@ -13,7 +13,7 @@ use Rattle.smith_types.specs.GroupedTypes.{MayFollow, HasDepth, root, deeper, Ar
 use Rattle.smith_types.specs.declared.kind_counts.KindCounts.{KindCounts}
 use Rattle.smith_types.specs.declared.value_type.AbstractHeapType.{AbstractHeapType}
 use Rattle.smith_types.specs.Kinds.{shared}
-use Rattle.smith_types.specs.KindCounts.{is_of_kind, indices_of_kind, count_where, count_at, counts_with, AreCounts}
+use Rattle.smith_types.specs.KindCounts.{is_of_kind, indices_of_kind, count_where, kind_count_at, counts_with, AreCounts}
 use Rattle.smith_types.proofs.KindCountLemmas.{AreCounts-push, AreCounts-none, count_most, length_indices}
 use Rattle.smith_types.specs.Places.{last_counts_from, last_counts, IsAncestor, IsPlace, ArePlaces, depths_in, IsLonger, IsRowAtEnd}
 use Rattle.smith_types.specs.Subtyping.{IsBelow, itself}
@@ -32,7 +32,7 @@ place_read types table places i place d known inside read =
     known.each i place (slice_get-get_or places i d (omega (arith, known.long)) ∙ ap Some (sym read))
 
 -- the number of types of a kind up to a type, in the form of the code
-pub count_read : (types now : List SubType) (table : List ℕ) (places : List Place) (i n : ℕ) (place d : Place) (s : Bool) (kind : AbstractHeapType) → types ≡ now → ArePlaces types table places → i < length now → place ≡ get_or places i d → n ≡ count_at place.counts s kind
+pub count_read : (types now : List SubType) (table : List ℕ) (places : List Place) (i n : ℕ) (place d : Place) (s : Bool) (kind : AbstractHeapType) → types ≡ now → ArePlaces types table places → i < length now → place ≡ get_or places i d → n ≡ kind_count_at place.counts s kind
     → n ≡ count_where (is_of_kind s kind) (take (suc i) now)
 count_read types now table places i n place d s kind view known inside read is =
     subst (λ xs. n ≡ count_where (is_of_kind s kind) (take (suc i) xs)) view
@@ -178,7 +178,7 @@ counts_known types table (p ∷ places) known =
     subst (λ c. AreCounts types c) (last_counts-last no_place.counts (p ∷ places) p (omega arith)) (rw all at place.counts)
 
 -- the number of types of a kind, in the form of the code
-pub count_of_all : (types now : List SubType) (table : List ℕ) (places : List Place) (s : Bool) (kind : AbstractHeapType) (n : ℕ) → types ≡ now → ArePlaces types table places → n ≡ count_at (last_counts places) s kind → n ≡ length (indices_of_kind now s kind)
+pub count_of_all : (types now : List SubType) (table : List ℕ) (places : List Place) (s : Bool) (kind : AbstractHeapType) (n : ℕ) → types ≡ now → ArePlaces types table places → n ≡ kind_count_at (last_counts places) s kind → n ≡ length (indices_of_kind now s kind)
 count_of_all types now table places s kind n view known is =
     subst (λ xs. n ≡ length (indices_of_kind xs s kind)) view
     (is ∙ (counts_known types table places known).each s kind ∙ sym (length_indices (is_of_kind s kind) 0 types))
@@ -188,7 +188,7 @@ pub counts_more : (types : List SubType) (table : List ℕ) (places : List Place
 counts_more types table places t known = AreCounts-push types t (last_counts places) (counts_known types table places known)
 
 -- no count is at its limit
-pub counts_room : (types : List SubType) (table : List ℕ) (places : List Place) (t : SubType) → ArePlaces types table places → MayFollow types t → (s : Bool) (kind : AbstractHeapType) → count_at (last_counts places) s kind + 1 < 2 ^ 32
+pub counts_room : (types : List SubType) (table : List ℕ) (places : List Place) (t : SubType) → ArePlaces types table places → MayFollow types t → (s : Bool) (kind : AbstractHeapType) → kind_count_at (last_counts places) s kind + 1 < 2 ^ 32
 counts_room types table places t known follows s kind =
     let is = (counts_known types table places known).each s kind in
     let most = count_most (is_of_kind s kind) types in

@@ -18,7 +18,7 @@ use Rattle.smith_types.specs.declared.segments.DataSegment.{DataSegment}
 use Rattle.smith_types.specs.declared.segments.Offset.{Offset}
 use Rattle.smith_types.specs.declared.segments.Offset.TheVariants.{Const32, Const64, Global}
 use Rattle.smith_types.specs.Expressions.{Context, IsConstExpr, function_reference}
-use Rattle.smith_types.specs.Segments.{address_type, IsOffsetValid, IsItem, AreItemsValid, IsActiveElement, IsElementKindValid, IsElementValid, IsDataKindValid, IsDataValid}
+use Rattle.smith_types.specs.Segments.{address_type, IsOffsetValid, IsItem, AreItemsValid, IsActiveElementSegment, IsElementKindValid, IsElementSegmentValid, IsDataKindValid, IsDataValid}
 use Rattle.smith_types.specs.Grown.{IsContextGrown}
 use Rattle.smith_types.proofs.ListLemmas.{slice_get-grown}
 use Rattle.smith_types.proofs.GrowthLemmas.{IsRefBelow-grown, IsValBelow-grown}
@@ -39,8 +39,8 @@ module _ (context : Context) (types : List SubType) (funcs : List ℕ) (globals 
   AreItemsValid-more ty (Expressions expressions) (on, h) =
       (on, All-weaker (IsConstExpr context (Ref ty)) (IsConstExpr (grown context types funcs globals visible) (Ref ty)) (IsConstExpr-more context types funcs globals visible wider (Ref ty)) expressions h)
 
-  IsActiveElement-more : (tables more : List TableType) (ty : RefType) (index : ℕ) (offset : Offset) → IsActiveElement context tables ty index offset → IsActiveElement (grown context types funcs globals visible) (tables ++ more) ty index offset
-  IsActiveElement-more tables more ty index offset h = record {
+  IsActiveElementSegment-more : (tables more : List TableType) (ty : RefType) (index : ℕ) (offset : Offset) → IsActiveElementSegment context tables ty index offset → IsActiveElementSegment (grown context types funcs globals visible) (tables ++ more) ty index offset
+  IsActiveElementSegment-more tables more ty index offset h = record {
     table = h.table;
     stands = slice_get-grown tables more index h.table h.stands;
     below = IsRefBelow-grown context.types types h.below;
@@ -50,11 +50,11 @@ module _ (context : Context) (types : List SubType) (funcs : List ℕ) (globals 
   IsElementKindValid-more : (tables more : List TableType) (ty : RefType) (kind : ElementKind) → IsElementKindValid context tables ty kind → IsElementKindValid (grown context types funcs globals visible) (tables ++ more) ty kind
   IsElementKindValid-more tables more ty element_kind.Passive h = h
   IsElementKindValid-more tables more ty element_kind.Declared h = h
-  IsElementKindValid-more tables more ty (element_kind.Active None offset) h = IsActiveElement-more tables more ty 0 offset h
-  IsElementKindValid-more tables more ty (element_kind.Active (Some table) offset) (on, h) = (on, IsActiveElement-more tables more ty table offset h)
+  IsElementKindValid-more tables more ty (element_kind.Active None offset) h = IsActiveElementSegment-more tables more ty 0 offset h
+  IsElementKindValid-more tables more ty (element_kind.Active (Some table) offset) (on, h) = (on, IsActiveElementSegment-more tables more ty table offset h)
 
-  IsElementValid-more : (tables more : List TableType) (segment : ElementSegment) → IsElementValid context tables segment → IsElementValid (grown context types funcs globals visible) (tables ++ more) segment
-  IsElementValid-more tables more segment h = record {
+  IsElementSegmentValid-more : (tables more : List TableType) (segment : ElementSegment) → IsElementSegmentValid context tables segment → IsElementSegmentValid (grown context types funcs globals visible) (tables ++ more) segment
+  IsElementSegmentValid-more tables more segment h = record {
     ty = IsRefTypeValid-later context.features (length context.types) (length (context.types ++ types)) (no_fewer context.types types) segment.ty h.ty;
     ty_enabled = h.ty_enabled;
     items = AreItemsValid-more segment.ty segment.items h.items;
@@ -66,10 +66,10 @@ module _ (context : Context) (types : List SubType) (funcs : List ℕ) (globals 
   IsDataKindValid-more memories more (data_kind.Active index offset) (memory, at, h) = (memory, slice_get-grown memories more index memory at, IsOffsetValid-more memory.memory64 offset h)
 
 module _ (old new : Context) (growth : IsContextGrown old new) where
-  pub IsElementValid-grown : (tables more : List TableType) (segment : ElementSegment) → IsElementValid old tables segment → IsElementValid new (tables ++ more) segment
-  IsElementValid-grown tables more segment h =
-      subst (λ c. IsElementValid c (tables ++ more) segment) (grown_is old new growth)
-      (IsElementValid-more old growth.types.more growth.funcs.more growth.globals.more new.visible growth.visible tables more segment h)
+  pub IsElementSegmentValid-grown : (tables more : List TableType) (segment : ElementSegment) → IsElementSegmentValid old tables segment → IsElementSegmentValid new (tables ++ more) segment
+  IsElementSegmentValid-grown tables more segment h =
+      subst (λ c. IsElementSegmentValid c (tables ++ more) segment) (grown_is old new growth)
+      (IsElementSegmentValid-more old growth.types.more growth.funcs.more growth.globals.more new.visible growth.visible tables more segment h)
 
   pub IsDataValid-grown : (memories more : List MemoryType) (segment : DataSegment) → IsDataValid old memories segment → IsDataValid new (memories ++ more) segment
   IsDataValid-grown memories more segment h =

@@ -24,6 +24,6 @@ pub record IsBodyValid (features : Features) (types : ℕ) (raw : Bool) (body : 
   pub instructions : AreInstructionsValid raw body.instructions
 
 -- a global that counts fuel: a mutable, unshared i32 (own rule), defined rather than imported
-pub record IsFuel (globals : List GlobalType) (imported index : ℕ) : Type 0 where
+pub record IsCounterGlobal (globals : List GlobalType) (imported index : ℕ) : Type 0 where
   pub defined : imported ≤ index
   pub stands : slice_get globals index ≡ Some (record { val_type = I32; mutable = true; shared = false })

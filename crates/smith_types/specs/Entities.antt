@@ -3,7 +3,7 @@
 -- project.
 use Rattle.std.specs.Prelude.{◌≡◌, ℕ, ◌-◌, ◌/◌, ◌^◌, ◌<◌, ◌≤◌, ◌⊎◌, min, Bool, IsTrue, IsSome, IfSome, List, [], Option, Some, None, length, slice_get, All, if◌then◌else◌}
 use Rattle.smith_types.specs.Features.{Features}
-use Rattle.smith_types.specs.Flags.{IsElementEnabled}
+use Rattle.smith_types.specs.Flags.{IsElementTypeEnabled}
 use Rattle.smith_types.specs.Imports.{EntitySpaces}
 use Rattle.smith_types.specs.ValidTypes.{IsRefTypeValid, IsValTypeValid, IsShareable}
 use Rattle.smith_types.specs.declared.value_type.ValType.TheVariants.{Ref}
@@ -51,7 +51,7 @@ most_elements table64 = if table64 then 2 ^ 64 - 1 else 2 ^ 32 - 1
 pub record IsTableValid (features : Features) (types : List SubType) (table : TableType) : Type 0 where
   pub limits : AreLimitsValid (most_elements table.table64) table.minimum table.maximum
   pub element : IsRefTypeValid features (length types) table.element_type
-  pub element_enabled : IsElementEnabled features table.element_type
+  pub element_enabled : IsElementTypeEnabled features table.element_type
   pub table64 : IsTrue table.table64 → IsTrue features.memory64
   pub shared : IsTrue table.shared → IsTrue features.shared_everything_threads × IsShareable types (Ref table.element_type)
 

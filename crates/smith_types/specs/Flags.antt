@@ -49,8 +49,8 @@ funcref = record { nullable = true; heap_type = Abstract false abstract.Func }
 
 -- the element type of a table or a segment: anything but funcref requires reference types (own
 -- rule)
-abbrev pub IsElementEnabled : Features → RefType → Type 0
-IsElementEnabled features element = (element ≡ funcref → ⊥) → IsTrue features.reference_types
+abbrev pub IsElementTypeEnabled : Features → RefType → Type 0
+IsElementTypeEnabled features element_type = (element_type ≡ funcref → ⊥) → IsTrue features.reference_types
 
 -- a group of imports: compact groups require their feature (own rule)
 abbrev pub IsImportsEnabled : Features → Imports → Type 0

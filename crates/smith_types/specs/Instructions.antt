@@ -1,7 +1,7 @@
 -- Kinds of instructions, their sets as bits, and their names.
 use Rattle.std.specs.Prelude.{Bool, ◌-◌, if◌then◌else◌, ◌≡◌, ℕ, ◌+◌, ◌^◌, List, [], ◌∷◌, take, codes, bit_or, fold, map, Result, Ok, Err, slice_get, Some}
 use Rattle.std.specs.List.{AllZip}
-use Rattle.smith_types.specs.Parts.{split_at_commas}
+use Rattle.smith_types.specs.SplitTexts.{split_at_commas}
 use Rattle.std.specs.Char.{to_ascii_lowercase}
 use Rattle.smith_types.specs.declared.instruction_kind.InstructionKind.{InstructionKind}
 use Rattle.smith_types.specs.declared.instruction_kind.InstructionKind.TheVariants.{

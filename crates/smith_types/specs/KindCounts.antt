@@ -38,14 +38,14 @@ count_where test [] = 0
 count_where test (t ∷ types) = if test t then count_where test types + 1 else count_where test types
 
 -- the count of a kind and sharedness
-abbrev pub count_at : KindCounts → Bool → AbstractHeapType → ℕ
-count_at counts false heap.Array = counts.arrays
-count_at counts true heap.Array = counts.shared_arrays
-count_at counts false heap.Func = counts.funcs
-count_at counts true heap.Func = counts.shared_funcs
-count_at counts false heap.Struct = counts.structs
-count_at counts true heap.Struct = counts.shared_structs
-count_at counts _ _ = 0
+abbrev pub kind_count_at : KindCounts → Bool → AbstractHeapType → ℕ
+kind_count_at counts false heap.Array = counts.arrays
+kind_count_at counts true heap.Array = counts.shared_arrays
+kind_count_at counts false heap.Func = counts.funcs
+kind_count_at counts true heap.Func = counts.shared_funcs
+kind_count_at counts false heap.Struct = counts.structs
+kind_count_at counts true heap.Struct = counts.shared_structs
+kind_count_at counts _ _ = 0
 
 -- the counts with one more type
 abbrev pub counts_with : Bool → CompositeInnerType → KindCounts → KindCounts
@@ -58,4 +58,4 @@ counts_with true (Struct s) counts = record counts { shared_structs = counts.sha
 
 -- the counts of each kind and sharedness are those of these types
 pub record AreCounts (types : List SubType) (counts : KindCounts) : Type 0 where
-  pub each : (is_shared : Bool) (kind : AbstractHeapType) → count_at counts is_shared kind ≡ count_where (is_of_kind is_shared kind) types
+  pub each : (is_shared : Bool) (kind : AbstractHeapType) → kind_count_at counts is_shared kind ≡ count_where (is_of_kind is_shared kind) types

@@ -14,7 +14,7 @@ use Rattle.smith_types.specs.ValidTypes.{AreTypesValid}
 use Rattle.smith_types.specs.Imports.{EntitySpaces}
 use Rattle.smith_types.specs.Entities.{IsTableValid, IsGlobalValid, IsTagValid, IsFuncTypeIndex, AreEntitiesValid}
 use Rattle.smith_types.specs.Expressions.{Context, HasType, IsStackStep, AreStackSteps, IsConstExpr}
-use Rattle.smith_types.specs.Segments.{IsElementValid, IsDataValid}
+use Rattle.smith_types.specs.Segments.{IsElementSegmentValid, IsDataValid}
 use Rattle.smith_types.specs.Exports.{IsEntityAt, AreExportsValid, IsStartValid}
 use Rattle.smith_types.specs.Grounded.{IsGrounded}
 use Rattle.smith_types.specs.Grown.{IsContextGrown, AreImportsGrown, AreSpacesGrown, AreGroupsAdded}
@@ -84,7 +84,7 @@ pub record GroundedSurvivesGrowth : Type 0 where
 
 -- a valid segment stays valid in a grown context with more tables or memories
 pub record ValidSegmentsSurviveGrowth : Type 0 where
-  pub element : (old new : Context) (tables more : List TableType) (segment : ElementSegment) → IsContextGrown old new → IsElementValid old tables segment → IsElementValid new (tables ++ more) segment
+  pub elem : (old new : Context) (tables more : List TableType) (segment : ElementSegment) → IsContextGrown old new → IsElementSegmentValid old tables segment → IsElementSegmentValid new (tables ++ more) segment
   pub bytes : (old new : Context) (memories more : List MemoryType) (segment : DataSegment) → IsContextGrown old new → IsDataValid old memories segment → IsDataValid new (memories ++ more) segment
 
 -- exported entities and start functions stay valid in grown index spaces

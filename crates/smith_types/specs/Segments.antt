@@ -2,7 +2,7 @@
 -- 3.0. Subtyping of references includes the own rules of `Subtyping`.
 use Rattle.std.specs.Prelude.{◌≡◌, ℕ, ◌+◌, ◌*◌, ◌^◌, ◌≤◌, Bool, true, false, IsTrue, List, Option, Some, None, length, slice_get, unwrap_or, All}
 use Rattle.std.specs.Int.{cast_unsigned, w32, w64}
-use Rattle.smith_types.specs.Flags.{IsElementEnabled}
+use Rattle.smith_types.specs.Flags.{IsElementTypeEnabled}
 use Rattle.smith_types.specs.Subtyping.{IsRefBelow, IsValBelow}
 use Rattle.smith_types.specs.ValidTypes.{IsRefTypeValid}
 use Rattle.smith_types.specs.Entities.{page_log2}
@@ -51,7 +51,7 @@ table_index table = unwrap_or table 0
 
 -- the item type is a subtype of the table's element type, and the offset fits the table's addresses
 -- (Validation, Element Segments)
-pub record IsActiveElement (context : Context) (tables : List TableType) (ty : RefType) (index : ℕ) (offset : Offset) : Type 0 where
+pub record IsActiveElementSegment (context : Context) (tables : List TableType) (ty : RefType) (index : ℕ) (offset : Offset) : Type 0 where
   pub table : TableType
   pub stands : slice_get tables index ≡ Some table
   pub below : IsRefBelow context.types ty table.element_type
@@ -62,13 +62,13 @@ pub record IsActiveElement (context : Context) (tables : List TableType) (ty : R
 abbrev pub IsElementKindValid : Context → List TableType → RefType → ElementKind → Type 0
 IsElementKindValid context tables ty element_kind.Passive = IsTrue context.features.bulk_memory
 IsElementKindValid context tables ty element_kind.Declared = IsTrue context.features.bulk_memory
-IsElementKindValid context tables ty (element_kind.Active None offset) = IsActiveElement context tables ty 0 offset
-IsElementKindValid context tables ty (element_kind.Active (Some table) offset) = IsTrue context.features.bulk_memory × IsActiveElement context tables ty table offset
+IsElementKindValid context tables ty (element_kind.Active None offset) = IsActiveElementSegment context tables ty 0 offset
+IsElementKindValid context tables ty (element_kind.Active (Some table) offset) = IsTrue context.features.bulk_memory × IsActiveElementSegment context tables ty table offset
 
 -- an element segment (Validation, Element Segments)
-pub record IsElementValid (context : Context) (tables : List TableType) (segment : ElementSegment) : Type 0 where
+pub record IsElementSegmentValid (context : Context) (tables : List TableType) (segment : ElementSegment) : Type 0 where
   pub ty : IsRefTypeValid context.features (length context.types) segment.ty
-  pub ty_enabled : IsElementEnabled context.features segment.ty
+  pub ty_enabled : IsElementTypeEnabled context.features segment.ty
   pub items : AreItemsValid context segment.ty segment.items
   pub kind : IsElementKindValid context tables segment.ty segment.kind
 

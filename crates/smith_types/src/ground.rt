@@ -4,7 +4,7 @@ ghost use Rattle.smith_types.specs.Types.{IsOrderly};
 ghost use Rattle.smith_types.specs.GroupedTypes.{MayFollow};
 ghost use Rattle.smith_types.specs.Expressions.{unpacked};
 ghost use Rattle.smith_types.specs.Grounded.{is_defaultable, are_defaultable};
-ghost use Rattle.smith_types.specs.Grounds.{is_ground, kind_at, kinds_with, AreGrounds};
+ghost use Rattle.smith_types.specs.Grounds.{is_ground, kind_at, ground_kinds_with, AreGrounds};
 ghost use Rattle.smith_types.specs.Grounds.{AreGroundKinds, AreClosed, AreMarked};
 
 use crate::composite_type::{CompositeInnerType, FieldType, StorageType, SubType};
@@ -32,7 +32,7 @@ impl GroundKinds {
     // Returns the kinds with a further type. `ground` says whether the type is such a struct type,
     // and `shared` whether it is shared.
     pub(crate) fn with(self, ground: bool, shared: bool) -> GroundKinds
-        ensures { result ≡ kinds_with ground shared self }
+        ensures { result ≡ ground_kinds_with ground shared self }
     {
         GroundKinds {
             plain: self.plain || (ground && !shared),

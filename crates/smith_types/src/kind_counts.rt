@@ -1,6 +1,6 @@
 ghost use Rattle.std.specs.Prelude.{◌≡◌, ◌+◌, ◌<◌, ◌^◌, Bool};
 ghost use Rattle.smith_types.specs.declared.value_type.AbstractHeapType.{AbstractHeapType};
-ghost use Rattle.smith_types.specs.KindCounts.{count_at, counts_with};
+ghost use Rattle.smith_types.specs.KindCounts.{kind_count_at, counts_with};
 
 use crate::composite_type::{CompositeInnerType, CompositeType};
 use crate::value_type::AbstractHeapType;
@@ -42,7 +42,7 @@ impl KindCounts {
     // limit.
     pub(crate) fn with(self, ty: &CompositeType) -> KindCounts
         requires room { (is_shared : Bool) (kind : AbstractHeapType)
-            → count_at self is_shared kind + 1 < 2 ^ 32 }
+            → kind_count_at self is_shared kind + 1 < 2 ^ 32 }
         ensures { result ≡ counts_with ty.now.shared ty.now.inner self }
     {
         match (&ty.inner, ty.shared) {
@@ -76,7 +76,7 @@ impl KindCounts {
     // Returns the number of types of the kind `kind` with the sharedness `shared`. Returns 0 for a
     // kind that no composite type has.
     pub(crate) fn count(self, shared: bool, kind: AbstractHeapType) -> u32
-        ensures { result ≡ count_at self shared kind }
+        ensures { result ≡ kind_count_at self shared kind }
     {
         match (kind, shared) {
             (AbstractHeapType::Array, false) => self.arrays,

@@ -1,7 +1,7 @@
 ghost use Rattle.std.specs.Prelude.{◌≡◌, ◌↔◌, ◌⊎◌, IsTrue, IfSome, All, Some, slice_get};
 ghost use Rattle.smith_types.specs.FeatureBits.{features_in};
 ghost use Rattle.smith_types.specs.EntitySpaces.{spaces_in};
-ghost use Rattle.smith_types.specs.Flags.{IsElementEnabled, funcref};
+ghost use Rattle.smith_types.specs.Flags.{IsElementTypeEnabled, funcref};
 ghost use Rattle.smith_types.specs.ValidTypes.{IsShareable};
 ghost use Rattle.smith_types.specs.Entities.{
   AreLimitsValid,
@@ -138,7 +138,7 @@ fn is_table_valid(features: WasmFeatures, types: &[SubType], table: TableType) -
 }
 
 fn is_element_enabled(features: WasmFeatures, element: RefType) -> bool
-    ensures { IsTrue result ↔ IsElementEnabled (features_in features) element }
+    ensures { IsTrue result ↔ IsElementTypeEnabled (features_in features) element }
 {
     is_funcref(element) || features.contains(WasmFeatures::REFERENCE_TYPES)
 }

@@ -25,7 +25,7 @@ pub use Rattle.smith_types.specs.Grounds.{AreGroundKinds, is_ground, is_ground_o
 pub use Rattle.smith_types.specs.GroupedTypes.{deeper, extensible_from, HasDepth, root}
 pub use Rattle.smith_types.specs.Kinds.{bottom, kind, shared}
 pub use Rattle.smith_types.specs.Matching.{IsFieldInRange}
-pub use Rattle.smith_types.specs.Segments.{IsActiveElement, IsItem, IsOffsetValid}
+pub use Rattle.smith_types.specs.Segments.{IsActiveElementSegment, IsItem, IsOffsetValid}
 pub use Rattle.smith_types.specs.Subtyping.{is_abstract_below, IsBelow, IsRefBelow, IsValBelow, itself}
 pub use Rattle.smith_types.specs.Types.{IsAlike, IsOrderly}
 pub use Rattle.smith_types.specs.ValidTypes.{AreTypesValid, IsGroupValid, IsShareable, IsSupertypeValid, IsTypeValid, IsValTypeValid}

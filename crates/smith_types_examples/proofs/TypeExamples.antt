@@ -1,5 +1,5 @@
 -- Lemmas for several examples.
-use Rattle.smith_types_examples.proofs.Common.{rules, false, List, [], Some, None, IsTrue, ◌≡◌, ◌∙◌, ◌∷◌, ℕ, zero, suc, lit<, refl, sym, subst, arith, slice_get, All-nil, All-cons, All-head, same_Some, AbstractHeapType, Concrete, Ref, SubType, Features, IsOrderly, is_abstract_below, IsBelow, IsValBelow, IsValTypeValid, IsSupertypeValid, IsTypeValid, IsGroupValid, AreTypesValid, usual_features, open_type, empty_struct, struct_and_below, below_itself, anyref, eqref, nullable, range, referring, referring_type, in_one_group, below_abstract, by_cases_from_below, below_alone, Bool, Abstract, below_declared, itself, TableType, GlobalType, ValType, Context, RefType, Offset, IsRefBelow, IsOffsetValid, IsActiveElement, ◌<◌}
+use Rattle.smith_types_examples.proofs.Common.{rules, false, List, [], Some, None, IsTrue, ◌≡◌, ◌∙◌, ◌∷◌, ℕ, zero, suc, lit<, refl, sym, subst, arith, slice_get, All-nil, All-cons, All-head, same_Some, AbstractHeapType, Concrete, Ref, SubType, Features, IsOrderly, is_abstract_below, IsBelow, IsValBelow, IsValTypeValid, IsSupertypeValid, IsTypeValid, IsGroupValid, AreTypesValid, usual_features, open_type, empty_struct, struct_and_below, below_itself, anyref, eqref, nullable, range, referring, referring_type, in_one_group, below_abstract, by_cases_from_below, below_alone, Bool, Abstract, below_declared, itself, TableType, GlobalType, ValType, Context, RefType, Offset, IsRefBelow, IsOffsetValid, IsActiveElementSegment, ◌<◌}
 use Rattle.smith_types.specs.declared.value_type.AbstractHeapType.TheVariants as heap
 
 -- abstract types, by the table
@@ -68,7 +68,7 @@ pub visible_at : (g : GlobalType) (index end : ℕ) (value : ValType) → index 
 visible_at g index end value low constant is = (g, refl, low, constant, is)
 
 pub active_first : (context : Context) (t : TableType) (more : List TableType) (ty : RefType) (offset : Offset)
-    → IsRefBelow context.types ty t.element_type → IsOffsetValid context t.table64 offset → IsActiveElement context (t ∷ more) ty 0 offset
+    → IsRefBelow context.types ty t.element_type → IsOffsetValid context t.table64 offset → IsActiveElementSegment context (t ∷ more) ty 0 offset
 active_first context t more ty offset below valid = record { table = t; stands = refl; below = below; offset_valid = valid }
 
 pub ruleset subtypes = (below_abstract, abstract_apart, lower_below, upper_not_below, itself)

@@ -2,7 +2,7 @@ ghost use Rattle.std.specs.Prelude.{[], ◌∷◌, true, false, replicate};
 ghost use Rattle.smith_types.specs.declared.value_type.HeapType.TheVariants.{Concrete};
 ghost use Rattle.smith_types.specs.declared.value_type.ValType.TheVariants.{I32, I64, Ref};
 ghost use Rattle.smith_types.specs.declared.code.Instructions.TheVariants.{Unreachable, Arbitrary};
-ghost use Rattle.smith_types.specs.Bodies.{AreInstructionsValid, IsBodyValid, IsFuel};
+ghost use Rattle.smith_types.specs.Bodies.{AreInstructionsValid, IsBodyValid, IsCounterGlobal};
 ghost use Rattle.smith_types.specs.ExampleFeatures.{usual_features};
 ghost use Rattle.smith_types.specs.ExampleTypes.{nullable};
 ghost use Rattle.smith_types.specs.ExampleEntities.{constant_global, variable_global};
@@ -31,10 +31,10 @@ fn bodies()
 {}
 
 fn fuel()
-    ensures defined_and_mutable { IsFuel (constant_global I32 ∷ variable_global I32 ∷ []) 1 1 }
-    ensures imported { ¬ IsFuel (variable_global I32 ∷ []) 1 0 }
-    ensures immutable { ¬ IsFuel (constant_global I32 ∷ []) 0 0 }
-    ensures shared { ¬ IsFuel (record (variable_global I32) { shared = true } ∷ []) 0 0 }
-    ensures past_the_globals { ¬ IsFuel (variable_global I32 ∷ []) 0 1 }
-    ensures wide { ¬ IsFuel (variable_global I64 ∷ []) 0 0 }
+    ensures defined_and_mutable { IsCounterGlobal (constant_global I32 ∷ variable_global I32 ∷ []) 1 1 }
+    ensures imported { ¬ IsCounterGlobal (variable_global I32 ∷ []) 1 0 }
+    ensures immutable { ¬ IsCounterGlobal (constant_global I32 ∷ []) 0 0 }
+    ensures shared { ¬ IsCounterGlobal (record (variable_global I32) { shared = true } ∷ []) 0 0 }
+    ensures past_the_globals { ¬ IsCounterGlobal (variable_global I32 ∷ []) 0 1 }
+    ensures wide { ¬ IsCounterGlobal (variable_global I64 ∷ []) 0 0 }
 {}

@@ -14,7 +14,7 @@ ghost use Rattle.smith_types.specs.Flags.{
   IsHeapTypeEnabled,
   IsInnerEnabled,
   IsSubTypeEnabled,
-  IsElementEnabled,
+  IsElementTypeEnabled,
   IsImportsEnabled,
   IsInstrEnabled,
   funcref,
@@ -105,14 +105,14 @@ fn subtypes()
 {}
 
 fn element_types()
-    ensures of_functions { IsElementEnabled no_features funcref }
-    ensures of_others { IsElementEnabled (record no_features { reference_types = true })
+    ensures of_functions { IsElementTypeEnabled no_features funcref }
+    ensures of_others { IsElementTypeEnabled (record no_features { reference_types = true })
         (nullable (plain heap.Extern)) }
-    ensures of_others_without_references { ¬ IsElementEnabled
+    ensures of_others_without_references { ¬ IsElementTypeEnabled
         (record usual_features { reference_types = false }) (nullable (plain heap.Extern)) }
-    ensures not_null { ¬ IsElementEnabled (record usual_features { reference_types = false })
+    ensures not_null { ¬ IsElementTypeEnabled (record usual_features { reference_types = false })
         (not_null (plain heap.Func)) }
-    ensures shared_functions { ¬ IsElementEnabled
+    ensures shared_functions { ¬ IsElementTypeEnabled
         (record usual_features { reference_types = false }) (nullable (Abstract true heap.Func)) }
 {}
 

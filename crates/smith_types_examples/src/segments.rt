@@ -13,9 +13,9 @@ ghost use Rattle.smith_types.specs.Segments.{
   IsOffsetValid,
   IsItem,
   AreItemsValid,
-  IsActiveElement,
+  IsActiveElementSegment,
   IsElementKindValid,
-  IsElementValid,
+  IsElementSegmentValid,
   IsDataKindValid,
   IsDataValid,
   IsOffsetInside,
@@ -79,17 +79,17 @@ fn items()
 {}
 
 fn active_elements()
-    ensures into_a_table { IsActiveElement (context_with usual_features 3)
+    ensures into_a_table { IsActiveElementSegment (context_with usual_features 3)
         (table funcref 1 None ∷ []) funcref 0 (Const32 (pos 0)) }
-    ensures into_no_table { ¬ IsActiveElement (context_with usual_features 3) [] funcref 0
+    ensures into_no_table { ¬ IsActiveElementSegment (context_with usual_features 3) [] funcref 0
         (Const32 (pos 0)) }
-    ensures not_below_the_table { ¬ IsActiveElement (context_with usual_features 3)
+    ensures not_below_the_table { ¬ IsActiveElementSegment (context_with usual_features 3)
         (table (not_null (plain heap.Func)) 1 None ∷ []) funcref 0 (Const32 (pos 0)) }
-    ensures into_a_table_of_supertypes { IsActiveElement (context_with usual_features 3)
+    ensures into_a_table_of_supertypes { IsActiveElementSegment (context_with usual_features 3)
         (table funcref 1 None ∷ []) (not_null (plain heap.Func)) 0 (Const32 (pos 0)) }
-    ensures into_a_wide_table { IsActiveElement (context_with usual_features 3)
+    ensures into_a_wide_table { IsActiveElementSegment (context_with usual_features 3)
         (record (table funcref 1 None) { table64 = true } ∷ []) funcref 0 (Const64 (pos 0)) }
-    ensures with_a_wide_offset { ¬ IsActiveElement (context_with usual_features 3)
+    ensures with_a_wide_offset { ¬ IsActiveElementSegment (context_with usual_features 3)
         (table funcref 1 None ∷ []) funcref 0 (Const64 (pos 0)) }
 {}
 
@@ -126,23 +126,23 @@ fn element_kinds()
 {}
 
 fn element_segments()
-    ensures passive { IsElementValid (context_with usual_features 3) []
+    ensures passive { IsElementSegmentValid (context_with usual_features 3) []
         (record { kind = element_kind.Passive; ty = funcref; items = Functions [] }) }
-    ensures of_an_unknown_type { ¬ IsElementValid (context_with usual_features 3) []
+    ensures of_an_unknown_type { ¬ IsElementSegmentValid (context_with usual_features 3) []
         (record { kind = element_kind.Passive; ty = nullable (Concrete 6); items = Functions [] }) }
-    ensures of_a_known_type { IsElementValid (context_with usual_features 3) []
+    ensures of_a_known_type { IsElementSegmentValid (context_with usual_features 3) []
         (record { kind = element_kind.Passive; ty = nullable (Concrete 5); items = Functions [] }) }
-    ensures of_an_unknown_function { ¬ IsElementValid (context_with usual_features 3) []
+    ensures of_an_unknown_function { ¬ IsElementSegmentValid (context_with usual_features 3) []
         (record { kind = element_kind.Passive; ty = funcref; items = Functions (2 ∷ []) }) }
-    ensures into_no_table { ¬ IsElementValid (context_with usual_features 3) [] (record {
+    ensures into_no_table { ¬ IsElementSegmentValid (context_with usual_features 3) [] (record {
       kind = element_kind.Active None (Const32 (pos 0));
       ty = funcref;
       items = Functions [];
     }) }
-    ensures without_its_feature { ¬ IsElementValid
+    ensures without_its_feature { ¬ IsElementSegmentValid
         (context_with (record usual_features { bulk_memory = false }) 3) []
         (record { kind = element_kind.Passive; ty = funcref; items = Functions [] }) }
-    ensures of_others_without_reference_types { ¬ IsElementValid
+    ensures of_others_without_reference_types { ¬ IsElementSegmentValid
         (context_with (record usual_features { reference_types = false }) 3) [] (record {
           kind = element_kind.Passive;
           ty = nullable (plain heap.Extern);

@@ -94,7 +94,7 @@ module _ (config : Config) (drawn : PartsSoFar) (passes : Passes config) (saniti
         record {
           fields = λ lacks. held.fields (subst (HoldsUngroundedField config) (sym same) (fields_imported config earlier later growth refl lacks));
           types = types_later config earlier later (ungrounded_imported config earlier later growth) drawn.types.types (subst (AreTypesGranted config) same held.types);
-          elements = subst (λ (context : Context). All (HasGroundedElements config context) made.spaces.tables) (in_scope made)
+          element_types = subst (λ (context : Context). All (HasGroundedElements config context) made.spaces.tables) (in_scope made)
               (subst (λ (each : EntitySpaces). All (HasGroundedElements config (import_scope config drawn.types.types each)) each.tables) (sym so_far.counts.spaces) so_far.fit.grounded_tables);
           globals = subst (λ (context : Context). All (HasGroundedValue config context) made.spaces.globals) (in_scope made)
               (subst (λ (each : EntitySpaces). All (HasGroundedValue config (import_scope config drawn.types.types each)) each.globals) (sym so_far.counts.spaces) so_far.fit.grounded_globals);

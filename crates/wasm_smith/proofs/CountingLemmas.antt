@@ -10,8 +10,8 @@ use Rattle.smith_types.specs.Grown.{IsContextGrown, AreSpacesGrown}
 use Rattle.smith_types.specs.Imports.{Defines}
 use Rattle.smith_types.specs.Entities.{IsGlobalValid}
 use Rattle.smith_types.specs.Expressions.{seeing, seen_by_tables, seen_by_global, seen_by_segments}
-use Rattle.smith_types.specs.Segments.{IsElementValid, IsDataValid}
-use Rattle.smith_types.specs.Bodies.{IsFuel}
+use Rattle.smith_types.specs.Segments.{IsElementSegmentValid, IsDataValid}
+use Rattle.smith_types.specs.Bodies.{IsCounterGlobal}
 use Rattle.smith_types.specs.declared.const_instr.ConstInstr.{ConstInstr}
 use Rattle.smith_types.specs.declared.const_instr.ConstInstr.TheVariants.{I32Const}
 use Rattle.smith_types.specs.declared.segments.ElementSegment.{ElementSegment}
@@ -20,10 +20,10 @@ use Rattle.smith_types.proofs.ConstStepLemmas.{number_given}
 use Rattle.smith_types.proofs.ListLemmas.{slice_get-grown, slice_get-last, slice_get-push}
 use Rattle.smith_types.proofs.EntityGrowthLemmas.{no_fewer}
 use Rattle.smith_types.proofs.ExpressionGrowthLemmas.{IsConstExpr-grown}
-use Rattle.smith_types.proofs.SegmentGrowthLemmas.{IsElementValid-grown, IsDataValid-grown}
+use Rattle.smith_types.proofs.SegmentGrowthLemmas.{IsElementSegmentValid-grown, IsDataValid-grown}
 use Rattle.smith_types.proofs.ExportGrowthLemmas.{AreExportsValid-grown}
 use Rattle.smith_rules.specs.Module.{module_context, ModuleParts, IsValid, IsGlobalDefined, module_features, module_spaces, module_imports, table_context, global_context, segment_context}
-use Rattle.wasm_smith.specs.Termination.{counter, AddsFuel, AnswersFuel}
+use Rattle.wasm_smith.specs.Termination.{counter, AddsCounter, AnswersCounter}
 use Rattle.smith_defined.proofs.ExtensionLemmas.{all_kept}
 use Rattle.smith_rules.proofs.InitialLemmas.{IsTableInitialised-grown}
 
@@ -102,9 +102,9 @@ module _ (fuel : ℕ) (old : ModuleParts) (valid : IsValid old) where
     globals = record { more = counter ∷ []; parts = refl };
   }
 
-  element_grown : (segment : ElementSegment) → IsElementValid (segment_context old) old.tables segment → IsElementValid (segment_context new) old.tables segment
+  element_grown : (segment : ElementSegment) → IsElementSegmentValid (segment_context old) old.tables segment → IsElementSegmentValid (segment_context new) old.tables segment
   element_grown segment h =
-      subst (λ tables. IsElementValid (segment_context new) tables segment) (no_more old.tables) (IsElementValid-grown (segment_context old) (segment_context new) segments_grown old.tables [] segment h)
+      subst (λ tables. IsElementSegmentValid (segment_context new) tables segment) (no_more old.tables) (IsElementSegmentValid-grown (segment_context old) (segment_context new) segments_grown old.tables [] segment h)
 
   data_grown : (segment : DataSegment) → IsDataValid (segment_context old) old.memories segment → IsDataValid (segment_context new) old.memories segment
   data_grown segment h =
@@ -115,13 +115,13 @@ module _ (fuel : ℕ) (old : ModuleParts) (valid : IsValid old) where
       let P = IsGlobalValid (module_features old) old.types in
       All-append P old.globals (counter ∷ []) valid.entities.globals (All-cons P counter [] (record { value = tt; shared = λ never. cc }) (All-nil P))
 
-  fuel_valid : All (IsFuel new.globals (length (module_imports old).globals)) new.fuel_globals
+  fuel_valid : All (IsCounterGlobal new.globals (length (module_imports old).globals)) new.fuel_globals
   fuel_valid =
       let imported = length (module_imports old).globals in
-      let P = IsFuel new.globals imported in
+      let P = IsCounterGlobal new.globals imported in
       let known = all_globals in
       All-append P old.fuel_globals (length old.globals ∷ [])
-      (All-weaker (IsFuel old.globals imported) P (λ index h. record { defined = h.defined; stands = slice_get-grown old.globals (counter ∷ []) index counter h.stands }) old.fuel_globals valid.bodies.fuel)
+      (All-weaker (IsCounterGlobal old.globals imported) P (λ index h. record { defined = h.defined; stands = slice_get-grown old.globals (counter ∷ []) index counter h.stands }) old.fuel_globals valid.bodies.counters)
       (All-cons P (length old.globals) [] (record { defined = omega (arith, known); stands = slice_get-last old.globals counter }) (All-nil P))
 
   defines_more : Defines (module_imports old).globals (length new.defined_globals) new.globals
@@ -158,15 +158,15 @@ module _ (fuel : ℕ) (old : ModuleParts) (valid : IsValid old) where
     };
     exports = AreExportsValid-grown (module_spaces old) (module_spaces new) spaces_grown old.exports valid.exports;
     start = valid.start;
-    elements = All-weaker (IsElementValid (segment_context old) old.tables) (IsElementValid (segment_context new) old.tables) element_grown old.elems valid.elements;
+    elems = All-weaker (IsElementSegmentValid (segment_context old) old.tables) (IsElementSegmentValid (segment_context new) old.tables) element_grown old.elems valid.elems;
     data_segments = All-weaker (IsDataValid (segment_context old) old.memories) (IsDataValid (segment_context new) old.memories) data_grown old.datas valid.data_segments;
-    bodies = record { each = valid.bodies.each; bodies = valid.bodies.bodies; fuel = fuel_valid };
+    bodies = record { each = valid.bodies.each; bodies = valid.bodies.bodies; counters = fuel_valid };
   }
 
-pub adds_valid : (fuel index : ℕ) (old new : ModuleParts) → AddsFuel fuel index old new → IsValid old → IsValid new
+pub adds_valid : (fuel index : ℕ) (old new : ModuleParts) → AddsCounter fuel index old new → IsValid old → IsValid new
 adds_valid fuel index old after adds valid = subst IsValid (sym adds.added) (subst (λ n. IsValid (counted fuel n old)) (sym adds.last) (counted_valid fuel old valid))
 
 -- a valid module stays valid, whatever the result
-pub answered_valid : (fuel : ℕ) (old new : ModuleParts) (result : Result ℕ Error) → AnswersFuel fuel old new result → IsValid old → IsValid new
+pub answered_valid : (fuel : ℕ) (old new : ModuleParts) (result : Result ℕ Error) → AnswersCounter fuel old new result → IsValid old → IsValid new
 answered_valid fuel old after (Ok index) (no_bytes, adds) valid = adds_valid fuel index old after adds valid
 answered_valid fuel old after (Err error) (reason, kept) valid = subst IsValid (sym kept) valid

@@ -63,7 +63,7 @@ module _ (distinct : Bool) (config : Config) (drawn : PartsSoFar) (h : IsDrawnFo
   most counts.Memories asked = h.whole.most counts.Memories tt
   most counts.Globals asked = h.whole.most counts.Globals tt
   most counts.Exports asked = omega (arith, h.contents.exports.most asked.0 asked.1)
-  most counts.ElementSegments asked = omega (arith, h.contents.segments.most_elements)
+  most counts.ElementSegments asked = omega (arith, h.contents.segments.most_elems)
   most counts.Elements asked = omega (arith, h.contents.segments.most_items)
   most counts.DataSegments asked = omega (arith, h.contents.segments.most_data)
 
@@ -76,7 +76,7 @@ module _ (distinct : Bool) (config : Config) (drawn : PartsSoFar) (h : IsDrawnFo
   least counts.Memories asked = h.least counts.Memories tt
   least counts.Globals asked = h.least counts.Globals tt
   least counts.Exports asked = h.contents.exports.least asked.0 asked.1
-  least counts.ElementSegments asked = h.contents.segments.least_elements
+  least counts.ElementSegments asked = h.contents.segments.least_elems
   least counts.Elements asked = absurd asked
   least counts.DataSegments asked = h.contents.segments.least_data
 
@@ -93,4 +93,4 @@ module _ (distinct : Bool) (config : Config) (drawn : PartsSoFar) (h : IsDrawnFo
   }
 
   pub drawn_minimums : MeetsMinimums config m
-  drawn_minimums = record { least = least; elements = h.contents.segments.enough_items }
+  drawn_minimums = record { least = least; elems = h.contents.segments.enough_items }

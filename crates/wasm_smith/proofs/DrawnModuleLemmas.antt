@@ -2,7 +2,7 @@
 use Rattle.std.proofs.Common.{◌≡◌, ℕ, Bool, List, Some, length, arith}
 use Rattle.std.specs.Prelude.{slice_get, Option}
 use Rattle.std.proofs.lemmas.List.Elements.{All-nil}
-use Rattle.smith_types.specs.Bodies.{IsFuel}
+use Rattle.smith_types.specs.Bodies.{IsCounterGlobal}
 use Rattle.smith_types.specs.declared.const_instr.ConstInstr.{ConstInstr}
 use Rattle.smith_config.specs.declared.config.Config.{Config}
 use Rattle.wasm_smith.specs.Build.{parts_of}
@@ -43,11 +43,11 @@ module _ (distinct : Bool) (config : Config) (drawn : PartsSoFar) (h : IsDrawnFo
     definitions = record { tables = tables_defined; globals = globals_defined };
     exports = h.contents.exports.valid;
     start = h.contents.start;
-    elements = h.contents.segments.elements;
+    elems = h.contents.segments.elems;
     data_segments = h.contents.segments.data_segments;
     bodies = record {
       each = omega (arith, h.contents.each_body, defined_end h.whole.stands.funcs);
       bodies = h.contents.bodies;
-      fuel = All-nil (IsFuel m.globals (length (module_imports m).globals));
+      counters = All-nil (IsCounterGlobal m.globals (length (module_imports m).globals));
     };
   }

@@ -17,7 +17,7 @@ drawn_promises distinct config drawn h = record {
   granted_locals = locals_drawn config drawn h.whole h.granted;
   everything = λ all free. h.contents.exports.everything free all;
   no_start = h.contents.no_start;
-  inside = λ on. record { elements = h.contents.segments.elements_inside on; data_segments = h.contents.segments.data_inside on };
+  inside = λ on. record { elems = h.contents.segments.elems_inside on; data_segments = h.contents.segments.data_inside on };
   sections = record { types = h.contents.encodes_types; imports = h.encodes_imports };
   no_fuel = refl;
 }

@@ -24,7 +24,7 @@ use Rattle.wasm_smith.specs.DrawnSteps.{AreEntitiesDrawn, AreImportsDrawn, Holds
 use Rattle.smith_rules.specs.Refusals.{AreShapesValid, HoldsNonNullable, MayRefuse}
 use Rattle.smith_defined.specs.declared.definitions.Definitions.{Definitions}
 use Rattle.wasm_smith.specs.declared.build.parts_so_far.PartsSoFar.{PartsSoFar}
-use Rattle.wasm_smith.proofs.BroughtLemmas.{few_brought}
+use Rattle.wasm_smith.proofs.ShapeItemLemmas.{few_items_of_shapes}
 use Rattle.smith_defined.proofs.ExtensionLemmas.{all_kept}
 use Rattle.smith_defined.proofs.StandsBehindLemmas.{defined_end}
 use Rattle.smith_defined.proofs.DefinedLemmas.{all_behind}
@@ -37,18 +37,18 @@ use Rattle.wasm_smith.proofs.StandsDefinedLemmas.{stands_defined}
 -- the indices of all existing entities have 32 bits, even with as many more as a shape may list
 pub room_so_far : (config : Config) (drawn : PartsSoFar) (more : ℕ) → Passes config → AreShapesValid config → StandsSoFar config drawn → more ≤ 2 ^ 29 → HasRoom (spaces_in drawn.imported.spaces) more
 room_so_far config drawn more passes valid now few = record {
-  tags = omega (arith, few, now.most counts.Tags tt, passes.few counts.Tags, few_brought config valid counts.Tags);
-  funcs = omega (arith, few, now.most counts.Funcs tt, passes.few counts.Funcs, few_brought config valid counts.Funcs);
-  tables = omega (arith, few, now.most counts.Tables tt, passes.few counts.Tables, few_brought config valid counts.Tables);
-  memories = omega (arith, few, now.most counts.Memories tt, passes.few counts.Memories, few_brought config valid counts.Memories);
-  globals = omega (arith, few, now.most counts.Globals tt, passes.few counts.Globals, few_brought config valid counts.Globals);
+  tags = omega (arith, few, now.most counts.Tags tt, passes.few counts.Tags, few_items_of_shapes config valid counts.Tags);
+  funcs = omega (arith, few, now.most counts.Funcs tt, passes.few counts.Funcs, few_items_of_shapes config valid counts.Funcs);
+  tables = omega (arith, few, now.most counts.Tables tt, passes.few counts.Tables, few_items_of_shapes config valid counts.Tables);
+  memories = omega (arith, few, now.most counts.Memories tt, passes.few counts.Memories, few_items_of_shapes config valid counts.Memories);
+  globals = omega (arith, few, now.most counts.Globals tt, passes.few counts.Globals, few_items_of_shapes config valid counts.Globals);
 }
 
 -- entities may be defined after imports
 pub may_define_drawn : (config : Config) (drawn : PartsSoFar) → Passes config → IsSanitized config → AreShapesValid config → AreImportsDrawn config drawn → MayDefine config drawn.types (spaces_in drawn.imported.spaces) drawn.definitions
 may_define_drawn config drawn passes sanitized valid so_far =
     let now : StandsSoFar config drawn = so_far.may.so_far in
-    may_define_behind passes sanitized so_far.may.least_types (omega (arith, now.most_types, passes.few counts.Types, few_brought config valid counts.Types)) (room_so_far config drawn 0 passes valid now (omega arith)) now.stands
+    may_define_behind passes sanitized so_far.may.least_types (omega (arith, now.most_types, passes.few counts.Types, few_items_of_shapes config valid counts.Types)) (room_so_far config drawn 0 passes valid now (omega arith)) now.stands
 
 at_least : (config : Config) (before spaces : EntitySpaces) → AreFilled config before spaces → (count : Count) → IsOfEntities count → minimum_of config count ≤ count_in spaces count
 at_least config before spaces filled counts.Tags is = filled.tags.enough
@@ -78,7 +78,7 @@ grounded_later config drawn spaces defined now made old =
     record {
       fields = λ lacks. old.fields (fields_before config before later growth refl lacks);
       types = types_later config before later was drawn.types.types old.types;
-      elements = all_behind (HasGroundedElements config later) (elements_later config before later was drawn.imported.spaces.tables old.elements) made.grounded_tables;
+      element_types = all_behind (HasGroundedElements config later) (elements_later config before later was drawn.imported.spaces.tables old.element_types) made.grounded_tables;
       globals = all_behind (HasGroundedValue config later) (globals_later config before later was drawn.imported.spaces.globals old.globals) made.grounded_globals;
     }
 

@@ -108,18 +108,18 @@ may_begin config shape sanitized valid entities = record {
 }
 
 -- a module shape adds as many of a kind as it imports and exports
-pub brought_so : (count : Count) (shape : Shape) → (count ≡ counts.Types → ⊥) → (count ≡ counts.Imports → ⊥) → count_in (imported_spaces (shape_imports shape)) count + items_of_exports count shape ≡ items_of_module_shape count shape
-brought_so counts.Types shape types imports = absurd (types refl)
-brought_so counts.Imports shape types imports = absurd (imports refl)
-brought_so counts.Tags shape types imports = refl
-brought_so counts.Funcs shape types imports = refl
-brought_so counts.Tables shape types imports = refl
-brought_so counts.Memories shape types imports = refl
-brought_so counts.Globals shape types imports = refl
-brought_so counts.Exports shape types imports = refl
-brought_so counts.ElementSegments shape types imports = refl
-brought_so counts.Elements shape types imports = refl
-brought_so counts.DataSegments shape types imports = refl
+pub items_of_one_shape : (count : Count) (shape : Shape) → (count ≡ counts.Types → ⊥) → (count ≡ counts.Imports → ⊥) → count_in (imported_spaces (shape_imports shape)) count + items_of_exports count shape ≡ items_of_module_shape count shape
+items_of_one_shape counts.Types shape types imports = absurd (types refl)
+items_of_one_shape counts.Imports shape types imports = absurd (imports refl)
+items_of_one_shape counts.Tags shape types imports = refl
+items_of_one_shape counts.Funcs shape types imports = refl
+items_of_one_shape counts.Tables shape types imports = refl
+items_of_one_shape counts.Memories shape types imports = refl
+items_of_one_shape counts.Globals shape types imports = refl
+items_of_one_shape counts.Exports shape types imports = refl
+items_of_one_shape counts.ElementSegments shape types imports = refl
+items_of_one_shape counts.Elements shape types imports = refl
+items_of_one_shape counts.DataSegments shape types imports = refl
 
 of_one : {A : Type 0} (before more all : List A) → All (λ x. Contains before x ⊎ Contains (before ++ more) x) all → All (Contains (before ++ more)) all
 of_one {A = A} before more all h =

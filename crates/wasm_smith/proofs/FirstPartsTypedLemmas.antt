@@ -59,7 +59,7 @@ of_shape config functions shape types spaces same tables globals h =
     rw same (record {
       fields = h.fields;
       types = h.types;
-      elements = All-weaker (Contains (shape_spaces shape).tables) Elements (λ table one. All-contains Elements (shape_spaces shape).tables table h.elements one) spaces.tables tables;
+      element_types = All-weaker (Contains (shape_spaces shape).tables) Elements (λ table one. All-contains Elements (shape_spaces shape).tables table h.element_types one) spaces.tables tables;
       globals = All-weaker (Contains (shape_spaces shape).globals) Values (λ global one. All-contains Values (shape_spaces shape).globals global h.globals one) spaces.globals globals;
     })
 
@@ -89,7 +89,7 @@ freely config drawn nothing =
       grounded = λ never. record {
         fields = rw types (λ h. absurd (omega (arith, h.2)));
         types = subst (All (HasGranted config context)) (sym types) (All-nil (HasGranted config context));
-        elements = rw tables (All-nil (HasGroundedElements config context));
+        element_types = rw tables (All-nil (HasGroundedElements config context));
         globals = rw globals (All-nil (HasGroundedValue config context));
       };
       exports = rw exports (no_exports (spaces_in drawn.imported.spaces));
@@ -134,7 +134,7 @@ grounded_later config functions old new spaces more h =
     record {
       fields = more.grounded h.fields;
       types = more.granted h.types;
-      elements = elements_later config before later (ungrounded_before config before later growth) spaces.tables h.elements;
+      element_types = elements_later config before later (ungrounded_before config before later growth) spaces.tables h.element_types;
       globals = globals_later config before later (ungrounded_before config before later growth) spaces.globals h.globals;
     }
 

@@ -51,6 +51,6 @@ module _ (config : Config) (drawn : PartsSoFar) (whole : StandsWhole config draw
     pub granted_drawn : HoldsGrounded config before (spaces_in drawn.imported.spaces) → HoldsGranted config m
     granted_drawn held = record {
       values = all_values_joined (IsGranted config context) drawn.types.types (spaces_in drawn.imported.spaces) (types_later config before context was_ungrounded drawn.types.types held.types)
-          (elements_later config before context was_ungrounded drawn.imported.spaces.tables held.elements) (globals_later config before context was_ungrounded drawn.imported.spaces.globals held.globals);
-      elements = All-weaker (HasGroundedItems config before) (HasGroundedItems config context) (λ (segment : ElementSegment). value_later config before context was_ungrounded (vals.Ref segment.ty)) drawn.contents.segments.elements (contents.items held.elements);
+          (elements_later config before context was_ungrounded drawn.imported.spaces.tables held.element_types) (globals_later config before context was_ungrounded drawn.imported.spaces.globals held.globals);
+      elems = All-weaker (HasGroundedItems config before) (HasGroundedItems config context) (λ (segment : ElementSegment). value_later config before context was_ungrounded (vals.Ref segment.ty)) drawn.contents.segments.elems (contents.items held.element_types);
     }

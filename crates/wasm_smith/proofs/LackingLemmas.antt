@@ -75,7 +75,7 @@ granted_null config context value may lacks = may (ungrounded_not_null config co
 -- no value of types, tables and globals is ungrounded in a context, which may have other types
 pub record AreValuesGranted (config : Config) (context : Context) (types : List SubType) (spaces : EntitySpaces) : Type 0 where
   pub of_types : All (HasGranted config context) types
-  pub elements : All (HasGroundedElements config context) spaces.tables
+  pub element_types : All (HasGroundedElements config context) spaces.tables
   pub globals : All (HasGroundedValue config context) spaces.globals
 
 module _ (config : Config) (types : List SubType) (spaces : EntitySpaces) (none : ¬ Any IsNonNullable (values_in types spaces)) where
@@ -90,7 +90,7 @@ module _ (config : Config) (types : List SubType) (spaces : EntitySpaces) (none 
       record {
         of_types = All-weaker (λ (t : SubType). All MayBeNull (values_of t.composite_type.inner)) (HasGranted config context)
             (λ t h. All-weaker MayBeNull (IsGranted config context) granted (values_of t.composite_type.inner) h) types of_types;
-        elements = All-weaker (λ (table : TableType). MayBeNull (Ref table.element_type)) (HasGroundedElements config context) (λ table. granted (Ref table.element_type)) spaces.tables of_tables;
+        element_types = All-weaker (λ (table : TableType). MayBeNull (Ref table.element_type)) (HasGroundedElements config context) (λ table. granted (Ref table.element_type)) spaces.tables of_tables;
         globals = All-weaker (λ (global : GlobalType). MayBeNull global.val_type) (HasGroundedValue config context) (λ global. granted global.val_type) spaces.globals of_globals;
       }
 
@@ -103,7 +103,7 @@ module _ (config : Config) (types : List SubType) (spaces : EntitySpaces) (none 
         fields = λ (k, t, inside, at, holds). no_field t.composite_type.inner (All-contains (λ (t : SubType). All MayBeNull (values_of t.composite_type.inner)) types t of_types (k, inside, at))
             (any_weaker (IsUngrounded config context) IsNonNullable (ungrounded_not_null config context) (field_values (fields_of t.composite_type.inner)) holds);
         types = all.of_types;
-        elements = all.elements;
+        element_types = all.element_types;
         globals = all.globals;
       }
 

@@ -40,7 +40,7 @@ use Rattle.smith_rules.specs.Refusals.{AreShapesValid, HoldsNonNullable, MayRefu
 use Rattle.smith_defined.specs.Required.{AddsLimitsOf, AddsTypesOf, MayDefineMore, MayLackIn, MayRefuseRequired}
 use Rattle.smith_defined.specs.declared.definitions.Definitions.{Definitions}
 use Rattle.wasm_smith.specs.declared.build.parts_so_far.PartsSoFar.{PartsSoFar}
-use Rattle.wasm_smith.proofs.BroughtLemmas.{few_added, few_brought}
+use Rattle.wasm_smith.proofs.ShapeItemLemmas.{few_items_of_export_shape, few_items_of_shapes}
 use Rattle.smith_defined.proofs.ExtensionLemmas.{all_kept}
 use Rattle.smith_defined.proofs.DefinedGrowthLemmas.{stands_within}
 use Rattle.smith_defined.proofs.StandsBehindLemmas.{defined_end}
@@ -80,7 +80,7 @@ stands_already config drawn now = record {
 -- contents may be drawn over the parts with exports
 pub may_hold_contents : (config : Config) (drawn : PartsSoFar) → Passes config → IsSanitized config → AreShapesValid config → AreExportsDrawn config drawn → MayHoldContents config drawn.types (spaces_in drawn.imported.spaces) drawn.imported.type_size
 may_hold_contents config drawn passes sanitized valid now =
-    let few : (count : Count) → IsOfEntities count → count_in (spaces_in drawn.imported.spaces) count < 2 ^ 32 = λ count is. omega (arith, now.whole.most count is, passes.few count, few_brought config valid count, few_added config valid count) in
+    let few : (count : Count) → IsOfEntities count → count_in (spaces_in drawn.imported.spaces) count < 2 ^ 32 = λ count is. omega (arith, now.whole.most count is, passes.few count, few_items_of_shapes config valid count, few_items_of_export_shape config valid count) in
     record {
       passes = passes;
       sanitized = sanitized;
@@ -110,7 +110,7 @@ required_size config shape so_far type_size none given is =
 
 module _ (config : Config) (shape : Shape) (drawn : PartsSoFar) (passes : Passes config) (valid : AreShapesValid config) (one : IsShapeValid which.Exports config shape) (now : StandsSoFar config drawn) where
   room_for : (count : Count) → IsOfEntities count → count_in (spaces_in drawn.imported.spaces) count + length shape.exports < 2 ^ 32
-  room_for count is = omega (arith, now.most count is, passes.few count, few_brought config valid count, one.short.exports)
+  room_for count is = omega (arith, now.most count is, passes.few count, few_items_of_shapes config valid count, one.short.exports)
 
   -- the exports of a shape may be defined after the existing entities
   pub may_require : IsSanitized config → MayDefineMore config drawn.types (spaces_in drawn.imported.spaces) drawn.definitions (length shape.exports)
@@ -124,7 +124,7 @@ module _ (config : Config) (shape : Shape) (drawn : PartsSoFar) (passes : Passes
 
   -- there is room for the types of these exports after the existing types
   pub types_room : length drawn.types.types + length shape.exports < 2 ^ 32
-  types_room = omega (arith, now.most_types, passes.few counts.Types, few_brought config valid counts.Types, one.short.exports)
+  types_room = omega (arith, now.most_types, passes.few counts.Types, few_items_of_shapes config valid counts.Types, one.short.exports)
 
 module _ (config : Config) (shape : Shape) (drawn : PartsSoFar) (none : config.module_shape ≡ None) (given : config.exports ≡ Some shape) (may : MayGoOn config drawn) where
   lacks : MayLackIn config (drawn_next config drawn) shape → HoldsNonNullable config
@@ -170,9 +170,9 @@ module _ (config : Config) (shape : Shape) (drawn : PartsSoFar) (none : config.m
         types =
             either_kept Types drawn.types.types (shape_types shape) types.types (types_later config old new was drawn.types.types before.types)
             (λ t h. All-contains Types (shape_types shape) t theirs.of_types h) listed;
-        elements =
-            either_kept Elements drawn.imported.spaces.tables (shape_spaces shape).tables spaces.tables (elements_later config old new was drawn.imported.spaces.tables before.elements)
-            (λ table h. All-contains Elements (shape_spaces shape).tables table theirs.elements h) limits.tables;
+        element_types =
+            either_kept Elements drawn.imported.spaces.tables (shape_spaces shape).tables spaces.tables (elements_later config old new was drawn.imported.spaces.tables before.element_types)
+            (λ table h. All-contains Elements (shape_spaces shape).tables table theirs.element_types h) limits.tables;
         globals =
             either_kept Values drawn.imported.spaces.globals (shape_spaces shape).globals spaces.globals (globals_later config old new was drawn.imported.spaces.globals before.globals)
             (λ global h. All-contains Values (shape_spaces shape).globals global theirs.globals h) limits.globals;

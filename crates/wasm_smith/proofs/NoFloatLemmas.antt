@@ -29,7 +29,7 @@ no_floats_drawn config drawn h =
     let locals = flat_map (λ (body : Code). body.locals) drawn.contents.code in
     let tables = flat_map initial_of drawn.definitions.tables in
     let initials = map (λ (one : ℕ × List ConstInstr). one.1) drawn.definitions.globals in
-    let items = flat_map (λ (segment : ElementSegment). expressions_of segment.items) drawn.contents.segments.elements in
+    let items = flat_map (λ (segment : ElementSegment). expressions_of segment.items) drawn.contents.segments.elems in
     record {
       values = All-append IsNoFloat types (globals ++ locals) (of_types drawn.types.types (recursion_from_All HasNoFloat drawn.types.types h.types))
           (All-append IsNoFloat globals locals (All-map IsNoFloat (λ (global : GlobalType). global.val_type) drawn.imported.spaces.globals h.defined.globals) h.contents.locals);

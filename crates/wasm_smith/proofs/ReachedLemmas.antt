@@ -173,11 +173,11 @@ member_reached distinct config groups funcs piece after sanitized none least mem
 record IsBare (passive : List (List ℕ)) (contents : Contents) : Type 0 where
   exports : contents.exports ≡ []
   start : contents.start ≡ None
-  elements : contents.segments.elements ≡ []
+  elems : contents.segments.elems ≡ []
   data_segments : contents.segments.data_segments ≡ map (λ bytes. passive_data bytes) passive
 
 segments_read : (config : Config) (types : List SubType) (imported spaces : EntitySpaces) (passive : List (List ℕ)) (piece after : List ℕ) → HasNoMinimums config → spaces.tables ≡ [] → spaces.memories ≡ [] → SpellsSegments config passive piece
-    → all_segments_at config types imported spaces (piece ++ after) ≡ Ok (record { elements = []; data_segments = map (λ bytes. passive_data bytes) passive }, after)
+    → all_segments_at config types imported spaces (piece ++ after) ≡ Ok (record { elems = []; data_segments = map (λ bytes. passive_data bytes) passive }, after)
 unfolding all_segments_at
 segments_read config types imported spaces passive piece after least tables memories h =
     let scope = segment_scope config types imported spaces in
@@ -203,7 +203,7 @@ contents_read config types imported spaces made passive piece after least export
       joined_parts start after,
       start_none config types spaces.funcs start.first (start.second ++ after) start.is_first,
       segments_read config types imported spaces passive start.second after least tables memories start.is_second,
-    ) (record { exports = exports; start = refl; elements = refl; data_segments = refl })
+    ) (record { exports = exports; start = refl; elems = refl; data_segments = refl })
 
 -- globals and their initialisers
 abbrev Listing : Type 0
@@ -254,7 +254,7 @@ rest_ended config groups numbers passive drawn after flag (Ok made) numbered bar
   initials = numbered.initials;
   exports = bare.exports;
   start = bare.start;
-  elements = bare.elements;
+  elems = bare.elems;
   data_segments = bare.data_segments;
 }
 rest_ended config groups numbers passive drawn after flag (Err why) numbered bare = tt
@@ -322,6 +322,6 @@ module _ {distinct : Bool} {config : Config} {bytes left : List ℕ} {answer : R
         initials = has.initials;
         exports = has.exports;
         start = has.start;
-        elements = has.elements;
+        elems = has.elems;
         data_segments = has.data_segments;
       }) (given.exact asks.may_give) (needless asks) (rw (h.parts, r.parts) held)

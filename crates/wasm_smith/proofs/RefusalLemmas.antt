@@ -68,7 +68,7 @@ module _ (config : Config) (context : Context) (tables : List TableType) where
 pub lacks_so : (config : Config) (context : Context) (spaces : EntitySpaces) → ((HoldsNonNullable config → ⊥) → HoldsGrounded config context spaces) → MayLackItem config context spaces.tables → HoldsNonNullable config
 lacks_so config context spaces grounded lack = elim (holds_or_not config) [
   | inl holds ↦ holds
-  | inr none ↦ let all = grounded none in elim lack [ inl field ↦ absurd (all.fields field) | inr table ↦ absurd (none_lacks config context spaces.tables all.elements table) ]
+  | inr none ↦ let all = grounded none in elim lack [ inl field ↦ absurd (all.fields field) | inr table ↦ absurd (none_lacks config context spaces.tables all.element_types table) ]
 ]
 
 -- if no shape fixes them, imports are refused only as a module may be

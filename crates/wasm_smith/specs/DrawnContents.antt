@@ -8,7 +8,7 @@ use Rattle.smith_types.specs.Exports.{AreExportsValid, IsStartValid}
 use Rattle.smith_types.specs.Expressions.{Context}
 use Rattle.smith_types.specs.Floats.{IsNoFloat, GivesNoFloat}
 use Rattle.smith_types.specs.Imports.{EntitySpaces, flattened, imported_spaces}
-use Rattle.smith_types.specs.Segments.{IsElementValid, IsElementInside, IsDataValid, IsDataInside}
+use Rattle.smith_types.specs.Segments.{IsElementSegmentValid, IsElementInside, IsDataValid, IsDataInside}
 use Rattle.smith_types.specs.declared.composite_type.SubType.{SubType}
 use Rattle.smith_types.specs.declared.entity_type.TableType.{TableType}
 use Rattle.smith_types.specs.declared.segments.ElementSegment.{ElementSegment}
@@ -24,7 +24,7 @@ use Rattle.smith_contents.specs.DataSegments.{data_at}
 use Rattle.smith_defined.specs.Defined.{scope_in}
 use Rattle.smith_defined.specs.Definitions.{global_scope}
 use Rattle.smith_contents.specs.DrawnBodies.{bodies_at}
-use Rattle.smith_contents.specs.ElementSegments.{elements_at, items_in}
+use Rattle.smith_contents.specs.ElementSegments.{all_element_segments_at, items_in}
 use Rattle.smith_contents.specs.Start.{start_at}
 use Rattle.smith_contents.specs.declared.exported.Exports.{Exports}
 use Rattle.smith_bytes.specs.Steps.{◌>>=◌, section_flag_at}
@@ -49,9 +49,9 @@ segment_scope config types imported spaces = global_scope config (scope_in types
 -- the element segments, then the data segments
 unfoldable pub all_segments_at : Config → List SubType → EntitySpaces → EntitySpaces → List ℕ → Result (Segments × List ℕ) Why
 all_segments_at config types imported spaces bytes = do
-  elements ← elements_at config (segment_scope config types imported spaces) spaces.tables bytes
-  data_segments ← data_at config (segment_scope config types imported spaces) spaces.memories elements.1
-  Ok (record { elements = elements.0; data_segments = data_segments.0 }, data_segments.1)
+  elems ← all_element_segments_at config (segment_scope config types imported spaces) spaces.tables bytes
+  data_segments ← data_at config (segment_scope config types imported spaces) spaces.memories elems.1
+  Ok (record { elems = elems.0; data_segments = data_segments.0 }, data_segments.1)
 
 -- the contents that the bytes produce after exports, over types and index spaces that begin with
 -- imports: whether a type section is written, a start function, segments and bodies
@@ -87,12 +87,12 @@ pub record AreExportsMade (config : Config) (types : List SubType) (spaces : Ent
 -- segments are valid, within the minimums and maximums, and with `disallow_traps` the items and
 -- bytes that they copy fit
 pub record AreSegmentsFit (config : Config) (types : List SubType) (imported spaces : EntitySpaces) (segments : Segments) : Type 0 where
-  pub elements : All (IsElementValid (segment_scope config types imported spaces) spaces.tables) segments.elements
-  pub most_elements : length segments.elements ≤ config.max_element_segments
-  pub least_elements : config.min_element_segments ≤ length segments.elements
-  pub most_items : items_in segments.elements ≤ config.max_elements
-  pub enough_items : All (λ (segment : ElementSegment). HasItems config types spaces.funcs segment.items) segments.elements
-  pub elements_inside : IsTrue config.disallow_traps → All (IsElementInside spaces.tables) segments.elements
+  pub elems : All (IsElementSegmentValid (segment_scope config types imported spaces) spaces.tables) segments.elems
+  pub most_elems : length segments.elems ≤ config.max_element_segments
+  pub least_elems : config.min_element_segments ≤ length segments.elems
+  pub most_items : items_in segments.elems ≤ config.max_elements
+  pub enough_items : All (λ (segment : ElementSegment). HasItems config types spaces.funcs segment.items) segments.elems
+  pub elems_inside : IsTrue config.disallow_traps → All (IsElementInside spaces.tables) segments.elems
   pub data_segments : All (IsDataValid (segment_scope config types imported spaces) spaces.memories) segments.data_segments
   pub most_data : length segments.data_segments ≤ config.max_data_segments
   pub least_data : config.min_data_segments ≤ length segments.data_segments
@@ -116,10 +116,10 @@ HaveNoFloatItems segments = All (All GivesNoFloat) (flat_map (λ (segment : Elem
 -- references are nullable or grounded: those of the locals of bodies, and, if the elements of all
 -- tables are, those of the items of segments
 pub record HasGrantedContents (config : Config) (context : Context) (tables : List TableType) (contents : Contents) : Type 0 where
-  pub items : All (HasGroundedElements config context) tables → All (HasGroundedItems config context) contents.segments.elements
+  pub items : All (HasGroundedElements config context) tables → All (HasGroundedItems config context) contents.segments.elems
   pub locals : All (IsGranted config context) (flat_map (λ (body : Code). body.locals) contents.code)
 
 -- no item of a segment and no local of a body is a float
 pub record HasNoFloatContents (contents : Contents) : Type 0 where
-  pub items : HaveNoFloatItems contents.segments.elements
+  pub items : HaveNoFloatItems contents.segments.elems
   pub locals : All IsNoFloat (flat_map (λ (body : Code). body.locals) contents.code)

@@ -35,7 +35,7 @@ drawn_next config drawn = drawn_beside config drawn.types.types (spaces_in drawn
 pub record HoldsGrounded (config : Config) (context : Context) (spaces : EntitySpaces) : Type 0 where
   pub fields : HoldsUngroundedField config context → ⊥
   pub types : AreTypesGranted config context
-  pub elements : All (HasGroundedElements config context) spaces.tables
+  pub element_types : All (HasGroundedElements config context) spaces.tables
   pub globals : All (HasGroundedValue config context) spaces.globals
 
 -- without shapes function types are small, and so is the amount that imports add to the type size

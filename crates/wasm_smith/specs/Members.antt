@@ -24,5 +24,5 @@ pub record HasRest (numbers : List ℤ) (passive : List (List ℕ)) (m : ModuleP
   pub initials : map (λ (one : ℕ × List ConstInstr). one.1) m.defined_globals ≡ map (λ number. I32Const number ∷ []) numbers
   pub exports : m.exports ≡ []
   pub start : m.start ≡ None
-  pub elements : m.elems ≡ []
+  pub elems : m.elems ≡ []
   pub data_segments : m.datas ≡ map (λ bytes. record { kind = Passive; init = bytes }) passive

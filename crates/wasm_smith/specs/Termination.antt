@@ -22,7 +22,7 @@ counter = record { val_type = I32; mutable = true; shared = false }
 
 -- `new` is `old` with a counter of this index, which is the last global, is initialised with the
 -- number of the same 32 bits as the fuel, and is the last counter; nothing else is new
-pub record AddsFuel (fuel index : ℕ) (old new : ModuleParts) : Type 0 where
+pub record AddsCounter (fuel index : ℕ) (old new : ModuleParts) : Type 0 where
   pub last : index ≡ length old.globals
   pub added : new ≡ record old {
     globals = old.globals ++ counter ∷ [];
@@ -38,10 +38,10 @@ MayAddNone m _ = ⊥
 
 -- the result: the index of the added counter; or the reason why none was added, with the module
 -- unchanged
-abbrev pub AnswersFuel : ℕ → ModuleParts → ModuleParts → Result ℕ Error → Type 0
-AnswersFuel fuel old new (Ok index) = (HasRawBody old → ⊥) × AddsFuel fuel index old new
-AnswersFuel fuel old new (Err error) = MayAddNone old error × (new ≡ old)
+abbrev pub AnswersCounter : ℕ → ModuleParts → ModuleParts → Result ℕ Error → Type 0
+AnswersCounter fuel old new (Ok index) = (HasRawBody old → ⊥) × AddsCounter fuel index old new
+AnswersCounter fuel old new (Err error) = MayAddNone old error × (new ≡ old)
 
 -- a valid module stays valid with a counter
 abbrev pub CountingIsValid : Type 0
-CountingIsValid = (fuel index : ℕ) (old new : ModuleParts) → AddsFuel fuel index old new → IsValid old → IsValid new
+CountingIsValid = (fuel index : ℕ) (old new : ModuleParts) → AddsCounter fuel index old new → IsValid old → IsValid new

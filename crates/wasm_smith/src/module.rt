@@ -68,7 +68,7 @@ impl Model for Module {
       num_defined_memories = m.drawn.value.definitions.num_memories;
       exports = m.drawn.value.contents.exports;
       start = m.drawn.value.contents.start;
-      elems = m.drawn.value.contents.segments.elements;
+      elems = m.drawn.value.contents.segments.elems;
       datas = m.drawn.value.contents.segments.data_segments;
       code = m.drawn.value.contents.code;
       fuel_globals = m.fuel_globals;
@@ -336,7 +336,7 @@ impl Module {
     pub fn elems(&self) -> &[ElementSegment]
         ensures { result.now ≡ self.now.elems }
     {
-        self.drawn.contents.segments.elements.as_slice()
+        self.drawn.contents.segments.elems.as_slice()
     }
 
     /// Returns the data segments.

@@ -7,7 +7,7 @@ ghost use Rattle.smith_types.specs.declared.const_instr.ConstInstr.TheVariants.{
 ghost use Rattle.smith_types.specs.declared.code.Code.{Code as Body};
 ghost use Rattle.smith_rules.specs.Module.{IsValid};
 ghost use Rattle.smith_rules.specs.Held.{IsRaw};
-ghost use Rattle.wasm_smith.specs.Termination.{AnswersFuel, counter};
+ghost use Rattle.wasm_smith.specs.Termination.{AnswersCounter, counter};
 
 use crate::module::Module;
 use smith_bytes::{Error, Why};
@@ -125,7 +125,7 @@ impl Module {
     /// ```
     pub fn ensure_termination(&mut self, alloc: Global, default_fuel: u32) -> Result<u32, Error>
         requires room { length self.old.globals < 2 ^ 32 - 1 }
-        ensures answer { AnswersFuel default_fuel self.old self.new result }
+        ensures answer { AnswersCounter default_fuel self.old self.new result }
         ensures valid { IsValid self.old → IsValid self.new }
     {
         if has_raw_body(self.drawn.contents.code.as_slice()) {

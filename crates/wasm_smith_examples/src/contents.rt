@@ -39,10 +39,10 @@ fn placed()
 
 fn segments()
     ensures none { AreSegmentsFit default_config [] no_imports no_imports
-        (record { elements = []; data_segments = [] }) }
+        (record { elems = []; data_segments = [] }) }
     ensures none_where_one_is_asked_for { ¬ AreSegmentsFit
         (record default_config { min_data_segments = 1 }) [] no_imports no_imports
-        (record { elements = []; data_segments = [] }) }
+        (record { elems = []; data_segments = [] }) }
 {}
 
 fn exports()
@@ -72,7 +72,7 @@ fn contents()
       type_size = 3;
       encodes_types = true;
       start = None;
-      segments = record { elements = []; data_segments = [] };
+      segments = record { elems = []; data_segments = [] };
       code = [];
     }) }
     ensures of_another_size { ¬ AreContents default_config [] no_imports no_imports 3 (record {
@@ -80,7 +80,7 @@ fn contents()
       type_size = 2;
       encodes_types = true;
       start = None;
-      segments = record { elements = []; data_segments = [] };
+      segments = record { elems = []; data_segments = [] };
       code = [];
     }) }
     ensures a_start_of_no_function { ¬ AreContents default_config [] no_imports no_imports 3
@@ -89,7 +89,7 @@ fn contents()
           type_size = 3;
           encodes_types = true;
           start = Some 0;
-          segments = record { elements = []; data_segments = [] };
+          segments = record { elems = []; data_segments = [] };
           code = [];
         }) }
 {}

@@ -17,7 +17,7 @@ ghost use Rattle.smith_config.specs.ExampleMembers.{final, plain_function};
 ghost use Rattle.smith_defined.specs.Definitions.{table_scope};
 ghost use Rattle.smith_rules.specs.Held.{HasItems};
 ghost use Rattle.smith_contents.specs.DrawnElements.{MayRefuseElements};
-ghost use Rattle.smith_contents.specs.ElementSegments.{elements_at, constant_offset_at};
+ghost use Rattle.smith_contents.specs.ElementSegments.{all_element_segments_at, constant_offset_at};
 ghost use Rattle.smith_contents.specs.ElementSegments.{are_functions_at, most_items};
 ghost use Rattle.smith_contents.specs.ElementSegments.{unshared_funcs};
 ghost use Rattle.wasm_smith_examples.specs.ExampleDefinitions.{beside_globals};
@@ -55,26 +55,26 @@ fn items()
 {}
 
 // Element segments without any type, function, table or global.
-#[tactic(auto, unfolding(smith_contents::specs::ElementSegments::elements_at, smith_contents::specs::ElementSegments::element_segments_at, smith_contents::specs::ElementSegments::element_segment_at, smith_contents::specs::ElementSegments::element_kind_at, smith_contents::specs::ElementSegments::item_type_at, smith_contents::specs::ElementSegments::items_at, smith_contents::specs::ElementSegments::functions_at, smith_contents::specs::ElementSegments::expressions_at, smith_contents::specs::ElementSegments::drawn_expressions_at, smith_contents::specs::ElementSegments::element_kinds_at, smith_contents::specs::ElementSegments::table_kinds_at, smith_contents::specs::ElementSegments::are_functions_at, smith_draw::specs::ValueTypes::ref_type_at, smith_draw::specs::ValueTypes::granted_at, smith_draw::specs::ValueTypes::heap_type_at, smith_draw::specs::ValueTypes::type_index_at, smith_draw::specs::ValueTypes::abstract_heap_type_at, smith_draw::specs::ValueTypes::sharedness_at, smith_draw::specs::Choices::chosen_at, smith_bytes::specs::Growth::grow_at, smith_bytes::specs::Draws::bool_at, smith_bytes::specs::Draws::range_at, smith_bytes::specs::Draws::digit_count))]
+#[tactic(auto, unfolding(smith_contents::specs::ElementSegments::all_element_segments_at, smith_contents::specs::ElementSegments::element_segments_at, smith_contents::specs::ElementSegments::element_segment_at, smith_contents::specs::ElementSegments::element_kind_at, smith_contents::specs::ElementSegments::item_type_at, smith_contents::specs::ElementSegments::items_at, smith_contents::specs::ElementSegments::functions_at, smith_contents::specs::ElementSegments::expressions_at, smith_contents::specs::ElementSegments::drawn_expressions_at, smith_contents::specs::ElementSegments::element_kinds_at, smith_contents::specs::ElementSegments::table_kinds_at, smith_contents::specs::ElementSegments::are_functions_at, smith_draw::specs::ValueTypes::ref_type_at, smith_draw::specs::ValueTypes::granted_at, smith_draw::specs::ValueTypes::heap_type_at, smith_draw::specs::ValueTypes::type_index_at, smith_draw::specs::ValueTypes::abstract_heap_type_at, smith_draw::specs::ValueTypes::sharedness_at, smith_draw::specs::Choices::chosen_at, smith_bytes::specs::Growth::grow_at, smith_bytes::specs::Draws::bool_at, smith_bytes::specs::Draws::range_at, smith_bytes::specs::Draws::digit_count))]
 fn segments()
-    ensures none { elements_at default_config
+    ensures none { all_element_segments_at default_config
         (table_scope default_config (beside_globals [])) [] (0 ∷ 9 ∷ [])
         ≡ Ok ([], 9 ∷ []) }
-    ensures one { elements_at default_config (table_scope default_config (beside_globals [])) []
+    ensures one { all_element_segments_at default_config (table_scope default_config (beside_globals [])) []
         (1 ∷ 0 ∷ 0 ∷ 0 ∷ 0 ∷ 0 ∷ 9 ∷ [])
         ≡ Ok (passive_elements (Expressions []) ∷ [], 9 ∷ []) }
-    ensures of_no_function { elements_at
+    ensures of_no_function { all_element_segments_at
         (record default_config { min_elements = 60; max_element_segments = 1 })
         (table_scope default_config (beside_globals [])) [] (1 ∷ 0 ∷ 0 ∷ 1 ∷ 9 ∷ [])
         ≡ Ok (passive_elements (Functions []) ∷ [], 9 ∷ []) }
-    ensures more_than_may_be { elements_at
+    ensures more_than_may_be { all_element_segments_at
         (record default_config { min_elements = 60; max_elements = 50 })
         (table_scope default_config (beside_globals [])) [] (1 ∷ 0 ∷ 0 ∷ 0 ∷ [])
         ≡ Err (Unmet counts.Elements) }
-    ensures of_no_kind { elements_at (record default_config { bulk_memory_enabled = false })
+    ensures of_no_kind { all_element_segments_at (record default_config { bulk_memory_enabled = false })
         (table_scope default_config (beside_globals [])) [] (1 ∷ [])
         ≡ Ok ([], 1 ∷ []) }
-    ensures asked_for_of_no_kind { elements_at
+    ensures asked_for_of_no_kind { all_element_segments_at
         (record default_config { bulk_memory_enabled = false; min_element_segments = 1 })
         (table_scope default_config (beside_globals [])) [] []
         ≡ Err (Unmet counts.ElementSegments) }
@@ -82,9 +82,9 @@ fn segments()
 
 // An element segment takes its kind and its offset. The items take no byte for the table's only
 // type, and no function may be an item.
-#[tactic(auto, unfolding(smith_contents::specs::ElementSegments::elements_at, smith_contents::specs::ElementSegments::element_segments_at, smith_contents::specs::ElementSegments::element_segment_at, smith_contents::specs::ElementSegments::element_kind_at, smith_contents::specs::ElementSegments::table_offset_at, smith_contents::specs::ElementSegments::is_global_wanted_at, smith_contents::specs::ElementSegments::constant_offset_at, smith_contents::specs::ElementSegments::hint_at, smith_contents::specs::ElementSegments::item_type_at, smith_contents::specs::ElementSegments::items_at, smith_contents::specs::ElementSegments::functions_at, smith_contents::specs::ElementSegments::element_kinds_at, smith_contents::specs::ElementSegments::table_kinds_at, smith_contents::specs::ElementSegments::is_offered_at, smith_contents::specs::ElementSegments::are_functions_at, smith_draw::specs::Offsets::offset_at, smith_draw::specs::Limits::gradually_at, smith_draw::specs::Limits::gradual, smith_draw::specs::Limits::sixth_power, smith_draw::specs::Limits::scaled, smith_draw::specs::MatchingTypes::references_offered, smith_draw::specs::MatchingTypes::matching_ref_type_at, smith_draw::specs::MatchingTypes::matching_heap_type_at, smith_draw::specs::Offered::subtypes_offered, smith_draw::specs::Choices::chosen_at, smith_bytes::specs::Draws::whole_at, smith_bytes::specs::Draws::bool_at, smith_bytes::specs::Draws::range_at, smith_bytes::specs::Draws::digit_count))]
+#[tactic(auto, unfolding(smith_contents::specs::ElementSegments::all_element_segments_at, smith_contents::specs::ElementSegments::element_segments_at, smith_contents::specs::ElementSegments::element_segment_at, smith_contents::specs::ElementSegments::element_kind_at, smith_contents::specs::ElementSegments::table_offset_at, smith_contents::specs::ElementSegments::is_global_wanted_at, smith_contents::specs::ElementSegments::constant_offset_at, smith_contents::specs::ElementSegments::hint_at, smith_contents::specs::ElementSegments::item_type_at, smith_contents::specs::ElementSegments::items_at, smith_contents::specs::ElementSegments::functions_at, smith_contents::specs::ElementSegments::element_kinds_at, smith_contents::specs::ElementSegments::table_kinds_at, smith_contents::specs::ElementSegments::is_offered_at, smith_contents::specs::ElementSegments::are_functions_at, smith_draw::specs::Offsets::offset_at, smith_draw::specs::Limits::gradually_at, smith_draw::specs::Limits::gradual, smith_draw::specs::Limits::sixth_power, smith_draw::specs::Limits::scaled, smith_draw::specs::MatchingTypes::references_offered, smith_draw::specs::MatchingTypes::matching_ref_type_at, smith_draw::specs::MatchingTypes::matching_heap_type_at, smith_draw::specs::Offered::subtypes_offered, smith_draw::specs::Choices::chosen_at, smith_bytes::specs::Draws::whole_at, smith_bytes::specs::Draws::bool_at, smith_bytes::specs::Draws::range_at, smith_bytes::specs::Draws::digit_count))]
 fn copied()
-    ensures without_traps { elements_at (record default_config {
+    ensures without_traps { all_element_segments_at (record default_config {
       reference_types_enabled = false;
       gc_enabled = false;
       disallow_traps = true;

@@ -1,4 +1,4 @@
-use Rattle.smith_c.specs.Answers.{explained}
+use Rattle.smith_c.specs.CallAnswers.{explained}
 use Rattle.smith_c.proofs.smith_refusal.Goals as goal
 
 pub returns : goal.returns

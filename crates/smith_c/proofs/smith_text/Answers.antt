@@ -1,5 +1,5 @@
 use Rattle.std.proofs.Common.{refl}
-use Rattle.smith_c.specs.Answers.{made, refused}
+use Rattle.smith_c.specs.CallAnswers.{made, refused}
 use Rattle.smith_c.proofs.smith_text.Goals as goal
 
 pub returns-in-Ok : goal.returns-in-Ok

@@ -56,7 +56,7 @@ impl Contents {
           type_size = 0;
           encodes_types = false;
           start = None;
-          segments = record { elements = []; data_segments = [] };
+          segments = record { elems = []; data_segments = [] };
           code = [];
         } }
     {

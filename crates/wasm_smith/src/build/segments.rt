@@ -24,7 +24,7 @@ use std::alloc::Global;
 #[derive(Drop)]
 pub(crate) struct Segments {
     /// The element segments.
-    pub(crate) elements: Items<ElementSegment>,
+    pub(crate) elems: Items<ElementSegment>,
     /// The data segments.
     pub(crate) data_segments: Items<DataSegment>,
 }
@@ -32,10 +32,10 @@ pub(crate) struct Segments {
 impl Segments {
     /// Creates empty lists of segments. Does not allocate.
     pub(crate) fn none(alloc: Global) -> Self
-        ensures { result ≡ record { elements = []; data_segments = [] } }
+        ensures { result ≡ record { elems = []; data_segments = [] } }
     {
         Segments {
-            elements: Items::new(alloc),
+            elems: Items::new(alloc),
             data_segments: Items::new(alloc),
         }
     }
@@ -67,13 +67,13 @@ pub(crate) fn draw_segments(
 
     // Floats and references.
     ensures floats { All HasNoFloat types.now.types
-        → IfOk result (λ segments. HaveNoFloatItems segments.elements) }
+        → IfOk result (λ segments. HaveNoFloatItems segments.elems) }
     ensures grounded { All (HasGroundedElements config.now
         (drawn_beside config.now types.now.types (spaces_of imported.now) definitions.now))
         (spaces_of imported.now).tables
         → IfOk result (λ segments. All (HasGroundedItems config.now
         (drawn_beside config.now types.now.types (spaces_of imported.now) definitions.now))
-        segments.elements) }
+        segments.elems) }
 
     // Refusals and the source.
     ensures refusal { IfErr result (MayRefuseContents config.now
@@ -84,10 +84,10 @@ pub(crate) fn draw_segments(
     let imported_funcs = imported.spaces.funcs.len() - definitions.num_funcs;
     let imported_globals = imported.spaces.globals.len() - definitions.globals.len();
     let spaces = segment_spaces(types, &imported.spaces, imported_funcs, imported_globals);
-    let elements = arbitrary_elements(alloc, config, &spaces, grounds, u)?;
+    let elems = arbitrary_elements(alloc, config, &spaces, grounds, u)?;
     let data_segments = arbitrary_data(alloc, config, &spaces, u)?;
     Ok(Segments {
-        elements,
+        elems,
         data_segments,
     })
 }

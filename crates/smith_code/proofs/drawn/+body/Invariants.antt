@@ -1,7 +1,7 @@
 use Rattle.std.proofs.Common.{◌≡◌, ◌+◌, ◌-◌, ◌*◌, [], length, take, drop}
 use Rattle.smith_bytes.specs.Source.{KeepsPieces}
 use Rattle.smith_code.specs.Bodies.{drawing_at, statement_at, statements_within, values_at}
-use Rattle.smith_code.specs.Drawn.{IsDrawn, state_of}
+use Rattle.smith_code.specs.DraftSteps.{IsDrawn, state_of}
 use Rattle.smith_code_nodes.specs.Scopes.{AreLabels}
 use Rattle.smith_code.proofs.ExactLemmas.{AreLeft}
 use Rattle.smith_code.proofs.drawn.+body.Given as goal

@@ -1,6 +1,6 @@
 use Rattle.std.proofs.lemmas.Result.{on_ok_weaker}
 use Rattle.smith_code.specs.Bodies.{drawing_at}
-use Rattle.smith_code.specs.Drawn.{state_of}
+use Rattle.smith_code.specs.DraftSteps.{state_of}
 use Rattle.smith_code.proofs.ExactLemmas.{whole_exact}
 use Rattle.smith_code.proofs.DrawnLemmas.{drawn_then, drawn_within}
 use Rattle.smith_code.proofs.drawn.draw_whole.Goals as goal

@@ -1,6 +1,6 @@
 use Rattle.std.proofs.Common.{refl}
 use Rattle.std.proofs.lemmas.Result.{on_ok_weaker}
-use Rattle.smith_code.specs.Drawn.{state_of}
+use Rattle.smith_code.specs.DraftSteps.{state_of}
 use Rattle.smith_code.proofs.DrawnLemmas.{leaf_drawn}
 use Rattle.smith_code.proofs.ExactLemmas.{leaf_written}
 use Rattle.smith_code.proofs.leaf.write_leaf.Goals as goal

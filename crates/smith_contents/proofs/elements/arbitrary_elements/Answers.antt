@@ -8,7 +8,7 @@ use Rattle.smith_draw.specs.Grounding.{standing_in}
 use Rattle.smith_rules.specs.Held.{HasItems}
 use Rattle.smith_config.specs.Granted.{HasGroundedItems}
 use Rattle.smith_contents.specs.DrawnElements.{IsElementFit}
-use Rattle.smith_contents.specs.ElementSegments.{elements_at}
+use Rattle.smith_contents.specs.ElementSegments.{all_element_segments_at}
 use Rattle.smith_contents.proofs.ElementCountLemmas.{elements_least, elements_taken}
 use Rattle.smith_contents.proofs.ElementFitLemmas.{elements_no_float}
 use Rattle.smith_bytes.proofs.StepLemmas.{given_is}
@@ -19,7 +19,7 @@ returns-clause-least c =
     let config = c.args.config.now in
     let context = seen_by config c.args.spaces.now true in
     let tables = c.args.spaces.now.entities.tables.now in
-    given_is (λ (segments : List ElementSegment). config.min_element_segments ≤ length segments) (λ segments. segments) (elements_at config context tables c.args.u.now) _ c.draw_elements.result
+    given_is (λ (segments : List ElementSegment). config.min_element_segments ≤ length segments) (λ segments. segments) (all_element_segments_at config context tables c.args.u.now) _ c.draw_elements.result
     (elements_least config context tables c.args.u.now (c.requires.may.passes.ordered counts.ElementSegments tt)) c.draw_elements.ensures.exact
 
 pub returns-clause-enough : goal.returns-clause-enough

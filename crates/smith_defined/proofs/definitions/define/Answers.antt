@@ -1,7 +1,7 @@
 use Rattle.std.proofs.Common.{ℕ, refl, subst}
 use Rattle.smith_types.specs.EntitySpaces.{spaces_in}
 use Rattle.smith_config.specs.Features.{features_of}
-use Rattle.smith_draw.specs.Grounding.{context_of}
+use Rattle.smith_draw.specs.Grounding.{function_context}
 use Rattle.smith_draw.specs.KeptGrounds.{AreKeptGrounds}
 use Rattle.smith_draw.proofs.ConstStepLemmas.{passed_on}
 use Rattle.smith_defined.proofs.DrawnStepLemmas.{functions_noted, may_initialise, refused_before}
@@ -97,7 +97,7 @@ returns-clause-kept c =
     let types = c.args.types.now.types in
     let extends = c.in_ok-define_funcs.ensures.filled.extends in
     let within = c.requires.may.within.funcs in
-    subst (λ (imported : ℕ). AreKeptGrounds (context_of (features_of config) types c.define_funcs.new.funcs imported) c.note_defined.new.grounds)
+    subst (λ (imported : ℕ). AreKeptGrounds (function_context (features_of config) types c.define_funcs.new.funcs imported) c.note_defined.new.grounds)
     (still_imported (spaces_in c.args.spaces.now).funcs c.define_funcs.new.funcs c.args.definitions.now.num_funcs _ extends (rw (c.len-2.ensures, c.len-funcs_before.ensures) refl))
     (functions_noted config types (spaces_in c.args.spaces.now) c.args.definitions.now c.define_funcs.new.funcs _ _ extends within
     (rw (c.as_slice-func_types.ensures, c.len-funcs_before.ensures) at c.note_defined.ensures) c.requires.kept)

@@ -1,5 +1,5 @@
 use Rattle.std.proofs.Common.{◌≡◌, true, false, length}
-use Rattle.smith_types.specs.Flags.{IsElementEnabled}
+use Rattle.smith_types.specs.Flags.{IsElementTypeEnabled}
 use Rattle.smith_types.specs.declared.value_type.RefType.{RefType}
 use Rattle.smith_config.specs.Features.{features_of}
 use Rattle.smith_types.specs.declared.value_type.ValType.TheVariants.{Ref}
@@ -22,7 +22,7 @@ returns-clause-valid c = λ space same valid.
     record {
       limits = limits_fit _ _ _ _ c.drawn_elements-most.ensures.fits limits.minimum.1 limits.maximum;
       element = element;
-      element_enabled = drawn_is (IsElementEnabled (features_of c.args.config.now)) _ (element_enabled _ _ _ _ _) exact;
+      element_enabled = drawn_is (IsElementTypeEnabled (features_of c.args.config.now)) _ (element_enabled _ _ _ _ _) exact;
       table64 = c.draw_memory64-table64.ensures.enabled;
       shared = λ on. sharing c.args.config.now space _ _ valid element.heap_type (rw (c.is_reference_shared-shared.ensures, c.types-types.ensures.value, c.types.ensures, ← same) at on);
     }

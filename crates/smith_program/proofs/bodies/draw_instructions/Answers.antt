@@ -15,7 +15,7 @@ draw_body-requires c =
         c.globals.ensures,
         c.tags.ensures,
         c.as_slice-3.ensures,
-        c.requires.named.elements,
+        c.requires.named.elems,
         c.data.ensures,
         c.as_slice-4.ensures,
         c.requires.named.references,

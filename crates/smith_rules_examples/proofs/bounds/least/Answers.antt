@@ -14,4 +14,4 @@ one_of_two = search arith
 
 pub returns-clause-too_few : goal.returns-clause-too_few
 returns-clause-too_few c = λ minimums.
-    one_of_two (All-head (HasEnough (record default_config { min_elements = 2 }) (elements_asked_for 2 (Expressions (no_function ∷ [])))) (passive_elements (Expressions (no_function ∷ []))) [] minimums.elements)
+    one_of_two (All-head (HasEnough (record default_config { min_elements = 2 }) (elements_asked_for 2 (Expressions (no_function ∷ [])))) (passive_elements (Expressions (no_function ∷ []))) [] minimums.elems)

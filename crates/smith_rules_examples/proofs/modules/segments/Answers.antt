@@ -1,15 +1,15 @@
-use Rattle.smith_rules_examples.proofs.Common.{rules, arith, common_steps, ℕ, List, [], ◌∷◌, refl, All-from_recursion, funcref, IsTagValid, IsConstExpr, IsElementValid, IsDataValid, IsEntityAt, EntityType, ExportKind, Ref, distinct_alone, module_spaces, segment_context, no_function, shared_memory, two_elements, one_data_segment, one_tag}
+use Rattle.smith_rules_examples.proofs.Common.{rules, arith, common_steps, ℕ, List, [], ◌∷◌, refl, All-from_recursion, funcref, IsTagValid, IsConstExpr, IsElementSegmentValid, IsDataValid, IsEntityAt, EntityType, ExportKind, Ref, distinct_alone, module_spaces, segment_context, no_function, shared_memory, two_elements, one_data_segment, one_tag}
 use Rattle.smith_types.specs.declared.entity_type.EntityType.TheVariants as entity
 use Rattle.smith_rules_examples.proofs.PartExamples.{no_function_given, function_types, functions_valid, function_at}
 use Rattle.smith_rules_examples.proofs.modules.segments.Goals as goal
 
 pub returns : goal.returns
 returns c = record {
-  elements =
+  elems =
       let null = no_function_given (segment_context two_elements) refl in
       search (
         rules,
-        All-from_recursion (IsElementValid (segment_context two_elements) []) two_elements.elems (
+        All-from_recursion (IsElementSegmentValid (segment_context two_elements) []) two_elements.elems (
           record {
             ty = search rules;
             ty_enabled = λ _. refl;

@@ -16,7 +16,7 @@ pub returns-clause-one_name_twice_beside_exports_of_a_shape : goal.returns-claus
 returns-clause-one_name_twice_beside_exports_of_a_shape c = λ kept. not_distinct (kept.names refl exports_fix_none)
 
 pub returns-clause-a_trap : goal.returns-clause-a_trap
-returns-clause-a_trap c = λ kept. past_the_table (record { elements = (kept.inside refl).elements; data_segments = (kept.inside refl).data_segments })
+returns-clause-a_trap c = λ kept. past_the_table (record { elems = (kept.inside refl).elems; data_segments = (kept.inside refl).data_segments })
 
 -- no shape in use holds a non-nullable reference
 none_given : HoldsNonNullable with_references → ⊥
@@ -36,7 +36,7 @@ pub returns-clause-a_reference_that_nothing_grounds : goal.returns-clause-a_refe
 returns-clause-a_reference_that_nothing_grounds c = λ kept. unheld (kept.granted none_given)
 
 pub returns-clause-the_same_beside_another_shape : goal.returns-clause-the_same_beside_another_shape
-returns-clause-the_same_beside_another_shape c = λ kept. unheld (record { values = (kept.granted none_exported).values; elements = (kept.granted none_exported).elements })
+returns-clause-the_same_beside_another_shape c = λ kept. unheld (record { values = (kept.granted none_exported).values; elems = (kept.granted none_exported).elems })
 
 pub returns-clause-a_local_that_nothing_grounds : goal.returns-clause-a_local_that_nothing_grounds
 returns-clause-a_local_that_nothing_grounds c = λ kept. any_not_granted one_number (All-head (IsGranted with_references (module_context one_number)) to_any [] kept.granted_locals)

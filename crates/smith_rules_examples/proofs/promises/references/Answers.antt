@@ -17,7 +17,7 @@ returns c = record {
   to_a_struct =
       let Granted = IsGranted with_references (module_context beside) in
       let granted : Granted to_struct = λ lacks. lacks.1 refl (inl (0, grounded_at beside.types false (Concrete 0) 0 (final empty_struct) refl refl itself)) in
-      record { values = All-from_recursion Granted (to_struct ∷ []) (granted, tt); elements = All-nil (HasGroundedItems with_references (module_context beside)) };
+      record { values = All-from_recursion Granted (to_struct ∷ []) (granted, tt); elems = All-nil (HasGroundedItems with_references (module_context beside)) };
   to_a_struct_by_default = λ held. All-head (IsGranted default_config (module_context beside)) to_struct [] held.values (refl, λ on. absurd cc);
   in_a_global = λ held. any_not_granted (holding_reference [] (plain heap.Any)) (All-head (IsGranted with_references (module_context (holding_reference [] (plain heap.Any)))) to_any [] held.values);
   in_a_table = λ held. any_not_granted one_table (All-head (IsGranted with_references (module_context one_table)) to_any [] held.values);
@@ -25,6 +25,6 @@ returns c = record {
       let m : ModuleParts = record one_number { types = final (taking to_any) ∷ [] } in
       any_taken m (All-head (IsGranted with_references (module_context m)) to_any (I32 ∷ []) held.values);
   in_a_segment = λ held.
-      any_not_granted one_number (All-head (HasGroundedItems with_references (module_context one_number)) (record (passive_elements (Expressions [])) { ty = not_null (plain heap.Any) }) [] held.elements);
+      any_not_granted one_number (All-head (HasGroundedItems with_references (module_context one_number)) (record (passive_elements (Expressions [])) { ty = not_null (plain heap.Any) }) [] held.elems);
   in_a_local = first_of (search rules, grind (arith, common_steps));
 }

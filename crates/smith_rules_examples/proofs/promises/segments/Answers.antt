@@ -4,11 +4,11 @@ use Rattle.smith_rules_examples.proofs.promises.segments.Goals as goal
 pub returns : goal.returns
 returns c = record {
   no_bytes = record {
-    elements = search rules;
+    elems = search rules;
     data_segments = All-from_recursion (IsDataInside one_data_segment.memories) one_data_segment.datas ((shared_memory 1, refl, omega arith), tt);
   };
   up_to_the_last_byte = record {
-    elements = search rules;
+    elems = search rules;
     data_segments = All-from_recursion (IsDataInside (memory 65536 None ∷ [])) (active_data (negsuc 0) (42 ∷ []) ∷ []) ((memory 65536 None, refl, omega arith), tt);
   };
   one_byte_past = λ inside.

@@ -15,7 +15,7 @@ pub returns-clause-by_its_exports : goal.returns-clause-by_its_exports
 returns-clause-by_its_exports c = λ valid. name_refused valid.exports
 
 pub returns-clause-by_its_elements : goal.returns-clause-by_its_elements
-returns-clause-by_its_elements c = λ valid. elements_refused valid.elements
+returns-clause-by_its_elements c = λ valid. elements_refused valid.elems
 
 pub returns-clause-by_its_data : goal.returns-clause-by_its_data
 returns-clause-by_its_data c = λ valid. bytes_refused valid.data_segments

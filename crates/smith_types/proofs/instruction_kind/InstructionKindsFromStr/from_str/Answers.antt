@@ -4,7 +4,7 @@ use Rattle.std.proofs.lemmas.Iterator.Splits.{YieldsList-from_str_split}
 use Rattle.std.proofs.lemmas.Option.{slice_get_read}
 use Rattle.std.proofs.lemmas.Grind.{common_steps}
 use Rattle.smith_types.specs.Instructions.{IsNamed, kinds_bits}
-use Rattle.smith_types.specs.Parts.{split_at_commas}
+use Rattle.smith_types.specs.SplitTexts.{split_at_commas}
 use Rattle.std.specs.List.{AllZip}
 use Rattle.smith_types.proofs.KindLemmas.{union_of-push}
 use Rattle.smith_types.proofs.PartLemmas.{AllZip-next}

@@ -13,7 +13,7 @@ use Rattle.smith_defined.specs.Defined.{nothing_defined}
 use Rattle.smith_rules.specs.Bounds.{items_of_exports}
 use Rattle.smith_defined.specs.declared.definitions.Definitions.{Definitions}
 use Rattle.smith_defined.specs.RequiredExports.{Required, standing_with, then_with}
-use Rattle.wasm_smith.proofs.FirstPartsLemmas.{stands_alone, may_begin, brought_so, tables_of_shape, memories_of_shape, globals_of_shape, refused_with}
+use Rattle.wasm_smith.proofs.FirstPartsLemmas.{stands_alone, may_begin, items_of_one_shape, tables_of_shape, memories_of_shape, globals_of_shape, refused_with}
 use Rattle.wasm_smith.proofs.build.first_parts.begin_with_module.Goals as goal
 
 pub types_of_shape-requires-clause-following : goal.types_of_shape-requires-clause-following
@@ -69,7 +69,7 @@ returns-clause-parts c =
       type_size = kept.type_size;
       valid = kept.valid;
       stands = made.stands imported (rw (c.in_ok-drawn.ensures.types, kept.spaces, nothing) (stands_alone c.args.config.now (space_of shape.groups) imported c.requires.valid.consistent.types kept.entities kept.counts));
-      counted = λ count types imports. made.counted count types ∙ (ap (λ (spaces : EntitySpaces). count_in spaces count + items_of_exports count shape) kept.spaces ∙ brought_so count shape types imports);
+      counted = λ count types imports. made.counted count types ∙ (ap (λ (spaces : EntitySpaces). count_in spaces count + items_of_exports count shape) kept.spaces ∙ items_of_one_shape count shape types imports);
       tables = tables_of_shape shape (spaces_in c.make_shape_exports.new.spaces) (rw kept.spaces at made.limits);
       memories = memories_of_shape shape (spaces_in c.make_shape_exports.new.spaces) (rw kept.spaces at made.limits);
       globals = globals_of_shape shape (spaces_in c.make_shape_exports.new.spaces) (rw kept.spaces at made.limits);

@@ -1,7 +1,7 @@
 use Rattle.std.proofs.Common.{subst, arith}
 use Rattle.std.specs.Prelude.{All}
 use Rattle.smith_types.specs.Expressions.{Context}
-use Rattle.smith_types.specs.Segments.{IsElementValid, IsDataValid}
+use Rattle.smith_types.specs.Segments.{IsElementSegmentValid, IsDataValid}
 use Rattle.wasm_smith.specs.DrawnContents.{imported_in}
 use Rattle.wasm_smith.proofs.ContentsLemmas.{may_draw_elements, spaces_valid, memories_few}
 use Rattle.smith_draw.proofs.ConstStepLemmas.{passed_on}
@@ -27,32 +27,32 @@ pub returns-clause-fit : goal.returns-clause-fit
 returns-clause-fit c =
     let spaces = c.segment_spaces-spaces.result in
     let over = c.segment_spaces-spaces.ensures in
-    let elements = c.in_ok-elements.ensures in
+    let elems = c.in_ok-elems.ensures in
     let data_segments = c.in_ok-data_segments.ensures in
     let scope = seen_over (imported_in c.args.imported.now) c.args.config.now over (omega (arith, c.requires.told.funcs, c.len.ensures)) (omega (arith, c.requires.told.globals, c.len-2.ensures, c.len-3.ensures)) in
     record {
-      elements = rw over.tables at (subst (λ (context : Context). All (IsElementValid context spaces.entities.tables.now) c.in_ok-elements.elements) scope elements.valid);
-      most_elements = elements.most.0;
-      least_elements = elements.least;
-      most_items = elements.most.1;
-      enough_items = rw (over.types, over.funcs) at elements.enough;
-      elements_inside = λ on. rw over.tables at (elements.inside on);
+      elems = rw over.tables at (subst (λ (context : Context). All (IsElementSegmentValid context spaces.entities.tables.now) c.in_ok-elems.elems) scope elems.valid);
+      most_elems = elems.most.0;
+      least_elems = elems.least;
+      most_items = elems.most.1;
+      enough_items = rw (over.types, over.funcs) at elems.enough;
+      elems_inside = λ on. rw over.tables at (elems.inside on);
       data_segments = rw over.memories at (subst (λ (context : Context). All (IsDataValid context spaces.entities.memories.now) c.in_ok-data_segments.data_segments) scope data_segments.valid);
       most_data = data_segments.most;
       least_data = data_segments.least;
       data_inside = λ on. rw over.memories at (data_segments.inside on);
     }
 
-pub returns-in_err-elements-clause-refusal : goal.returns-in_err-elements-clause-refusal
-returns-in_err-elements-clause-refusal c =
+pub returns-in_err-elems-clause-refusal : goal.returns-in_err-elems-clause-refusal
+returns-in_err-elems-clause-refusal c =
     let over = c.segment_spaces-spaces.ensures in
-    passed_on _ c.from_residual.result c.in_err-elements.field-0.0 c.from_residual.ensures.1
-    (elements_refuse c.args.config.now (drawn_beside c.args.config.now c.args.types.now.types (spaces_of c.args.imported.now) c.args.definitions.now) (spaces_of c.args.imported.now).tables c.in_err-elements.field-0.0
-    (rw (over.types, over.funcs, over.imported_funcs, over.tables, c.len.ensures) at c.in_err-elements.ensures.refusal))
+    passed_on _ c.from_residual.result c.in_err-elems.field-0.0 c.from_residual.ensures.1
+    (elements_refuse c.args.config.now (drawn_beside c.args.config.now c.args.types.now.types (spaces_of c.args.imported.now) c.args.definitions.now) (spaces_of c.args.imported.now).tables c.in_err-elems.field-0.0
+    (rw (over.types, over.funcs, over.imported_funcs, over.tables, c.len.ensures) at c.in_err-elems.ensures.refusal))
 
 pub returns-clause-grounded : goal.returns-clause-grounded
 returns-clause-grounded c = λ each.
     let over = c.segment_spaces-spaces.ensures in
     let context = drawn_beside c.args.config.now c.args.types.now.types (spaces_of c.args.imported.now) c.args.definitions.now in
-    let grounded = rw (over.types, over.funcs, over.imported_funcs, over.tables, c.len.ensures) at c.in_ok-elements.ensures.grounded in
+    let grounded = rw (over.types, over.funcs, over.imported_funcs, over.tables, c.len.ensures) at c.in_ok-elems.ensures.grounded in
     grounded (none_lacks c.args.config.now context (spaces_of c.args.imported.now).tables each)

@@ -77,9 +77,9 @@ few_in_use config count available exports (Some shape) own offered = let few = f
 few_in_use config count available exports None own offered = let few = few_given (IsShapeValid which.AvailableImports config) (items_of_available_imports count) (2 ^ 30) (λ shape valid. few_by_imports count shape valid.short) available offered in omega (arith, few)
 
 -- shapes may have few items past a maximum
-pub few_brought : (config : Config) → AreShapesValid config → (count : Count) → items_of_shapes config count ≤ 2 ^ 30
-few_brought config valid count = few_in_use config count config.available_imports config.exports config.module_shape (valid which.ModuleShape) (valid which.AvailableImports)
+pub few_items_of_shapes : (config : Config) → AreShapesValid config → (count : Count) → items_of_shapes config count ≤ 2 ^ 30
+few_items_of_shapes config valid count = few_in_use config count config.available_imports config.exports config.module_shape (valid which.ModuleShape) (valid which.AvailableImports)
 
 -- shapes add few items to a maximum
-pub few_added : (config : Config) → AreShapesValid config → (count : Count) → items_of_export_shape config count ≤ 2 ^ 29
-few_added config valid count = few_given (IsShapeValid which.Exports config) (items_of_exports count) (2 ^ 29) (λ shape short. few_exported count shape short.short) (shape_for config which.Exports) (valid which.Exports)
+pub few_items_of_export_shape : (config : Config) → AreShapesValid config → (count : Count) → items_of_export_shape config count ≤ 2 ^ 29
+few_items_of_export_shape config valid count = few_given (IsShapeValid which.Exports config) (items_of_exports count) (2 ^ 29) (λ shape short. few_exported count shape short.short) (shape_for config which.Exports) (valid which.Exports)
