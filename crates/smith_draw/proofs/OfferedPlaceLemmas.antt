@@ -162,19 +162,19 @@ up_found types o i d n place a deep up past high below =
     (ancestor_at types o i d (place - n) a (d - 1 - (place - n)) deep high below (omega (arith, near)))
 
 -- the direct subtypes of a type, by their indices
-direct_indices : (types : List SubType) (i : ℕ) → offered_direct_subtypes types i ≡ map Concrete (families.offered_direct_subtypes types i)
+direct_indices : (types : List SubType) (i : ℕ) → offered_direct_subtypes types i ≡ map Concrete (families.direct_subtypes types i)
 direct_indices types i = picked_indices (is_directly_below i) (is_directly_below i) (λ t. refl) 0 types
 
-pub direct_counted : (types : List SubType) (i n : ℕ) → n ≡ length (families.offered_direct_subtypes types i) → n ≡ length (offered_direct_subtypes types i)
-direct_counted types i n count = count ∙ sym (length-map (families.offered_direct_subtypes types i) Concrete) ∙ ap length (sym (direct_indices types i))
+pub direct_counted : (types : List SubType) (i n : ℕ) → n ≡ length (families.direct_subtypes types i) → n ≡ length (offered_direct_subtypes types i)
+direct_counted types i n count = count ∙ sym (length-map (families.direct_subtypes types i) Concrete) ∙ ap length (sym (direct_indices types i))
 
-pub direct_inside : (types : List SubType) (i place : ℕ) → place < length (offered_direct_subtypes types i) → place < length (families.offered_direct_subtypes types i)
-direct_inside types i place inside = omega (arith, inside, direct_counted types i (length (families.offered_direct_subtypes types i)) refl)
+pub direct_inside : (types : List SubType) (i place : ℕ) → place < length (offered_direct_subtypes types i) → place < length (families.direct_subtypes types i)
+direct_inside types i place inside = omega (arith, inside, direct_counted types i (length (families.direct_subtypes types i)) refl)
 
-pub direct_found : (types : List SubType) (i place found : ℕ) → slice_get (families.offered_direct_subtypes types i) place ≡ Some found → slice_get (offered_direct_subtypes types i) place ≡ Some (Concrete found)
+pub direct_found : (types : List SubType) (i place found : ℕ) → slice_get (families.direct_subtypes types i) place ≡ Some found → slice_get (offered_direct_subtypes types i) place ≡ Some (Concrete found)
 direct_found types i place found at =
     ap (λ (l : List HeapType). slice_get l place) (direct_indices types i)
-    ∙ slice_get-map Concrete (families.offered_direct_subtypes types i) place
+    ∙ slice_get-map Concrete (families.direct_subtypes types i) place
     ∙ ap (λ (o : Option ℕ). option_map Concrete o) at
 
 -- a position after the type itself and its direct subtypes

@@ -1,7 +1,7 @@
 use Rattle.std.proofs.Common.{refl}
 use Rattle.smith_instr_examples.specs.ExampleBodies.{functions}
 use Rattle.smith_instr_examples.specs.ExampleManaged.{externals, wide_functions}
-use Rattle.smith_instr_examples.proofs.tables.elems.Goals as goal
+use Rattle.smith_instr_examples.proofs.tables.elements.Goals as goal
 
 pub returns-clause-get : goal.returns-clause-get
 returns-clause-get c = (functions, refl, (refl, refl))

@@ -1,6 +1,6 @@
 use Rattle.smith_rules_examples.proofs.Common.{rules, [], refl, All-replicate, All-from_recursion, funcref, IsConstExpr, IsElementSegmentValid, Ref, IsValid, segment_context, no_function, sixty_elements}
 use Rattle.smith_rules_examples.proofs.PartExamples.{no_function_given}
-use Rattle.smith_rules_examples.proofs.given_modules.elems.Goals as goal
+use Rattle.smith_rules_examples.proofs.given_modules.elements.Goals as goal
 
 sixty_valid : IsValid sixty_elements
 sixty_valid =

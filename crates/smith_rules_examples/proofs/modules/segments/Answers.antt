@@ -5,7 +5,7 @@ use Rattle.smith_rules_examples.proofs.modules.segments.Goals as goal
 
 pub returns : goal.returns
 returns c = record {
-  elems =
+  elements =
       let null = no_function_given (segment_context two_elements) refl in
       search (
         rules,

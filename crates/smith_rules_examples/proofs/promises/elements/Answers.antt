@@ -1,6 +1,6 @@
 use Rattle.smith_rules_examples.proofs.Common.{rules, arith, common_steps, None, [], ◌∷◌, pos, refl, All-from_recursion, All-head, funcref, IsElementInside, Const32, Global, table, into_a_table}
 use Rattle.smith_rules_examples.proofs.PromiseExamples.{past_the_table}
-use Rattle.smith_rules_examples.proofs.promises.elems.Goals as goal
+use Rattle.smith_rules_examples.proofs.promises.elements.Goals as goal
 
 pub returns : goal.returns
 returns c = record {
