@@ -9,7 +9,7 @@ ghost use Rattle.smith_code_nodes.specs.Traps.{IsTrapless};
 
 use crate::drawn::draw_whole;
 use smith_bytes::{Error, Unstructured};
-use smith_code_nodes::{Draft, Scope};
+use smith_code_nodes::{Draft, Scope, SetLocals};
 use smith_instr::Instr;
 use smith_types::Items;
 use std::alloc::Global;
@@ -76,7 +76,7 @@ fn draw_some(
     labels.push(Items::from_slice(alloc, scope.results)?)?;
     let mut draft = Draft {
         out: Items::new(alloc),
-        set: Vec::new(alloc),
+        set: SetLocals::new(alloc),
         labels,
         budget,
     };

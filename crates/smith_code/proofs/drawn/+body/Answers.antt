@@ -66,7 +66,7 @@ draw_enclosed-returns-clause-drawn t c = λ values fits may below valid.
     let sides = c.args.sides.now in
     let start = rw (c.opened.ensures, c.label_of-label.ensures) at c.in_ok-write_opening.ensures.opened in
     let drawn = c.in_ok-draw_inside.ensures.drawn in
-    ok_both c.write_end.result (enclosed_drawn c.args.opening c.args.ty sides.params sides.results values fits may c.requires.sides.results below valid c.requires.allowed c.requires.sides.few start drawn c.len-height.result (c.len-height.ensures ∙ c.args.draft.now.set.ok.0))
+    ok_both c.write_end.result (enclosed_drawn c.args.opening c.args.ty sides.params sides.results values fits may c.requires.sides.results below valid c.requires.allowed c.requires.sides.few start drawn c.len-height.result c.len-height.ensures)
     c.write_end.ensures.ended (c.write_end.ensures.left_label _ _ (drawn.same ∙ start.labels))
 
 pub draw_if-returns-clause-drawn : goal.draw_if-returns-clause-drawn
@@ -75,7 +75,7 @@ draw_if-returns-clause-drawn t c = λ values fits below valid.
     let start = rw c.as_slice.ensures at c.in_ok-write_opening.ensures.opened in
     let first = c.in_ok-draw_inside.ensures.drawn in
     let last = c.in_ok-draw_inside-2.ensures.drawn in
-    ok_both c.write_end.result (if_drawn c.args.ty sides.params sides.results values fits below valid c.requires.allowed c.requires.sides.few start first c.len-height.result (c.len-height.ensures ∙ c.args.draft.now.set.ok.0) c.in_ok-write_else.ensures.ended c.in_ok-write_else.ensures.same last)
+    ok_both c.write_end.result (if_drawn c.args.ty sides.params sides.results values fits below valid c.requires.allowed c.requires.sides.few start first c.len-height.result c.len-height.ensures c.in_ok-write_else.ensures.ended c.in_ok-write_else.ensures.same last)
     c.write_end.ensures.ended (c.write_end.ensures.left_label _ _ (last.same ∙ (c.in_ok-write_else.ensures.same ∙ (first.same ∙ start.labels))))
 
 pub draw_if-returns-clause-left : goal.draw_if-returns-clause-left
@@ -141,7 +141,7 @@ draw_enclosed-returns-clause-exact t c =
     let sides = c.args.sides.now in
     let start = rw (c.opened.ensures, c.label_of-label.ensures) at c.in_ok-write_opening.ensures.opened in
     let drawn = c.in_ok-draw_inside.ensures.drawn in
-    ok_both c.write_end.result (enclosed_exact c.args.scope.now (drawing_at c.args.scope.now.config.now c.args.depth) (opened c.args.opening c.args.ty) (label_of c.args.opening sides.params sides.results) sides c.args.draft.now _ _ _ _ _ c.len-height.result start c.in_ok-draw_inside.ensures.exact drawn (c.len-height.ensures ∙ c.args.draft.now.set.ok.0))
+    ok_both c.write_end.result (enclosed_exact c.args.scope.now (drawing_at c.args.scope.now.config.now c.args.depth) (opened c.args.opening c.args.ty) (label_of c.args.opening sides.params sides.results) sides c.args.draft.now _ _ _ _ _ c.len-height.result start c.in_ok-draw_inside.ensures.exact drawn c.len-height.ensures)
     c.write_end.ensures.ended (c.write_end.ensures.left_label _ _ (drawn.same ∙ start.labels))
 
 pub draw_if-returns-clause-exact : goal.draw_if-returns-clause-exact
@@ -150,7 +150,7 @@ draw_if-returns-clause-exact t c =
     let start = rw c.as_slice.ensures at c.in_ok-write_opening.ensures.opened in
     let first = c.in_ok-draw_inside.ensures.drawn in
     let last = c.in_ok-draw_inside-2.ensures.drawn in
-    ok_both c.write_end.result (if_exact c.args.scope.now (drawing_at c.args.scope.now.config.now c.args.depth) c.args.ty sides c.args.draft.now _ _ _ _ _ _ _ _ c.len-height.result start c.in_ok-draw_inside.ensures.exact first (c.len-height.ensures ∙ c.args.draft.now.set.ok.0)
+    ok_both c.write_end.result (if_exact c.args.scope.now (drawing_at c.args.scope.now.config.now c.args.depth) c.args.ty sides c.args.draft.now _ _ _ _ _ _ _ _ c.len-height.result start c.in_ok-draw_inside.ensures.exact first c.len-height.ensures
     c.in_ok-write_else.ensures.ended c.in_ok-write_else.ensures.same c.in_ok-draw_inside-2.ensures.exact last)
     c.write_end.ensures.ended (c.write_end.ensures.left_label _ _ (last.same ∙ (c.in_ok-write_else.ensures.same ∙ (first.same ∙ start.labels))))
 
@@ -169,7 +169,7 @@ draw_try-returns-clause-drawn t c = λ values fits caught below valid.
     let sides = c.args.sides.now in
     let start = rw c.as_slice.ensures at c.in_ok-write_opening.ensures.opened in
     let drawn = c.in_ok-draw_inside.ensures.drawn in
-    ok_both c.write_end.result (try_drawn c.args.ty c.args.clauses sides.params sides.results values fits caught below valid c.requires.allowed c.requires.sides.few start drawn c.len-height.result (c.len-height.ensures ∙ c.args.draft.now.set.ok.0))
+    ok_both c.write_end.result (try_drawn c.args.ty c.args.clauses sides.params sides.results values fits caught below valid c.requires.allowed c.requires.sides.few start drawn c.len-height.result c.len-height.ensures)
     c.write_end.ensures.ended (c.write_end.ensures.left_label _ _ (drawn.same ∙ start.labels))
 
 pub draw_try-returns-clause-exact : goal.draw_try-returns-clause-exact
@@ -177,5 +177,5 @@ draw_try-returns-clause-exact t c =
     let sides = c.args.sides.now in
     let start = rw c.as_slice.ensures at c.in_ok-write_opening.ensures.opened in
     let drawn = c.in_ok-draw_inside.ensures.drawn in
-    ok_both c.write_end.result (enclosed_exact c.args.scope.now (drawing_at c.args.scope.now.config.now c.args.depth) (instr.TryTable c.args.ty c.args.clauses) sides.results sides c.args.draft.now _ _ _ _ _ c.len-height.result start c.in_ok-draw_inside.ensures.exact drawn (c.len-height.ensures ∙ c.args.draft.now.set.ok.0))
+    ok_both c.write_end.result (enclosed_exact c.args.scope.now (drawing_at c.args.scope.now.config.now c.args.depth) (instr.TryTable c.args.ty c.args.clauses) sides.results sides c.args.draft.now _ _ _ _ _ c.len-height.result start c.in_ok-draw_inside.ensures.exact drawn c.len-height.ensures)
     c.write_end.ensures.ended (c.write_end.ensures.left_label _ _ (drawn.same ∙ start.labels))
