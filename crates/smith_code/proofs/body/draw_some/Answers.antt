@@ -1,13 +1,18 @@
 use Rattle.std.proofs.Common.{refl}
 use Rattle.smith_code_nodes.specs.Scopes.{bare}
 use Rattle.smith_code.proofs.ExactLemmas.{body_exact}
-use Rattle.smith_code.proofs.DrawnLemmas.{body_typed, body_allowed, body_short}
+use Rattle.smith_code.proofs.DrawnLemmas.{body_needed, body_allowed, body_short}
 use Rattle.smith_code_nodes.proofs.AllowedLemmas.{all_enabled, all_trapless}
 use Rattle.smith_code.proofs.body.draw_some.Goals as goal
 
 pub returns-clause-typed : goal.returns-clause-typed
 returns-clause-typed c =
-    body_typed c.in_ok-draw_whole.ensures.drawn c.new.ensures c.new-2.ensures
+    (body_needed c.in_ok-draw_whole.ensures.drawn c.new.ensures c.new-2.ensures
+    (rw (c.in_ok-push.ensures.items, c.new-labels.ensures.items, c.in_ok-from_slice.ensures.ok) refl)).typed
+
+pub returns-clause-needed : goal.returns-clause-needed
+returns-clause-needed c =
+    body_needed c.in_ok-draw_whole.ensures.drawn c.new.ensures c.new-2.ensures
     (rw (c.in_ok-push.ensures.items, c.new-labels.ensures.items, c.in_ok-from_slice.ensures.ok) refl)
 
 pub returns-clause-allowed : goal.returns-clause-allowed
