@@ -27,7 +27,7 @@ returns-clause-struct_of_default_values c = λ body.
     none.no_struct 0 (omega arith) (refl, struct_leaf (within unnamed (some 0)) [] (some 0) 0 c.orderly.ensures refl)
 
 pub returns-clause-struct_where_traps_are_allowed : goal.returns-clause-struct_where_traps_are_allowed
-returns-clause-struct_where_traps_are_allowed c = in_place default_config unnamed (some 0) (search) (λ disallowed. cc)
+returns-clause-struct_where_traps_are_allowed c = in_place default_config unnamed (some 0) (search (arith)) (λ disallowed. cc)
 
 pub returns-clause-no_value : goal.returns-clause-no_value
 returns-clause-no_value c = nothing_needed trapless unnamed refl refl
