@@ -1,25 +1,28 @@
 -- Drawn instructions, one part after another.
 use Rattle.std.proofs.Common.{◌≡◌, ℕ, zero, suc, ◌+◌, ◌-◌, ◌*◌, ◌<◌, ◌≤◌, List, [], ◌∷◌, ◌++◌, length, replicate, take, get_or, refl, sym, subst, ap, ◌∙◌, append_assoc, arith, length-append}
-use Rattle.std.specs.Prelude.{option_to_list, Option, All}
+use Rattle.std.specs.Prelude.{option_to_list, IsTrue, Option, All}
 use Rattle.std.proofs.Math.Seq.{take-append_seam}
 use Rattle.std.proofs.lemmas.Bool.{false≢true}
 use Rattle.std.proofs.lemmas.List.{append-nil, take_more, length-replicate}
 use Rattle.std.proofs.lemmas.List.Elements.{All-nil, All-push, All-append, All-take}
+use Rattle.smith_config.specs.declared.config.Config.{Config}
 use Rattle.smith_types.specs.declared.value_type.ValType.{ValType}
 use Rattle.smith_types.specs.declared.value_type.ValType.TheVariants.{I32}
 use Rattle.smith_instr.specs.Contexts.{BodyContext, labelled, IsValid, AreValid, AreBelow, IsBlockType}
 use Rattle.smith_instr.specs.Enabled.{is_enabled}
 use Rattle.smith_instr.specs.InstrTypes.{sets, HasInstrType, IsCatch}
-use Rattle.smith_instr.specs.Sequences.{stacked, IsFramed, IsStep, AreTyped, IsBodyTyped, step, block, loop, if_alone, if_else, try_table}
+use Rattle.smith_instr.specs.Sequences.{stacked, CountsAs, IsFramed, IsStep, step, block, loop, if_alone, if_else, try_table}
 use Rattle.smith_instr.specs.declared.control.BlockType.{BlockType}
 use Rattle.smith_instr.specs.declared.control.Catch.{Catch}
 use Rattle.smith_instr.specs.declared.instr.Instr.{Instr}
 use Rattle.smith_instr.specs.declared.instr.Instr.TheVariants as instr
-use Rattle.smith_instr.proofs.SequenceLemmas.{below_themselves, finished}
-use Rattle.smith_instr.proofs.CompositionLemmas.{typed_append}
+use Rattle.smith_instr.proofs.SequenceLemmas.{below_themselves}
 use Rattle.smith_code_nodes.specs.Scopes.{context_of, bare, where_stands, widest, most, AreLabels, IsAllowedIn}
 use Rattle.smith_code_nodes.specs.Nodes.{block_cost, IsNode, HasHeadType, MayOpen, head_sets, head_instruction, opened, label_of, taken_by}
-use Rattle.smith_code.specs.DraftSteps.{IsDrawn, IsWritten, IsOpened, IsEnded, IsLeaf}
+use Rattle.smith_code.specs.DraftSteps.{IsDrawn, IsWritten, IsOpened, IsEnded}
+use Rattle.smith_code.specs.Laws.{HasNoOther}
+use Rattle.smith_code.specs.Leaves.{IsLeaf}
+use Rattle.smith_code.specs.Stops.{AreStopsNeeded, HasNeededStops, HaveNeededStops, IsNeeded, IsNoStop}
 use Rattle.smith_code_nodes.specs.declared.node.Head.{Head}
 use Rattle.smith_code_nodes.specs.declared.node.Head.TheVariants as heads
 use Rattle.smith_code_nodes.specs.declared.node.Node.{Node}
@@ -27,6 +30,7 @@ use Rattle.smith_code_nodes.specs.declared.node.Opening.{Opening}
 use Rattle.smith_code_nodes.specs.declared.node.Opening.TheVariants as opening
 use Rattle.smith_code_nodes.specs.declared.scope.Scope.{Scope}
 use Rattle.smith_code_nodes.specs.declared.scope.Draft.{Draft}
+use Rattle.smith_code.proofs.StopLemmas.{at_end, in_turn}
 
 -- values on top of others are valid
 pub joined_valid : (context : BodyContext) (base values : List ValType) → AreValid context base → AreValid context values → AreValid context (base ++ values)
@@ -66,10 +70,24 @@ one context instruction operands results given base set set' typed below valid t
   };
 }
 
+-- one instruction on top of any stack, and nothing after it
+pub alone : {config : Config} (context : BodyContext) (instruction : Instr) (operands results given base : List ValType) (set set' : List ℕ)
+    → HasInstrType context set instruction operands results → AreBelow context results given → AreValid context given → AreValid context base → set' ≡ set ++ sets instruction
+    → (IsTrue config.disallow_traps → instruction ≡ instr.Unreachable → IsNeeded config context set operands given)
+    → HaveNeededStops config context (instruction ∷ []) (stacked (base ++ operands) set) (stacked (base ++ given) set')
+unfolding AreStopsNeeded one
+alone {config = config} context instruction operands results given base set set' typed below valid under then stop =
+    let end = at_end config context (base ++ given) set' (joined_valid context base given under valid) in
+    record {
+      typed = step (one context instruction operands results given base set set' typed below valid then) end.typed;
+      needed = (record { exact = refl; stop = stop }, end.needed);
+    }
+
 -- an instruction without operands
 pub leaf_drawn : {scope : Scope} {wanted : ValType} {old new : Draft} (instruction : Instr) → IsLeaf (where_stands scope old) old.set.items wanted instruction
-    → IsValid (bare scope) wanted → IsAllowedIn scope instruction → new.out ≡ old.out ++ instruction ∷ [] → new.set.items ≡ old.set.items → new.labels.items ≡ old.labels.items → new.budget ≡ old.budget → IsDrawn scope [] (wanted ∷ []) 1 old new
-leaf_drawn {scope = scope} {wanted = wanted} {old = old} {new = new} instruction leaf valid allowed longer set labels budget =
+    → IsValid (bare scope) wanted → IsAllowedIn scope instruction → (IsTrue scope.config.now.disallow_traps → instruction ≡ instr.Unreachable → HasNoOther scope.config.now (where_stands scope old) old.set.items wanted)
+    → new.out ≡ old.out ++ instruction ∷ [] → new.set.items ≡ old.set.items → new.labels.items ≡ old.labels.items → new.budget ≡ old.budget → IsDrawn scope [] (wanted ∷ []) 1 old new
+leaf_drawn {scope = scope} {wanted = wanted} {old = old} {new = new} instruction leaf valid allowed stop longer set labels budget =
     let context = where_stands scope old in
     let none : new.set.items ≡ old.set.items ++ sets instruction = rw (leaf.sets_none, append-nil) set in
     let len : length new.out ≡ length old.out + 1 = rw longer (simp length-append refl) in
@@ -78,8 +96,8 @@ leaf_drawn {scope = scope} {wanted = wanted} {old = old} {new = new} instruction
       longer = longer;
       typed = λ base under.
           let wanted_valid = All-push (IsValid (bare scope)) [] wanted (All-nil (IsValid (bare scope))) valid in
-          step (one context instruction [] (leaf.value ∷ []) (wanted ∷ []) base old.set.items new.set.items leaf.typed (leaf.below, tt) wanted_valid none)
-          (finished context (base ++ wanted ∷ []) new.set.items (joined_valid context base (wanted ∷ []) under wanted_valid));
+          alone context instruction [] (leaf.value ∷ []) (wanted ∷ []) base old.set.items new.set.items leaf.typed (leaf.below, tt) wanted_valid under none
+          (λ disallowed is. record { none = refl; wanted = wanted; one = refl; no_other = stop disallowed is });
       allowed = one_allowed scope instruction allowed;
       set = [];
       set_more = rw append-nil set;
@@ -92,7 +110,7 @@ pub drawn_none : (scope : Scope) (draft : Draft) → IsDrawn scope [] [] 0 draft
 drawn_none scope draft = record {
   more = [];
   longer = sym (append-nil draft.out);
-  typed = λ base under. finished (where_stands scope draft) (base ++ []) draft.set.items (joined_valid (bare scope) base [] under (All-nil (IsValid (bare scope))));
+  typed = λ base under. at_end scope.config.now (where_stands scope draft) (base ++ []) draft.set.items (joined_valid (bare scope) base [] under (All-nil (IsValid (bare scope))));
   allowed = All-nil (IsAllowedIn scope);
   set = [];
   set_more = sym (append-nil draft.set.items);
@@ -108,12 +126,12 @@ drawn_then {scope = scope} {b = b} {c = c} {old = old} {middle = middle} {new = 
     let spent' = second.spent in
     let short = first.short in
     let short' = second.short in
-    let next : (base : List ValType) → AreValid (bare scope) base → AreTyped (where_stands scope old) second.more (stacked (base ++ b) middle.set.items) (stacked (base ++ c) new.set.items) =
+    let next : (base : List ValType) → AreValid (bare scope) base → HaveNeededStops scope.config.now (where_stands scope old) second.more (stacked (base ++ b) middle.set.items) (stacked (base ++ c) new.set.items) =
     λ base under. rw first.same at (second.typed base under) in
     record {
       more = first.more ++ second.more;
       longer = second.longer ∙ (ap (λ (xs : List Instr). xs ++ second.more) first.longer ∙ append_assoc old.out first.more second.more);
-      typed = λ base under. typed_append (first.typed base under) (next base under);
+      typed = λ base under. in_turn (first.typed base under) (next base under);
       allowed = both_allowed scope first.more second.more first.allowed second.allowed;
       set = first.set ++ second.set;
       set_more = second.set_more ∙ (ap (λ (xs : List ℕ). xs ++ second.set) first.set_more ∙ append_assoc old.set.items first.set second.set);
@@ -172,17 +190,18 @@ replicated zero x = refl
 replicated (suc n) x = ap (λ (xs : List _). x ∷ xs) (replicated n x)
 
 -- values are dropped from the top
-drops : (context : BodyContext) (base dropped : List ValType) (set : List ℕ) → AreValid context base → AreValid context dropped → AreTyped context (replicate (length dropped) instr.Drop) (stacked (base ++ dropped) set) (stacked base set)
-drops context base [] set valid spare = rw append-nil (finished context base set valid)
-drops context base (value ∷ dropped) set valid spare =
+drops : (config : Config) (context : BodyContext) (base dropped : List ValType) (set : List ℕ) → AreValid context base → AreValid context dropped
+    → HaveNeededStops config context (replicate (length dropped) instr.Drop) (stacked (base ++ dropped) set) (stacked base set)
+drops config context base [] set valid spare = rw append-nil (at_end config context base set valid)
+drops config context base (value ∷ dropped) set valid spare =
     let value_valid : IsValid context value = spare 0 value (omega arith) in
     let rest_valid : AreValid context dropped = λ k d inside. spare (suc k) d (omega arith) in
-    let last : IsStep context instr.Drop (stacked (base ++ value ∷ []) set) (stacked (base ++ []) set) =
-    one context instr.Drop (value ∷ []) [] [] base set set (value, (refl, refl)) tt (All-nil (IsValid context)) (sym (append-nil set)) in
-    let first : AreTyped context (replicate (length dropped) instr.Drop) (stacked (base ++ value ∷ dropped) set) (stacked (base ++ value ∷ []) set) =
-    rw append_assoc at (drops context (base ++ value ∷ []) dropped set (All-push (IsValid context) base value valid value_valid) rest_valid) in
-    subst (λ (xs : List Instr). AreTyped context xs (stacked (base ++ value ∷ dropped) set) (stacked base set)) (replicated (length dropped) instr.Drop)
-    (typed_append first (step (rw append-nil at last) (finished context base set valid)))
+    let last : HaveNeededStops config context (instr.Drop ∷ []) (stacked (base ++ value ∷ []) set) (stacked (base ++ []) set) =
+    alone context instr.Drop (value ∷ []) [] [] base set set (value, (refl, refl)) tt (All-nil (IsValid context)) valid (sym (append-nil set)) (λ disallowed is. cc) in
+    let first : HaveNeededStops config context (replicate (length dropped) instr.Drop) (stacked (base ++ value ∷ dropped) set) (stacked (base ++ value ∷ []) set) =
+    rw append_assoc at (drops config context (base ++ value ∷ []) dropped set (All-push (IsValid context) base value valid value_valid) rest_valid) in
+    subst (λ (xs : List Instr). HaveNeededStops config context xs (stacked (base ++ value ∷ dropped) set) (stacked base set)) (replicated (length dropped) instr.Drop)
+    (in_turn first (rw append-nil at last))
 
 all_allowed : (scope : Scope) (count : ℕ) → (0 < count → IsAllowedIn scope instr.Drop) → All (IsAllowedIn scope) (replicate count instr.Drop)
 all_allowed scope zero allowed = All-nil (IsAllowedIn scope)
@@ -199,7 +218,7 @@ dropped_drawn {scope = scope} {old = old} {new = new} values dropped valid spare
     record {
       more = replicate (length dropped) instr.Drop;
       longer = out;
-      typed = λ base under. rw (← append_assoc base values dropped, set) (drops (where_stands scope old) (base ++ values) dropped old.set.items (joined_valid (bare scope) base values under valid) spare);
+      typed = λ base under. rw (← append_assoc base values dropped, set) (drops scope.config.now (where_stands scope old) (base ++ values) dropped old.set.items (joined_valid (bare scope) base values under valid) spare);
       allowed = all_allowed scope (length dropped) allowed;
       set = [];
       set_more = rw append-nil set;
@@ -210,8 +229,8 @@ dropped_drawn {scope = scope} {old = old} {new = new} values dropped valid spare
 
 -- an instruction after its operands
 pub written_drawn : {scope : Scope} {old new : Draft} (instruction : Instr) (operands results values : List ValType) (set : Option ℕ) → HasInstrType (where_stands scope old) old.set.items instruction operands results → AreBelow (bare scope) results values
-    → AreValid (bare scope) values → IsAllowedIn scope instruction → sets instruction ≡ option_to_list set → IsWritten instruction set old new → IsDrawn scope operands values 1 old new
-written_drawn {scope = scope} {old = old} {new = new} instruction operands results values set typed below valid allowed local written =
+    → AreValid (bare scope) values → IsAllowedIn scope instruction → IsNoStop scope.config.now instruction → sets instruction ≡ option_to_list set → IsWritten instruction set old new → IsDrawn scope operands values 1 old new
+written_drawn {scope = scope} {old = old} {new = new} instruction operands results values set typed below valid allowed goes_on local written =
     let context = where_stands scope old in
     let budget = written.budget in
     let then : new.set.items ≡ old.set.items ++ sets instruction = written.set_more ∙ ap (λ (set : List ℕ). old.set.items ++ set) (sym local) in
@@ -219,8 +238,7 @@ written_drawn {scope = scope} {old = old} {new = new} instruction operands resul
     record {
       more = instruction ∷ [];
       longer = written.out;
-      typed = λ base under. step (one context instruction operands results values base old.set.items new.set.items typed below valid then)
-          (finished context (base ++ values) new.set.items (joined_valid context base values under valid));
+      typed = λ base under. alone context instruction operands results values base old.set.items new.set.items typed below valid under then (λ disallowed is. absurd (goes_on disallowed is));
       allowed = one_allowed scope instruction allowed;
       set = sets instruction;
       set_more = then;
@@ -253,20 +271,20 @@ paid_for {scope = scope} {n = n} {old = old} {new = new} few paid drawn =
     }
 
 -- a node: its operands, its head, and the dropped values
-pub node_drawn : {scope : Scope} {values : List ValType} {node : Node} {old middle after new : Draft} → IsNode (where_stands scope old) old.set.items values node → (0 < node.drops → IsAllowedIn scope instr.Drop) → 0 < old.budget
+pub node_drawn : {scope : Scope} {values : List ValType} {node : Node} {old middle after new : Draft} → IsNode (where_stands scope old) old.set.items values node → (0 < node.drops → IsAllowedIn scope instr.Drop) → IsNoStop scope.config.now (head_instruction node.head) → 0 < old.budget
     → IsDrawn scope [] node.operands (length node.operands) (record old { budget = old.budget - 1 }) middle
-    → ((operands given values : List ValType) → HasHeadType (where_stands scope middle) middle.set.items node.head operands given → AreBelow (bare scope) given values → AreValid (bare scope) values → head_sets node.head ≡ option_to_list node.sets
+    → ((operands given values : List ValType) → HasHeadType (where_stands scope middle) middle.set.items node.head operands given → AreBelow (bare scope) given values → AreValid (bare scope) values → IsNoStop scope.config.now (head_instruction node.head) → head_sets node.head ≡ option_to_list node.sets
     → IsDrawn scope operands values (block_cost scope.types.now.types) middle after)
     → new.out ≡ after.out ++ replicate node.drops instr.Drop → new.set.items ≡ after.set.items → new.labels.items ≡ after.labels.items → new.budget ≡ after.budget
     → IsDrawn scope [] values 0 old new
-node_drawn {scope = scope} {values = values} {node = node} {old = old} {middle = middle} {after = after} {new = new} fits may_drop paid operands tops out set labels budget =
+node_drawn {scope = scope} {values = values} {node = node} {old = old} {middle = middle} {after = after} {new = new} fits may_drop goes_on paid operands tops out set labels budget =
     let stood : HasHeadType (context_of scope old.labels.items) (old.set.items ++ operands.set) node.head node.operands fits.results = fits.typed operands.set in
     let at_set : HasHeadType (context_of scope old.labels.items) middle.set.items node.head node.operands fits.results =
     subst (λ (set : List ℕ). HasHeadType (context_of scope old.labels.items) set node.head node.operands fits.results) (sym operands.set_more) stood in
     let stands : HasHeadType (where_stands scope middle) middle.set.items node.head node.operands fits.results =
     subst (λ (labels : List (List ValType)). HasHeadType (context_of scope labels) middle.set.items node.head node.operands fits.results) (sym operands.same) at_set in
     let both = joined_valid (bare scope) values fits.dropped fits.given fits.spare in
-    let top = tops node.operands fits.results (values ++ fits.dropped) stands fits.below both fits.sets_local in
+    let top = tops node.operands fits.results (values ++ fits.dropped) stands fits.below both goes_on fits.sets_local in
     let allowed : 0 < length fits.dropped → IsAllowedIn scope instr.Drop = rw fits.drops may_drop in
     let out' : new.out ≡ after.out ++ replicate (length fits.dropped) instr.Drop = rw fits.drops out in
     let few = fits.few in
@@ -291,40 +309,62 @@ around context params results values base set after below valid left = record {
 
 -- an instruction as a head
 pub plain_drawn : {scope : Scope} {old new : Draft} (head : Head) (instruction : Instr) (operands results values : List ValType) (set : Option ℕ) → head ≡ heads.Plain instruction → HasHeadType (where_stands scope old) old.set.items head operands results
-    → AreBelow (bare scope) results values → AreValid (bare scope) values → IsAllowedIn scope (head_instruction head) → head_sets head ≡ option_to_list set → IsWritten instruction set old new → IsDrawn scope operands values (block_cost scope.types.now.types) old new
-plain_drawn {scope = scope} {old = old} head instruction operands results values set is typed below valid allowed local written =
+    → AreBelow (bare scope) results values → AreValid (bare scope) values → IsAllowedIn scope (head_instruction head) → IsNoStop scope.config.now (head_instruction head) → head_sets head ≡ option_to_list set → IsWritten instruction set old new → IsDrawn scope operands values (block_cost scope.types.now.types) old new
+plain_drawn {scope = scope} {old = old} head instruction operands results values set is typed below valid allowed goes_on local written =
     let typed' : HasInstrType (where_stands scope old) old.set.items instruction operands results = rw is at typed in
     let local' : sets instruction ≡ option_to_list set = rw is at local in
     let allowed' : IsAllowedIn scope instruction = rw is at allowed in
-    drawn_within (omega arith) (written_drawn instruction operands results values set typed' below valid allowed' local' written)
+    let goes_on' : IsNoStop scope.config.now instruction = rw is at goes_on in
+    drawn_within (omega arith) (written_drawn instruction operands results values set typed' below valid allowed' goes_on' local' written)
 
 -- a block around the instructions drawn in it
-enclosed : (opening : Opening) (context : BodyContext) (ty : BlockType) (body : List Instr) (params results values base : List ValType) (set inner after : List ℕ) → IsBlockType context ty params results → MayOpen opening params results → AreValid context results → AreBelow context results values → AreValid context values → AreValid context base → after ≡ set
-    → AreTyped (labelled context (label_of opening params results)) body (stacked params set) (stacked results inner)
-    → AreTyped context (opened opening ty ∷ (body ++ instr.End ∷ [])) (stacked (base ++ taken_by opening params) set) (stacked (base ++ values) after)
-enclosed opening.Block context ty body params results values base set inner after fits may given below valid under left typed =
-    block refl fits typed (around context params results values base set after below valid left) (finished context (base ++ values) after (joined_valid context base values under valid))
-enclosed opening.Loop context ty body params results values base set inner after fits may given below valid under left typed =
-    loop refl fits typed (around context params results values base set after below valid left) (finished context (base ++ values) after (joined_valid context base values under valid))
-enclosed opening.IfAlone context ty body params results values base set inner after fits may given below valid under left typed =
-    if_alone refl fits typed (record { below = subst (AreBelow context params) may (below_themselves context.types params); valid = given })
-    (around context (params ++ I32 ∷ []) results values base set after below valid left) (finished context (base ++ values) after (joined_valid context base values under valid))
+enclosed : (config : Config) (opening : Opening) (context : BodyContext) (ty : BlockType) (body : List Instr) (params results values base : List ValType) (set inner after : List ℕ) → IsBlockType context ty params results → MayOpen opening params results → AreValid context results → AreBelow context results values → AreValid context values → AreValid context base → after ≡ set
+    → HaveNeededStops config (labelled context (label_of opening params results)) body (stacked params set) (stacked results inner)
+    → HaveNeededStops config context (opened opening ty ∷ (body ++ instr.End ∷ [])) (stacked (base ++ taken_by opening params) set) (stacked (base ++ values) after)
+unfolding AreStopsNeeded around
+enclosed config opening.Block context ty body params results values base set inner after fits may given below valid under left drawn =
+    let end = at_end config context (base ++ values) after (joined_valid context base values under valid) in
+    record { typed = block refl fits drawn.typed (around context params results values base set after below valid left) end.typed; needed = (drawn.needed, refl, end.needed) }
+enclosed config opening.Loop context ty body params results values base set inner after fits may given below valid under left drawn =
+    let end = at_end config context (base ++ values) after (joined_valid context base values under valid) in
+    record { typed = loop refl fits drawn.typed (around context params results values base set after below valid left) end.typed; needed = (drawn.needed, refl, end.needed) }
+enclosed config opening.IfAlone context ty body params results values base set inner after fits may given below valid under left drawn =
+    let end = at_end config context (base ++ values) after (joined_valid context base values under valid) in
+    let counts : CountsAs context params results = record { below = subst (AreBelow context params) may (below_themselves context.types params); valid = given } in
+    record { typed = if_alone refl fits drawn.typed counts (around context (params ++ I32 ∷ []) results values base set after below valid left) end.typed; needed = (drawn.needed, refl, end.needed) }
+
+tried : (config : Config) (context : BodyContext) (ty : BlockType) (clauses : List Catch) (body : List Instr) (params results values base : List ValType) (set inner after : List ℕ) → IsBlockType context ty params results → All (IsCatch context) clauses → AreBelow context results values → AreValid context values → AreValid context base → after ≡ set
+    → HaveNeededStops config (labelled context results) body (stacked params set) (stacked results inner)
+    → HaveNeededStops config context (instr.TryTable ty clauses ∷ (body ++ instr.End ∷ [])) (stacked (base ++ params) set) (stacked (base ++ values) after)
+unfolding AreStopsNeeded around
+tried config context ty clauses body params results values base set inner after fits caught below valid under left drawn =
+    let end = at_end config context (base ++ values) after (joined_valid context base values under valid) in
+    record { typed = try_table refl fits caught drawn.typed (around context params results values base set after below valid left) end.typed; needed = (drawn.needed, refl, end.needed) }
+
+-- an `if` around the instructions drawn in it and in its `else`
+chosen : (config : Config) (context : BodyContext) (ty : BlockType) (body other : List Instr) (params results values base : List ValType) (set inner inner' after : List ℕ) → IsBlockType context ty params results → AreBelow context results values → AreValid context values → AreValid context base → after ≡ set
+    → HaveNeededStops config (labelled context results) body (stacked params set) (stacked results inner) → HaveNeededStops config (labelled context results) other (stacked params set) (stacked results inner')
+    → HaveNeededStops config context (instr.If ty ∷ (body ++ instr.Else ∷ (other ++ instr.End ∷ []))) (stacked (base ++ (params ++ I32 ∷ [])) set) (stacked (base ++ values) after)
+unfolding AreStopsNeeded around
+chosen config context ty body other params results values base set inner inner' after fits below valid under left drawn drawn' =
+    let end = at_end config context (base ++ values) after (joined_valid context base values under valid) in
+    record { typed = if_else refl fits drawn.typed drawn'.typed (around context (params ++ I32 ∷ []) results values base set after below valid left) end.typed; needed = (drawn.needed, drawn'.needed, refl, end.needed) }
 
 -- a block that this instruction opens, with any body
-abbrev Encloses : BodyContext → Instr → List ValType → List ValType → List ValType → List ValType → List ValType → Type 0
-Encloses context opening label params results taken values =
-    (body : List Instr) (base : List ValType) (set inner after : List ℕ) → AreValid context base → after ≡ set → AreTyped (labelled context label) body (stacked params set) (stacked results inner)
-    → AreTyped context (opening ∷ (body ++ instr.End ∷ [])) (stacked (base ++ taken) set) (stacked (base ++ values) after)
+abbrev Encloses : Config → BodyContext → Instr → List ValType → List ValType → List ValType → List ValType → List ValType → Type 0
+Encloses config context opening label params results taken values =
+    (body : List Instr) (base : List ValType) (set inner after : List ℕ) → AreValid context base → after ≡ set → HaveNeededStops config (labelled context label) body (stacked params set) (stacked results inner)
+    → HaveNeededStops config context (opening ∷ (body ++ instr.End ∷ [])) (stacked (base ++ taken) set) (stacked (base ++ values) after)
 
-around_drawn : {scope : Scope} {old entered inside new : Draft} (opening : Instr) (label params results taken values : List ValType) → Encloses (where_stands scope old) opening label params results taken values
+around_drawn : {scope : Scope} {old entered inside new : Draft} (opening : Instr) (label params results taken values : List ValType) → Encloses scope.config.now (where_stands scope old) opening label params results taken values
     → IsAllowedIn scope opening → length params + length results ≤ widest scope.types.now.types → IsOpened opening label old entered → IsDrawn scope params results (length params + length results) entered inside
     → (height : ℕ) → height ≡ length old.set.items → IsEnded instr.End height inside new → new.labels.items ≡ old.labels.items → IsDrawn scope taken values (block_cost scope.types.now.types) old new
 around_drawn {scope = scope} {old = old} {entered = entered} {inside = inside} {new = new} opening label params results taken values encloses allowed few start drawn height high ended labels =
     let end : IsEnded instr.End (length old.set.items) inside new = rw high at ended in
     let context = where_stands scope old in
     let none = All-nil (IsValid (bare scope)) in
-    let typed : AreTyped (context_of scope entered.labels.items) drawn.more (stacked params entered.set.items) (stacked results inside.set.items) = drawn.typed [] none in
-    let inner : AreTyped (labelled context label) drawn.more (stacked params old.set.items) (stacked results inside.set.items) = rw (start.labels, start.set) at typed in
+    let typed : HaveNeededStops scope.config.now (context_of scope entered.labels.items) drawn.more (stacked params entered.set.items) (stacked results inside.set.items) = drawn.typed [] none in
+    let inner : HaveNeededStops scope.config.now (labelled context label) drawn.more (stacked params old.set.items) (stacked results inside.set.items) = rw (start.labels, start.set) at typed in
     let left : new.set.items ≡ old.set.items = end.set ∙ height_left old.set.items drawn.set inside.set.items (drawn.set_more ∙ ap (λ (xs : List ℕ). xs ++ drawn.set) start.set) in
     let spent = drawn.spent in
     let short = drawn.short in
@@ -351,15 +391,14 @@ pub enclosed_drawn : {scope : Scope} {old entered inside new : Draft} (opening :
     → (height : ℕ) → height ≡ length old.set.items → IsEnded instr.End height inside new → new.labels.items ≡ old.labels.items → IsDrawn scope (taken_by opening params) values (block_cost scope.types.now.types) old new
 enclosed_drawn {scope = scope} {old = old} opening ty params results values fits may given below valid allowed few start drawn height high ended labels =
     around_drawn (opened opening ty) (label_of opening params results) params results (taken_by opening params) values
-    (λ body base set inner after under left typed. enclosed opening (where_stands scope old) ty body params results values base set inner after fits may given below valid under left typed) allowed few start drawn height high ended labels
+    (λ body base set inner after under left typed. enclosed scope.config.now opening (where_stands scope old) ty body params results values base set inner after fits may given below valid under left typed) allowed few start drawn height high ended labels
 
 pub try_drawn : {scope : Scope} {old entered inside new : Draft} (ty : BlockType) (clauses : List Catch) (params results values : List ValType) → IsBlockType (bare scope) ty params results → All (IsCatch (where_stands scope old)) clauses → AreBelow (bare scope) results values → AreValid (bare scope) values
     → IsAllowedIn scope (instr.TryTable ty clauses) → length params + length results ≤ widest scope.types.now.types → IsOpened (instr.TryTable ty clauses) results old entered → IsDrawn scope params results (length params + length results) entered inside
     → (height : ℕ) → height ≡ length old.set.items → IsEnded instr.End height inside new → new.labels.items ≡ old.labels.items → IsDrawn scope params values (block_cost scope.types.now.types) old new
 try_drawn {scope = scope} {old = old} ty clauses params results values fits caught below valid allowed few start drawn height high ended labels =
-    let context = where_stands scope old in
     around_drawn (instr.TryTable ty clauses) results params results params values
-    (λ body base set inner after under left typed. try_table refl fits caught typed (around context params results values base set after below valid left) (finished context (base ++ values) after (joined_valid context base values under valid)))
+    (λ body base set inner after under left typed. tried scope.config.now (where_stands scope old) ty clauses body params results values base set inner after fits caught below valid under left typed)
     allowed few start drawn height high ended labels
 
 pub if_drawn : {scope : Scope} {old entered first other last new : Draft} (ty : BlockType) (params results values : List ValType) → IsBlockType (bare scope) ty params results → AreBelow (bare scope) results values → AreValid (bare scope) values
@@ -370,12 +409,12 @@ if_drawn {scope = scope} {old = old} {entered = entered} {first = first} {other 
     let middle : IsEnded instr.Else (length old.set.items) first other = rw high at split in
     let end : IsEnded instr.End (length old.set.items) last new = rw high at ended in
     let context = where_stands scope old in
-    let typed : AreTyped (context_of scope entered.labels.items) drawn.more (stacked params entered.set.items) (stacked results first.set.items) = drawn.typed [] (All-nil (IsValid (bare scope))) in
-    let inner : AreTyped (labelled context results) drawn.more (stacked params old.set.items) (stacked results first.set.items) = rw (start.labels, start.set) at typed in
+    let typed : HaveNeededStops scope.config.now (context_of scope entered.labels.items) drawn.more (stacked params entered.set.items) (stacked results first.set.items) = drawn.typed [] (All-nil (IsValid (bare scope))) in
+    let inner : HaveNeededStops scope.config.now (labelled context results) drawn.more (stacked params old.set.items) (stacked results first.set.items) = rw (start.labels, start.set) at typed in
     let reset : other.set.items ≡ old.set.items = middle.set ∙ height_left old.set.items drawn.set first.set.items (drawn.set_more ∙ ap (λ (xs : List ℕ). xs ++ drawn.set) start.set) in
     let labels' : other.labels.items ≡ results ∷ old.labels.items = between ∙ (drawn.same ∙ start.labels) in
-    let typed' : AreTyped (context_of scope other.labels.items) drawn'.more (stacked params other.set.items) (stacked results last.set.items) = drawn'.typed [] (All-nil (IsValid (bare scope))) in
-    let inner' : AreTyped (labelled context results) drawn'.more (stacked params old.set.items) (stacked results last.set.items) = rw (labels', reset) at typed' in
+    let typed' : HaveNeededStops scope.config.now (context_of scope other.labels.items) drawn'.more (stacked params other.set.items) (stacked results last.set.items) = drawn'.typed [] (All-nil (IsValid (bare scope))) in
+    let inner' : HaveNeededStops scope.config.now (labelled context results) drawn'.more (stacked params old.set.items) (stacked results last.set.items) = rw (labels', reset) at typed' in
     let left : new.set.items ≡ old.set.items = end.set ∙ height_left old.set.items drawn'.set last.set.items (drawn'.set_more ∙ ap (λ (xs : List ℕ). xs ++ drawn'.set) reset) in
     let spent = drawn.spent in
     let short = drawn.short in
@@ -393,16 +432,7 @@ if_drawn {scope = scope} {old = old} {entered = entered} {first = first} {other 
     record {
       more = instr.If ty ∷ (drawn.more ++ instr.Else ∷ (drawn'.more ++ instr.End ∷ []));
       longer = out;
-      typed = λ base under. if_else refl fits inner inner' (record {
-        rest = base;
-        taken = params ++ I32 ∷ [];
-        given = values;
-        under = refl;
-        accepted = below_themselves scope.types.now.types (params ++ I32 ∷ []);
-        offered = record { below = below; valid = valid };
-        over = refl;
-        set_then = rw append-nil left;
-      }) (finished context (base ++ values) new.set.items (joined_valid context base values under valid));
+      typed = λ base under. chosen scope.config.now context ty drawn.more drawn'.more params results values base old.set.items first.set.items last.set.items new.set.items fits below valid under left inner inner';
       allowed = both_allowed scope (instr.If ty ∷ []) (drawn.more ++ instr.Else ∷ (drawn'.more ++ instr.End ∷ [])) (one_allowed scope (instr.If ty) allowed)
           (both_allowed scope drawn.more (instr.Else ∷ (drawn'.more ++ instr.End ∷ [])) drawn.allowed
           (both_allowed scope (instr.Else ∷ []) (drawn'.more ++ instr.End ∷ []) (one_allowed scope instr.Else (else_allowed scope))
@@ -422,11 +452,11 @@ opened_labels {scope = scope} {old = old} label start labels valid few = rw star
 })
 
 -- instructions drawn from an empty draft are a body
-pub body_typed : {scope : Scope} {start new : Draft} → IsDrawn scope [] scope.results.now (length scope.results.now) start new → start.out ≡ [] → start.set.items ≡ [] → start.labels.items ≡ scope.results.now ∷ [] → IsBodyTyped (bare scope) new.out
-body_typed {scope = scope} {start = start} {new = new} drawn empty unset alone =
-    let typed : AreTyped (context_of scope start.labels.items) drawn.more (stacked [] start.set.items) (stacked scope.results.now new.set.items) = drawn.typed [] (All-nil (IsValid (bare scope))) in
-    let standing : AreTyped (context_of scope (scope.results.now ∷ [])) drawn.more (stacked [] []) (stacked scope.results.now new.set.items) = rw (alone, unset) at typed in
-    record { set = new.set.items; typed = rw (drawn.longer, empty) standing }
+pub body_needed : {scope : Scope} {start new : Draft} → IsDrawn scope [] scope.results.now (length scope.results.now) start new → start.out ≡ [] → start.set.items ≡ [] → start.labels.items ≡ scope.results.now ∷ [] → HasNeededStops scope.config.now (bare scope) new.out
+body_needed {scope = scope} {start = start} {new = new} drawn empty unset label =
+    let typed : HaveNeededStops scope.config.now (context_of scope start.labels.items) drawn.more (stacked [] start.set.items) (stacked scope.results.now new.set.items) = drawn.typed [] (All-nil (IsValid (bare scope))) in
+    let standing : HaveNeededStops scope.config.now (context_of scope (scope.results.now ∷ [])) drawn.more (stacked [] []) (stacked scope.results.now new.set.items) = rw (label, unset) at typed in
+    rw (drawn.longer, empty) (record { typed = record { set = new.set.items; typed = standing.typed }; needed = standing.needed })
 
 pub body_allowed : {scope : Scope} {start new : Draft} → IsDrawn scope [] scope.results.now (length scope.results.now) start new → start.out ≡ [] → All (IsAllowedIn scope) new.out
 body_allowed drawn empty = rw (drawn.longer, empty) drawn.allowed

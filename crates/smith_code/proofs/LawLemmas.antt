@@ -31,7 +31,7 @@ use Rattle.smith_code_nodes.proofs.OfferLemmas.{both}
 use Rattle.smith_code.proofs.OtherLemmas.{array_is, first_passes, global_is, readable_is, reference_is, struct_is}
 
 -- with `disallow_traps` an `unreachable` is not permitted
-stop_forbidden : (features : Features) (config : Config) → config.disallow_traps ≡ true → is_permitted features config instr.Unreachable ≡ true → ⊥
+pub stop_forbidden : (features : Features) (config : Config) → config.disallow_traps ≡ true → is_permitted features config instr.Unreachable ≡ true → ⊥
 unfolding is_permitted
 stop_forbidden features config trapless is =
     let (_, kept) = both (is_enabled features config.allowed_instructions instr.Unreachable) (not config.disallow_traps || not (may_trap instr.Unreachable)) is in

@@ -12,7 +12,7 @@ use Rattle.smith_instr.specs.Enabled.{is_enabled}
 use Rattle.smith_instr.specs.declared.aggregate.AggregateInstr.TheVariants as aggregate
 use Rattle.smith_instr.specs.declared.instr.Instr.TheVariants as instr
 use Rattle.smith_instr.specs.declared.reference.ReferenceInstr.TheVariants as reference
-use Rattle.smith_code.specs.DraftSteps.{IsConstant, IsLeaf}
+use Rattle.smith_code.specs.Leaves.{IsConstant, IsLeaf}
 use Rattle.smith_code_aggregates.specs.Aggregates.{is_creatable_in, is_created_below, is_created_empty, is_created_struct}
 use Rattle.smith_code_aggregates.specs.Fields.{struct_in}
 use Rattle.smith_code_aggregates.proofs.CreationLemmas.{default_there}

@@ -3,6 +3,7 @@ pub mod LeafLemmas
 pub mod LeafChoiceLemmas
 pub mod OtherLemmas
 pub mod LawLemmas
+pub mod StopLemmas
 pub mod ChoiceNodeLemmas
 pub mod ChoiceLemmas
 pub mod DrawnLemmas

@@ -1,7 +1,6 @@
 -- Items with the wanted property are offered.
-use Rattle.std.proofs.Common.{◌≡◌, ◌⊎◌, inl, inr, ℕ, zero, suc, ◌<◌, Bool, true, false, List, [], ◌∷◌, ◌++◌, Option, Some, refl, sym, subst, arith}
-use Rattle.std.specs.Prelude.{◌==◌, ◌&&◌, ◌||◌, nat_lt, slice_get, All, if◌then◌else◌}
-use Rattle.std.specs.Cmp.{unsigned_Decides}
+use Rattle.std.proofs.Common.{◌≡◌, ◌⊎◌, inl, inr, ℕ, zero, suc, ◌<◌, Bool, true, false, List, [], ◌∷◌, ◌++◌, Option, Some, refl, sym, subst}
+use Rattle.std.specs.Prelude.{◌&&◌, ◌||◌, nat_lt, slice_get, All, if◌then◌else◌}
 use Rattle.std.specs.List.{AllByRecursion, Contains}
 use Rattle.std.proofs.lemmas.Bool.{lt-ltb}
 use Rattle.std.proofs.lemmas.List.Elements.{recursion_from_All}
@@ -22,6 +21,7 @@ use Rattle.smith_instr.specs.Contexts.{BodyContext, IsLocalSet, created_referenc
 use Rattle.smith_code_aggregates.specs.Aggregates.{is_creatable_in, is_created_empty, is_created_struct}
 use Rattle.smith_code_aggregates.specs.Fields.{struct_in, struct_of}
 use Rattle.smith_code_aggregates.proofs.FirstLemmas.{array_offered}
+use Rattle.smith_code_nodes.proofs.AmongLemmas.{among_is}
 use Rattle.smith_code_nodes.specs.Offered.{has_default, is_among, is_global_below, is_global_below_at, is_named, is_readable, is_readable_at, is_reference, is_reference_at, offered}
 
 both_are : (a b : Bool) → a ≡ true → b ≡ true → (a && b) ≡ true
@@ -47,11 +47,6 @@ default_is I64 e = refl
 default_is F32 e = refl
 default_is F64 e = refl
 default_is V128 e = refl
-
-among_is : (n : ℕ) (ms : List ℕ) → Contains ms n → is_among n ms ≡ true
-among_is n [] (k, inside, there) = absurd (omega (arith, inside))
-among_is n (m ∷ ms) (zero, inside, there) = first_is (m == n) (is_among n ms) ((unsigned_Decides m n).1 there)
-among_is n (m ∷ ms) (suc k, inside, there) = second_is (m == n) (is_among n ms) (among_is n ms (k, omega (arith, inside), there))
 
 ready_is : (context : BodyContext) (set : List ℕ) (index : ℕ) (value : ValType) → (index < context.params) ⊎ (IsDefaultable value ⊎ Contains set index) → ((nat_lt index context.params || has_default value) || is_among index set) ≡ true
 ready_is context set index value (inl early) = first_is (nat_lt index context.params || has_default value) (is_among index set) (first_is (nat_lt index context.params) (has_default value) (lt-ltb index context.params early))

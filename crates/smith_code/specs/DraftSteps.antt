@@ -1,24 +1,23 @@
 -- The additions of each step of drawing a body to the instructions so far.
 use Rattle.std.specs.Prelude.{◌≡◌, ℕ, ◌+◌, ◌*◌, ◌≤◌, Option, List, [], ◌∷◌, ◌++◌, length, take, option_to_list, All}
-use Rattle.smith_types.specs.Subtyping.{IsValBelow}
 use Rattle.smith_types.specs.declared.value_type.ValType.{ValType}
-use Rattle.smith_instr.specs.Contexts.{BodyContext, IsValid, AreValid}
-use Rattle.smith_instr.specs.InstrTypes.{sets, HasInstrType}
-use Rattle.smith_instr.specs.Sequences.{stacked, AreTyped}
+use Rattle.smith_instr.specs.Contexts.{AreValid}
+use Rattle.smith_instr.specs.Sequences.{stacked}
 use Rattle.smith_instr.specs.declared.instr.Instr.{Instr}
 use Rattle.smith_code.specs.Bodies.{State}
+use Rattle.smith_code.specs.Stops.{HaveNeededStops}
 use Rattle.smith_code_nodes.specs.Scopes.{bare, where_stands, most, IsAllowedIn}
 use Rattle.smith_code_nodes.specs.declared.scope.Draft.{Draft}
 use Rattle.smith_code_nodes.specs.declared.scope.Scope.{Scope}
 
 -- the new instructions take operands of the first types from the top of any stack, and leave values
--- of the second types; the labels are the same, and at most `cost` instructions are not paid for by
--- the budget
+-- of the second types; each `unreachable` is needed; the labels are the same, and at most `cost`
+-- instructions are not paid for by the budget
 pub record IsDrawn (scope : Scope) (operands values : List ValType) (cost : ℕ) (old new : Draft) : Type 0 where
   pub more : List Instr
   pub longer : new.out ≡ old.out ++ more
   pub typed : (base : List ValType) → AreValid (bare scope) base
-      → AreTyped (where_stands scope old) more (stacked (base ++ operands) old.set.items) (stacked (base ++ values) new.set.items)
+      → HaveNeededStops scope.config.now (where_stands scope old) more (stacked (base ++ operands) old.set.items) (stacked (base ++ values) new.set.items)
   pub allowed : All (IsAllowedIn scope) more
   pub set : List ℕ
   pub set_more : new.set.items ≡ old.set.items ++ set
@@ -51,14 +50,3 @@ pub record IsEnded (instruction : Instr) (height : ℕ) (old new : Draft) : Type
   pub out : new.out ≡ old.out ++ instruction ∷ []
   pub set : new.set.items ≡ take height old.set.items
   pub budget : new.budget ≡ old.budget
-
--- an instruction that produces a value that matches this type, without operands
-pub record IsLeaf (context : BodyContext) (set : List ℕ) (wanted : ValType) (instruction : Instr) : Type 0 where
-  pub value : ValType
-  pub typed : HasInstrType context set instruction [] (value ∷ [])
-  pub below : IsValBelow context.types value wanted
-  pub sets_none : sets instruction ≡ []
-
--- a constant of this type, null, or `unreachable`
-abbrev pub IsConstant : ValType → Instr → Type 0
-IsConstant wanted instruction = (context : BodyContext) (set : List ℕ) → IsValid context wanted → IsLeaf context set wanted instruction

@@ -10,8 +10,7 @@ use Rattle.smith_instr.specs.declared.instr.Instr.{Instr}
 use Rattle.smith_instr.specs.declared.instr.Instr.TheVariants as instr
 use Rattle.smith_instr.specs.declared.reference.ReferenceInstr.TheVariants as reference
 use Rattle.smith_code_nodes.specs.Scopes.{is_permitted}
-use Rattle.smith_code.specs.DraftSteps.{IsLeaf}
-use Rattle.smith_code.specs.Leaves.{leaf_at}
+use Rattle.smith_code.specs.Leaves.{IsLeaf, leaf_at}
 
 -- a constant of a number or a vector
 abbrev pub IsNumber : Instr → Type 0

@@ -1,14 +1,16 @@
 -- The instruction without operands that the bytes produce. The choices and their order are rules of
 -- this project.
-use Rattle.std.specs.Prelude.{ℕ, Option, Some, None, option_map, unwrap_or, List, [], ◌∷◌, length, slice_get, if◌then◌else◌}
+use Rattle.std.specs.Prelude.{◌≡◌, ℕ, Option, Some, None, option_map, unwrap_or, List, [], ◌∷◌, length, slice_get, if◌then◌else◌}
 use Rattle.std.specs.Int.{cast_signed, w32, w64, w128}
 use Rattle.smith_bytes.specs.Draws.{choose_at, whole_at}
 use Rattle.smith_config.specs.declared.config.Config.{Config}
+use Rattle.smith_types.specs.Subtyping.{IsValBelow}
 use Rattle.smith_types.specs.declared.value_type.RefType.{RefType}
 use Rattle.smith_types.specs.declared.value_type.ValType.{ValType}
 use Rattle.smith_types.specs.declared.value_type.ValType.TheVariants.{I32, I64, F32, F64, V128, Ref}
 use Rattle.smith_draw.specs.Choices.{chosen_at}
-use Rattle.smith_instr.specs.Contexts.{BodyContext}
+use Rattle.smith_instr.specs.Contexts.{BodyContext, IsValid}
+use Rattle.smith_instr.specs.InstrTypes.{sets, HasInstrType}
 use Rattle.smith_instr.specs.declared.aggregate.AggregateInstr.TheVariants as aggregate
 use Rattle.smith_instr.specs.declared.instr.Instr.{Instr}
 use Rattle.smith_instr.specs.declared.instr.Instr.TheVariants as instr
@@ -126,3 +128,14 @@ unfoldable pub leaf_at : Config → BodyContext → List ℕ → ValType → Lis
 leaf_at config context set wanted bytes =
     let leaf = any_leaf_at context set wanted bytes in
     (if is_permitted context.features config leaf.0 then leaf.0 else spare_leaf config context set wanted, leaf.1)
+
+-- an instruction that produces a value that matches this type, without operands
+pub record IsLeaf (context : BodyContext) (set : List ℕ) (wanted : ValType) (instruction : Instr) : Type 0 where
+  pub value : ValType
+  pub typed : HasInstrType context set instruction [] (value ∷ [])
+  pub below : IsValBelow context.types value wanted
+  pub sets_none : sets instruction ≡ []
+
+-- a constant of this type, null, or `unreachable`
+abbrev pub IsConstant : ValType → Instr → Type 0
+IsConstant wanted instruction = (context : BodyContext) (set : List ℕ) → IsValid context wanted → IsLeaf context set wanted instruction

@@ -3,3 +3,4 @@ pub mod Choices
 pub mod DraftSteps
 pub mod Laws
 pub mod Leaves
+pub mod Stops

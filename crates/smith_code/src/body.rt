@@ -4,12 +4,13 @@ ghost use Rattle.smith_types.specs.FeatureBits.{features_in};
 ghost use Rattle.smith_instr.specs.Enabled.{IsEnabled};
 ghost use Rattle.smith_instr.specs.Sequences.{IsBodyTyped};
 ghost use Rattle.smith_code.specs.Bodies.{body_at};
+ghost use Rattle.smith_code.specs.Stops.{HasNeededStops};
 ghost use Rattle.smith_code_nodes.specs.Scopes.{IsScope, bare, most};
 ghost use Rattle.smith_code_nodes.specs.Traps.{IsTrapless};
 
 use crate::drawn::draw_whole;
 use smith_bytes::{Error, Unstructured};
-use smith_code_nodes::{Draft, Scope};
+use smith_code_nodes::{Draft, Scope, SetLocals};
 use smith_instr::Instr;
 use smith_types::Items;
 use std::alloc::Global;
@@ -42,6 +43,8 @@ pub fn draw_body(
     ensures allowed { IfOk result (All
         (IsEnabled (features_in scope.now.features) scope.now.config.now.allowed_instructions)) }
     ensures trapless { IsTrue scope.now.config.now.disallow_traps → IfOk result (All IsTrapless) }
+    ensures needed { 0 < budget
+        → IfOk result (HasNeededStops scope.now.config.now (bare scope.now)) }
     ensures short { IfOk result (λ body.
         length body ≤ 1 + length scope.now.results.now + most scope.now.types.now.types * budget) }
     ensures exact { Draws (body_at scope.now.config.now (bare scope.now) budget u.old)
@@ -67,6 +70,7 @@ fn draw_some(
     ensures allowed { IfOk result (All
         (IsEnabled (features_in scope.now.features) scope.now.config.now.allowed_instructions)) }
     ensures trapless { IsTrue scope.now.config.now.disallow_traps → IfOk result (All IsTrapless) }
+    ensures needed { IfOk result (HasNeededStops scope.now.config.now (bare scope.now)) }
     ensures short { IfOk result (λ body.
         length body ≤ length scope.now.results.now + most scope.now.types.now.types * budget) }
     ensures exact { Draws (body_at scope.now.config.now (bare scope.now) budget u.old)
@@ -76,7 +80,7 @@ fn draw_some(
     labels.push(Items::from_slice(alloc, scope.results)?)?;
     let mut draft = Draft {
         out: Items::new(alloc),
-        set: Vec::new(alloc),
+        set: SetLocals::new(alloc),
         labels,
         budget,
     };

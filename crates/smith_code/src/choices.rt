@@ -4,9 +4,11 @@ ghost use Rattle.smith_instr.specs.Contexts.{IsValid};
 ghost use Rattle.smith_code.specs.Choices.{allowed_choice_at, any_call_at, call_at, drop_at};
 ghost use Rattle.smith_code.specs.Choices.{dropped_at, global_set_at, set_at, statement_choice_at};
 ghost use Rattle.smith_code.specs.Choices.{tee_at, value_choice_at};
+ghost use Rattle.smith_code.specs.Stops.{IsNoStop};
 ghost use Rattle.smith_code_control.specs.BranchChoices.{leaving_at};
 ghost use Rattle.smith_code_nodes.specs.Chosen.{or_nop};
 ghost use Rattle.smith_code_nodes.specs.Nodes.{IsNode, IsNodeAllowed, IsOffer};
+ghost use Rattle.smith_code_nodes.specs.Nodes.{head_instruction};
 ghost use Rattle.smith_code_nodes.specs.Scopes.{AreLabels, IsScope, bare, where_stands};
 
 use crate::families::{StatementFamily, ValueFamily, statement_families, value_families};
@@ -52,6 +54,8 @@ pub(crate) fn choose_allowed(
     ensures offer { IsOffer (where_stands scope.now draft.now) draft.now.set.items
         (wanted ∷ []) result }
     ensures allowed { IfOk result (λ chosen. IfSome chosen (IsNodeAllowed scope.now)) }
+    ensures goes_on { IfOk result (λ chosen. IfSome chosen (λ node.
+        IsNoStop scope.now.config.now (head_instruction node.head))) }
     ensures memory { IfErr result (λ e. e ≡ Error.Memory) }
     ensures left { KeepsPieces u.old u.new }
 {

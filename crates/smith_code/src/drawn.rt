@@ -9,9 +9,11 @@ ghost use Rattle.smith_instr.specs.declared.instr.Instr.TheVariants as instr;
 ghost use Rattle.smith_code.specs.Bodies.{drawing_at, enclosed_at, head_at, inside_at, node_at};
 ghost use Rattle.smith_code.specs.Bodies.{statement_at, values_at, whole_at, written};
 ghost use Rattle.smith_code.specs.DraftSteps.{IsDrawn, state_of};
+ghost use Rattle.smith_code.specs.Stops.{IsNoStop};
 ghost use Rattle.smith_code_nodes.specs.Nodes.{AreSidesValid, HasHeadType, IsHeadAllowed};
 ghost use Rattle.smith_code_nodes.specs.Nodes.{IsHeadValid, IsNode, IsNodeAllowed, MayOpen};
-ghost use Rattle.smith_code_nodes.specs.Nodes.{block_cost, head_sets, label_of, opened, taken_by};
+ghost use Rattle.smith_code_nodes.specs.Nodes.{block_cost, head_instruction, head_sets, label_of};
+ghost use Rattle.smith_code_nodes.specs.Nodes.{opened, taken_by};
 ghost use Rattle.smith_code_nodes.specs.Scopes.{AreLabels, IsAllowedIn, IsScope, bare};
 ghost use Rattle.smith_code_nodes.specs.Scopes.{where_stands};
 
@@ -76,6 +78,7 @@ fn draw_node(
         ≡ state_of scope.now draft.new u.new) }
     ensures drawn { (values : List Val)
         → IsNode (where_stands scope.now draft.old) draft.old.set.items values node
+        → IsNoStop scope.now.config.now (head_instruction node.head)
         → OnOk result (IsDrawn scope.now [] values 0 draft.old draft.new) }
     ensures less { OnOk result (draft.new.budget < draft.old.budget) }
     ensures memory { IfErr result (λ e. e ≡ Error.Memory) }
@@ -113,6 +116,7 @@ fn draw_head(
     ensures drawn { (operands given values : List Val)
         → HasHeadType (where_stands scope.now draft.old) draft.old.set.items head operands given
         → AreBelow (bare scope.now) given values → AreValid (bare scope.now) values
+        → IsNoStop scope.now.config.now (head_instruction head)
         → head_sets head ≡ option_to_list sets → OnOk result (IsDrawn scope.now operands values
         (block_cost scope.now.types.now.types) draft.old draft.new) }
     ensures less { OnOk result (draft.new.budget ≤ draft.old.budget) }

@@ -2,7 +2,8 @@ ghost use Rattle.std.specs.Prelude.{◌≡◌, [], ◌∷◌, IfSome, IfErr, OnO
 ghost use Rattle.smith_bytes.specs.Source.{KeepsPieces};
 ghost use Rattle.smith_instr.specs.Contexts.{IsValid};
 ghost use Rattle.smith_code.specs.Bodies.{leaf_in};
-ghost use Rattle.smith_code.specs.DraftSteps.{IsConstant, IsDrawn, IsLeaf, state_of};
+ghost use Rattle.smith_code.specs.DraftSteps.{IsDrawn, state_of};
+ghost use Rattle.smith_code.specs.Leaves.{IsConstant, IsLeaf};
 ghost use Rattle.smith_code.specs.Leaves.{any_leaf_at, constant_instr_at, default_struct};
 ghost use Rattle.smith_code.specs.Leaves.{empty_array, first_constant, first_leaf, first_of};
 ghost use Rattle.smith_code.specs.Leaves.{leaf_at, leaf_choice_at, leaf_of, spare_leaf};

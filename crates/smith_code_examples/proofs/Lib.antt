@@ -1,1 +1,2 @@
 pub mod OneChunkLemmas
+pub mod StopExamples

@@ -21,6 +21,7 @@ mod references;
 mod scopes;
 mod spare_leaves;
 mod statements;
+mod stops;
 mod tables;
 mod traps;
 mod values;

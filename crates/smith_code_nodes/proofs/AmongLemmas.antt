@@ -1,6 +1,7 @@
--- Tests by loops over lists.
-use Rattle.std.proofs.Common.{◌≡◌, ℕ, suc, ◌+◌, ◌<◌, Bool, true, false, List, [], ◌∷◌, length, get_or, drop, drop-cons, refl, ap, ◌∙◌, arith}
-use Rattle.std.specs.Prelude.{◌==◌, ◌&&◌}
+-- Tests of lists.
+use Rattle.std.proofs.Common.{◌≡◌, ℕ, zero, suc, Bool, true, false, List, [], ◌∷◌, length, refl, ap, ◌∙◌, arith}
+use Rattle.std.specs.Prelude.{◌==◌, ◌&&◌, ◌||◌}
+use Rattle.std.specs.List.{Contains}
 use Rattle.std.specs.Cmp.{unsigned_Decides}
 use Rattle.smith_types.specs.declared.value_type.ValType.{ValType}
 use Rattle.smith_types.specs.declared.composite_type.SubType.{SubType}
@@ -11,18 +12,19 @@ pub false_from : (b : Bool) → (b ≡ true → ⊥) → b ≡ false
 false_from true differs = absurd (differs refl)
 false_from false differs = refl
 
-pub among_here : (n : ℕ) (ms : List ℕ) (k d : ℕ) → k < length ms → get_or ms k d ≡ n → true ≡ is_among n (drop k ms)
-among_here n ms k d inside is =
-    let first : drop k ms ≡ get_or ms k d ∷ drop (suc k) ms = drop-cons ms k d inside in
-    let same : (n == n) ≡ true = (unsigned_Decides n n).1 refl in
-    rw (first, is, same) refl
+first_is : (a b : Bool) → a ≡ true → (a || b) ≡ true
+first_is true b is = refl
+first_is false b is = cc
 
-pub among_next : (n : ℕ) (ms : List ℕ) (k d : ℕ) → k < length ms → (get_or ms k d ≡ n → ⊥) → is_among n (drop k ms) ≡ is_among n (drop (k + 1) ms)
-among_next n ms k d inside differs =
-    let first : drop k ms ≡ get_or ms k d ∷ drop (suc k) ms = drop-cons ms k d inside in
-    let other : (get_or ms k d == n) ≡ false = false_from (get_or ms k d == n) (λ e. differs ((unsigned_Decides (get_or ms k d) n).0 e)) in
-    let next : k + 1 ≡ suc k = omega arith in
-    rw (first, other, next) refl
+second_is : (a b : Bool) → b ≡ true → (a || b) ≡ true
+second_is true b is = refl
+second_is false b is = is
+
+-- a number in a list is found there
+pub among_is : (n : ℕ) (ms : List ℕ) → Contains ms n → is_among n ms ≡ true
+among_is n [] (k, inside, there) = absurd (omega (arith, inside))
+among_is n (m ∷ ms) (zero, inside, there) = first_is (m == n) (is_among n ms) ((unsigned_Decides m n).1 there)
+among_is n (m ∷ ms) (suc k, inside, there) = second_is (m == n) (is_among n ms) (among_is n ms (k, omega (arith, inside), there))
 
 and_false : (b : Bool) → false ≡ (b && false)
 and_false true = refl

@@ -1,5 +1,6 @@
 pub mod OfferedLemmas
 pub mod OfferLemmas
+pub mod SetLocalLemmas
 pub mod AmongLemmas
 pub mod AllowedLemmas
 pub mod NodeLemmas

@@ -52,7 +52,7 @@ defaultable F64 is = tt
 defaultable V128 is = tt
 defaultable (Ref reference) is = is
 
-among : (n : ℕ) (ms : List ℕ) → is_among n ms ≡ true → Contains ms n
+pub among : (n : ℕ) (ms : List ℕ) → is_among n ms ≡ true → Contains ms n
 among n [] is = cc
 among n (m ∷ ms) is = elim (either (m == n) (is_among n ms) is) [
   | inl same ↦ (0, omega arith, (unsigned_Decides m n).0 same)

@@ -2,6 +2,7 @@ pub mod Traps
 pub mod Scopes
 pub mod Nodes
 pub mod Offered
+pub mod SetLocals
 pub mod NumericRows
 pub mod Chosen
 pub mod Items

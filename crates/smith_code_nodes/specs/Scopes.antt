@@ -55,8 +55,8 @@ unfoldable pub is_permitted : Features → Config → Instr → Bool
 is_permitted features config instruction =
     is_enabled features config.allowed_instructions instruction && (not config.disallow_traps || not (may_trap instruction))
 
--- an instruction that may be used in a scope; with `disallow_traps` it does not trap, or is
--- `unreachable`, for a value that no other instruction produces
+-- an instruction that may be used in a scope: it is enabled, and with `disallow_traps` it does not
+-- trap, or is `unreachable`
 pub record IsAllowedIn (scope : Scope) (instruction : Instr) : Type 0 where
   pub enabled : IsEnabled (features_in scope.features) scope.config.now.allowed_instructions instruction
   pub trapless : IsTrue scope.config.now.disallow_traps → IsTrapless instruction

@@ -15,6 +15,7 @@ mod offer;
 mod operands;
 mod reference_values;
 mod scope;
+mod set_locals;
 mod traps;
 
 pub use addresses::{address, is_address, narrower};
@@ -33,3 +34,4 @@ pub use reference_values::{
     choose_reference_value, choose_select_typed, draw_referent, nullable_to,
 };
 pub use scope::{Draft, Scope, indexed};
+pub use set_locals::SetLocals;

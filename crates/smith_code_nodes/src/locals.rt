@@ -4,12 +4,13 @@ ghost use Rattle.smith_bytes.specs.Source.{KeepsPieces};
 ghost use Rattle.smith_draw.specs.Below.{is_val_below};
 ghost use Rattle.smith_types.specs.Subtyping.{IsValInRange};
 ghost use Rattle.smith_instr.specs.Contexts.{IsValid};
-ghost use Rattle.smith_code_nodes.specs.Offered.{has_default, is_among, is_local_below};
+ghost use Rattle.smith_code_nodes.specs.Offered.{has_default, is_local_below};
 ghost use Rattle.smith_code_nodes.specs.Offered.{is_readable, offered};
 ghost use Rattle.smith_code_nodes.specs.Scopes.{IsScope, bare, indexed};
 
 use crate::offer::{Offer, choose_offered};
 use crate::scope::{Draft, Scope, indexed};
+use crate::set_locals::SetLocals;
 use smith_bytes::Unstructured;
 use smith_types::ValType;
 
@@ -47,7 +48,7 @@ impl<'a> Offer for LocalOffer<'a> {
 #[derive(Clone, Copy)]
 struct SetLocalOffer<'a> {
     scope: &'a Scope<'a>,
-    set: &'a [u32],
+    set: &'a SetLocals,
     wanted: ValType,
 }
 
@@ -62,7 +63,8 @@ impl<'a> Offer for SetLocalOffer<'a> {
 
     ghost size = { λ self. indexed (length self.scope.now.locals.now) };
 
-    ghost test = { λ self index. is_readable (bare self.scope.now) self.set.now self.wanted index };
+    ghost test = { λ self index.
+        is_readable (bare self.scope.now) self.set.now.items self.wanted index };
 
     fn count(&self) -> usize {
         indexed(self.scope.locals.len())
@@ -70,7 +72,7 @@ impl<'a> Offer for SetLocalOffer<'a> {
 
     fn is_offered(&self, index: usize) -> bool {
         let value = self.scope.locals[index];
-        let set = index < self.scope.params || has_default(value) || is_among(index, self.set);
+        let set = index < self.scope.params || has_default(value) || self.set.contains(index);
         set && is_below(self.scope, value, self.wanted)
     }
 }
@@ -107,21 +109,9 @@ pub fn choose_set_local(
         is_readable (bare scope.now) draft.now.set.items wanted index ≡ true) }
     ensures left { KeepsPieces u.old u.new }
 {
-    let set = draft.set.as_slice();
+    let set = &draft.set;
     let index = choose_offered(&SetLocalOffer { scope, set, wanted }, u)?;
     Some(index as u32)
-}
-
-/// Returns whether `number` is in `numbers`.
-fn is_among(number: usize, numbers: &[u32]) -> bool
-    ensures { result ≡ is_among number numbers.now }
-{
-    for other in numbers {
-        if *other as usize == number {
-            return true;
-        }
-    }
-    false
 }
 
 fn has_default(value: ValType) -> bool

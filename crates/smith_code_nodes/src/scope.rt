@@ -1,6 +1,7 @@
 ghost use Rattle.std.specs.Prelude.{◌≡◌};
 ghost use Rattle.smith_code_nodes.specs.Scopes.{indexed};
 
+use crate::set_locals::SetLocals;
 use smith_config::Config;
 use smith_instr::Instr;
 use smith_types::{
@@ -50,7 +51,7 @@ pub struct Draft {
     /// The instructions so far.
     pub out: Items<Instr>,
     /// The locals that instructions have set and that are still set at this point.
-    pub set: Vec<u32>,
+    pub set: SetLocals,
     /// The types of the operands of a branch to each label, the innermost label first.
     pub labels: Vec<Items<ValType>>,
     /// The number of nodes that may still be drawn.

@@ -1,6 +1,6 @@
 -- Bodies of the functions of a module: the section Validation, Functions, of the WebAssembly Core
 -- Specification 3.0.
-use Rattle.std.specs.Prelude.{◌≡◌, ℕ, ◌+◌, ◌*◌, ◌≤◌, Some, List, [], ◌++◌, map, length, slice_get, All, IsTrue}
+use Rattle.std.specs.Prelude.{◌≡◌, ℕ, ◌+◌, ◌*◌, ◌<◌, ◌≤◌, Some, List, [], ◌++◌, map, length, slice_get, All, IsTrue}
 use Rattle.smith_types.specs.Entities.{IsFuncAt}
 use Rattle.smith_types.specs.declared.code.Code.{Code}
 use Rattle.smith_types.specs.declared.composite_type.FuncType.{FuncType}
@@ -14,6 +14,7 @@ use Rattle.smith_instr.specs.Sequences.{IsBodyTyped}
 use Rattle.smith_instr.specs.declared.instr.Instr.{Instr}
 use Rattle.smith_code_nodes.specs.Scopes.{most}
 use Rattle.smith_code_nodes.specs.Traps.{IsTrapless}
+use Rattle.smith_code.specs.Stops.{HasNeededStops}
 use Rattle.smith_program.specs.References.{references_of}
 use Rattle.smith_program.specs.declared.program.Body.{Body}
 use Rattle.smith_program.specs.declared.program.Body.TheVariants as body
@@ -52,11 +53,13 @@ pub record IsBodyAt (m : ModuleParts) (place : ℕ) (code : Code) (instructions 
   pub typed : IsBodyTyped (function_context m function code.locals) instructions
 
 -- the same; the instructions are enabled, no more than the budget of a body allows, and with
--- `disallow_traps` only `unreachable` may trap (own rules)
+-- `disallow_traps` only `unreachable` may trap, which is only in place of a value that no other
+-- instruction produces, unless the budget is 0 (own rules)
 pub record IsDrawnAt (m : ModuleParts) (place : ℕ) (code : Code) (instructions : List Instr) : Type 0 where
   pub body : IsBodyAt m place code instructions
   pub enabled : All (IsEnabled (module_features m) m.config.allowed_instructions) instructions
   pub trapless : IsTrue m.config.disallow_traps → All IsTrapless instructions
+  pub needed : 0 < m.config.max_instructions → HasNeededStops m.config (function_context m body.function code.locals) instructions
   pub short : length instructions ≤ 1 + length body.function.results + most m.types * m.config.max_instructions
 
 -- a body whose instructions have a property, or raw bytes, which are kept (own rule)

@@ -1,13 +1,18 @@
 use Rattle.std.proofs.Common.{refl}
 use Rattle.smith_code_nodes.specs.Scopes.{bare}
 use Rattle.smith_code.proofs.ExactLemmas.{body_exact}
-use Rattle.smith_code.proofs.DrawnLemmas.{body_typed, body_allowed, body_short}
+use Rattle.smith_code.proofs.DrawnLemmas.{body_needed, body_allowed, body_short}
 use Rattle.smith_code_nodes.proofs.AllowedLemmas.{all_enabled, all_trapless}
 use Rattle.smith_code.proofs.body.draw_some.Goals as goal
 
 pub returns-clause-typed : goal.returns-clause-typed
 returns-clause-typed c =
-    body_typed c.in_ok-draw_whole.ensures.drawn c.new.ensures c.new-2.ensures.items
+    (body_needed c.in_ok-draw_whole.ensures.drawn c.new.ensures c.new-2.ensures
+    (rw (c.in_ok-push.ensures.items, c.new-labels.ensures.items, c.in_ok-from_slice.ensures.ok) refl)).typed
+
+pub returns-clause-needed : goal.returns-clause-needed
+returns-clause-needed c =
+    body_needed c.in_ok-draw_whole.ensures.drawn c.new.ensures c.new-2.ensures
     (rw (c.in_ok-push.ensures.items, c.new-labels.ensures.items, c.in_ok-from_slice.ensures.ok) refl)
 
 pub returns-clause-allowed : goal.returns-clause-allowed
@@ -22,7 +27,7 @@ returns-clause-short c = body_short c.in_ok-draw_whole.ensures.drawn c.new.ensur
 pub returns-clause-exact : goal.returns-clause-exact
 returns-clause-exact c = record {
   exact = body_exact c.args.scope.now.config.now (bare c.args.scope.now) c.args.budget c.args.u.now _ _ c.requires.some c.in_ok-draw_whole.ensures.exact
-      (rw (c.new.ensures, c.new-2.ensures.items, c.in_ok-push.ensures.items, c.new-labels.ensures.items, c.in_ok-from_slice.ensures.ok) refl);
+      (rw (c.new.ensures, c.new-2.ensures, c.in_ok-push.ensures.items, c.new-labels.ensures.items, c.in_ok-from_slice.ensures.ok) refl);
   memory = tt;
   left = c.draw_whole.ensures.left;
 }

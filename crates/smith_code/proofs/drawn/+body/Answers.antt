@@ -4,7 +4,9 @@ use Rattle.std.proofs.lemmas.Result.{on_ok_weaker}
 use Rattle.std.proofs.lemmas.List.{take_all}
 use Rattle.smith_code.proofs.DrawnLemmas.{paid_for, drawn_none, drawn_then, drawn_within, drawn_turn, dropped_drawn, plain_drawn, node_drawn, enclosed_drawn, if_drawn, labels_kept, try_drawn}
 use Rattle.smith_code.specs.Bodies.{drawing_at, statement_at}
+use Rattle.smith_types.specs.FeatureBits.{features_in}
 use Rattle.smith_code.specs.DraftSteps.{state_of}
+use Rattle.smith_code.proofs.StopLemmas.{node_goes_on}
 use Rattle.smith_code_nodes.specs.Nodes.{label_of, opened}
 use Rattle.smith_code_nodes.specs.Scopes.{bare}
 use Rattle.smith_code.proofs.ExactLemmas.{all_left, chosen_statement, chosen_value, deep_statements, drops_written, enclosed_exact, forbidden_statement, head_enclosed, head_if, head_try, if_exact, inside_exact, last_statements, last_value, next_value, no_values, node_exact, none_left, one_less, other_value, plain_exact, stopped, unpaid_value}
@@ -58,15 +60,15 @@ pub draw_statements-returns-then-depth-eq0-clause-drawn : goal.draw_statements-r
 draw_statements-returns-then-depth-eq0-clause-drawn t c = drawn_none c.args.scope.now c.args.draft.now
 
 pub draw_head-returns-in-Plain-clause-drawn : goal.draw_head-returns-in-Plain-clause-drawn
-draw_head-returns-in-Plain-clause-drawn t c = λ operands given values typed below valid local.
-    on_ok_weaker c.write_plain.result (plain_drawn c.args.head c.in-Plain.instruction operands given values c.args.sets c.in-Plain.is typed below valid c.requires.allowed.instruction local) c.write_plain.ensures.written
+draw_head-returns-in-Plain-clause-drawn t c = λ operands given values typed below valid goes_on local.
+    on_ok_weaker c.write_plain.result (plain_drawn c.args.head c.in-Plain.instruction operands given values c.args.sets c.in-Plain.is typed below valid c.requires.allowed.instruction goes_on local) c.write_plain.ensures.written
 
 pub draw_enclosed-returns-clause-drawn : goal.draw_enclosed-returns-clause-drawn
 draw_enclosed-returns-clause-drawn t c = λ values fits may below valid.
     let sides = c.args.sides.now in
     let start = rw (c.opened.ensures, c.label_of-label.ensures) at c.in_ok-write_opening.ensures.opened in
     let drawn = c.in_ok-draw_inside.ensures.drawn in
-    ok_both c.write_end.result (enclosed_drawn c.args.opening c.args.ty sides.params sides.results values fits may c.requires.sides.results below valid c.requires.allowed c.requires.sides.few start drawn c.len-height.result (c.len-height.ensures ∙ c.args.draft.now.set.ok.0))
+    ok_both c.write_end.result (enclosed_drawn c.args.opening c.args.ty sides.params sides.results values fits may c.requires.sides.results below valid c.requires.allowed c.requires.sides.few start drawn c.len-height.result c.len-height.ensures)
     c.write_end.ensures.ended (c.write_end.ensures.left_label _ _ (drawn.same ∙ start.labels))
 
 pub draw_if-returns-clause-drawn : goal.draw_if-returns-clause-drawn
@@ -75,7 +77,7 @@ draw_if-returns-clause-drawn t c = λ values fits below valid.
     let start = rw c.as_slice.ensures at c.in_ok-write_opening.ensures.opened in
     let first = c.in_ok-draw_inside.ensures.drawn in
     let last = c.in_ok-draw_inside-2.ensures.drawn in
-    ok_both c.write_end.result (if_drawn c.args.ty sides.params sides.results values fits below valid c.requires.allowed c.requires.sides.few start first c.len-height.result (c.len-height.ensures ∙ c.args.draft.now.set.ok.0) c.in_ok-write_else.ensures.ended c.in_ok-write_else.ensures.same last)
+    ok_both c.write_end.result (if_drawn c.args.ty sides.params sides.results values fits below valid c.requires.allowed c.requires.sides.few start first c.len-height.result c.len-height.ensures c.in_ok-write_else.ensures.ended c.in_ok-write_else.ensures.same last)
     c.write_end.ensures.ended (c.write_end.ensures.left_label _ _ (last.same ∙ (c.in_ok-write_else.ensures.same ∙ (first.same ∙ start.labels))))
 
 pub draw_if-returns-clause-left : goal.draw_if-returns-clause-left
@@ -88,13 +90,18 @@ draw_inside-returns-clause-drawn t c =
     on_ok_weaker c.draw_values.result (λ values. drawn_within (omega arith) (drawn_then (drawn_then dropped c.in_ok-draw_statements.ensures.drawn) values)) (rw c.as_slice.ensures at c.draw_values.ensures.drawn)
 
 pub draw_node-returns-clause-drawn : goal.draw_node-returns-clause-drawn
-draw_node-returns-clause-drawn t c = λ values fits.
-    on_ok_weaker c.drop_values.result (λ out. node_drawn fits c.requires.allowed.drops c.requires.paid (rw c.as_slice.ensures at c.in_ok-draw_values.ensures.drawn) c.in_ok-draw_head.ensures.drawn out c.drop_values.ensures.set c.drop_values.ensures.same c.drop_values.ensures.budget) c.drop_values.ensures.out
+draw_node-returns-clause-drawn t c = λ values fits goes_on.
+    on_ok_weaker c.drop_values.result (λ out. node_drawn fits c.requires.allowed.drops goes_on c.requires.paid (rw c.as_slice.ensures at c.in_ok-draw_values.ensures.drawn) c.in_ok-draw_head.ensures.drawn out c.drop_values.ensures.set c.drop_values.ensures.same c.drop_values.ensures.budget) c.drop_values.ensures.out
 
 pub draw_statement-returns-then-not-is_node_allowed-clause-drawn : goal.draw_statement-returns-then-not-is_node_allowed-clause-drawn
 draw_statement-returns-then-not-is_node_allowed-clause-drawn t c =
     rw c.saturating_sub-draft.ensures
     (paid_for {n = 0} (omega arith) c.requires.paid (drawn_none c.args.scope.now (record c.args.draft.now { budget = c.args.draft.now.budget - 1 })))
+
+pub draw_statement-returns-clause-drawn : goal.draw_statement-returns-clause-drawn
+draw_statement-returns-clause-drawn t c =
+    c.draw_node.ensures.drawn [] c.in_ok-node.ensures.node
+    (node_goes_on (features_in c.args.scope.now.features) c.args.scope.now.config.now c.in_ok-node.node (sym c.is_node_allowed.ensures.exact ∙ c.if-not-is_node_allowed.false))
 
 pub draw_values-returns-clause-exact : goal.draw_values-returns-clause-exact
 draw_values-returns-clause-exact t c = c.loop-value.invariant.exact ∙ no_values (drawing_at c.args.scope.now.config.now c.args.depth) c.args.wanted.now c.loop-value.value-index _ (omega arith)
@@ -141,7 +148,7 @@ draw_enclosed-returns-clause-exact t c =
     let sides = c.args.sides.now in
     let start = rw (c.opened.ensures, c.label_of-label.ensures) at c.in_ok-write_opening.ensures.opened in
     let drawn = c.in_ok-draw_inside.ensures.drawn in
-    ok_both c.write_end.result (enclosed_exact c.args.scope.now (drawing_at c.args.scope.now.config.now c.args.depth) (opened c.args.opening c.args.ty) (label_of c.args.opening sides.params sides.results) sides c.args.draft.now _ _ _ _ _ c.len-height.result start c.in_ok-draw_inside.ensures.exact drawn (c.len-height.ensures ∙ c.args.draft.now.set.ok.0))
+    ok_both c.write_end.result (enclosed_exact c.args.scope.now (drawing_at c.args.scope.now.config.now c.args.depth) (opened c.args.opening c.args.ty) (label_of c.args.opening sides.params sides.results) sides c.args.draft.now _ _ _ _ _ c.len-height.result start c.in_ok-draw_inside.ensures.exact drawn c.len-height.ensures)
     c.write_end.ensures.ended (c.write_end.ensures.left_label _ _ (drawn.same ∙ start.labels))
 
 pub draw_if-returns-clause-exact : goal.draw_if-returns-clause-exact
@@ -150,7 +157,7 @@ draw_if-returns-clause-exact t c =
     let start = rw c.as_slice.ensures at c.in_ok-write_opening.ensures.opened in
     let first = c.in_ok-draw_inside.ensures.drawn in
     let last = c.in_ok-draw_inside-2.ensures.drawn in
-    ok_both c.write_end.result (if_exact c.args.scope.now (drawing_at c.args.scope.now.config.now c.args.depth) c.args.ty sides c.args.draft.now _ _ _ _ _ _ _ _ c.len-height.result start c.in_ok-draw_inside.ensures.exact first (c.len-height.ensures ∙ c.args.draft.now.set.ok.0)
+    ok_both c.write_end.result (if_exact c.args.scope.now (drawing_at c.args.scope.now.config.now c.args.depth) c.args.ty sides c.args.draft.now _ _ _ _ _ _ _ _ c.len-height.result start c.in_ok-draw_inside.ensures.exact first c.len-height.ensures
     c.in_ok-write_else.ensures.ended c.in_ok-write_else.ensures.same c.in_ok-draw_inside-2.ensures.exact last)
     c.write_end.ensures.ended (c.write_end.ensures.left_label _ _ (last.same ∙ (c.in_ok-write_else.ensures.same ∙ (first.same ∙ start.labels))))
 
@@ -169,7 +176,7 @@ draw_try-returns-clause-drawn t c = λ values fits caught below valid.
     let sides = c.args.sides.now in
     let start = rw c.as_slice.ensures at c.in_ok-write_opening.ensures.opened in
     let drawn = c.in_ok-draw_inside.ensures.drawn in
-    ok_both c.write_end.result (try_drawn c.args.ty c.args.clauses sides.params sides.results values fits caught below valid c.requires.allowed c.requires.sides.few start drawn c.len-height.result (c.len-height.ensures ∙ c.args.draft.now.set.ok.0))
+    ok_both c.write_end.result (try_drawn c.args.ty c.args.clauses sides.params sides.results values fits caught below valid c.requires.allowed c.requires.sides.few start drawn c.len-height.result c.len-height.ensures)
     c.write_end.ensures.ended (c.write_end.ensures.left_label _ _ (drawn.same ∙ start.labels))
 
 pub draw_try-returns-clause-exact : goal.draw_try-returns-clause-exact
@@ -177,5 +184,5 @@ draw_try-returns-clause-exact t c =
     let sides = c.args.sides.now in
     let start = rw c.as_slice.ensures at c.in_ok-write_opening.ensures.opened in
     let drawn = c.in_ok-draw_inside.ensures.drawn in
-    ok_both c.write_end.result (enclosed_exact c.args.scope.now (drawing_at c.args.scope.now.config.now c.args.depth) (instr.TryTable c.args.ty c.args.clauses) sides.results sides c.args.draft.now _ _ _ _ _ c.len-height.result start c.in_ok-draw_inside.ensures.exact drawn (c.len-height.ensures ∙ c.args.draft.now.set.ok.0))
+    ok_both c.write_end.result (enclosed_exact c.args.scope.now (drawing_at c.args.scope.now.config.now c.args.depth) (instr.TryTable c.args.ty c.args.clauses) sides.results sides c.args.draft.now _ _ _ _ _ c.len-height.result start c.in_ok-draw_inside.ensures.exact drawn c.len-height.ensures)
     c.write_end.ensures.ended (c.write_end.ensures.left_label _ _ (drawn.same ∙ start.labels))
