@@ -12,27 +12,28 @@ use Rattle.smith_code.specs.Laws.{HasNoOther}
 abbrev pub IsNoStop : Config → Instr → Type 0
 IsNoStop config instruction = IsTrue config.disallow_traps → ¬ (instruction ≡ instr.Unreachable)
 
--- no value is taken, and one is left, of a type that no other permitted instruction without
--- operands produces
+-- an `unreachable` takes no value and leaves one, of a type for which no other permitted instruction
+-- without operands produces a value
 pub record IsNeeded (config : Config) (context : BodyContext) (set : List ℕ) (taken given : List ValType) : Type 0 where
   pub none : taken ≡ []
   pub wanted : ValType
   pub one : given ≡ wanted ∷ []
   pub no_other : HasNoOther config context set wanted
 
--- the values that are taken have exactly the types of the operands
+-- the values that are taken have exactly the types of the operands, not only types that match them
 abbrev pub TakesExactly : {context : BodyContext} {operands results : List ValType} {set : List ℕ} {before after : Stacked}
     → IsFramed context operands results set before after → Type 0
 TakesExactly {operands = operands} framed = framed.taken ≡ operands
 
--- an instruction takes values of exactly the types of its operands, and with `disallow_traps` it is
--- `unreachable` only in place of a value that no other produces
+-- an instruction takes values of exactly the types of its operands, and with `disallow_traps` each
+-- `unreachable` is needed
 pub record IsStopNeeded (config : Config) (context : BodyContext) (instruction : Instr) (before after : Stacked) (typed : IsStep context instruction before after) : Type 0 where
   pub exact : TakesExactly typed.framed
   pub stop : IsTrue config.disallow_traps → instruction ≡ instr.Unreachable → IsNeeded config context before.set typed.framed.taken typed.framed.given
 
--- this holds of each instruction, by these types of the instructions; blocks take values of exactly
--- the types of their operands too, and each sequence leaves values of exactly its types
+-- by these types of the instructions in a sequence, each instruction and each block takes values of
+-- exactly the types of its operands, each sequence leaves values of exactly the types at its end,
+-- and with `disallow_traps` each `unreachable` is needed
 unfoldable pub AreStopsNeeded : (config : Config) {context : BodyContext} {instructions : List Instr} {before after : Stacked}
     → AreTyped context instructions before after → Type 0
 AreStopsNeeded config (nothing {before = before} {after = after} counts same) = before.stack ≡ after.stack
@@ -45,12 +46,12 @@ AreStopsNeeded config (if_else is fits inner other framed more) =
     AreStopsNeeded config inner × AreStopsNeeded config other × TakesExactly framed × AreStopsNeeded config more
 AreStopsNeeded config (try_table is fits caught inner framed more) = AreStopsNeeded config inner × TakesExactly framed × AreStopsNeeded config more
 
--- instructions are typed so
+-- instructions that have such types
 pub record HaveNeededStops (config : Config) (context : BodyContext) (instructions : List Instr) (before after : Stacked) : Type 0 where
   pub typed : AreTyped context instructions before after
   pub needed : AreStopsNeeded config typed
 
--- a body is typed so
+-- a body that has such types
 pub record HasNeededStops (config : Config) (context : BodyContext) (body : List Instr) : Type 0 where
   pub typed : IsBodyTyped context body
   pub needed : AreStopsNeeded config typed.typed
