@@ -140,10 +140,11 @@ pub struct Config {
 
     /// Whether active segments fit in their tables and memories, so that they never trap, and no
     /// instruction of a generated body traps except `unreachable`. That instruction is then used
-    /// only if fuel is exhausted or no other instruction without operands produces the type.
-    /// Imported functions and raw bytes may still trap. Defaults to `false`. If `true`, a table may
-    /// have one element and a memory one page even if `max_table_elements`, `max_memory32_bytes` or
-    /// `max_memory64_bytes` is lower.
+    /// only as the whole body if `max_instructions` is 0, in the checks of fuel that
+    /// `ensure_termination` adds, or for a value that no other instruction without operands
+    /// produces. Imported functions and raw bytes may still trap. Defaults to `false`. If `true`, a
+    /// table may have one element and a memory one page even if `max_table_elements`,
+    /// `max_memory32_bytes` or `max_memory64_bytes` is lower.
     pub disallow_traps: bool,
 
     /// Whether a body may be raw bytes of the input, which need not be valid. Defaults to `false`.
