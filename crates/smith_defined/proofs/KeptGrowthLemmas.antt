@@ -1,9 +1,9 @@
 -- The kept globals and functions stay correct, as types, globals and functions are added.
-use Rattle.std.proofs.Common.{◌≡◌, ℕ, ◌+◌, ◌<◌, ◌≤◌, Bool, List, [], ◌∷◌, ◌++◌, take, length, refl, sym, ap, ◌∙◌, subst, arith}
-use Rattle.std.specs.Prelude.{All, not, ◌&&◌, nat_le, if◌then◌else◌}
+use Rattle.std.proofs.Common.{◌≡◌, ℕ, ◌+◌, ◌<◌, ◌≤◌, Bool, List, [], ◌∷◌, ◌++◌, Option, Some, None, take, length, refl, sym, ap, ◌∙◌, subst, arith}
+use Rattle.std.specs.Prelude.{All, IfSome, not, ◌&&◌, nat_le, if◌then◌else◌, slice_get}
 use Rattle.std.proofs.lemmas.List.{length-append, take-append-le}
 use Rattle.std.proofs.lemmas.List.Elements.{All-head, All-tail, All-take, All-weaker}
-use Rattle.std.proofs.lemmas.Option.{slice_get_within}
+use Rattle.std.proofs.lemmas.Option.{get_or_from_slice_get, slice_get_within}
 use Rattle.smith_types.specs.Entities.{IsFuncTypeIndex, IsGlobalValid}
 use Rattle.smith_types.specs.Expressions.{Context, reference_to, function_reference}
 use Rattle.smith_types.specs.Grown.{Extends}
@@ -16,9 +16,13 @@ use Rattle.smith_types.specs.declared.entity_type.GlobalType.{GlobalType}
 use Rattle.smith_types.proofs.ReferredTypeLemmas.{value_in_range}
 use Rattle.smith_draw.specs.Below.{is_val_below}
 use Rattle.smith_draw.specs.ConstOffers.{each_from, offered_if, global_offers, function_offers}
-use Rattle.smith_draw.specs.KeptOffers.{IsKeptOffer, offered_before}
+use Rattle.smith_draw.specs.KeptOffers.{AreClasses, AreFlags, AreItemsRead, AreKeptOffers, IsEntry, IsKeptOffer, is_offered, offered_before, readable}
+use Rattle.smith_draw.specs.declared.const_expr.classes.Classes.{Classes}
 use Rattle.smith_draw.specs.declared.const_expr.kept_offers.KeptOffer.{KeptOffer}
+use Rattle.smith_draw.specs.declared.const_expr.kept_offers.KeptOffers.{KeptOffers}
+use Rattle.smith_draw.specs.declared.const_expr.read_items.ReadItems.{ReadItems}
 use Rattle.smith_draw.proofs.BlockCountLemmas.{counted_alike}
+use Rattle.smith_draw.proofs.ClassLemmas.{get_within_front}
 use Rattle.smith_draw.proofs.GroundingLemmas.{within_reference}
 use Rattle.smith_defined.proofs.BelowGrowthLemmas.{value_longer, value_same}
 
@@ -95,6 +99,49 @@ module _ (old new : Context) (valid : AreValidOver old) (more : HasMore old new)
         kept.funcs;
   }
 
+  kind_in_range : (kind : Option ValType) → IfSome kind (IsValInRange old.types) → IfSome kind (IsValInRange new.types)
+  kind_in_range None exists = tt
+  kind_in_range (Some value) exists = subst (λ (xs : List SubType). IsValInRange xs value) (sym more.types.parts) (value_longer old.types more.types.more value exists)
+
+  classes_grown : {A : Type 0} (before after : ℕ → A → Option ValType) (xs ys : List A) (classes : Classes) → ((i : ℕ) (x : A) → before i x ≡ after i x) → Extends xs ys → AreClasses old.types before xs classes → AreClasses new.types after ys classes
+  classes_grown {A} before after xs ys classes same longer are = record {
+    seen = no_shorter (length classes.of) xs ys longer are.seen;
+    few = are.few;
+    in_range = All-weaker (λ (kind : Option ValType). IfSome kind (IsValInRange old.types)) (λ (kind : Option ValType). IfSome kind (IsValInRange new.types)) kind_in_range classes.kinds are.in_range;
+    same = λ i x inside at.
+        let here : slice_get xs i ≡ Some x = get_within_front xs longer.more i x (omega (arith, inside, are.seen)) (sym (ap (λ (zs : List A). slice_get zs i) longer.parts) ∙ at) in
+        are.same i x inside here ∙ ap (λ (kind : Option ValType). Some kind) (same i x);
+  }
+
+  kind_same : (wanted : ValType) → IsValInRange old.types wanted → (kind : Option ValType) → IfSome kind (IsValInRange old.types) → is_offered old.types wanted kind ≡ is_offered new.types wanted kind
+  kind_same wanted upper None exists = refl
+  kind_same wanted upper (Some value) exists = sym (below_same value wanted exists upper)
+
+  flags_grown : (wanted : ValType) (kinds : List (Option ValType)) (flags : List Bool) → IsValInRange old.types wanted → All (λ (kind : Option ValType). IfSome kind (IsValInRange old.types)) kinds → AreFlags old.types wanted kinds flags → AreFlags new.types wanted kinds flags
+  flags_grown wanted kinds flags upper exist are = record {
+    few = are.few;
+    right = λ k kind inside at.
+        let exists : IfSome kind (IsValInRange old.types) = subst (λ (each : Option ValType). IfSome each (IsValInRange old.types)) (get_or_from_slice_get kinds k kind kind at) (exist k kind (slice_get_within kinds k kind at)) in
+        are.right k kind inside at ∙ ap (λ (flag : Bool). Some flag) (kind_same wanted upper kind exists);
+  }
+
+  items_grown : (items : ReadItems) → AreItemsRead old items → AreItemsRead new items
+  items_grown items read = record {
+    globals = classes_grown (λ index global. readable global) (λ index global. readable global) old.globals new.globals items.globals (λ i x. refl) more.globals read.globals;
+    funcs = classes_grown (λ function index. Some (function_reference old function index)) (λ function index. Some (function_reference new function index)) old.funcs new.funcs items.funcs
+        (λ function index. ap (λ (value : ValType). Some value) (sym (reference_same function index))) more.funcs read.funcs;
+  }
+
+  entry_grown : (items : ReadItems) → AreItemsRead old items → (offer : KeptOffer) → IsEntry old items offer → IsEntry new items offer
+  entry_grown items read offer entry = record {
+    kept = offer_grown offer entry.kept;
+    globals = flags_grown offer.wanted items.globals.kinds offer.global_flags entry.kept.wanted read.globals.in_range entry.globals;
+    funcs = flags_grown offer.wanted items.funcs.kinds offer.func_flags entry.kept.wanted read.funcs.in_range entry.funcs;
+  }
+
   -- the kept globals and functions are correct
-  pub kept_grown : (offers : List KeptOffer) → All (IsKeptOffer old) offers → All (IsKeptOffer new) offers
-  kept_grown offers all = All-weaker (IsKeptOffer old) (IsKeptOffer new) offer_grown offers all
+  pub kept_grown : (kept : KeptOffers) → AreKeptOffers old kept → AreKeptOffers new kept
+  kept_grown kept are = record {
+    items = items_grown kept.items are.items;
+    entries = All-weaker (IsEntry old kept.items) (IsEntry new kept.items) (entry_grown kept.items are.items) kept.kept.items are.entries;
+  }

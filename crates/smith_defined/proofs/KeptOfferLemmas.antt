@@ -13,8 +13,9 @@ use Rattle.smith_types.specs.declared.entity_type.EntityType.{EntityType}
 use Rattle.smith_types.specs.declared.entity_type.GlobalType.{GlobalType}
 use Rattle.smith_config.specs.declared.config.Config.{Config}
 use Rattle.smith_config.specs.Features.{features_of}
-use Rattle.smith_draw.specs.KeptOffers.{IsKeptOffer}
-use Rattle.smith_draw.specs.declared.const_expr.kept_offers.KeptOffer.{KeptOffer}
+use Rattle.smith_draw.specs.KeptOffers.{AreItemsRead, AreKeptOffers, IsEntry}
+use Rattle.smith_draw.specs.declared.const_expr.kept_offers.KeptOffers.{KeptOffers}
+use Rattle.smith_draw.specs.declared.const_expr.read_items.ReadItems.{ReadItems}
 use Rattle.smith_defined.specs.Definitions.{InitialiserScope, global_scope}
 use Rattle.smith_defined.specs.Required.{MayDefineMore, IsInitialised}
 use Rattle.smith_defined.specs.RequiredExports.{scope_beside}
@@ -25,9 +26,9 @@ use Rattle.smith_defined.proofs.RequiredExportLemmas.{still_imported}
 use Rattle.smith_defined.proofs.StandsBehindLemmas.{spaces_grown}
 
 -- the kept globals and functions stay correct with one more defined global
-pub kept_pushed : (config : Config) (standing : InitialiserScope) (globals more : List GlobalType) (one : GlobalType) (offers : List KeptOffer) → IsOrderly standing.types → All (IsFuncTypeIndex standing.types) standing.funcs → All (IsGlobalValid (features_of config) standing.types) globals → more ≡ globals ++ one ∷ []
-    → All (IsKeptOffer (global_scope config standing globals)) offers → All (IsKeptOffer (global_scope config standing more)) offers
-kept_pushed config standing globals more one offers orderly funcs valid longer =
+pub kept_pushed : (config : Config) (standing : InitialiserScope) (globals more : List GlobalType) (one : GlobalType) (kept : KeptOffers) → IsOrderly standing.types → All (IsFuncTypeIndex standing.types) standing.funcs → All (IsGlobalValid (features_of config) standing.types) globals → more ≡ globals ++ one ∷ []
+    → AreKeptOffers (global_scope config standing globals) kept → AreKeptOffers (global_scope config standing more) kept
+kept_pushed config standing globals more one kept orderly funcs valid longer =
     let sound : AreValidOver (global_scope config standing globals) = record { orderly = orderly; funcs = funcs; globals = valid } in
     let grown : HasMore (global_scope config standing globals) (global_scope config standing more) = record {
       features = refl;
@@ -36,24 +37,33 @@ kept_pushed config standing globals more one offers orderly funcs valid longer =
       globals = record { more = one ∷ []; parts = longer };
       imported_funcs = refl;
     } in
-    kept_grown (global_scope config standing globals) (global_scope config standing more) sound grown offers
+    kept_grown (global_scope config standing globals) (global_scope config standing more) sound grown kept
 
 -- they are correct for the initialisers of tables and of globals alike, since they do not depend on
 -- the globals that an initialiser may read
-pub kept_alike : (config : Config) (types : List SubType) (spaces : EntitySpaces) (defined : Definitions) (one other : Bool) (offers : List KeptOffer) → All (IsKeptOffer (scope_beside config types spaces defined one)) offers
-    → All (IsKeptOffer (scope_beside config types spaces defined other)) offers
-kept_alike config types spaces defined one other offers all =
-    All-weaker (IsKeptOffer (scope_beside config types spaces defined one)) (IsKeptOffer (scope_beside config types spaces defined other))
-    (λ offer kept. record { wanted = kept.wanted; globals_seen = kept.globals_seen; globals = kept.globals; funcs_seen = kept.funcs_seen; funcs = kept.funcs }) offers all
+pub kept_alike : (config : Config) (types : List SubType) (spaces : EntitySpaces) (defined : Definitions) (one other : Bool) (kept : KeptOffers) → AreKeptOffers (scope_beside config types spaces defined one) kept
+    → AreKeptOffers (scope_beside config types spaces defined other) kept
+kept_alike config types spaces defined one other kept all =
+    let same : (classes : ReadItems) → AreItemsRead (scope_beside config types spaces defined one) classes → AreItemsRead (scope_beside config types spaces defined other) classes = λ classes read. record { globals = read.globals; funcs = read.funcs } in
+    record {
+      items = same kept.items all.items;
+      entries = All-weaker (IsEntry (scope_beside config types spaces defined one) kept.items) (IsEntry (scope_beside config types spaces defined other) kept.items)
+          (λ offer entry. record {
+            kept = record { wanted = entry.kept.wanted; globals_seen = entry.kept.globals_seen; globals = entry.kept.globals; funcs_seen = entry.kept.funcs_seen; funcs = entry.kept.funcs };
+            globals = entry.globals;
+            funcs = entry.funcs;
+          })
+          kept.kept.items all.entries;
+    }
 
 module _ (config : Config) (space : GroupedTypes) (spaces : EntitySpaces) (defined : Definitions) (allow : Bool) (may : MayDefineMore config space spaces defined 1) where
   sound : AreValidOver (scope_beside config space.types spaces defined allow)
   sound = record { orderly = may.valid.orderly; funcs = may.entities.funcs; globals = may.entities.globals }
 
   -- they stay correct with one more entity, which an export of a shape adds
-  pub kept_beside : (later : EntitySpaces) (fuller : Definitions) (added : EntityType) (offers : List KeptOffer) → IsInitialised config space.types spaces defined fuller added → later ≡ with_entity spaces added
-      → All (IsKeptOffer (scope_beside config space.types spaces defined allow)) offers → All (IsKeptOffer (scope_beside config space.types later fuller allow)) offers
-  kept_beside later fuller added offers initialised longer =
+  pub kept_beside : (later : EntitySpaces) (fuller : Definitions) (added : EntityType) (kept : KeptOffers) → IsInitialised config space.types spaces defined fuller added → later ≡ with_entity spaces added
+      → AreKeptOffers (scope_beside config space.types spaces defined allow) kept → AreKeptOffers (scope_beside config space.types later fuller allow) kept
+  kept_beside later fuller added kept initialised longer =
       let grown : HasMore (scope_beside config space.types spaces defined allow) (scope_beside config space.types later fuller allow) = record {
         features = refl;
         types = all_kept space.types;
@@ -61,12 +71,12 @@ module _ (config : Config) (space : GroupedTypes) (spaces : EntitySpaces) (defin
         globals = rw longer (spaces_grown spaces added).globals;
         imported_funcs = still_imported config space.types spaces later defined fuller added longer initialised;
       } in
-      kept_grown (scope_beside config space.types spaces defined allow) (scope_beside config space.types later fuller allow) sound grown offers
+      kept_grown (scope_beside config space.types spaces defined allow) (scope_beside config space.types later fuller allow) sound grown kept
 
   -- they stay correct with the types that the export adds
-  pub kept_over : (types : List SubType) (offers : List KeptOffer) → Extends space.types types
-      → All (IsKeptOffer (scope_beside config space.types spaces defined allow)) offers → All (IsKeptOffer (scope_beside config types spaces defined allow)) offers
-  kept_over types offers longer =
+  pub kept_over : (types : List SubType) (kept : KeptOffers) → Extends space.types types
+      → AreKeptOffers (scope_beside config space.types spaces defined allow) kept → AreKeptOffers (scope_beside config types spaces defined allow) kept
+  kept_over types kept longer =
       let grown : HasMore (scope_beside config space.types spaces defined allow) (scope_beside config types spaces defined allow) = record {
         features = refl;
         types = longer;
@@ -74,4 +84,4 @@ module _ (config : Config) (space : GroupedTypes) (spaces : EntitySpaces) (defin
         globals = all_kept spaces.globals;
         imported_funcs = refl;
       } in
-      kept_grown (scope_beside config space.types spaces defined allow) (scope_beside config types spaces defined allow) sound grown offers
+      kept_grown (scope_beside config space.types spaces defined allow) (scope_beside config types spaces defined allow) sound grown kept

@@ -100,7 +100,7 @@ structs_decide context ty orderly =
     )
 
 -- a reference to a function refers to an existing type exactly if its type exists
-reference_within : (types : List SubType) (index : ℕ) (defined descriptors : Bool) → IsValInRange types (cond defined (reference_to (cond descriptors (Exact index) (Concrete index))) (reference_to (Concrete index))) → index < length types
+pub reference_within : (types : List SubType) (index : ℕ) (defined descriptors : Bool) → IsValInRange types (cond defined (reference_to (cond descriptors (Exact index) (Concrete index))) (reference_to (Concrete index))) → index < length types
 reference_within types index true true h = h
 reference_within types index true false h = h
 reference_within types index false descriptors h = h

@@ -9,9 +9,10 @@ use Rattle.smith_types.specs.Expressions.{Context, function_reference}
 use Rattle.smith_types.specs.declared.value_type.ValType.{ValType}
 use Rattle.smith_draw.specs.Below.{is_val_below}
 use Rattle.smith_draw.specs.ConstOffers.{each_from, offered_if, past, global_offers, function_offers}
-use Rattle.smith_draw.specs.KeptOffers.{IsKeptAt, IsKeptOffer, offered_before}
+use Rattle.smith_draw.specs.KeptOffers.{IsEntry, IsKeptAt, offered_before}
 use Rattle.smith_draw.specs.declared.const_expr.kept_offers.KeptOffer.{KeptOffer}
 use Rattle.smith_draw.specs.declared.const_expr.node_choice.Choice.{Choice}
+use Rattle.smith_draw.specs.declared.const_expr.read_items.ReadItems.{ReadItems}
 use Rattle.smith_draw.specs.declared.const_expr.node_choice.Choice.TheVariants as choice
 use Rattle.smith_draw.proofs.ConstFoundLemmas.{few_each, few_if, past_append, past_end}
 
@@ -50,21 +51,10 @@ offered_rising {A} offer xs m n le =
     let split = ap (λ (ys : List A). length (each_from offer 0 ys)) parts ∙ ap length (each_split offer 0 (take m xs) (drop m (take n xs))) ∙ length-append (each_from offer 0 (take m xs)) (each_from offer (0 + length (take m xs)) (drop m (take n xs))) in
     omega (arith, split)
 
-length_if : {B : Type 0} (offered : Bool) (x : B) → length (offered_if offered x) ≡ cond offered 1 0
+-- the number of choices of an item
+pub length_if : {B : Type 0} (offered : Bool) (x : B) → length (offered_if offered x) ≡ cond offered 1 0
 length_if true x = refl
 length_if false x = refl
-
--- one more item is counted if it is offered
-pub counted_item : {A : Type 0} (offer : ℕ → A → List Choice) (xs : List A) (index start count one : ℕ) (d : A) (offered : Bool) (choice : Choice) → index < length xs → offer index (get_or xs index d) ≡ offered_if offered choice → one ≡ cond offered 1 0
-    → offered_before offer xs index ≡ start + count → offered_before offer xs (index + 1) ≡ start + (count + one)
-counted_item offer xs index start count one d offered choice inside is one_is counted =
-    let more = offered_more offer xs index d inside in
-    let here : length (offer index (get_or xs index d)) ≡ cond offered 1 0 = ap length is ∙ length_if offered choice in
-    omega (arith, more, here, one_is, counted)
-
-pub one_at_most : (offered : Bool) (one : ℕ) → one ≡ cond offered 1 0 → one ≤ 1
-one_at_most true one is = omega (arith, is)
-one_at_most false one is = omega (arith, is)
 
 -- each global and each function offers at most one choice
 few_before : {A : Type 0} (offer : ℕ → A → List Choice) (xs : List A) (n : ℕ) → ((i : ℕ) (x : A) → length (offer i x) ≤ 1) → n ≤ length xs → offered_before offer xs n ≤ n
@@ -95,8 +85,8 @@ pub kept_there : (kept : List KeptOffer) (place : ℕ) (d one : KeptOffer) (want
 kept_there kept place d one wanted inside is same = (one, slice_get-get_or kept place d inside ∙ ap (λ (each : KeptOffer). Some each) (sym is), same)
 
 -- the entry lists the globals and functions that are offered
-pub offer_there : (context : Context) (kept : List KeptOffer) (place : ℕ) (d one : KeptOffer) (wanted : ValType) → IsKeptAt kept place wanted → one ≡ get_or kept place d → All (IsKeptOffer context) kept → IsKeptOffer context one
-offer_there context kept place d one wanted (offer, at, same) is all = subst (IsKeptOffer context) (sym is) (all place d (slice_get_within kept place offer at))
+pub offer_there : (context : Context) (items : ReadItems) (kept : List KeptOffer) (place : ℕ) (d one : KeptOffer) (wanted : ValType) → IsKeptAt kept place wanted → one ≡ get_or kept place d → All (IsEntry context items) kept → IsEntry context items one
+offer_there context items kept place d one wanted (offer, at, same) is all = subst (IsEntry context items) (sym is) (all place d (slice_get_within kept place offer at))
 
 -- a replacement of the entry is recorded too
 pub kept_again : (kept : List KeptOffer) (place : ℕ) (d old new : KeptOffer) (wanted : ValType) → IsKeptAt kept place wanted → old ≡ get_or kept place d → new.wanted ≡ old.wanted → IsKeptAt (set kept place new) place wanted
@@ -121,15 +111,15 @@ pub wanted_there : (kept : List KeptOffer) (place : ℕ) (d one : KeptOffer) (wa
 wanted_there kept place d one wanted (offer, at, same) is = ap (λ (each : KeptOffer). each.wanted) (is ∙ get_or_from_slice_get kept place offer d at) ∙ same
 
 -- correct entries, one of them for a type and one for a wider type
-pub record HasEntries (context : Context) (kept : List KeptOffer) (source : ℕ) (wider : ValType) (place : ℕ) (wanted : ValType) : Type 0 where
-  pub all : All (IsKeptOffer context) kept
+pub record HasEntries (context : Context) (items : ReadItems) (kept : List KeptOffer) (source : ℕ) (wider : ValType) (place : ℕ) (wanted : ValType) : Type 0 where
+  pub all : All (IsEntry context items) kept
   pub at_source : IsKeptAt kept source wider
   pub at_place : IsKeptAt kept place wanted
 
-pub entry_replaced : (context : Context) (kept : List KeptOffer) (source : ℕ) (wider : ValType) (place : ℕ) (wanted : ValType) (at : ℕ) (d old new : KeptOffer) → HasEntries context kept source wider place wanted → old ≡ get_or kept at d → new.wanted ≡ old.wanted → IsKeptOffer context new
-    → HasEntries context (set kept at new) source wider place wanted
-entry_replaced context kept source wider place wanted at d old new has is still correct = record {
-  all = All-set (IsKeptOffer context) kept at new correct has.all;
+pub entry_replaced : (context : Context) (items : ReadItems) (kept : List KeptOffer) (source : ℕ) (wider : ValType) (place : ℕ) (wanted : ValType) (at : ℕ) (d old new : KeptOffer) → HasEntries context items kept source wider place wanted → old ≡ get_or kept at d → new.wanted ≡ old.wanted → IsEntry context items new
+    → HasEntries context items (set kept at new) source wider place wanted
+entry_replaced context items kept source wider place wanted at d old new has is still correct = record {
+  all = All-set (IsEntry context items) kept at new correct has.all;
   at_source = kept_still kept source at wider d old new has.at_source is still;
   at_place = kept_still kept place at wanted d old new has.at_place is still;
 }

@@ -44,8 +44,10 @@ pub mod MemoryLemmas
 pub mod BelowLemmas
 pub mod GroundingLemmas
 pub mod KeptGroundLemmas
+pub mod EarlyGroundLemmas
 pub mod BlockCountLemmas
 pub mod KeptOfferLemmas
+pub mod ClassLemmas
 pub mod WiderOfferLemmas
 pub mod ReadableLemmas
 pub mod ConstScopeLemmas

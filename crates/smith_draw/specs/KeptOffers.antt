@@ -1,15 +1,19 @@
 -- The record of the globals and functions that are offered, kept for many draws.
-use Rattle.std.specs.Prelude.{◌≡◌, ℕ, ◌+◌, ◌*◌, ◌/◌, ◌≤◌, IsTrue, List, Some, map, take, length, slice_get, All}
+use Rattle.std.specs.Prelude.{◌≡◌, ℕ, ◌+◌, ◌*◌, ◌/◌, ◌<◌, ◌≤◌, ◌⊎◌, Bool, false, IsTrue, Option, None, Some, IfSome, List, [], ◌∷◌, ◌++◌, map, take, length, slice_get, slice_index, All, if◌then◌else◌}
 use Rattle.std.specs.List.{range_with_len}
 use Rattle.smith_types.specs.Subtyping.{IsValInRange}
-use Rattle.smith_types.specs.Expressions.{Context}
+use Rattle.smith_types.specs.Expressions.{Context, function_reference}
+use Rattle.smith_types.specs.declared.composite_type.SubType.{SubType}
+use Rattle.smith_types.specs.declared.entity_type.GlobalType.{GlobalType}
 use Rattle.smith_types.specs.declared.value_type.ValType.{ValType}
 use Rattle.smith_draw.specs.Below.{is_val_below}
 use Rattle.smith_draw.specs.ConstOffers.{each_from, global_offers, function_offers}
 use Rattle.smith_draw.specs.declared.const_expr.block_counts.BlockCounts.{BlockCounts}
+use Rattle.smith_draw.specs.declared.const_expr.classes.Classes.{Classes}
 use Rattle.smith_draw.specs.declared.const_expr.node_choice.Choice.{Choice}
 use Rattle.smith_draw.specs.declared.const_expr.kept_offers.KeptOffer.{KeptOffer}
 use Rattle.smith_draw.specs.declared.const_expr.kept_offers.KeptOffers.{KeptOffers}
+use Rattle.smith_draw.specs.declared.const_expr.read_items.ReadItems.{ReadItems}
 
 -- how many of the first items of a list are offered
 abbrev pub offered_before : {A : Type 0} → (ℕ → A → List Choice) → List A → ℕ → ℕ
@@ -30,9 +34,63 @@ pub record IsKeptOffer (context : Context) (offer : KeptOffer) : Type 0 where
   pub funcs_seen : offer.funcs.seen ≤ length context.funcs
   pub funcs : IsCounted (offered_before (function_offers context offer.wanted) context.funcs) offer.funcs
 
--- all entries are correct
-abbrev pub AreKeptOffers : Context → KeptOffers → Type 0
-AreKeptOffers context kept = All (IsKeptOffer context) kept.kept.items
+-- the type of the value that a constant expression reads from a global, unless it is mutable
+abbrev pub readable : GlobalType → Option ValType
+readable global = if global.mutable then None else Some global.val_type
+
+-- whether an item with a value of this type, if it has one, is offered for a value of the wanted type
+abbrev pub is_offered : List SubType → ValType → Option ValType → Bool
+is_offered types wanted None = false
+is_offered types wanted (Some value) = is_val_below types value wanted
+
+-- the classes of the first items of a list: each of these is of its class, and the types of the
+-- classes exist
+pub record AreClasses {A : Type 0} (types : List SubType) (type_of : ℕ → A → Option ValType) (xs : List A) (classes : Classes) : Type 0 where
+  pub seen : length classes.of ≤ length xs
+  pub few : length classes.kinds ≤ length classes.of
+  pub in_range : All (λ kind. IfSome kind (IsValInRange types)) classes.kinds
+  pub same : (i : ℕ) (x : A) → i < length classes.of → slice_get xs i ≡ Some x → slice_get classes.kinds (slice_index classes.of i) ≡ Some (type_of i x)
+
+-- one more item is in a class of its type
+pub record IsNoted (kind : Option ValType) (old new : Classes) : Type 0 where
+  pub kinds : (new.kinds ≡ old.kinds) ⊎ (new.kinds ≡ old.kinds ++ kind ∷ [])
+  pub class : (class : ℕ) × (new.of ≡ old.of ++ class ∷ []) × (slice_get new.kinds class ≡ Some kind)
+
+-- whether the items of each of the first classes are offered for a value of the wanted type
+pub record AreFlags (types : List SubType) (wanted : ValType) (kinds : List (Option ValType)) (flags : List Bool) : Type 0 where
+  pub few : length flags ≤ length kinds
+  pub right : (k : ℕ) (kind : Option ValType) → k < length flags → slice_get kinds k ≡ Some kind → slice_get flags k ≡ Some (is_offered types wanted kind)
+
+-- the number of items on offer grows with each item whose class is offered
+abbrev pub IsTally : (ℕ → ℕ) → List ℕ → List Bool → Type 0
+IsTally before classes flags = (i : ℕ) (flag : Bool) → i < length classes → slice_get flags (slice_index classes i) ≡ Some flag → before (i + 1) ≡ before i + (if flag then 1 else 0)
+
+-- the classes of globals and of functions are correct
+pub record AreItemsRead (context : Context) (items : ReadItems) : Type 0 where
+  pub globals : AreClasses context.types (λ index global. readable global) context.globals items.globals
+  pub funcs : AreClasses context.types (λ function index. Some (function_reference context function index)) context.funcs items.funcs
+
+-- they are, and all visible globals and all functions have been read
+pub record AreAllRead (context : Context) (items : ReadItems) : Type 0 where
+  pub read : AreItemsRead context items
+  pub globals : context.visible ≤ length items.globals.of
+  pub funcs : length context.funcs ≤ length items.funcs.of
+
+-- the entry counts correctly, and its flags are correct for the classes of the items read
+pub record IsEntry (context : Context) (items : ReadItems) (offer : KeptOffer) : Type 0 where
+  pub kept : IsKeptOffer context offer
+  pub globals : AreFlags context.types offer.wanted items.globals.kinds offer.global_flags
+  pub funcs : AreFlags context.types offer.wanted items.funcs.kinds offer.func_flags
+
+-- the entry has a flag for each class
+pub record IsTested (items : ReadItems) (offer : KeptOffer) : Type 0 where
+  pub globals : length offer.global_flags ≡ length items.globals.kinds
+  pub funcs : length offer.func_flags ≡ length items.funcs.kinds
+
+-- the classes and all entries are correct
+pub record AreKeptOffers (context : Context) (kept : KeptOffers) : Type 0 where
+  pub items : AreItemsRead context kept.items
+  pub entries : All (IsEntry context kept.items) kept.kept.items
 
 -- the entry at this position is for this type
 abbrev pub IsKeptAt : List KeptOffer → ℕ → ValType → Type 0

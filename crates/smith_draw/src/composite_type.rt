@@ -24,6 +24,7 @@ ghost use Rattle.smith_draw.specs.CompositeTypes.{
 ghost use Rattle.smith_draw.specs.Spelling.{RefersTo, SpellsFuncType, SpellsStructType};
 ghost use Rattle.smith_draw.specs.Spelling.{SpellsCompositeType};
 
+use crate::call_grounds::CallGrounds;
 use crate::field_type::draw_field_type;
 use crate::spaces::{Spaces, orderly};
 use crate::standing::Standing;
@@ -208,7 +209,8 @@ pub fn arbitrary_func_type(
         (SpellsFuncType config.now limit)) u.old drawn u.new) }
 {
     orderly(spaces);
-    let standing = Standing::over(config, spaces);
+    let call = CallGrounds::over(alloc, config, spaces)?;
+    let standing = call.standing();
     draw_func_type(alloc, config, &standing, must_share, limit, u)
 }
 
@@ -252,7 +254,8 @@ pub fn arbitrary_struct_type(
         (SpellsStructType config.now limit)) u.old drawn u.new) }
 {
     orderly(spaces);
-    let standing = Standing::over(config, spaces);
+    let call = CallGrounds::over(alloc, config, spaces)?;
+    let standing = call.standing();
     draw_struct_type(alloc, config, &standing, must_share, limit, u)
 }
 
@@ -295,6 +298,7 @@ pub fn arbitrary_composite_type(
         (SpellsCompositeType config.now limit)) u.old drawn u.new) }
 {
     orderly(spaces);
-    let standing = Standing::over(config, spaces);
+    let call = CallGrounds::over(alloc, config, spaces)?;
+    let standing = call.standing();
     draw_composite_type(alloc, config, &standing, limit, u)
 }

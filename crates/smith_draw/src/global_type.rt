@@ -118,5 +118,6 @@ pub fn arbitrary_global_type(
         Takes (SpellsSuch (λ global. global ≡ mutable_i32) (λ _. SpellsMutableI32 config.now))
         u.old drawn u.new) }
 {
-    Ok(draw_global_type(config, &Standing::over(config, spaces), u))
+    let standing = Standing::over(config, spaces);
+    Ok(draw_global_type(config, &standing, u))
 }

@@ -1,4 +1,5 @@
 ghost use Rattle.std.specs.Prelude.{◌≡◌, ◌<◌, [], ◌&&◌, nat_le, length, IsTrue, OnOk, IfOk, IfErr};
+ghost use Rattle.std.specs.Prelude.{IfSome, IsSome};
 ghost use Rattle.smith_types.specs.Expressions.{Context};
 ghost use Rattle.smith_types.specs.FuncGrounds.{AreFuncGrounds, IsFunctionAdded};
 ghost use Rattle.smith_draw.specs.Grounding.{standing_in, with_functions};
@@ -62,10 +63,7 @@ impl KeptGrounds {
         ensures memory { IfErr result (λ e. e ≡ Error.Memory) }
     {
         self.kept = None;
-        if !config.non_nullable_enabled || spaces.entities.funcs.is_empty() {
-            return Ok(());
-        }
-        self.kept = Some(grounds_of(alloc, config, spaces)?);
+        self.kept = record_functions(alloc, config, spaces)?;
         Ok(())
     }
 
@@ -76,6 +74,25 @@ impl KeptGrounds {
     {
         Standing::kept(config, spaces, self.kept.as_ref())
     }
+}
+
+/// Returns the heap types that the functions of `spaces` ground, if there are functions. If `config`
+/// disables non-nullable references, returns `None`. Does not allocate if it returns `None`.
+pub(crate) fn record_functions(
+    alloc: Global,
+    config: &Config,
+    spaces: &Spaces<'_>,
+) -> Result<Option<FuncGrounds>, Error>
+    ensures kept { IfOk result (λ kept.
+        IfSome kept (AreFuncGrounds (standing_in config.now spaces.now))) }
+    ensures begun { IsTrue config.now.non_nullable_enabled
+        → 0 < length spaces.now.entities.funcs.now → IfOk result IsSome }
+    ensures memory { IfErr result (λ e. e ≡ Error.Memory) }
+{
+    if !config.non_nullable_enabled || spaces.entities.funcs.is_empty() {
+        return Ok(None);
+    }
+    Ok(Some(grounds_of(alloc, config, spaces)?))
 }
 
 /// Returns the heap types that the functions of `spaces` ground.

@@ -5,10 +5,12 @@
 //! fails, apart from the errors in its section `# Errors`.
 #![tactic(auto)]
 
+mod call_grounds;
 mod choice;
 mod composite_type;
 mod const_expr;
 mod each;
+mod early_grounds;
 mod enabled;
 mod entity_type;
 mod examples;

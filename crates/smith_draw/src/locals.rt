@@ -8,6 +8,7 @@ ghost use Rattle.smith_draw.specs.Drawing.{Draws};
 ghost use Rattle.smith_draw.specs.Grounding.{standing_in};
 ghost use Rattle.smith_draw.specs.Locals.{locals_at};
 
+use crate::call_grounds::CallGrounds;
 use crate::composite_type::draw_val_types;
 use crate::spaces::{Spaces, orderly};
 use crate::standing::Standing;
@@ -58,5 +59,7 @@ pub fn arbitrary_locals(
         → IfOk result (All (λ ty. ¬ IsNonNullable ty)) }
 {
     orderly(spaces);
-    draw_locals(alloc, config, &Standing::over(config, spaces), u)
+    let call = CallGrounds::over(alloc, config, spaces)?;
+    let standing = call.standing();
+    draw_locals(alloc, config, &standing, u)
 }

@@ -43,6 +43,7 @@ ghost use Rattle.smith_draw.specs.MatchingTypes.{
   matching_func_type_at,
 };
 
+use crate::call_grounds::CallGrounds;
 use crate::each::{Replacement, draw_each};
 use crate::offered::{
     abstract_subtypes, count_concrete_subtypes, count_of_kinds_below, count_subtypes, kinds_below,
@@ -408,7 +409,8 @@ pub fn arbitrary_matching_ref_type(
         → IsInRange spaces.now.types.now.types drawn.heap_type) }
 {
     orderly(spaces);
-    let standing = Standing::over(config, spaces);
+    let call = CallGrounds::over(alloc, config, spaces)?;
+    let standing = call.standing();
     draw_matching_ref_type(alloc, config, &standing, ty, u)
 }
 
@@ -441,7 +443,8 @@ pub fn arbitrary_matching_val_type(
         → IsValInRange spaces.now.types.now.types drawn) }
 {
     orderly(spaces);
-    let standing = Standing::over(config, spaces);
+    let call = CallGrounds::over(alloc, config, spaces)?;
+    let standing = call.standing();
     draw_matching_val_type(alloc, config, &standing, ty, u)
 }
 
@@ -476,7 +479,8 @@ pub fn arbitrary_matching_storage_type(
         → IsStorageInRange spaces.now.types.now.types drawn) }
 {
     orderly(spaces);
-    let standing = Standing::over(config, spaces);
+    let call = CallGrounds::over(alloc, config, spaces)?;
+    let standing = call.standing();
     draw_matching_storage_type(alloc, config, &standing, ty, u)
 }
 
@@ -512,7 +516,8 @@ pub fn arbitrary_matching_field_type(
         → IsFieldInRange spaces.now.types.now.types drawn) }
 {
     orderly(spaces);
-    let standing = Standing::over(config, spaces);
+    let call = CallGrounds::over(alloc, config, spaces)?;
+    let standing = call.standing();
     draw_matching_field_type(alloc, config, &standing, field, u)
 }
 
@@ -548,6 +553,7 @@ pub fn arbitrary_matching_func_type(
         → IsFuncInRange spaces.now.types.now.types drawn) }
 {
     orderly(spaces);
-    let standing = Standing::over(config, spaces);
+    let call = CallGrounds::over(alloc, config, spaces)?;
+    let standing = call.standing();
     draw_matching_func_type(alloc, config, &standing, function, u)
 }

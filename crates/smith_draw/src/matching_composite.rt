@@ -14,6 +14,7 @@ ghost use Rattle.smith_draw.specs.MatchingComposites.{
   matching_composite_type_at,
 };
 
+use crate::call_grounds::CallGrounds;
 use crate::composite_type::draw_fields;
 use crate::each::draw_each;
 use crate::matching::{Matching, draw_matching_field_type, draw_matching_func_type};
@@ -137,6 +138,7 @@ pub fn arbitrary_matching_struct_type(
         All (IsShareable spaces.now.types.now.types) (values_of (Struct drawn))) }
 {
     orderly(spaces);
-    let standing = Standing::over(config, spaces);
+    let call = CallGrounds::over(alloc, config, spaces)?;
+    let standing = call.standing();
     draw_matching_struct_type(alloc, config, &standing, structure, must_share, limit, u)
 }

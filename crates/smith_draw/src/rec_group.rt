@@ -5,6 +5,7 @@ ghost use Rattle.smith_bytes.specs.Source.{KeepsPieces};
 ghost use Rattle.smith_bytes.specs.Takes.{Takes};
 ghost use Rattle.smith_types.specs.Expressions.{Context};
 ghost use Rattle.smith_types.specs.Floats.{HasNoFloat};
+ghost use Rattle.smith_types.specs.Grown.{Extends};
 ghost use Rattle.smith_types.specs.GroupedTypes.{MayFollow};
 ghost use Rattle.smith_types.specs.ValidTypes.{AreTypesValid};
 ghost use Rattle.smith_config.specs.Features.{features_of};
@@ -16,6 +17,7 @@ ghost use Rattle.smith_draw.specs.Drawing.{AlwaysDraws, Draws, DrawsInto};
 ghost use Rattle.smith_draw.specs.FuncSizes.{HasFewValues};
 ghost use Rattle.smith_config.specs.Granted.{AreTypesGranted};
 ghost use Rattle.smith_draw.specs.Grounding.{functions_in, over};
+ghost use Rattle.smith_draw.specs.KeptGrounds.{AreEarlyGrounds};
 ghost use Rattle.smith_draw.specs.RecGroups.{
   types_left,
   types_until_at,
@@ -31,6 +33,7 @@ ghost use Rattle.smith_draw.specs.RecGroups.{
 };
 ghost use Rattle.smith_draw.specs.Spelling.{IsRoot, SpellsAdded, SpellsSpace};
 
+use crate::early_grounds::EarlyGrounds;
 use crate::spaces::Entities;
 use crate::sub_type::draw_sub_type;
 use smith_bytes::{Error, Unstructured};
@@ -63,17 +66,21 @@ fn add_types(
     config: &Config,
     types: &mut TypeSpace,
     entities: &Entities<'_>,
+    grounds: &EarlyGrounds,
     limit: u32,
     u: &mut Unstructured<'_>,
 ) -> Result<(), Error>
     requires few { limit + 1 < 2 ^ 32 }
+    requires grounds { AreEarlyGrounds
+        (over (functions_in config.now entities.now) types.old.types) grounds.now }
     ensures draws { DrawsInto (types_until_at config.now
         (functions_in config.now entities.now) limit types.old.types u.old)
         types.new.types result u.old u.new }
     ensures groups { OnOk result (types.new.groups ≡ types.old.groups) }
+    ensures grown { OnOk result (Extends types.old.types types.new.types) }
 {
     for made in types.types().len()..limit as usize {
-        let added = draw_sub_type(alloc, config, types, entities, limit, u)?;
+        let added = draw_sub_type(alloc, config, types, entities, grounds, limit, u)?;
         add_type(types, added)?;
     }
     Ok(())
@@ -104,19 +111,31 @@ fn add_new_group(
     config: &Config,
     types: &mut TypeSpace,
     entities: &Entities<'_>,
+    grounds: &EarlyGrounds,
     allow_empty: bool,
     u: &mut Unstructured<'_>,
 ) -> Result<(), Error>
     requires room { length types.old.types < config.now.max_types }
     requires few { config.now.max_types ≤ 2 ^ 31 }
-    ensures { DrawsInto
+    requires grounds { AreEarlyGrounds
+        (over (functions_in config.now entities.now) types.old.types) grounds.now }
+    ensures draws { DrawsInto
         (new_group_at config.now (functions_in config.now entities.now) allow_empty types.old u.old)
         types.new result u.old u.new }
+    ensures grown { OnOk result (Extends types.old.types types.new.types) }
 {
     let start = types.types().len();
     let size = draw_group_size(config, allow_empty, config.max_types - start, u);
     types.reserve(size)?;
-    add_types(alloc, config, types, entities, (start + size) as u32, u)?;
+    add_types(
+        alloc,
+        config,
+        types,
+        entities,
+        grounds,
+        (start + size) as u32,
+        u,
+    )?;
     types.push_group()?;
     Ok(())
 }
@@ -180,6 +199,7 @@ fn clone_group(
     ensures exact { IfOk result (λ added.
         clone_rec_group_at config.now allow_empty types.old u.old ≡ (added, (types.new, u.new))) }
     ensures kept { IfOk result (λ added. added ≡ false → types.new ≡ types.old) }
+    ensures grown { OnOk result (Extends types.old.types types.new.types) }
     ensures memory { IfErr result (λ e. e ≡ Error.Memory) }
     ensures left { KeepsPieces u.old u.new }
 {
@@ -212,23 +232,27 @@ fn add_rec_group(
     config: &Config,
     types: &mut TypeSpace,
     entities: &Entities<'_>,
+    grounds: &EarlyGrounds,
     allow_empty: bool,
     u: &mut Unstructured<'_>,
 ) -> Result<(), Error>
     requires room { length types.old.types < config.now.max_types }
     requires few { config.now.max_types ≤ 2 ^ 31 }
-    ensures { DrawsInto
+    requires grounds { AreEarlyGrounds
+        (over (functions_in config.now entities.now) types.old.types) grounds.now }
+    ensures draws { DrawsInto
         (rec_group_at config.now (functions_in config.now entities.now) allow_empty types.old u.old)
         types.new result u.old u.new }
+    ensures grown { OnOk result (Extends types.old.types types.new.types) }
 {
     if !is_clone_wanted(config, types, u) {
-        return add_new_group(alloc, config, types, entities, allow_empty, u);
+        return add_new_group(alloc, config, types, entities, grounds, allow_empty, u);
     }
     let added = clone_group(alloc, config, types, allow_empty, u)?;
     if added || allow_empty {
         return Ok(());
     }
-    add_new_group(alloc, config, types, entities, allow_empty, u)
+    add_new_group(alloc, config, types, entities, grounds, allow_empty, u)
 }
 
 /// Adds groups while `types` has too few types.
@@ -237,16 +261,20 @@ fn add_least_types(
     config: &Config,
     types: &mut TypeSpace,
     entities: &Entities<'_>,
+    grounds: &EarlyGrounds,
     u: &mut Unstructured<'_>,
 ) -> Result<(), Error>
     requires ordered { config.now.min_types ≤ config.now.max_types }
     requires few { config.now.max_types ≤ 2 ^ 31 }
-    ensures { DrawsInto (least_types_at config.now
+    requires grounds { AreEarlyGrounds
+        (over (functions_in config.now entities.now) types.old.types) grounds.now }
+    ensures draws { DrawsInto (least_types_at config.now
         (functions_in config.now entities.now) config.now.min_types types.old u.old)
         types.new result u.old u.new }
+    ensures grown { OnOk result (Extends types.old.types types.new.types) }
 {
     while types.types().len() < config.min_types {
-        add_rec_group(alloc, config, types, entities, false, u)?;
+        add_rec_group(alloc, config, types, entities, grounds, false, u)?;
     }
     Ok(())
 }
@@ -257,9 +285,12 @@ fn add_more_types(
     config: &Config,
     types: &mut TypeSpace,
     entities: &Entities<'_>,
+    grounds: &EarlyGrounds,
     u: &mut Unstructured<'_>,
 ) -> Result<(), Error>
     requires few { config.now.max_types ≤ 2 ^ 31 }
+    requires grounds { AreEarlyGrounds
+        (over (functions_in config.now entities.now) types.old.types) grounds.now }
     ensures { DrawsInto (more_types_at config.now (functions_in config.now entities.now)
         (length u.old + 1) types.old u.old) types.new result u.old u.new }
 {
@@ -267,7 +298,7 @@ fn add_more_types(
         if !u.arbitrary::<bool>() {
             return Ok(());
         }
-        add_rec_group(alloc, config, types, entities, true, u)?;
+        add_rec_group(alloc, config, types, entities, grounds, true, u)?;
     }
     Ok(())
 }
@@ -285,8 +316,9 @@ fn add_all_types(
     ensures { DrawsInto (types_at config.now (functions_in config.now entities.now) types.old u.old)
         types.new result u.old u.new }
 {
-    add_least_types(alloc, config, types, entities, u)?;
-    add_more_types(alloc, config, types, entities, u)
+    let grounds = EarlyGrounds::of(alloc, config, types, entities)?;
+    add_least_types(alloc, config, types, entities, &grounds, u)?;
+    add_more_types(alloc, config, types, entities, &grounds, u)
 }
 
 /// Chooses a group of `types` and adds a clone of it. Returns whether a clone was added. See the
@@ -372,7 +404,8 @@ pub fn arbitrary_rec_group(
         → OnOk result (Takes (SpellsAdded config.now types.old) u.old types.new u.new) }
 {
     let _groups = types.types();
-    add_rec_group(alloc, config, types, entities, allow_empty, u)
+    let grounds = EarlyGrounds::of(alloc, config, types, entities)?;
+    add_rec_group(alloc, config, types, entities, &grounds, allow_empty, u)
 }
 
 /// Adds groups to `types` until there are at least `config.min_types` types, then further groups as

@@ -5,7 +5,9 @@ ghost use Rattle.smith_types.specs.Expressions.{reference_to, function_reference
 ghost use Rattle.smith_types.specs.FuncGrounds.{AreFuncGrounds};
 ghost use Rattle.smith_draw.specs.Grounding.{standing_in, functions_in, over, any_from};
 ghost use Rattle.smith_draw.specs.Grounding.{function_grounds, is_grounded};
+ghost use Rattle.smith_draw.specs.KeptGrounds.{AreEarlyGrounds, IsRecordOver};
 
+use crate::early_grounds::EarlyGrounds;
 use crate::spaces::{Entities, Spaces};
 use smith_config::Config;
 use smith_types::{FuncGrounds, HeapType, SubType, TypeSpace};
@@ -18,8 +20,10 @@ pub struct Standing<'a> {
     types: &'a TypeSpace,
     funcs: &'a [u32],
     imported_funcs: usize,
-    // The record of the heap types that the functions ground, if there is one.
-    grounds: Option<&'a FuncGrounds>,
+    // A record of the heap types that the functions ground, if there is one, and the number of types
+    // when it was made.
+    kept: Option<&'a FuncGrounds>,
+    recorded: usize,
 }
 
 impl<'a> Model for Standing<'a> {
@@ -28,20 +32,21 @@ impl<'a> Model for Standing<'a> {
     ghost use Rattle.smith_types.specs.FuncGrounds.{AreFuncGrounds};
     ghost use Rattle.smith_config.specs.Features.{features_of};
     ghost use Rattle.smith_draw.specs.Grounding.{function_context};
+    ghost use Rattle.smith_draw.specs.KeptGrounds.{IsRecordOver};
 
     ghost Value = { Context };
 
     ghost view = { λ a.
         function_context (features_of a.config.now) a.types.now.types a.funcs.now a.imported_funcs };
 
-    ghost invariant = { λ a. IfSome a.grounds (λ grounds. AreFuncGrounds
+    ghost invariant = { λ a. IfSome a.kept (λ kept. IsRecordOver
         (function_context (features_of a.config.now) a.types.now.types a.funcs.now a.imported_funcs)
-        grounds.now) };
+        a.recorded kept.now) };
 }
 
 impl<'a> Standing<'a> {
     /// Returns the types and functions of `spaces`. Each check of whether a function grounds a
-    /// heap type reads all functions.
+    /// heap type reads all functions, so this is for draws of a single reference.
     pub(crate) fn over(config: &'a Config, spaces: &Spaces<'a>) -> Standing<'a>
         ensures { result ≡ standing_in config.now spaces.now }
     {
@@ -50,16 +55,21 @@ impl<'a> Standing<'a> {
             types: spaces.types,
             funcs: spaces.entities.funcs,
             imported_funcs: spaces.entities.imported_funcs,
-            grounds: None,
+            kept: None,
+            recorded: 0,
         }
     }
 
-    /// Returns the types of `types` and the functions of `entities`, as [`Standing::over`] does.
+    /// Returns the types of `types` and the functions of `entities`. Checks of whether a function
+    /// grounds a heap type use the record `grounds`, to which types may have been added since.
     pub(crate) fn beside(
         config: &'a Config,
         types: &'a TypeSpace,
         entities: &Entities<'a>,
+        grounds: &'a EarlyGrounds,
     ) -> Standing<'a>
+        requires { AreEarlyGrounds (over (functions_in config.now entities.now) types.now.types)
+            grounds.now }
         ensures { result ≡ over (functions_in config.now entities.now) types.now.types }
     {
         Standing {
@@ -67,7 +77,8 @@ impl<'a> Standing<'a> {
             types,
             funcs: entities.funcs,
             imported_funcs: entities.imported_funcs,
-            grounds: None,
+            kept: grounds.kept.as_ref(),
+            recorded: grounds.types,
         }
     }
 
@@ -87,7 +98,8 @@ impl<'a> Standing<'a> {
             types: spaces.types,
             funcs: spaces.entities.funcs,
             imported_funcs: spaces.entities.imported_funcs,
-            grounds,
+            kept: grounds,
+            recorded: spaces.types.types().len(),
         }
     }
 
@@ -126,10 +138,22 @@ impl<'a> Standing<'a> {
         requires stands { IsInRange self.now.types ty }
         ensures { result ≡ any_from (function_grounds self.now ty) 0 self.now.funcs }
     {
-        if let Some(grounds) = self.grounds {
-            return grounds.are_grounding(ty);
+        if let Some(kept) = self.kept {
+            return self.is_recorded(kept, self.recorded, ty);
         }
         self.is_above_a_function(ty)
+    }
+
+    /// Returns the same as [`Standing::is_grounded_by_functions`], from the record `kept`, which was
+    /// made over the first `recorded` types. No function grounds a type that was added later.
+    fn is_recorded(&self, kept: &FuncGrounds, recorded: usize, ty: HeapType) -> bool
+        requires orderly { IsOrderly self.now.types }
+        requires stands { IsInRange self.now.types ty }
+        requires kept { IsRecordOver self.now recorded kept.now }
+        ensures { result ≡ any_from (function_grounds self.now ty) 0 self.now.funcs }
+    {
+        let types = self.types.types();
+        stands(&types[..recorded], ty) && kept.are_grounding(ty)
     }
 
     /// Returns the same as [`Standing::is_grounded_by_functions`], by reading each function.

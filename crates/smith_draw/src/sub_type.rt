@@ -9,6 +9,7 @@ ghost use Rattle.smith_config.specs.Sanitized.{IsSanitized};
 ghost use Rattle.smith_draw.specs.Drawing.{AlwaysDraws, Draws};
 ghost use Rattle.smith_config.specs.Granted.{HasGranted, AreTypesGranted};
 ghost use Rattle.smith_draw.specs.Grounding.{functions_in, over, standing_in};
+ghost use Rattle.smith_draw.specs.KeptGrounds.{AreEarlyGrounds};
 ghost use Rattle.smith_draw.specs.SubTypes.{
   supertypes,
   is_final_at,
@@ -22,8 +23,10 @@ ghost use Rattle.smith_draw.specs.SubTypes.{
 };
 ghost use Rattle.smith_draw.specs.Spelling.{IsRoot, RefersTo, SpellsSubType};
 
+use crate::call_grounds::CallGrounds;
 use crate::choice::choose;
 use crate::composite_type::draw_composite_type;
+use crate::early_grounds::EarlyGrounds;
 use crate::matching_composite::draw_matching_composite_type;
 use crate::spaces::{Entities, Spaces, orderly};
 use crate::standing::Standing;
@@ -129,21 +132,25 @@ fn is_supertype_wanted(config: &Config, count: usize, u: &mut Unstructured<'_>) 
 }
 
 /// Draws a type over `types` and the functions of `entities`: a subtype of a type that may have
-/// subtypes, or a type without a supertype.
+/// subtypes, or a type without a supertype. `grounds` is a record of the functions, which was made
+/// when there were fewer types or as many.
 #[tactic(auto, unfolding(crate::specs::SubTypes::sub_type_at))]
 pub(crate) fn draw_sub_type(
     alloc: Global,
     config: &Config,
     types: &TypeSpace,
     entities: &Entities<'_>,
+    grounds: &EarlyGrounds,
     limit: u32,
     u: &mut Unstructured<'_>,
 ) -> Result<SubType, Error>
+    requires { AreEarlyGrounds (over (functions_in config.now entities.now) types.now.types)
+        grounds.now }
     ensures { Draws (sub_type_at config.now
         (over (functions_in config.now entities.now) types.now.types) limit u.old)
         result u.old u.new }
 {
-    let standing = Standing::beside(config, types, entities);
+    let standing = Standing::beside(config, types, entities, grounds);
     let indices = supertypes(types);
     if is_supertype_wanted(config, indices.len(), u) {
         return draw_sub_type_of(alloc, config, &standing, limit, indices, u);
@@ -179,7 +186,16 @@ pub fn arbitrary_sub_type(
         (SpellsSubType config.now spaces.now.types.now.types limit)) u.old drawn u.new) }
 {
     orderly(spaces);
-    draw_sub_type(alloc, config, spaces.types, &spaces.entities, limit, u)
+    let grounds = EarlyGrounds::of(alloc, config, spaces.types, &spaces.entities)?;
+    draw_sub_type(
+        alloc,
+        config,
+        spaces.types,
+        &spaces.entities,
+        &grounds,
+        limit,
+        u,
+    )
 }
 
 /// Draws a subtype of a type of `spaces` that may have subtypes. See the standard, section
@@ -211,6 +227,7 @@ pub fn arbitrary_sub_type_of_super_type(
 {
     orderly(spaces);
     let indices = supertypes(spaces.types);
-    let standing = Standing::over(config, spaces);
+    let call = CallGrounds::over(alloc, config, spaces)?;
+    let standing = call.standing();
     draw_sub_type_of(alloc, config, &standing, limit, indices, u)
 }

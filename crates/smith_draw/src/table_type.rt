@@ -102,5 +102,6 @@ pub fn arbitrary_table_type(
     ensures grounded { IfOk result (λ drawn.
         ¬ IsUngrounded config.now (standing_in config.now spaces.now) (Ref drawn.element_type)) }
 {
-    Ok(draw_table_type(config, &Standing::over(config, spaces), u))
+    let standing = Standing::over(config, spaces);
+    Ok(draw_table_type(config, &standing, u))
 }

@@ -1,11 +1,16 @@
 -- Records of the offered globals and functions, for the examples.
-use Rattle.std.specs.Prelude.{ℕ, List, [], ◌∷◌}
+use Rattle.std.specs.Prelude.{◌≡◌, ℕ, Option, List, [], ◌∷◌}
 use Rattle.smith_types.specs.declared.value_type.ValType.{ValType}
 use Rattle.smith_types.specs.declared.value_type.ValType.TheVariants.{I32, Ref}
 use Rattle.smith_types.specs.declared.value_type.AbstractHeapType.TheVariants as heap
+use Rattle.smith_types.specs.ExampleContexts.{context_types}
+use Rattle.smith_types.specs.ExampleEntities.{constant_global, variable_global}
 use Rattle.smith_types.specs.ExampleTypes.{plain, nullable}
+use Rattle.smith_draw.specs.KeptOffers.{AreClasses, readable}
 use Rattle.smith_draw.specs.declared.const_expr.block_counts.BlockCounts.{BlockCounts}
+use Rattle.smith_draw.specs.declared.const_expr.classes.Classes.{Classes}
 use Rattle.smith_draw.specs.declared.const_expr.kept_offers.KeptOffer.{KeptOffer}
+use Rattle.smith_draw.specs.declared.const_expr.kept_offers.KeptOffers.{KeptOffers}
 
 -- the counts of items read: all, those offered, and those offered before each block
 abbrev pub counts : ℕ → ℕ → List ℕ → BlockCounts
@@ -14,9 +19,9 @@ counts seen total starts = record { seen = seen; total = total; starts = starts 
 abbrev pub unread : BlockCounts
 unread = counts 0 0 []
 
--- the entry for a type: the counts of globals and of functions
+-- the entry for a type: the counts of globals and of functions; no class has a flag
 abbrev pub kept_for : ValType → BlockCounts → BlockCounts → KeptOffer
-kept_for wanted globals funcs = record { wanted = wanted; globals = globals; funcs = funcs }
+kept_for wanted globals funcs = record { wanted = wanted; globals = globals; funcs = funcs; global_flags = []; func_flags = [] }
 
 -- the type of references to functions
 abbrev pub to_functions : ValType
@@ -32,3 +37,15 @@ functions = kept_for to_functions (counts 3 0 (0 ∷ [])) (counts 2 2 (0 ∷ [])
 -- an entry without one of the functions
 abbrev pub too_few_functions : KeptOffer
 too_few_functions = kept_for to_functions (counts 3 0 (0 ∷ [])) (counts 2 1 (0 ∷ []))
+
+-- classes of the given types, and the class of each item
+abbrev pub HasClasses : Classes → List (Option ValType) → List ℕ → Type 0
+HasClasses classes kinds of = (classes.kinds ≡ kinds) × (classes.of ≡ of)
+
+-- they are correct for an immutable, a mutable and an immutable global
+abbrev pub AreGlobalClasses : Classes → Type 0
+AreGlobalClasses classes = AreClasses context_types (λ index global. readable global) (constant_global I32 ∷ variable_global I32 ∷ constant_global I32 ∷ []) classes
+
+-- no global and no function has been read, and the entries are given
+abbrev pub HasEntries : KeptOffers → List KeptOffer → Type 0
+HasEntries kept entries = HasClasses kept.items.globals [] [] × HasClasses kept.items.funcs [] [] × (kept.kept.items ≡ entries)

@@ -1,7 +1,7 @@
 // Records of the offered globals and functions: correct ones, and others. The clauses are proved;
 // nothing calls these functions.
 
-ghost use Rattle.std.specs.Prelude.{◌≡◌, ◌*◌, [], ◌∷◌};
+ghost use Rattle.std.specs.Prelude.{◌≡◌, ◌*◌, true, false, None, Some, [], ◌∷◌};
 ghost use Rattle.smith_types.specs.declared.value_type.ValType.TheVariants.{I32, I64, Ref};
 ghost use Rattle.smith_types.specs.declared.value_type.HeapType.TheVariants.{Concrete, Exact};
 ghost use Rattle.smith_types.specs.Features.{every_feature};
@@ -9,10 +9,13 @@ ghost use Rattle.smith_types.specs.ExampleFeatures.{usual_features};
 ghost use Rattle.smith_types.specs.ExampleTypes.{nullable, not_null};
 ghost use Rattle.smith_types.specs.ExampleContexts.{context_with};
 ghost use Rattle.smith_draw.specs.ExampleConstExprs.{context_of_types};
-ghost use Rattle.smith_draw.specs.KeptOffers.{AreKeptOffers, IsCounted, IsKeptOffer, IsWhole};
+ghost use Rattle.smith_draw.specs.KeptOffers.{AreFlags, AreKeptOffers, IsCounted, IsKeptOffer};
+ghost use Rattle.smith_draw.specs.KeptOffers.{IsWhole};
+ghost use Rattle.smith_draw.specs.declared.const_expr.classes.Classes.{Classes};
 ghost use Rattle.smith_draw.specs.declared.const_expr.kept_offers.KeptOffers.{KeptOffers};
-ghost use Rattle.smith_draw_examples.specs.ExampleKeptOffers.{counts, unread, kept_for};
-ghost use Rattle.smith_draw_examples.specs.ExampleKeptOffers.{to_functions, numbers, functions};
+ghost use Rattle.smith_draw_examples.specs.ExampleKeptOffers.{counts, unread, kept_for, functions};
+ghost use Rattle.smith_draw_examples.specs.ExampleKeptOffers.{to_functions, numbers, HasClasses};
+ghost use Rattle.smith_draw_examples.specs.ExampleKeptOffers.{HasEntries, AreGlobalClasses};
 ghost use Rattle.smith_draw_examples.specs.ExampleKeptOffers.{too_few_functions};
 
 fn counted()
@@ -91,12 +94,46 @@ fn whole()
     ensures for_another_type { ¬ IsWhole (context_with usual_features 3) to_functions numbers }
 {}
 
+fn classes()
+    ensures nothing_read { (classes : Classes) → HasClasses classes [] []
+        → AreGlobalClasses classes }
+    ensures all_globals { (classes : Classes)
+        → HasClasses classes (Some I32 ∷ None ∷ []) (0 ∷ 1 ∷ 0 ∷ []) → AreGlobalClasses classes }
+    ensures two_classes_of_one_type { (classes : Classes)
+        → HasClasses classes (Some I32 ∷ None ∷ Some I32 ∷ []) (0 ∷ 1 ∷ 2 ∷ [])
+        → AreGlobalClasses classes }
+    ensures a_mutable_global_in_a_class_of_numbers { (classes : Classes)
+        → HasClasses classes (Some I32 ∷ []) (0 ∷ 0 ∷ []) → ¬ AreGlobalClasses classes }
+    ensures an_immutable_global_among_the_mutable { (classes : Classes)
+        → HasClasses classes (None ∷ []) (0 ∷ []) → ¬ AreGlobalClasses classes }
+    ensures a_class_of_another_type { (classes : Classes)
+        → HasClasses classes (Some I64 ∷ []) (0 ∷ []) → ¬ AreGlobalClasses classes }
+    ensures a_class_that_does_not_exist { (classes : Classes)
+        → HasClasses classes (Some I32 ∷ []) (1 ∷ []) → ¬ AreGlobalClasses classes }
+    ensures a_class_of_no_global { (classes : Classes)
+        → HasClasses classes (Some I32 ∷ None ∷ []) (0 ∷ []) → ¬ AreGlobalClasses classes }
+    ensures more_globals_than_exist { (classes : Classes)
+        → HasClasses classes (Some I32 ∷ None ∷ []) (0 ∷ 1 ∷ 0 ∷ 0 ∷ [])
+        → ¬ AreGlobalClasses classes }
+{}
+
+fn flags()
+    ensures nothing_tested { AreFlags [] I32 (Some I32 ∷ []) [] }
+    ensures all_tested { AreFlags [] I32 (Some I64 ∷ None ∷ Some I32 ∷ [])
+        (false ∷ false ∷ true ∷ []) }
+    ensures the_first_tested { AreFlags [] I32 (Some I32 ∷ None ∷ []) (true ∷ []) }
+    ensures mutable_globals_offered { ¬ AreFlags [] I32 (None ∷ []) (true ∷ []) }
+    ensures another_type_offered { ¬ AreFlags [] I32 (Some I64 ∷ []) (true ∷ []) }
+    ensures its_type_not_offered { ¬ AreFlags [] I32 (Some I32 ∷ []) (false ∷ []) }
+    ensures more_flags_than_classes { ¬ AreFlags [] I32 [] (false ∷ []) }
+{}
+
 fn offers()
-    ensures nothing_kept { (kept : KeptOffers) → kept.kept.items ≡ []
+    ensures nothing_kept { (kept : KeptOffers) → HasEntries kept []
         → AreKeptOffers (context_with usual_features 3) kept }
-    ensures of_two_types { (kept : KeptOffers) → kept.kept.items ≡ numbers ∷ functions ∷ []
+    ensures of_two_types { (kept : KeptOffers) → HasEntries kept (numbers ∷ functions ∷ [])
         → AreKeptOffers (context_with usual_features 3) kept }
     ensures of_which_one_is_wrong { (kept : KeptOffers)
-        → kept.kept.items ≡ numbers ∷ too_few_functions ∷ []
+        → HasEntries kept (numbers ∷ too_few_functions ∷ [])
         → ¬ AreKeptOffers (context_with usual_features 3) kept }
 {}

@@ -1,18 +1,22 @@
 ghost use Rattle.std.specs.Prelude.{◌≡◌, ◌+◌, ◌*◌, ◌/◌, ◌<◌, ◌≤◌, ◌↔◌, ℕ, false, IsTrue, IfSome};
-ghost use Rattle.std.specs.Prelude.{IfOk, IfErr, OnOk, length};
+ghost use Rattle.std.specs.Prelude.{IfOk, IfErr, OnOk, All, length, slice_index};
 ghost use Rattle.smith_types.specs.Expressions.{Context};
 ghost use Rattle.smith_types.specs.Subtyping.{IsValInRange};
+ghost use Rattle.smith_types.specs.Types.{IsOrderly};
 ghost use Rattle.smith_types.specs.declared.value_type.ValType.{ValType as Wanted};
 ghost use Rattle.smith_draw.specs.ConstOffers.{function_offers, global_offers};
 ghost use Rattle.smith_draw.specs.ConstScopes.{context_of, IsScope};
-ghost use Rattle.smith_draw.specs.KeptOffers.{AreKeptOffers, IsCounted, IsKeptAt, IsKeptOffer};
-ghost use Rattle.smith_draw.specs.KeptOffers.{IsWhole, IsWiderOffer, offered_before};
+ghost use Rattle.smith_draw.specs.KeptOffers.{AreAllRead, AreFlags, AreItemsRead, AreKeptOffers};
+ghost use Rattle.smith_draw.specs.KeptOffers.{IsCounted, IsEntry, IsKeptAt, IsTested, IsWhole};
+ghost use Rattle.smith_draw.specs.KeptOffers.{IsWiderOffer, offered_before};
+ghost use Rattle.smith_draw.specs.declared.const_expr.read_items.ReadItems.{ReadItems as Read};
 
 use super::block_counts::BlockCounts;
-use super::references::{function_reference, is_below, is_readable, widest};
+use super::read_items::ReadItems;
+use super::references::{is_offered, widest};
 use super::scope::Scope;
 use smith_bytes::Error;
-use smith_types::{ValType, is_same};
+use smith_types::{Items, TypeSpace, ValType, is_same};
 use std::alloc::Global;
 use std::mem;
 
@@ -20,10 +24,12 @@ use std::mem;
 /// reading them again.
 const FEW: usize = 32;
 
-/// The counts of globals and functions offered for each wanted type. A first draw of a type reads
-/// all globals and functions, and each later one at most a few of each.
+/// The counts of globals and functions offered for each wanted type. All draws together look at
+/// each global and each function once, to put it into a class. A first draw of a type tests each
+/// class and counts the items of the classes that are offered. Each later draw looks at a few items
+/// at most.
 ///
-/// For a type of unshared references, a first draw tests only the globals near one that is offered
+/// For a type of unshared references, a first draw counts only the globals near one that is offered
 /// for the top of its hierarchy.
 ///
 /// Initialisers of tables and of globals may share one value: an entry that has read defined
@@ -32,6 +38,8 @@ const FEW: usize = 32;
 #[derive(Drop)]
 pub struct KeptOffers {
     kept: Vec<KeptOffer>,
+    // The classes of the globals and functions.
+    items: ReadItems,
 }
 
 /// The counts of globals and functions offered for values of one type, among those read so far.
@@ -42,6 +50,10 @@ pub(super) struct KeptOffer {
     pub globals: BlockCounts,
     /// The counts of functions.
     pub funcs: BlockCounts,
+    // For each of the first classes of globals, whether its globals are offered.
+    global_flags: Items<bool>,
+    // For each of the first classes of functions, whether its functions are offered.
+    func_flags: Items<bool>,
 }
 
 impl KeptOffers {
@@ -51,6 +63,7 @@ impl KeptOffers {
     {
         KeptOffers {
             kept: Vec::new(alloc),
+            items: ReadItems::new(alloc),
         }
     }
 
@@ -78,12 +91,13 @@ impl KeptOffers {
         if self.kept[place].is_current(scope) {
             return Ok(Some(place));
         }
+        self.items.read(scope)?;
         self.look_at(alloc, scope, wanted, place)?;
         Ok(Some(place))
     }
 
-    /// Reads the globals and functions of `scope` that have not been read for the entry at `place`,
-    /// which is for the type `wanted`.
+    /// Counts the globals and functions of `scope` that have not been counted for the entry at
+    /// `place`, which is for the type `wanted`.
     fn look_at(
         &mut self,
         alloc: Global,
@@ -94,19 +108,20 @@ impl KeptOffers {
         requires scope { IsScope (context_of scope.now) }
         requires upper { IsValInRange (context_of scope.now).types wanted }
         requires kept { AreKeptOffers (context_of scope.now) self.old }
+        requires read { AreAllRead (context_of scope.now) self.old.items }
         requires place { IsKeptAt self.old.kept.items place wanted }
         ensures kept { OnOk result (AreKeptOffers (context_of scope.now) self.new) }
         ensures place { OnOk result (IsKeptAt self.new.kept.items place wanted) }
         ensures memory { IfErr result (λ e. e ≡ Error.Memory) }
     {
         let Some(wider) = widest(scope.spaces.types, wanted) else {
-            return self.kept[place].look(scope, None);
+            return self.kept[place].look(scope, &self.items, None);
         };
         let source = self.place_of(alloc, wider, scope.visible)?;
-        self.kept[source].look(scope, None)?;
+        self.kept[source].look(scope, &self.items, None)?;
         let none = KeptOffer::new(alloc, wanted);
         let mut offer = mem::replace(&mut self.kept[place], none);
-        offer.look(scope, Some(&self.kept[source]))?;
+        offer.look(scope, &self.items, Some(&self.kept[source]))?;
         self.kept[place] = offer;
         Ok(())
     }
@@ -116,6 +131,7 @@ impl KeptOffers {
     fn place_of(&mut self, alloc: Global, wanted: ValType, visible: usize) -> Result<usize, Error>
         ensures kept { (context : Context) → IsValInRange context.types wanted
             → AreKeptOffers context self.old → OnOk result (AreKeptOffers context self.new) }
+        ensures items { OnOk result (self.new.items ≡ self.old.items) }
         ensures place { IfOk result (λ place. IsKeptAt self.new.kept.items place wanted) }
         ensures still { (at : ℕ) (other : Wanted) → IsKeptAt self.old.kept.items at other
             → OnOk result (IsKeptAt self.new.kept.items at other) }
@@ -171,85 +187,39 @@ fn may_offer(wider: Option<&KeptOffer>, first: usize, end: usize) -> bool
     }
 }
 
-/// Returns the number of globals from the index `first` up to `end` that are offered for the type
-/// `wanted`. Tests none of them if `wider`, an entry for a wider type, excludes them. They belong
-/// to one block.
-fn count_globals(
-    scope: &Scope<'_>,
-    first: usize,
-    end: usize,
+/// Appends to `flags` whether each class that has no flag is offered for the type `wanted`.
+fn test_kinds(
+    types: &TypeSpace,
+    kinds: &[Option<ValType>],
     wanted: ValType,
-    wider: Option<&KeptOffer>,
-) -> usize
-    requires scope { IsScope (context_of scope.now) }
-    requires upper { IsValInRange (context_of scope.now).types wanted }
-    requires there { end ≤ length (context_of scope.now).globals }
-    requires one_block { first < end × end ≤ 8 * (first / 8 + 1) }
-    requires wider { IfSome wider (λ offer.
-        IsWiderOffer (context_of scope.now) wanted offer.now) }
-    ensures { offered_before (global_offers (context_of scope.now) wanted)
-        (context_of scope.now).globals end
-        ≡ offered_before (global_offers (context_of scope.now) wanted)
-        (context_of scope.now).globals first + result }
+    flags: &mut Items<bool>,
+) -> Result<(), Error>
+    requires lower { All (λ kind. IfSome kind (IsValInRange types.now.types)) kinds.now }
+    requires upper { IsValInRange types.now.types wanted }
+    requires flags { AreFlags types.now.types wanted kinds.now flags.old }
+    ensures flags { OnOk result (AreFlags types.now.types wanted kinds.now flags.new) }
+    ensures all { OnOk result (length flags.new ≡ length kinds.now) }
+    ensures memory { IfErr result (λ e. e ≡ Error.Memory) }
 {
-    if !may_offer(wider, first, end) {
-        return 0;
+    for index in flags.len()..kinds.len() {
+        flags.push(is_offered(types, kinds[index], wanted))?;
     }
-    count_readable(scope, first, end, wanted)
-}
-
-/// Returns the number of globals from the index `first` up to `end` that are offered for the type
-/// `wanted`. Tests each.
-fn count_readable(scope: &Scope<'_>, first: usize, end: usize, wanted: ValType) -> usize
-    requires scope { IsScope (context_of scope.now) }
-    requires upper { IsValInRange (context_of scope.now).types wanted }
-    requires there { first ≤ end × end ≤ length (context_of scope.now).globals }
-    ensures { offered_before (global_offers (context_of scope.now) wanted)
-        (context_of scope.now).globals end
-        ≡ offered_before (global_offers (context_of scope.now) wanted)
-        (context_of scope.now).globals first + result }
-{
-    let entities = scope.spaces.entities;
-    let mut count = 0;
-    for index in first..end {
-        let offered = is_readable(scope.spaces.types, entities.globals[index], wanted);
-        count += usize::from(offered);
-    }
-    count
-}
-
-/// Returns the number of functions from the index `first` up to `end` that are offered for the type
-/// `wanted`.
-fn count_funcs(scope: &Scope<'_>, first: usize, end: usize, wanted: ValType) -> usize
-    requires scope { IsScope (context_of scope.now) }
-    requires upper { IsValInRange (context_of scope.now).types wanted }
-    requires there { first ≤ end × end ≤ length (context_of scope.now).funcs }
-    ensures { offered_before (function_offers (context_of scope.now) wanted)
-        (context_of scope.now).funcs end
-        ≡ offered_before (function_offers (context_of scope.now) wanted)
-        (context_of scope.now).funcs first + result }
-{
-    let entities = scope.spaces.entities;
-    let mut count = 0;
-    for index in first..end {
-        let reference = function_reference(scope, index, entities.funcs[index]);
-        let offered = is_below(scope.spaces.types, reference, wanted);
-        count += usize::from(offered);
-    }
-    count
+    Ok(())
 }
 
 impl KeptOffer {
     /// Creates an entry for the type `wanted`, with no global and no function read.
     fn new(alloc: Global, wanted: ValType) -> KeptOffer
-        ensures kept { (context : Context) → IsValInRange context.types wanted
-            → IsKeptOffer context result }
+        ensures kept { (context : Context) (items : Read) → IsValInRange context.types wanted
+            → IsEntry context items result }
         ensures wanted { result.wanted ≡ wanted }
     {
         KeptOffer {
             wanted,
             globals: BlockCounts::new(alloc),
             funcs: BlockCounts::new(alloc),
+            global_flags: Items::new(alloc),
+            func_flags: Items::new(alloc),
         }
     }
 
@@ -270,46 +240,106 @@ impl KeptOffer {
         self.globals.seen == scope.visible && self.funcs.seen == entities.funcs.len()
     }
 
-    /// Reads the globals and functions of `scope` that have not been read. Tests only the globals
-    /// that `wider`, if given, does not exclude: an entry for a wider type.
-    fn look(&mut self, scope: &Scope<'_>, wider: Option<&KeptOffer>) -> Result<(), Error>
+    /// Counts the globals and functions of `scope` that have not been counted, by the classes in
+    /// `items`. Passes over the globals that `wider`, an entry for a wider type, excludes.
+    fn look(
+        &mut self,
+        scope: &Scope<'_>,
+        items: &ReadItems,
+        wider: Option<&KeptOffer>,
+    ) -> Result<(), Error>
         requires scope { IsScope (context_of scope.now) }
-        requires kept { IsKeptOffer (context_of scope.now) self.old }
+        requires read { AreAllRead (context_of scope.now) items.now }
+        requires kept { IsEntry (context_of scope.now) items.now self.old }
         requires wider { IfSome wider (λ offer.
             IsWiderOffer (context_of scope.now) self.old.wanted offer.now) }
-        ensures kept { OnOk result (IsKeptOffer (context_of scope.now) self.new) }
+        ensures kept { OnOk result (IsEntry (context_of scope.now) items.now self.new) }
         ensures wanted { OnOk result (self.new.wanted ≡ self.old.wanted) }
         ensures memory { IfErr result (λ e. e ≡ Error.Memory) }
     {
-        self.look_at_globals(scope, wider)?;
-        self.look_at_funcs(scope)
+        self.test(scope, items)?;
+        self.look_at_globals(scope, items, wider)?;
+        self.look_at_funcs(scope, items)
     }
 
-    /// Reads the globals of `scope` that have not been read, a block at a time. Tests only those
-    /// that `wider`, if given, does not exclude: an entry for a wider type.
-    fn look_at_globals(&mut self, scope: &Scope<'_>, wider: Option<&KeptOffer>) -> Result<(), Error>
+    /// Tests each class in `items` that has not been tested.
+    fn test(&mut self, scope: &Scope<'_>, items: &ReadItems) -> Result<(), Error>
+        requires read { AreItemsRead (context_of scope.now) items.now }
+        requires kept { IsEntry (context_of scope.now) items.now self.old }
+        ensures kept { OnOk result (IsEntry (context_of scope.now) items.now self.new) }
+        ensures tested { OnOk result (IsTested items.now self.new) }
+        ensures wanted { OnOk result (self.new.wanted ≡ self.old.wanted) }
+        ensures memory { IfErr result (λ e. e ≡ Error.Memory) }
+    {
+        let types = scope.spaces.types;
+        let kinds = items.globals.kinds.as_slice();
+        test_kinds(types, kinds, self.wanted, &mut self.global_flags)?;
+        let kinds = items.funcs.kinds.as_slice();
+        test_kinds(types, kinds, self.wanted, &mut self.func_flags)
+    }
+
+    /// Counts the globals of `scope` that have not been counted, a block at a time. Passes over
+    /// those that `wider`, if given, excludes: an entry for a wider type.
+    fn look_at_globals(
+        &mut self,
+        scope: &Scope<'_>,
+        items: &ReadItems,
+        wider: Option<&KeptOffer>,
+    ) -> Result<(), Error>
         requires scope { IsScope (context_of scope.now) }
-        requires kept { IsKeptOffer (context_of scope.now) self.old }
+        requires read { AreAllRead (context_of scope.now) items.now }
+        requires kept { IsEntry (context_of scope.now) items.now self.old }
+        requires tested { IsTested items.now self.old }
         requires wider { IfSome wider (λ offer.
             IsWiderOffer (context_of scope.now) self.old.wanted offer.now) }
-        ensures kept { OnOk result (IsKeptOffer (context_of scope.now) self.new) }
+        ensures kept { OnOk result (IsEntry (context_of scope.now) items.now self.new) }
+        ensures tested { OnOk result (IsTested items.now self.new) }
         ensures wanted { OnOk result (self.new.wanted ≡ self.old.wanted) }
         ensures memory { IfErr result (λ e. e ≡ Error.Memory) }
     {
         while self.globals.seen < scope.visible {
             let first = self.globals.seen;
             let end = self.globals.block_end().min(scope.visible);
-            let offered = count_globals(scope, first, end, self.wanted, wider);
+            let offered = self.count_globals(items, first, end, wider);
             self.globals.read_to(end, offered)?;
         }
         Ok(())
     }
 
-    /// Reads the functions of `scope` that have not been read, a block at a time.
-    fn look_at_funcs(&mut self, scope: &Scope<'_>) -> Result<(), Error>
+    /// Returns the number of globals from the index `first` up to `end` that are offered. Returns 0
+    /// at once if `wider`, an entry for a wider type, excludes them. They belong to one block.
+    fn count_globals(
+        &self,
+        items: &ReadItems,
+        first: usize,
+        end: usize,
+        wider: Option<&KeptOffer>,
+    ) -> usize
+        requires one_block { first < end × end ≤ 8 * (first / 8 + 1) }
+        requires read { end ≤ length items.now.globals.of }
+        requires flags { (i : ℕ) → i < length items.now.globals.of
+            → slice_index items.now.globals.of i < length self.now.global_flags }
+        ensures { (context : Context) → IsOrderly context.types → AreItemsRead context items.now
+            → IsEntry context items.now self.now
+            → IfSome wider.entry (λ offer. IsWiderOffer context self.now.wanted offer.now)
+            → offered_before (global_offers context self.now.wanted) context.globals end
+            ≡ offered_before (global_offers context self.now.wanted) context.globals first
+            + result }
+    {
+        if !may_offer(wider, first, end) {
+            return 0;
+        }
+        let flags = self.global_flags.as_slice();
+        items.globals.count(flags, first, end)
+    }
+
+    /// Counts the functions of `scope` that have not been counted, a block at a time.
+    fn look_at_funcs(&mut self, scope: &Scope<'_>, items: &ReadItems) -> Result<(), Error>
         requires scope { IsScope (context_of scope.now) }
-        requires kept { IsKeptOffer (context_of scope.now) self.old }
-        ensures kept { OnOk result (IsKeptOffer (context_of scope.now) self.new) }
+        requires read { AreAllRead (context_of scope.now) items.now }
+        requires kept { IsEntry (context_of scope.now) items.now self.old }
+        requires tested { IsTested items.now self.old }
+        ensures kept { OnOk result (IsEntry (context_of scope.now) items.now self.new) }
         ensures wanted { OnOk result (self.new.wanted ≡ self.old.wanted) }
         ensures memory { IfErr result (λ e. e ≡ Error.Memory) }
     {
@@ -317,7 +347,7 @@ impl KeptOffer {
         while self.funcs.seen < entities.funcs.len() {
             let first = self.funcs.seen;
             let end = self.funcs.block_end().min(entities.funcs.len());
-            let offered = count_funcs(scope, first, end, self.wanted);
+            let offered = items.funcs.count(self.func_flags.as_slice(), first, end);
             self.funcs.read_to(end, offered)?;
         }
         Ok(())

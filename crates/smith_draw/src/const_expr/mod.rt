@@ -19,6 +19,7 @@ ghost use Rattle.smith_draw.specs.ConstBounds.{most_instructions, MayRefuseConst
 ghost use Rattle.smith_draw.specs.KeptOffers.{AreKeptOffers};
 
 mod block_counts;
+mod classes;
 mod constant;
 mod drawn;
 mod extended;
@@ -27,6 +28,7 @@ mod kept_offers;
 mod node;
 mod node_choice;
 mod offers;
+mod read_items;
 mod references;
 mod scope;
 mod task;

@@ -1,4 +1,4 @@
-ghost use Rattle.std.specs.Prelude.{◌≡◌, ◌<◌, ◌&&◌, List, IsTrue, IfSome, not, length};
+ghost use Rattle.std.specs.Prelude.{◌≡◌, ◌<◌, List, IsTrue, IfSome, length};
 ghost use Rattle.smith_types.specs.Subtyping.{IsValInRange};
 ghost use Rattle.smith_types.specs.Expressions.{reference_to, created, function_reference};
 ghost use Rattle.smith_types.specs.declared.value_type.HeapType.TheVariants.{Abstract};
@@ -6,6 +6,7 @@ ghost use Rattle.smith_types.specs.declared.value_type.AbstractHeapType.TheVaria
 ghost use Rattle.smith_types.specs.declared.composite_type.SubType.{SubType};
 ghost use Rattle.smith_draw.specs.Below.{is_val_below};
 ghost use Rattle.smith_draw.specs.ConstScopes.{context_of};
+ghost use Rattle.smith_draw.specs.KeptOffers.{is_offered, readable};
 
 use super::scope::Scope;
 use smith_types::{AbstractHeapType, GlobalType, HeapType, RefType, TypeSpace, ValType};
@@ -19,13 +20,27 @@ pub(super) fn is_below(types: &TypeSpace, a: ValType, b: ValType) -> bool
     types.val_type_is_sub_type(a, b)
 }
 
-/// Returns whether a global of the type `global` is immutable and has a subtype of `wanted`.
-pub(super) fn is_readable(types: &TypeSpace, global: GlobalType, wanted: ValType) -> bool
-    requires lower { IsValInRange types.now.types global.val_type }
-    requires upper { IsValInRange types.now.types wanted }
-    ensures { result ≡ (not global.mutable && is_val_below types.now.types global.val_type wanted) }
+/// Returns the type of the value that a constant expression reads from a global of the type
+/// `global`, or `None` if the global is mutable.
+pub(super) fn readable(global: GlobalType) -> Option<ValType>
+    ensures { result ≡ readable global }
 {
-    !global.mutable && is_below(types, global.val_type, wanted)
+    if global.mutable {
+        return None;
+    }
+    Some(global.val_type)
+}
+
+/// Returns whether items of a class with the type `kind` are offered for the type `wanted`.
+pub(super) fn is_offered(types: &TypeSpace, kind: Option<ValType>, wanted: ValType) -> bool
+    requires lower { IfSome kind (IsValInRange types.now.types) }
+    requires upper { IsValInRange types.now.types wanted }
+    ensures { result ≡ is_offered types.now.types wanted kind }
+{
+    match kind {
+        Some(value) => is_below(types, value, wanted),
+        None => false,
+    }
 }
 
 pub(super) fn i31(shared: bool) -> ValType

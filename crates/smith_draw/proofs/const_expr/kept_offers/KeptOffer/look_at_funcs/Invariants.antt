@@ -1,11 +1,12 @@
 use Rattle.std.proofs.Common.{◌≡◌, ◌-◌, length}
 use Rattle.smith_draw.specs.ConstScopes.{context_of}
-use Rattle.smith_draw.specs.KeptOffers.{IsKeptOffer}
+use Rattle.smith_draw.specs.KeptOffers.{IsEntry, IsTested}
 use Rattle.smith_draw.proofs.const_expr.kept_offers.KeptOffer.look_at_funcs.Given as goal
 
 abbrev pub invariant-loop-self : goal.invariant-loop-self
 invariant-loop-self l = record {
-  kept : IsKeptOffer (context_of l.scope) l.self;
+  entry : IsEntry (context_of l.scope) l.items l.self;
+  tested : IsTested l.items l.self;
   wanted : l.self.wanted ≡ l.fn.self.wanted;
 }
 

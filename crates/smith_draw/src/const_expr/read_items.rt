@@ -1,0 +1,95 @@
+ghost use Rattle.std.specs.Prelude.{◌≡◌, ◌≤◌, OnOk, IfErr, List, Bool, Some, length};
+ghost use Rattle.smith_types.specs.Expressions.{Context, function_reference};
+ghost use Rattle.smith_types.specs.declared.composite_type.SubType.{SubType};
+ghost use Rattle.smith_types.specs.declared.value_type.ValType.{ValType as Wanted};
+ghost use Rattle.smith_draw.specs.ConstScopes.{context_of, IsScope};
+ghost use Rattle.smith_draw.specs.KeptOffers.{AreAllRead, AreClasses, AreFlags, AreItemsRead};
+ghost use Rattle.smith_draw.specs.KeptOffers.{readable};
+
+use super::classes::Classes;
+use super::references::{function_reference, readable};
+use super::scope::Scope;
+use smith_bytes::Error;
+use std::alloc::Global;
+
+/// The globals and functions read so far.
+#[derive(Drop)]
+pub(super) struct ReadItems {
+    /// The classes of the globals.
+    pub globals: Classes,
+    /// The classes of the functions.
+    pub funcs: Classes,
+}
+
+impl ReadItems {
+    /// Creates a record with no global and no function read. Does not allocate.
+    pub fn new(alloc: Global) -> ReadItems
+        ensures { (context : Context) → AreItemsRead context result }
+    {
+        ReadItems {
+            globals: Classes::new(alloc),
+            funcs: Classes::new(alloc),
+        }
+    }
+
+    /// Reads the globals and functions of `scope` that have not been read.
+    pub fn read(&mut self, scope: &Scope<'_>) -> Result<(), Error>
+        requires scope { IsScope (context_of scope.now) }
+        requires read { AreItemsRead (context_of scope.now) self.old }
+        ensures read { OnOk result (AreAllRead (context_of scope.now) self.new) }
+        ensures globals { (types : List SubType) (wanted : Wanted) (flags : List Bool)
+            → AreFlags types wanted self.old.globals.kinds flags
+            → OnOk result (AreFlags types wanted self.new.globals.kinds flags) }
+        ensures funcs { (types : List SubType) (wanted : Wanted) (flags : List Bool)
+            → AreFlags types wanted self.old.funcs.kinds flags
+            → OnOk result (AreFlags types wanted self.new.funcs.kinds flags) }
+        ensures memory { IfErr result (λ e. e ≡ Error.Memory) }
+    {
+        read_globals(scope, &mut self.globals)?;
+        read_funcs(scope, &mut self.funcs)
+    }
+}
+
+/// Reads the visible globals of `scope` that have not been read.
+fn read_globals(scope: &Scope<'_>, classes: &mut Classes) -> Result<(), Error>
+    requires scope { IsScope (context_of scope.now) }
+    requires read { AreClasses (context_of scope.now).types (λ index global. readable global)
+        (context_of scope.now).globals classes.old }
+    ensures read { OnOk result (AreClasses (context_of scope.now).types
+        (λ index global. readable global) (context_of scope.now).globals classes.new) }
+    ensures all { OnOk result (scope.now.visible ≤ length classes.new.of) }
+    ensures flags { (types : List SubType) (wanted : Wanted) (flags : List Bool)
+        → AreFlags types wanted classes.old.kinds flags
+        → OnOk result (AreFlags types wanted classes.new.kinds flags) }
+    ensures memory { IfErr result (λ e. e ≡ Error.Memory) }
+{
+    let entities = scope.spaces.entities;
+    for index in classes.of.len()..scope.visible {
+        let kind = readable(entities.globals[index]);
+        classes.note(kind)?;
+    }
+    Ok(())
+}
+
+/// Reads the functions of `scope` that have not been read.
+fn read_funcs(scope: &Scope<'_>, classes: &mut Classes) -> Result<(), Error>
+    requires scope { IsScope (context_of scope.now) }
+    requires read { AreClasses (context_of scope.now).types
+        (λ function index. Some (function_reference (context_of scope.now) function index))
+        (context_of scope.now).funcs classes.old }
+    ensures read { OnOk result (AreClasses (context_of scope.now).types
+        (λ function index. Some (function_reference (context_of scope.now) function index))
+        (context_of scope.now).funcs classes.new) }
+    ensures all { OnOk result (length (context_of scope.now).funcs ≤ length classes.new.of) }
+    ensures flags { (types : List SubType) (wanted : Wanted) (flags : List Bool)
+        → AreFlags types wanted classes.old.kinds flags
+        → OnOk result (AreFlags types wanted classes.new.kinds flags) }
+    ensures memory { IfErr result (λ e. e ≡ Error.Memory) }
+{
+    let entities = scope.spaces.entities;
+    for index in classes.of.len()..entities.funcs.len() {
+        let reference = function_reference(scope, index, entities.funcs[index]);
+        classes.note(Some(reference))?;
+    }
+    Ok(())
+}
