@@ -1,5 +1,5 @@
 -- Drawn instructions, one part after another.
-use Rattle.std.proofs.Common.{◌≡◌, ℕ, zero, suc, ◌+◌, ◌-◌, ◌*◌, ◌<◌, ◌≤◌, List, [], ◌∷◌, ◌++◌, length, replicate, take, get_or, refl, sym, subst, ap, ◌∙◌, append_assoc, arith, length-append}
+use Rattle.std.proofs.Common.{◌≡◌, ℕ, zero, suc, Some, None, ◌+◌, ◌-◌, ◌*◌, ◌<◌, ◌≤◌, List, [], ◌∷◌, ◌++◌, length, replicate, take, get_or, refl, sym, subst, ap, ◌∙◌, append_assoc, arith, length-append}
 use Rattle.std.specs.Prelude.{option_to_list, IsTrue, Option, All}
 use Rattle.std.proofs.Math.Seq.{take-append_seam}
 use Rattle.std.proofs.lemmas.Bool.{false≢true}
@@ -21,7 +21,8 @@ use Rattle.smith_code_nodes.specs.Scopes.{context_of, bare, where_stands, widest
 use Rattle.smith_code_nodes.specs.Nodes.{block_cost, IsNode, HasHeadType, MayOpen, head_sets, head_instruction, opened, label_of, taken_by}
 use Rattle.smith_code.specs.DraftSteps.{IsDrawn, IsWritten, IsOpened, IsEnded}
 use Rattle.smith_code.specs.Laws.{HasNoOther}
-use Rattle.smith_code.specs.Leaves.{IsLeaf}
+use Rattle.smith_code.specs.Leaves.{IsLeafOf, IsThen, instructions_of, longest_leaf, only}
+use Rattle.smith_code.specs.declared.leaf.Leaf.{Leaf}
 use Rattle.smith_code.specs.Stops.{AreStopsNeeded, HasNeededStops, HaveNeededStops, IsNeeded, IsNoStop}
 use Rattle.smith_code_nodes.specs.declared.node.Head.{Head}
 use Rattle.smith_code_nodes.specs.declared.node.Head.TheVariants as heads
@@ -30,7 +31,20 @@ use Rattle.smith_code_nodes.specs.declared.node.Opening.{Opening}
 use Rattle.smith_code_nodes.specs.declared.node.Opening.TheVariants as opening
 use Rattle.smith_code_nodes.specs.declared.scope.Scope.{Scope}
 use Rattle.smith_code_nodes.specs.declared.scope.Draft.{Draft}
+use Rattle.smith_code.proofs.LeafChoiceLemmas.{some_leaf}
 use Rattle.smith_code.proofs.StopLemmas.{at_end, in_turn}
+
+times : (k m n : ℕ) → m ≤ n → k * m ≤ k * n
+times zero m n less = omega arith
+times (suc k) m n less =
+    let rest = times k m n less in
+    omega arith
+
+times_one : (k n : ℕ) → 1 ≤ k → n ≤ k * n
+times_one k zero some = omega arith
+times_one k (suc n) some =
+    let rest = times_one k n some in
+    omega arith
 
 -- values on top of others are valid
 pub joined_valid : (context : BodyContext) (base values : List ValType) → AreValid context base → AreValid context values → AreValid context (base ++ values)
@@ -83,22 +97,45 @@ alone {config = config} context instruction operands results given base set set'
       needed = (record { exact = refl; stop = stop }, end.needed);
     }
 
--- an instruction without operands
-pub leaf_drawn : {scope : Scope} {wanted : ValType} {old new : Draft} (instruction : Instr) → IsLeaf (where_stands scope old) old.set.items wanted instruction
-    → IsValid (bare scope) wanted → IsAllowedIn scope instruction → (IsTrue scope.config.now.disallow_traps → instruction ≡ instr.Unreachable → HasNoOther scope.config.now (where_stands scope old) old.set.items wanted)
-    → new.out ≡ old.out ++ instruction ∷ [] → new.set.items ≡ old.set.items → new.labels.items ≡ old.labels.items → new.budget ≡ old.budget → IsDrawn scope [] (wanted ∷ []) 1 old new
-leaf_drawn {scope = scope} {wanted = wanted} {old = old} {new = new} instruction leaf valid allowed stop longer set labels budget =
+-- a value without traps
+same_type : (context : BodyContext) (set : List ℕ) (wanted : ValType) (leaf : Leaf) (of : IsLeafOf context set wanted leaf) → leaf ≡ only instr.Unreachable → of.value ≡ wanted
+same_type context set wanted leaf of is =
+    let created : of.value ≡ of.reference = subst (λ (leaf : Leaf). IsThen context set of.value of.reference leaf.creation) is of.created in
+    let converted : of.reference ≡ wanted = subst (λ (leaf : Leaf). IsThen context set of.reference wanted leaf.conversion) is of.converted in
+    created ∙ converted
+
+-- an instruction that takes the value on top, if there is one
+then_drawn : (config : Config) (context : BodyContext) (set : List ℕ) (base : List ValType) (a b : ValType) (o : Option Instr) → IsThen context set a b o → AreValid context (a ∷ []) → AreValid context (b ∷ []) → AreValid context base
+    → HaveNeededStops config context (option_to_list o) (stacked (base ++ a ∷ []) set) (stacked (base ++ b ∷ []) set)
+then_drawn config context set base a b None same valid valid' under =
+    subst (λ (b : ValType). HaveNeededStops config context [] (stacked (base ++ a ∷ []) set) (stacked (base ++ b ∷ []) set)) same
+    (at_end config context (base ++ a ∷ []) set (joined_valid context base (a ∷ []) under valid))
+then_drawn config context set base a b (Some instruction) (goes_on, over) valid valid' under =
+    alone context instruction (a ∷ []) (over.value ∷ []) (b ∷ []) base set set over.typed (over.below, tt) valid' under (rw (over.sets_none, append-nil) refl) (λ disallowed is. absurd (goes_on is))
+
+-- a value that takes no budget
+pub leaf_drawn : {scope : Scope} {wanted : ValType} {old new : Draft} (leaf : Leaf) → IsLeafOf (where_stands scope old) old.set.items wanted leaf → IsValid (bare scope) wanted → All (IsAllowedIn scope) (instructions_of leaf)
+    → length (instructions_of leaf) ≤ longest_leaf scope.config.now
+    → (IsTrue scope.config.now.disallow_traps → leaf.value ≡ instr.Unreachable → (leaf ≡ only instr.Unreachable) × HasNoOther scope.config.now (where_stands scope old) old.set.items wanted)
+    → new.out ≡ old.out ++ instructions_of leaf → new.set.items ≡ old.set.items → new.labels.items ≡ old.labels.items → new.budget ≡ old.budget → IsDrawn scope [] (wanted ∷ []) 1 old new
+leaf_drawn {scope = scope} {wanted = wanted} {old = old} {new = new} leaf of valid allowed few stop longer set labels budget =
+    let config = scope.config.now in
     let context = where_stands scope old in
-    let none : new.set.items ≡ old.set.items ++ sets instruction = rw (leaf.sets_none, append-nil) set in
-    let len : length new.out ≡ length old.out + 1 = rw longer (simp length-append refl) in
+    let one_valid : (value : ValType) → IsValid context value → AreValid context (value ∷ []) = λ value valid. All-push (IsValid context) [] value (All-nil (IsValid context)) valid in
+    let len : length new.out ≡ length old.out + length (instructions_of leaf) = rw longer (length-append old.out (instructions_of leaf)) in
+    let stop' : IsTrue config.disallow_traps → leaf.value ≡ instr.Unreachable → HasNoOther config context old.set.items of.value =
+    λ disallowed is. let (alone, none) = stop disallowed is in subst (HasNoOther config context old.set.items) (sym (same_type context old.set.items wanted leaf of alone)) none in
     record {
-      more = instruction ∷ [];
+      more = instructions_of leaf;
       longer = longer;
       typed = λ base under.
-          let wanted_valid = All-push (IsValid (bare scope)) [] wanted (All-nil (IsValid (bare scope))) valid in
-          alone context instruction [] (leaf.value ∷ []) (wanted ∷ []) base old.set.items new.set.items leaf.typed (leaf.below, tt) wanted_valid under none
-          (λ disallowed is. record { none = refl; wanted = wanted; one = refl; no_other = stop disallowed is });
-      allowed = one_allowed scope instruction allowed;
+          let first = alone {config = config} context leaf.value [] (of.produced.value ∷ []) (of.value ∷ []) base old.set.items old.set.items of.produced.typed (of.produced.below, tt) (one_valid of.value of.value_valid) under
+          (rw (of.produced.sets_none, append-nil) refl)
+          (λ disallowed is. record { none = refl; wanted = of.value; one = refl; no_other = stop' disallowed is }) in
+          let second = then_drawn config context old.set.items base of.value of.reference leaf.creation of.created (one_valid of.value of.value_valid) (one_valid of.reference of.reference_valid) under in
+          let third = then_drawn config context old.set.items base of.reference wanted leaf.conversion of.converted (one_valid of.reference of.reference_valid) (one_valid wanted valid) under in
+          rw set (in_turn first (in_turn second third));
+      allowed = allowed;
       set = [];
       set_more = rw append-nil set;
       same = labels;
@@ -160,8 +197,9 @@ drawn_more {a = a} valid first second = drawn_then first (rw append-nil at (draw
 
 -- instructions drawn at a greater cost
 pub drawn_within : {scope : Scope} {a b : List ValType} {m n : ℕ} {old new : Draft} → m ≤ n → IsDrawn scope a b m old new → IsDrawn scope a b n old new
-drawn_within less drawn =
+drawn_within {scope = scope} {m = m} {n = n} less drawn =
     let short = drawn.short in
+    let more = times (longest_leaf scope.config.now) m n less in
     record {
       more = drawn.more;
       longer = drawn.longer;
@@ -215,6 +253,7 @@ pub dropped_drawn : {scope : Scope} {old new : Draft} (values dropped : List Val
     → IsDrawn scope (values ++ dropped) values (length dropped) old new
 dropped_drawn {scope = scope} {old = old} {new = new} values dropped valid spare allowed out set labels budget =
     let len : length new.out ≡ length old.out + length dropped = rw out (simp (length-append, length-replicate) refl) in
+    let more = times_one (longest_leaf scope.config.now) (length dropped) (some_leaf scope.config.now) in
     record {
       more = replicate (length dropped) instr.Drop;
       longer = out;
@@ -235,6 +274,7 @@ written_drawn {scope = scope} {old = old} {new = new} instruction operands resul
     let budget = written.budget in
     let then : new.set.items ≡ old.set.items ++ sets instruction = written.set_more ∙ ap (λ (set : List ℕ). old.set.items ++ set) (sym local) in
     let len : length new.out ≡ length old.out + 1 = rw written.out (simp length-append refl) in
+    let some = some_leaf scope.config.now in
     record {
       more = instruction ∷ [];
       longer = written.out;
@@ -247,11 +287,12 @@ written_drawn {scope = scope} {old = old} {new = new} instruction operands resul
       short = rw budget (omega arith);
     }
 
-pay : (w n g o m f : ℕ) → n ≤ 4 * w + 4 → 0 < f → m + (4 * w + 4) * g ≤ o + n + (4 * w + 4) * (f - 1) → m + (4 * w + 4) * g ≤ o + 0 + (4 * w + 4) * f
-pay w n g o m zero few paid short = absurd (omega arith)
-pay w n g o m (suc f) few paid short =
+pay : (k w n g o m f : ℕ) → n ≤ 4 * w + 4 → 0 < f → m + k * ((4 * w + 4) * g) ≤ o + k * (n + (4 * w + 4) * (f - 1)) → m + k * ((4 * w + 4) * g) ≤ o + k * (0 + (4 * w + 4) * f)
+pay k w n g o m zero few paid short = absurd (omega arith)
+pay k w n g o m (suc f) few paid short =
     let less : suc f - 1 ≡ f = omega arith in
-    let short' : m + (4 * w + 4) * g ≤ o + n + (4 * w + 4) * f = rw less at short in
+    let short' : m + k * ((4 * w + 4) * g) ≤ o + k * (n + (4 * w + 4) * f) = rw less at short in
+    let more = times k n (4 * w + 4) few in
     omega arith
 
 -- one unit of the budget pays for the instructions of a node
@@ -267,7 +308,7 @@ paid_for {scope = scope} {n = n} {old = old} {new = new} few paid drawn =
       set_more = drawn.set_more;
       same = drawn.same;
       spent = omega arith;
-      short = pay (widest scope.types.now.types) n new.budget (length old.out) (length new.out) old.budget few paid drawn.short;
+      short = pay (longest_leaf scope.config.now) (widest scope.types.now.types) n new.budget (length old.out) (length new.out) old.budget few paid drawn.short;
     }
 
 -- a node: its operands, its head, and the dropped values
@@ -373,6 +414,8 @@ around_drawn {scope = scope} {old = old} {entered = entered} {inside = inside} {
     let len' : length entered.out ≡ length old.out + 1 = rw start.out (simp length-append refl) in
     let same = start.budget in
     let same' = end.budget in
+    let some = some_leaf scope.config.now in
+    let most' = times (longest_leaf scope.config.now) (length params + length results) (widest scope.types.now.types) few in
     record {
       more = opening ∷ (drawn.more ++ instr.End ∷ []);
       longer = out;
@@ -427,8 +470,12 @@ if_drawn {scope = scope} {old = old} {entered = entered} {first = first} {other 
     let same = start.budget in
     let same' = end.budget in
     let same'' = middle.budget in
-    let most' : length first.out + most scope.types.now.types * first.budget ≤ length entered.out + (length params + length results) + most scope.types.now.types * old.budget = rw same at short in
-    let most'' : length last.out + most scope.types.now.types * last.budget ≤ length other.out + (length params + length results) + most scope.types.now.types * first.budget = rw same'' at short' in
+    let longest = longest_leaf scope.config.now in
+    let unit = most scope.types.now.types in
+    let few' = times longest (length params + length results) (widest scope.types.now.types) few in
+    let some = some_leaf scope.config.now in
+    let most' : length first.out + longest * (unit * first.budget) ≤ length entered.out + longest * ((length params + length results) + unit * old.budget) = rw same at short in
+    let most'' : length last.out + longest * (unit * last.budget) ≤ length other.out + longest * ((length params + length results) + unit * first.budget) = rw same'' at short' in
     record {
       more = instr.If ty ∷ (drawn.more ++ instr.Else ∷ (drawn'.more ++ instr.End ∷ []));
       longer = out;
@@ -461,7 +508,7 @@ body_needed {scope = scope} {start = start} {new = new} drawn empty unset label 
 pub body_allowed : {scope : Scope} {start new : Draft} → IsDrawn scope [] scope.results.now (length scope.results.now) start new → start.out ≡ [] → All (IsAllowedIn scope) new.out
 body_allowed drawn empty = rw (drawn.longer, empty) drawn.allowed
 
-pub body_short : {scope : Scope} {start new : Draft} → IsDrawn scope [] scope.results.now (length scope.results.now) start new → start.out ≡ [] → length new.out ≤ length scope.results.now + most scope.types.now.types * start.budget
+pub body_short : {scope : Scope} {start new : Draft} → IsDrawn scope [] scope.results.now (length scope.results.now) start new → start.out ≡ [] → length new.out ≤ longest_leaf scope.config.now * (length scope.results.now + most scope.types.now.types * start.budget)
 body_short {scope = scope} {start = start} {new = new} drawn empty =
     let short = drawn.short in
     let none : length start.out ≡ 0 = rw empty refl in

@@ -1,6 +1,7 @@
--- Where `unreachable` is drawn for a value, no other instruction without operands produces one.
+-- Where `unreachable` is drawn for a value, no other instructions that take no budget produce one.
 use Rattle.std.proofs.Common.{◌≡◌, ℕ, ◌<◌, Bool, true, false, List, [], ◌∷◌, Option, Some, None, length, refl, sym, subst, ap, ◌∙◌, arith}
-use Rattle.std.specs.Prelude.{◌||◌, not, option_and_then, option_map, slice_get, unwrap_or, if◌then◌else◌}
+use Rattle.std.specs.Prelude.{◌||◌, ℤ, pos, IfSome, IsTrue, not, option_and_then, option_map, slice_get, unwrap_or, if◌then◌else◌}
+use Rattle.std.specs.Option.{option_or}
 use Rattle.std.proofs.lemmas.Option.{slice_get-get_or, slice_get_within}
 use Rattle.smith_bytes.specs.Draws.{choose_at}
 use Rattle.smith_config.specs.declared.config.Config.{Config}
@@ -8,18 +9,25 @@ use Rattle.smith_types.specs.Features.{Features}
 use Rattle.smith_types.specs.Subtyping.{IsValBelow}
 use Rattle.smith_types.specs.Types.{IsOrderly}
 use Rattle.smith_types.specs.declared.composite_type.SubType.{SubType}
+use Rattle.smith_types.specs.declared.value_type.AbstractHeapType.{AbstractHeapType}
+use Rattle.smith_types.specs.declared.value_type.AbstractHeapType.TheVariants as abstract
 use Rattle.smith_types.specs.declared.value_type.HeapType.{HeapType}
+use Rattle.smith_types.specs.declared.value_type.HeapType.TheVariants.{Abstract, Concrete, Exact}
 use Rattle.smith_types.specs.declared.value_type.ValType.{ValType}
 use Rattle.smith_types.specs.declared.value_type.ValType.TheVariants.{I32, I64, F32, F64, V128, Ref}
+use Rattle.smith_draw.specs.Below.{is_val_below}
+use Rattle.smith_instr.specs.AggregateTypes.{external, internal}
 use Rattle.smith_instr.specs.Contexts.{BodyContext, created_reference, nullable_to, reference_to_function}
 use Rattle.smith_instr.specs.Enabled.{is_enabled}
 use Rattle.smith_instr.specs.InstrTypes.{IsNumeric}
+use Rattle.smith_instr.specs.declared.aggregate.AggregateInstr.{AggregateInstr}
 use Rattle.smith_instr.specs.declared.aggregate.AggregateInstr.TheVariants as aggregate
 use Rattle.smith_instr.specs.declared.instr.Instr.{Instr}
 use Rattle.smith_instr.specs.declared.instr.Instr.TheVariants as instr
 use Rattle.smith_instr.specs.declared.reference.ReferenceInstr.TheVariants as reference
-use Rattle.smith_code.specs.Laws.{HasNoOther, IsIndex, IsNumber, IsOther}
-use Rattle.smith_code.specs.Leaves.{any_leaf_at, constant_instr_at, default_struct, empty_array, first_constant, first_leaf, first_of, if_permitted, leaf_at, leaf_of, named_at, spare_leaf}
+use Rattle.smith_code.specs.Laws.{HasNoOther, HasNoShort, IsConversion, IsI31Creation, IsIndex, IsNumber, IsOther, IsOtherOver}
+use Rattle.smith_code.specs.Leaves.{any_leaf_at, constant_instr_at, converted_by, converted_leaf, converted_to, default_struct, empty_array, first_constant, first_leaf, first_of, first_single, i31_by, i31_from, i31_leaf, i31_of, i31_type, if_permitted, leaf_at, leaf_of, named_at, only, short_leaf, spare_leaf, with_conversion}
+use Rattle.smith_code.specs.declared.leaf.Leaf.{Leaf}
 use Rattle.smith_code.specs.declared.families.LeafFamily.TheVariants as leaf
 use Rattle.smith_code_aggregates.specs.Aggregates.{first_created_array, first_created_struct, is_created_empty, is_created_struct}
 use Rattle.smith_code_aggregates.proofs.FirstLemmas.{chosen_first, none_offered}
@@ -28,7 +36,7 @@ use Rattle.smith_code_nodes.specs.Scopes.{indexed, is_permitted}
 use Rattle.smith_code_nodes.specs.Traps.{may_trap}
 use Rattle.smith_code_nodes.specs.declared.offer.Reach.TheVariants as reach
 use Rattle.smith_code_nodes.proofs.OfferLemmas.{both}
-use Rattle.smith_code.proofs.OtherLemmas.{array_is, first_passes, global_is, readable_is, reference_is, struct_is}
+use Rattle.smith_code.proofs.OtherLemmas.{any_top, array_is, below_is, extern_top, first_passes, global_is, readable_is, reference_is, struct_is}
 
 -- with `disallow_traps` an `unreachable` is not permitted
 pub stop_forbidden : (features : Features) (config : Config) → config.disallow_traps ≡ true → is_permitted features config instr.Unreachable ≡ true → ⊥
@@ -38,22 +46,100 @@ stop_forbidden features config trapless is =
     let never : (not true || false) ≡ true = subst (λ (b : Bool). (not b || false) ≡ true) trapless kept in
     cc
 
--- so an `unreachable` that replaces an instruction shows that it is not permitted
-drawn_apart : (config : Config) (context : BodyContext) (instruction spare : Instr) (permitted : Bool) → config.disallow_traps ≡ true → is_permitted context.features config instruction ≡ permitted → (if permitted then instruction else spare) ≡ instr.Unreachable
-    → (permitted ≡ false) × (spare ≡ instr.Unreachable)
-drawn_apart config context instruction spare true trapless is stop = absurd (stop_forbidden context.features config trapless (subst (λ (i : Instr). is_permitted context.features config i ≡ true) stop is))
-drawn_apart config context instruction spare false trapless is stop = (refl, stop)
+-- what holds of the value of each holds of the first
+or_some : {A : Type 0} (P : A → Type 0) (a b : Option A) → IfSome a P → IfSome b P → IfSome (option_or a b) P
+or_some P None b first second = second
+or_some P (Some x) b first second = first
 
-kept_apart : (config : Config) (context : BodyContext) (instruction rest : Instr) (permitted : Bool) → config.disallow_traps ≡ true → is_permitted context.features config instruction ≡ permitted → unwrap_or (if permitted then Some instruction else None) rest ≡ instr.Unreachable
-    → (permitted ≡ false) × (rest ≡ instr.Unreachable)
-kept_apart config context instruction rest true trapless is stop = absurd (stop_forbidden context.features config trapless (subst (λ (i : Instr). is_permitted context.features config i ≡ true) stop is))
-kept_apart config context instruction rest false trapless is stop = (refl, stop)
+mapped_some : {A B : Type 0} (P : B → Type 0) (f : A → B) (o : Option A) → IfSome o (λ x. P (f x)) → IfSome (option_map f o) P
+mapped_some P f None some = tt
+mapped_some P f (Some x) some = some
 
-apart : (config : Config) (context : BodyContext) (o : Option Instr) (rest : Instr) → config.disallow_traps ≡ true → unwrap_or (if_permitted config context o) rest ≡ instr.Unreachable → (if_permitted config context o ≡ None) × (rest ≡ instr.Unreachable)
-apart config context None rest trapless stop = (refl, stop)
-apart config context (Some instruction) rest trapless stop =
-    let (off, more) = kept_apart config context instruction rest (is_permitted context.features config instruction) trapless refl stop in
-    (ap (λ (b : Bool). if b then Some instruction else None) off, more)
+-- an instruction that is found is permitted
+abbrev IsFound : Config → BodyContext → Instr → Type 0
+IsFound config context instruction = is_permitted context.features config instruction ≡ true
+
+found_by : (config : Config) (context : BodyContext) (instruction : Instr) (permitted : Bool) → is_permitted context.features config instruction ≡ permitted → IfSome (if permitted then Some instruction else None) (IsFound config context)
+found_by config context instruction true is = is
+found_by config context instruction false is = tt
+
+found : (config : Config) (context : BodyContext) (o : Option Instr) → IfSome (if_permitted config context o) (IsFound config context)
+found config context None = tt
+found config context (Some instruction) = found_by config context instruction (is_permitted context.features config instruction) refl
+
+single_found : (config : Config) (context : BodyContext) (set : List ℕ) (wanted : ValType) → IfSome (first_single config context set wanted) (IsFound config context)
+unfolding first_single
+single_found config context set wanted =
+    let local = found config context (leaf_of context set reach.Whole wanted leaf.Local []).0 in
+    let global = found config context (leaf_of context set reach.Whole wanted leaf.Global []).0 in
+    let function = found config context (leaf_of context set reach.Whole wanted leaf.Reference []).0 in
+    let constant = found config context (Some (constant_instr_at wanted []).0) in
+    let struct = found config context (option_map (λ ty. instr.Aggregate (aggregate.StructNewDefault ty)) (first_created_struct context wanted)) in
+    let array = found config context (option_map (λ ty. instr.Aggregate (aggregate.ArrayNewFixed ty 0)) (first_created_array context wanted)) in
+    or_some (IsFound config context) _ _ local (or_some (IsFound config context) _ _ global (or_some (IsFound config context) _ _ function (or_some (IsFound config context) _ _ constant (or_some (IsFound config context) _ _ struct array))))
+
+abbrev IsLeafFound : Config → BodyContext → Leaf → Type 0
+IsLeafFound config context leaf = IsFound config context leaf.value
+
+always : {A : Type 0} (P : A → Type 0) (o : Option A) → ((x : A) → P x) → IfSome o P
+always P None all = tt
+always P (Some x) all = all x
+
+if_on : {A : Type 0} (P : A → Type 0) (on : Bool) (o : Option A) → (on ≡ true → IfSome o P) → IfSome (if on then o else None) P
+if_on P true o some = some refl
+if_on P false o some = tt
+
+i31_found : (config : Config) (context : BodyContext) (wanted : ValType) → IfSome (i31_leaf config context wanted) (IsLeafFound config context)
+unfolding i31_leaf
+i31_found config context wanted =
+    let creation = option_or (i31_by config context wanted false) (i31_by config context wanted true) in
+    if_on (IsLeafFound config context) (is_permitted context.features config (instr.I32Const (pos 0))) _
+    (λ on. mapped_some (IsLeafFound config context) i31_from creation (always (λ creation. IsFound config context (instr.I32Const (pos 0))) creation (λ creation. on)))
+
+short_found : (config : Config) (context : BodyContext) (set : List ℕ) (wanted : ValType) → IfSome (short_leaf config context set wanted) (IsLeafFound config context)
+unfolding short_leaf
+short_found config context set wanted =
+    or_some (IsLeafFound config context) _ _ (mapped_some (IsLeafFound config context) only (first_single config context set wanted) (single_found config context set wanted)) (i31_found config context wanted)
+
+conversion_found : (config : Config) (context : BodyContext) (set : List ℕ) (op : AggregateInstr) (operand : ValType) → IfSome (converted_by config context set op operand) (IsLeafFound config context)
+conversion_found config context set op operand =
+    if_on (IsLeafFound config context) (is_permitted context.features config (instr.Aggregate op)) _
+    (λ on. mapped_some (IsLeafFound config context) (with_conversion (instr.Aggregate op)) (short_leaf config context set operand) (short_found config context set operand))
+
+conversion_to_found : (config : Config) (context : BodyContext) (set : List ℕ) (nullable shared : Bool) (ty : AbstractHeapType) → IfSome (converted_to config context set nullable (Abstract shared ty)) (IsLeafFound config context)
+conversion_to_found config context set nullable shared abstract.Any = conversion_found config context set aggregate.AnyConvertExtern (external shared nullable)
+conversion_to_found config context set nullable shared abstract.Extern = conversion_found config context set aggregate.ExternConvertAny (internal shared nullable)
+conversion_to_found config context set nullable shared ty = tt
+
+converted_found_to : (config : Config) (context : BodyContext) (set : List ℕ) (nullable : Bool) (heap_type : HeapType) → IfSome (converted_to config context set nullable heap_type) (IsLeafFound config context)
+converted_found_to config context set nullable (Abstract shared ty) = conversion_to_found config context set nullable shared ty
+converted_found_to config context set nullable (Concrete index) = tt
+converted_found_to config context set nullable (Exact index) = tt
+
+converted_found : (config : Config) (context : BodyContext) (set : List ℕ) (wanted : ValType) → IfSome (converted_leaf config context set wanted) (IsLeafFound config context)
+converted_found config context set (Ref to) = converted_found_to config context set to.nullable to.heap_type
+converted_found config context set wanted = tt
+
+-- a value that is found does not begin with `unreachable`
+apart : (config : Config) (context : BodyContext) (o : Option Leaf) (rest : Leaf) → config.disallow_traps ≡ true → IfSome o (IsLeafFound config context) → (unwrap_or o rest).value ≡ instr.Unreachable → (o ≡ None) × (rest.value ≡ instr.Unreachable)
+apart config context None rest trapless all stop = (refl, stop)
+apart config context (Some leaf) rest trapless all stop = absurd (stop_forbidden context.features config trapless (subst (λ (i : Instr). is_permitted context.features config i ≡ true) stop all))
+
+-- no values of few instructions, and no conversions
+pub none_tried : (config : Config) (context : BodyContext) (set : List ℕ) (wanted : ValType) → config.disallow_traps ≡ true → (first_leaf config context set wanted).value ≡ instr.Unreachable → (short_leaf config context set wanted ≡ None) × (converted_leaf config context set wanted ≡ None)
+unfolding first_leaf
+none_tried config context set wanted trapless stop =
+    let (short, stop') = apart config context (short_leaf config context set wanted) _ trapless (short_found config context set wanted) stop in
+    let (converted, _) = apart config context (converted_leaf config context set wanted) _ trapless (converted_found config context set wanted) stop' in
+    (short, converted)
+
+none_both : {A : Type 0} (a b : Option A) → option_or a b ≡ None → (a ≡ None) × (b ≡ None)
+none_both None b none = (refl, none)
+none_both (Some x) b none = cc
+
+unmapped : {A B : Type 0} (f : A → B) (o : Option A) → option_map f o ≡ None → o ≡ None
+unmapped f None none = refl
+unmapped f (Some x) none = cc
 
 -- none of the instructions that are tried in turn
 record IsNone (config : Config) (context : BodyContext) (set : List ℕ) (wanted : ValType) : Type 0 where
@@ -64,23 +150,37 @@ record IsNone (config : Config) (context : BodyContext) (set : List ℕ) (wanted
   struct : default_struct config context wanted ≡ None
   array : empty_array config context wanted ≡ None
 
-all_tried : (config : Config) (context : BodyContext) (set : List ℕ) (wanted : ValType) → config.disallow_traps ≡ true → first_leaf config context set wanted ≡ instr.Unreachable → IsNone config context set wanted
-unfolding first_leaf
-all_tried config context set wanted trapless stop =
-    let (local, stop) = apart config context (leaf_of context set reach.Whole wanted leaf.Local []).0 _ trapless stop in
-    let (global, stop) = apart config context (leaf_of context set reach.Whole wanted leaf.Global []).0 _ trapless stop in
-    let (function, stop) = apart config context (leaf_of context set reach.Whole wanted leaf.Reference []).0 _ trapless stop in
-    let (constant, stop) = apart config context (Some (constant_instr_at wanted []).0) _ trapless stop in
-    let (struct, stop) = apart config context (option_map (λ ty. instr.Aggregate (aggregate.StructNewDefault ty)) (first_created_struct context wanted)) _ trapless stop in
-    let (array, stop) = apart config context (option_map (λ ty. instr.Aggregate (aggregate.ArrayNewFixed ty 0)) (first_created_array context wanted)) _ trapless stop in
+all_tried : (config : Config) (context : BodyContext) (set : List ℕ) (wanted : ValType) → first_single config context set wanted ≡ None → IsNone config context set wanted
+unfolding first_single
+all_tried config context set wanted none =
+    let (local, none) = none_both (first_of config context set wanted leaf.Local) _ none in
+    let (global, none) = none_both (first_of config context set wanted leaf.Global) _ none in
+    let (function, none) = none_both (first_of config context set wanted leaf.Reference) _ none in
+    let (constant, none) = none_both (first_constant config context wanted) _ none in
+    let (struct, array) = none_both (default_struct config context wanted) (empty_array config context wanted) none in
     record { local = local; global = global; function = function; constant = constant; struct = struct; array = array }
 
-spared : (config : Config) (context : BodyContext) (set : List ℕ) (wanted : ValType) (bytes : List ℕ) → config.disallow_traps ≡ true → (leaf_at config context set wanted bytes).0 ≡ instr.Unreachable → first_leaf config context set wanted ≡ instr.Unreachable
+-- so a drawn `unreachable` is the last that is tried
+drawn_apart : (config : Config) (context : BodyContext) (instruction : Instr) (spare : Leaf) (permitted : Bool) → config.disallow_traps ≡ true → is_permitted context.features config instruction ≡ permitted → (if permitted then only instruction else spare).value ≡ instr.Unreachable
+    → permitted ≡ false
+drawn_apart config context instruction spare true trapless is stop = absurd (stop_forbidden context.features config trapless (subst (λ (i : Instr). is_permitted context.features config i ≡ true) stop is))
+drawn_apart config context instruction spare false trapless is stop = refl
+
+spared : (config : Config) (context : BodyContext) (set : List ℕ) (wanted : ValType) (bytes : List ℕ) → config.disallow_traps ≡ true → (leaf_at config context set wanted bytes).0.value ≡ instr.Unreachable
+    → (leaf_at config context set wanted bytes).0 ≡ first_leaf config context set wanted
 unfolding leaf_at spare_leaf
 spared config context set wanted bytes trapless stop =
     let drawn = (any_leaf_at context set wanted bytes).0 in
-    let (_, spare) = drawn_apart config context drawn (spare_leaf config context set wanted) (is_permitted context.features config drawn) trapless refl stop in
-    subst (λ (b : Bool). (if b then first_leaf config context set wanted else instr.Unreachable) ≡ instr.Unreachable) trapless spare
+    let off : is_permitted context.features config drawn ≡ false = drawn_apart config context drawn (spare_leaf config context set wanted) (is_permitted context.features config drawn) trapless refl stop in
+    rw (off, trapless) refl
+
+pub stop_alone : (config : Config) (context : BodyContext) (set : List ℕ) (wanted : ValType) (bytes : List ℕ) → config.disallow_traps ≡ true → (leaf_at config context set wanted bytes).0.value ≡ instr.Unreachable
+    → (leaf_at config context set wanted bytes).0 ≡ only instr.Unreachable
+unfolding first_leaf
+stop_alone config context set wanted bytes trapless stop =
+    let is = spared config context set wanted bytes trapless stop in
+    let (short, converted) = none_tried config context set wanted trapless (sym (ap (λ (leaf : Leaf). leaf.value) is) ∙ stop) in
+    is ∙ rw (short, converted) refl
 
 -- an instruction that is permitted is not left out
 forbidden : (config : Config) (context : BodyContext) (instruction : Instr) → if_permitted config context (Some instruction) ≡ None → is_permitted context.features config instruction ≡ true → ⊥
@@ -224,9 +324,54 @@ no_array config context set wanted orderly none ty few (is, leaf) =
     let below = typed_below context.types leaf.value (created_reference context ty) wanted results leaf.below in
     none_offered (is_created_empty context wanted) (indexed (length context.types)) ty unmade (omega (arith, inside, few)) (array_is context wanted ty element orderly there below)
 
-pub no_other : (config : Config) (context : BodyContext) (set : List ℕ) (wanted : ValType) (bytes : List ℕ) → IsOrderly context.types → config.disallow_traps ≡ true → (leaf_at config context set wanted bytes).0 ≡ instr.Unreachable → HasNoOther config context set wanted
-no_other config context set wanted bytes orderly trapless stop =
-    let none = all_tried config context set wanted trapless (spared config context set wanted bytes trapless stop) in
+-- an i31
+constant_permitted : (features : Features) (config : Config) (value other : ℤ) → is_permitted features config (instr.I32Const value) ≡ true → is_permitted features config (instr.I32Const other) ≡ true
+unfolding is_permitted is_enabled
+constant_permitted features config value other is = is
+
+narrow_permitted : (config : Config) (context : BodyContext) (set : List ℕ) (number : Instr) → IsNumber number → IsOther config context set I32 number → is_permitted context.features config (instr.I32Const (pos 0)) ≡ true
+narrow_permitted config context set (instr.I32Const value) number (is, leaf) = constant_permitted context.features config value (pos 0) is
+narrow_permitted config context set (instr.I64Const value) number (is, leaf) = absurd (typed_below context.types leaf.value I64 I32 leaf.typed.1 leaf.below)
+narrow_permitted config context set (instr.F32Const value) number (is, leaf) = absurd (typed_below context.types leaf.value F32 I32 leaf.typed.1 leaf.below)
+narrow_permitted config context set (instr.F64Const value) number (is, leaf) = absurd (typed_below context.types leaf.value F64 I32 leaf.typed.1 leaf.below)
+narrow_permitted config context set (instr.V128Const value) number (is, leaf) = absurd (typed_below context.types leaf.value V128 I32 leaf.typed.1 leaf.below)
+narrow_permitted config context set instruction number other = absurd number
+
+if_none : {A : Type 0} (on : Bool) (o : Option A) → on ≡ true → (if on then o else None) ≡ None → o ≡ None
+if_none true o is none = none
+if_none false o is none = cc
+
+no_creation : (config : Config) (context : BodyContext) (set : List ℕ) (wanted value : ValType) (shared : Bool) → IsOrderly context.types → i31_by config context wanted shared ≡ None → value ∷ [] ≡ i31_type shared ∷ [] → IsValBelow context.types value wanted
+    → is_permitted context.features config (i31_of shared) ≡ true → ⊥
+no_creation config context set wanted value shared orderly none results below is =
+    let below' = below_is context.types (i31_type shared) wanted orderly (typed_below context.types value (i31_type shared) wanted results below) in
+    forbidden config context (i31_of shared) (if_none (is_val_below context.types (i31_type shared) wanted) (if_permitted config context (Some (i31_of shared))) below' none) is
+
+unpaired : (config : Config) (context : BodyContext) (set : List ℕ) (wanted : ValType) → i31_leaf config context wanted ≡ None → (number : Instr) → IsNumber number → IsOther config context set I32 number
+    → option_or (i31_by config context wanted false) (i31_by config context wanted true) ≡ None
+unfolding i31_leaf
+unpaired config context set wanted none number is_number other =
+    let creations = option_or (i31_by config context wanted false) (i31_by config context wanted true) in
+    unmapped i31_from creations (if_none (is_permitted context.features config (instr.I32Const (pos 0))) (option_map i31_from creations) (narrow_permitted config context set number is_number other) none)
+
+neither : (config : Config) (context : BodyContext) (set : List ℕ) (wanted : ValType) → IsOrderly context.types → i31_by config context wanted false ≡ None → i31_by config context wanted true ≡ None → (creation : Instr) → IsI31Creation creation
+    → ¬ IsOtherOver config context set I32 wanted creation
+neither config context set wanted orderly first second (instr.Aggregate aggregate.RefI31) creates (is, over) = no_creation config context set wanted over.value false orderly first over.typed.1 over.below is
+neither config context set wanted orderly first second (instr.Aggregate aggregate.RefI31Shared) creates (is, over) = no_creation config context set wanted over.value true orderly second over.typed.1 over.below is
+neither config context set wanted orderly first second creation creates other = absurd creates
+
+no_i31 : (config : Config) (context : BodyContext) (set : List ℕ) (wanted : ValType) → IsOrderly context.types → i31_leaf config context wanted ≡ None → (number creation : Instr) → IsNumber number → IsOther config context set I32 number → IsI31Creation creation
+    → ¬ IsOtherOver config context set I32 wanted creation
+no_i31 config context set wanted orderly none number creation is_number other is_creation over =
+    let (first, second) = none_both (i31_by config context wanted false) (i31_by config context wanted true) (unpaired config context set wanted none number is_number other) in
+    neither config context set wanted orderly first second creation is_creation over
+
+-- no value of few instructions
+none_short : (config : Config) (context : BodyContext) (set : List ℕ) (wanted : ValType) → IsOrderly context.types → short_leaf config context set wanted ≡ None → HasNoShort config context set wanted
+unfolding short_leaf
+none_short config context set wanted orderly short =
+    let (single, i31) = none_both (option_map only (first_single config context set wanted)) (i31_leaf config context wanted) short in
+    let none = all_tried config context set wanted (unmapped only (first_single config context set wanted) single) in
     record {
       no_local = no_local config context set wanted orderly none.local;
       no_global = no_global config context set wanted orderly none.global;
@@ -235,4 +380,86 @@ no_other config context set wanted bytes orderly trapless stop =
       no_null = no_null config context set wanted none.constant;
       no_struct = no_struct config context set wanted orderly none.struct;
       no_array = no_array config context set wanted orderly none.array;
+      no_i31 = no_i31 config context set wanted orderly i31;
     }
+
+-- nor one for a reference that is null less often
+raised : (types : List SubType) (value : ValType) (nullable more : Bool) (heap_type : HeapType) → (IsTrue nullable → IsTrue more) → IsValBelow types value (Ref (record { nullable = nullable; heap_type = heap_type }))
+    → IsValBelow types value (Ref (record { nullable = more; heap_type = heap_type }))
+raised types (Ref reference) nullable more heap_type up below = record { heap = below.heap; nullable = λ h. up (below.nullable h) }
+raised types I32 nullable more heap_type up below = absurd below
+raised types I64 nullable more heap_type up below = absurd below
+raised types F32 nullable more heap_type up below = absurd below
+raised types F64 nullable more heap_type up below = absurd below
+raised types V128 nullable more heap_type up below = absurd below
+
+none_stricter : (config : Config) (context : BodyContext) (set : List ℕ) (nullable more : Bool) (heap_type : HeapType) → (IsTrue nullable → IsTrue more) → HasNoShort config context set (Ref (record { nullable = more; heap_type = heap_type }))
+    → HasNoShort config context set (Ref (record { nullable = nullable; heap_type = heap_type }))
+none_stricter config context set nullable more heap_type up none =
+    let wanted = Ref (record { nullable = nullable; heap_type = heap_type }) in
+    let wider = Ref (record { nullable = more; heap_type = heap_type }) in
+    let other : (i : Instr) → IsOther config context set wanted i → IsOther config context set wider i =
+    λ i (is, leaf). (is, record { value = leaf.value; typed = leaf.typed; below = raised context.types leaf.value nullable more heap_type up leaf.below; sets_none = leaf.sets_none }) in
+    let over : (i : Instr) → IsOtherOver config context set I32 wanted i → IsOtherOver config context set I32 wider i =
+    λ i (is, over). (is, record { value = over.value; typed = over.typed; below = raised context.types over.value nullable more heap_type up over.below; sets_none = over.sets_none }) in
+    record {
+      no_local = λ index few is. none.no_local index few (other _ is);
+      no_global = λ index few is. none.no_global index few (other _ is);
+      no_function = λ function is. none.no_function function (other _ is);
+      no_number = λ instruction number is. none.no_number instruction number (other _ is);
+      no_null = λ heap_type is. none.no_null heap_type (other _ is);
+      no_struct = λ ty few is. none.no_struct ty few (other _ is);
+      no_array = λ ty few is. none.no_array ty few (other _ is);
+      no_i31 = λ number creation is_number is is_creation after. none.no_i31 number creation is_number is is_creation (over _ after);
+    }
+
+-- a conversion
+unconverted : (config : Config) (context : BodyContext) (set : List ℕ) (op : AggregateInstr) (operand : ValType) → IsOrderly context.types → converted_by config context set op operand ≡ None → is_permitted context.features config (instr.Aggregate op) ≡ true → HasNoShort config context set operand
+unconverted config context set op operand orderly none is =
+    let short = if_none (is_permitted context.features config (instr.Aggregate op)) (option_map (with_conversion (instr.Aggregate op)) (short_leaf config context set operand)) is none in
+    none_short config context set operand orderly (unmapped (with_conversion (instr.Aggregate op)) (short_leaf config context set operand) short)
+
+none_inside : (config : Config) (context : BodyContext) (set : List ℕ) (wanted : ValType) (shared nullable : Bool) → IsOrderly context.types → converted_leaf config context set wanted ≡ None → IsValBelow context.types (internal shared nullable) wanted
+    → is_permitted context.features config (instr.Aggregate aggregate.AnyConvertExtern) ≡ true → HasNoShort config context set (external shared nullable)
+none_inside config context set (Ref to) shared nullable orderly none below is =
+    let top : to.heap_type ≡ Abstract shared abstract.Any = any_top context.types shared to.heap_type below.heap in
+    let none' : converted_by config context set aggregate.AnyConvertExtern (external shared to.nullable) ≡ None = subst (λ (h : HeapType). converted_to config context set to.nullable h ≡ None) top none in
+    none_stricter config context set nullable to.nullable (Abstract shared abstract.Extern) below.nullable (unconverted config context set aggregate.AnyConvertExtern (external shared to.nullable) orderly none' is)
+none_inside config context set I32 shared nullable orderly none below is = absurd below
+none_inside config context set I64 shared nullable orderly none below is = absurd below
+none_inside config context set F32 shared nullable orderly none below is = absurd below
+none_inside config context set F64 shared nullable orderly none below is = absurd below
+none_inside config context set V128 shared nullable orderly none below is = absurd below
+
+none_outside : (config : Config) (context : BodyContext) (set : List ℕ) (wanted : ValType) (shared nullable : Bool) → IsOrderly context.types → converted_leaf config context set wanted ≡ None → IsValBelow context.types (external shared nullable) wanted
+    → is_permitted context.features config (instr.Aggregate aggregate.ExternConvertAny) ≡ true → HasNoShort config context set (internal shared nullable)
+none_outside config context set (Ref to) shared nullable orderly none below is =
+    let top : to.heap_type ≡ Abstract shared abstract.Extern = extern_top context.types shared to.heap_type below.heap in
+    let none' : converted_by config context set aggregate.ExternConvertAny (internal shared to.nullable) ≡ None = subst (λ (h : HeapType). converted_to config context set to.nullable h ≡ None) top none in
+    none_stricter config context set nullable to.nullable (Abstract shared abstract.Any) below.nullable (unconverted config context set aggregate.ExternConvertAny (internal shared to.nullable) orderly none' is)
+none_outside config context set I32 shared nullable orderly none below is = absurd below
+none_outside config context set I64 shared nullable orderly none below is = absurd below
+none_outside config context set F32 shared nullable orderly none below is = absurd below
+none_outside config context set F64 shared nullable orderly none below is = absurd below
+none_outside config context set V128 shared nullable orderly none below is = absurd below
+
+only_operand : (operand same : ValType) → operand ∷ [] ≡ same ∷ [] → operand ≡ same
+only_operand operand same is = cc
+
+none_converted : (config : Config) (context : BodyContext) (set : List ℕ) (wanted : ValType) → IsOrderly context.types → converted_leaf config context set wanted ≡ None → (operand : ValType) (conversion : Instr) → IsConversion conversion
+    → IsOtherOver config context set operand wanted conversion → HasNoShort config context set operand
+none_converted config context set wanted orderly none operand (instr.Aggregate aggregate.AnyConvertExtern) converts (is, over) =
+    let (shared, (nullable, (operands, results))) = over.typed in
+    subst (HasNoShort config context set) (sym (only_operand operand (external shared nullable) operands))
+    (none_inside config context set wanted shared nullable orderly none (typed_below context.types over.value (internal shared nullable) wanted results over.below) is)
+none_converted config context set wanted orderly none operand (instr.Aggregate aggregate.ExternConvertAny) converts (is, over) =
+    let (shared, (nullable, (operands, results))) = over.typed in
+    subst (HasNoShort config context set) (sym (only_operand operand (internal shared nullable) operands))
+    (none_outside config context set wanted shared nullable orderly none (typed_below context.types over.value (external shared nullable) wanted results over.below) is)
+none_converted config context set wanted orderly none operand conversion converts other = absurd converts
+
+pub no_other : (config : Config) (context : BodyContext) (set : List ℕ) (wanted : ValType) (bytes : List ℕ) → IsOrderly context.types → config.disallow_traps ≡ true → (leaf_at config context set wanted bytes).0.value ≡ instr.Unreachable → HasNoOther config context set wanted
+no_other config context set wanted bytes orderly trapless stop =
+    let is = spared config context set wanted bytes trapless stop in
+    let (short, converted) = none_tried config context set wanted trapless (sym (ap (λ (leaf : Leaf). leaf.value) is) ∙ stop) in
+    record { none = none_short config context set wanted orderly short; none_converted = none_converted config context set wanted orderly converted }

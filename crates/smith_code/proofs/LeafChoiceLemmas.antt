@@ -1,20 +1,22 @@
 -- The instruction without operands that is chosen.
-use Rattle.std.proofs.Common.{◌≡◌, ℕ, ◌<◌, Bool, List, [], Option, Some, None, length, get_or, refl, sym, subst, ap, ◌∙◌}
-use Rattle.std.specs.Prelude.{option_map, slice_get, if◌then◌else◌}
+use Rattle.std.proofs.Common.{◌≡◌, ℕ, ◌<◌, ◌≤◌, Bool, true, false, List, [], ◌∷◌, ◌++◌, arith, Option, Some, None, length, get_or, refl, sym, subst, ap, ◌∙◌}
+use Rattle.std.specs.Prelude.{option_map, option_to_list, slice_get, if◌then◌else◌}
 use Rattle.std.proofs.lemmas.Option.{slice_get-get_or}
 use Rattle.smith_config.specs.declared.config.Config.{Config}
 use Rattle.smith_types.specs.declared.value_type.ValType.{ValType}
 use Rattle.smith_draw.specs.Choices.{chosen_at}
 use Rattle.smith_instr.specs.Contexts.{BodyContext}
 use Rattle.smith_instr.specs.declared.instr.Instr.{Instr}
+use Rattle.smith_instr.specs.declared.instr.Instr.TheVariants as instr
 use Rattle.smith_code_nodes.specs.Chosen.{giving}
-use Rattle.smith_code.specs.Leaves.{any_leaf_at, constant_instr_at, first_of, if_permitted, leaf_at, leaf_choice_at, leaf_families, leaf_of, named_at, or_constant, spare_leaf}
+use Rattle.smith_code.specs.Leaves.{any_leaf_at, constant_instr_at, first_leaf, first_of, if_permitted, instructions_of, leaf_at, leaf_choice_at, leaf_families, leaf_of, longest_leaf, named_at, only, or_constant, spare_leaf}
 use Rattle.smith_code_nodes.specs.Offered.{is_reference, within_at}
 use Rattle.smith_code_nodes.specs.Scopes.{is_permitted}
 use Rattle.smith_code_nodes.specs.declared.offer.Reach.{Reach}
 use Rattle.smith_code_nodes.specs.declared.offer.Reach.TheVariants as reach
 use Rattle.smith_code.specs.declared.families.LeafFamily.{LeafFamily}
 use Rattle.smith_code.specs.declared.families.LeafFamily.TheVariants as leaf
+use Rattle.smith_code.specs.declared.leaf.Leaf.{Leaf}
 use Rattle.smith_code_nodes.proofs.ChosenLemmas.{chosen_by}
 
 -- a function that may be named, by its place among those offered
@@ -45,9 +47,37 @@ leaf_constant context set wanted bytes middle left instruction drawn is = ap (λ
 
 -- the drawn instruction if it is permitted, else its replacement
 pub leaf_permitted : (config : Config) (context : BodyContext) (set : List ℕ) (wanted : ValType) (bytes left : List ℕ) (instruction : Instr) (permitted : Bool) → any_leaf_at context set wanted bytes ≡ (instruction, left) → is_permitted context.features config instruction ≡ permitted
-    → leaf_at config context set wanted bytes ≡ (if permitted then instruction else spare_leaf config context set wanted, left)
+    → leaf_at config context set wanted bytes ≡ (if permitted then only instruction else spare_leaf config context set wanted, left)
 unfolding leaf_at
 leaf_permitted config context set wanted bytes left instruction permitted drawn is = rw (drawn, is) refl
+
+-- the number of its instructions
+three : (value : Instr) (creation conversion : Option Instr) → length (value ∷ (option_to_list creation ++ option_to_list conversion)) ≤ 3
+three value None None = omega arith
+three value None (Some conversion) = omega arith
+three value (Some creation) None = omega arith
+three value (Some creation) (Some conversion) = omega arith
+
+few_by : (instruction : Instr) (first : Leaf) (permitted traps : Bool) → length (instructions_of (if permitted then only instruction else if traps then first else only instr.Unreachable)) ≤ (if traps then 3 else 1)
+few_by instruction first true true = omega arith
+few_by instruction first true false = omega arith
+few_by instruction first false true = three first.value first.creation first.conversion
+few_by instruction first false false = omega arith
+
+pub leaf_few : (config : Config) (context : BodyContext) (set : List ℕ) (wanted : ValType) (bytes left : List ℕ) (leaf : Leaf) → leaf_at config context set wanted bytes ≡ (leaf, left) → length (instructions_of leaf) ≤ longest_leaf config
+unfolding leaf_at spare_leaf longest_leaf
+leaf_few config context set wanted bytes left leaf drawn =
+    let instruction = (any_leaf_at context set wanted bytes).0 in
+    subst (λ (d : Leaf × List ℕ). length (instructions_of d.0) ≤ (if config.disallow_traps then 3 else 1)) drawn
+    (few_by instruction (first_leaf config context set wanted) (is_permitted context.features config instruction) config.disallow_traps)
+
+at_least_one : (traps : Bool) → 1 ≤ (if traps then 3 else 1)
+at_least_one true = omega arith
+at_least_one false = omega arith
+
+pub some_leaf : (config : Config) → 1 ≤ longest_leaf config
+unfolding longest_leaf
+some_leaf config = at_least_one config.disallow_traps
 
 -- the first instruction of a family, if it is permitted
 pub first_none : (config : Config) (context : BodyContext) (set : List ℕ) (wanted : ValType) (family : LeafFamily) (bytes left : List ℕ) → bytes ≡ [] → leaf_of context set reach.Whole wanted family bytes ≡ (None, left) → None ≡ first_of config context set wanted family

@@ -1,23 +1,34 @@
--- Instructions that produce a value without operands.
-use Rattle.std.proofs.Common.{◌≡◌, ℕ, true, List, [], refl}
-use Rattle.std.specs.Prelude.{slice_get}
+-- Instructions that produce a value, and take no budget.
+use Rattle.std.proofs.Common.{◌≡◌, ℕ, Bool, true, false, List, [], ◌∷◌, ◌++◌, Option, Some, None, ap, refl, subst, ◌∙◌}
+use Rattle.std.specs.Prelude.{◌||◌, not, All, option_to_list, pos, slice_get}
+use Rattle.std.proofs.lemmas.List.{append-nil}
+use Rattle.std.proofs.lemmas.List.Elements.{All-nil, All-push}
+use Rattle.smith_config.specs.declared.config.Config.{Config}
 use Rattle.smith_types.specs.Types.{IsOrderly}
 use Rattle.smith_types.specs.Subtyping.{itself}
+use Rattle.smith_types.specs.declared.value_type.AbstractHeapType.{AbstractHeapType}
+use Rattle.smith_types.specs.declared.value_type.HeapType.{HeapType}
+use Rattle.smith_types.specs.declared.value_type.HeapType.TheVariants.{Abstract}
 use Rattle.smith_types.specs.declared.value_type.RefType.{RefType}
 use Rattle.smith_types.specs.declared.value_type.ValType.{ValType}
-use Rattle.smith_types.specs.declared.value_type.ValType.TheVariants.{Ref}
+use Rattle.smith_types.specs.declared.value_type.ValType.TheVariants.{I32, Ref}
 use Rattle.smith_types.proofs.GrowthLemmas.{IsValBelow-refl}
-use Rattle.smith_instr.specs.Contexts.{BodyContext, created_reference}
+use Rattle.smith_draw.specs.Below.{is_val_below}
+use Rattle.smith_instr.specs.AggregateTypes.{external, internal}
+use Rattle.smith_instr.specs.Contexts.{BodyContext, IsValid, created_reference}
 use Rattle.smith_instr.specs.Enabled.{is_enabled}
 use Rattle.smith_instr.specs.declared.aggregate.AggregateInstr.TheVariants as aggregate
+use Rattle.smith_instr.specs.declared.instr.Instr.{Instr}
 use Rattle.smith_instr.specs.declared.instr.Instr.TheVariants as instr
 use Rattle.smith_instr.specs.declared.reference.ReferenceInstr.TheVariants as reference
-use Rattle.smith_code.specs.Leaves.{IsConstant, IsLeaf}
+use Rattle.smith_code.specs.Leaves.{IsConstant, IsLeaf, IsLeafOf, IsThen, i31_from, i31_of, i31_type, instructions_of, only, with_conversion}
+use Rattle.smith_code.specs.declared.leaf.Leaf.{Leaf}
 use Rattle.smith_code_aggregates.specs.Aggregates.{is_creatable_in, is_created_below, is_created_empty, is_created_struct}
 use Rattle.smith_code_aggregates.specs.Fields.{struct_in}
 use Rattle.smith_code_aggregates.proofs.CreationLemmas.{default_there}
 use Rattle.smith_code_aggregates.proofs.FirstLemmas.{array_created}
-use Rattle.smith_code_nodes.specs.Scopes.{IsAllowedIn}
+use Rattle.smith_code_nodes.specs.Scopes.{IsAllowedIn, is_permitted}
+use Rattle.smith_code_nodes.specs.Traps.{may_trap}
 use Rattle.smith_code_nodes.specs.Offered.{is_readable, is_global_below, IsReferenceTo}
 use Rattle.smith_code_nodes.specs.declared.scope.Scope.{Scope}
 use Rattle.smith_code_nodes.proofs.OfferLemmas.{both, global_below, readable, tested}
@@ -67,3 +78,77 @@ pub array_leaf : (context : BodyContext) (set : List ℕ) (wanted : ValType) (ty
 array_leaf context set wanted ty orderly is =
     let (below, (element, there)) = array_created context wanted ty is in
     record { value = created_reference context ty; typed = (element, there, (refl, refl)); below = tested context.types orderly (created_reference context ty) wanted below; sets_none = refl }
+
+-- a value of one instruction
+pub only_typed : (context : BodyContext) (set : List ℕ) (wanted : ValType) (instruction : Instr) → IsValid context wanted → IsLeaf context set wanted instruction → IsLeafOf context set wanted (only instruction)
+only_typed context set wanted instruction valid leaf = record { value = wanted; produced = leaf; value_valid = valid; reference = wanted; created = refl; reference_valid = valid; converted = refl }
+
+pub stop_typed : (context : BodyContext) (set : List ℕ) (wanted : ValType) → IsValid context wanted → IsLeafOf context set wanted (only instr.Unreachable)
+stop_typed context set wanted valid = only_typed context set wanted instr.Unreachable valid (no_constant wanted context set valid)
+
+-- an i31
+pub i31_then : (context : BodyContext) (set : List ℕ) (wanted : ValType) (shared : Bool) → IsOrderly context.types → is_val_below context.types (i31_type shared) wanted ≡ true → IsThen context set I32 wanted (Some (i31_of shared))
+i31_then context set wanted true orderly below = (λ is. cc, record { value = i31_type true; typed = (refl, refl); below = tested context.types orderly (i31_type true) wanted below; sets_none = refl })
+i31_then context set wanted false orderly below = (λ is. cc, record { value = i31_type false; typed = (refl, refl); below = tested context.types orderly (i31_type false) wanted below; sets_none = refl })
+
+pub i31_typed : (context : BodyContext) (set : List ℕ) (wanted : ValType) (creation : Instr) → IsValid context wanted → IsThen context set I32 wanted (Some creation) → IsLeafOf context set wanted (i31_from creation)
+i31_typed context set wanted creation valid after = record {
+  value = I32;
+  produced = record { value = I32; typed = (refl, refl); below = tt; sets_none = refl };
+  value_valid = tt;
+  reference = wanted;
+  created = after;
+  reference_valid = valid;
+  converted = refl;
+}
+
+-- a conversion
+pub converted_typed : (context : BodyContext) (set : List ℕ) (from wanted : ValType) (leaf : Leaf) (conversion : Instr) → IsValid context from → IsLeafOf context set from leaf → leaf.conversion ≡ None → IsThen context set from wanted (Some conversion)
+    → IsLeafOf context set wanted (with_conversion conversion leaf)
+converted_typed context set from wanted leaf conversion valid of none after =
+    let same : of.reference ≡ from = subst (IsThen context set of.reference from) none of.converted in
+    record {
+      value = of.value;
+      produced = of.produced;
+      value_valid = of.value_valid;
+      reference = from;
+      created = subst (λ (reference : ValType). IsThen context set of.value reference leaf.creation) same of.created;
+      reference_valid = valid;
+      converted = after;
+    }
+
+pub inside_then : (context : BodyContext) (set : List ℕ) (shared nullable : Bool) → IsThen context set (external shared nullable) (internal shared nullable) (Some (instr.Aggregate aggregate.AnyConvertExtern))
+inside_then context set shared nullable =
+    (λ is. cc, record { value = internal shared nullable; typed = (shared, (nullable, (refl, refl))); below = IsValBelow-refl context.types (internal shared nullable); sets_none = refl })
+
+pub outside_then : (context : BodyContext) (set : List ℕ) (shared nullable : Bool) → IsThen context set (internal shared nullable) (external shared nullable) (Some (instr.Aggregate aggregate.ExternConvertAny))
+outside_then context set shared nullable =
+    (λ is. cc, record { value = external shared nullable; typed = (shared, (nullable, (refl, refl))); below = IsValBelow-refl context.types (external shared nullable); sets_none = refl })
+
+-- the operand of a permitted conversion is valid
+pub reference_is : (wanted : ValType) (to : RefType) (shared : Bool) (ty kind : AbstractHeapType) → wanted ≡ Ref to → to.heap_type ≡ Abstract shared ty → ty ≡ kind → wanted ≡ Ref (record { nullable = to.nullable; heap_type = Abstract shared kind })
+reference_is wanted to shared ty kind is heap same = is ∙ ap (λ (h : HeapType). Ref (record { nullable = to.nullable; heap_type = h })) (heap ∙ ap (λ (a : AbstractHeapType). Abstract shared a) same)
+
+pub external_valid : (context : BodyContext) (shared nullable : Bool) → IsValid context (internal shared nullable) → IsValid context (external shared nullable)
+external_valid context shared nullable valid = (valid.0, record { heap_type = (tt, valid.1.heap_type.1); nullable = valid.1.nullable })
+
+pub internal_valid : (context : BodyContext) (config : Config) (shared nullable : Bool) → is_permitted context.features config (instr.Aggregate aggregate.ExternConvertAny) ≡ true → IsValid context (external shared nullable) → IsValid context (internal shared nullable)
+unfolding is_permitted is_enabled
+internal_valid context config shared nullable permitted valid =
+    let (enabled, _) = both (is_enabled context.features config.allowed_instructions (instr.Aggregate aggregate.ExternConvertAny)) (not config.disallow_traps || not (may_trap (instr.Aggregate aggregate.ExternConvertAny))) permitted in
+    let (gc, _) = both context.features.gc _ enabled in
+    (valid.0, record { heap_type = (gc, valid.1.heap_type.1); nullable = valid.1.nullable })
+
+-- the instructions of a value are allowed
+pub only_allowed : (scope : Scope) (instruction : Instr) → IsAllowedIn scope instruction → All (IsAllowedIn scope) (instructions_of (only instruction))
+only_allowed scope instruction allowed = All-push (IsAllowedIn scope) [] instruction (All-nil (IsAllowedIn scope)) allowed
+
+pub i31_allowed : (scope : Scope) (creation : Instr) → IsAllowedIn scope (instr.I32Const (pos 0)) → IsAllowedIn scope creation → All (IsAllowedIn scope) (instr.I32Const (pos 0) ∷ creation ∷ [])
+i31_allowed scope creation number allowed = All-push (IsAllowedIn scope) (instr.I32Const (pos 0) ∷ []) creation (only_allowed scope (instr.I32Const (pos 0)) number) allowed
+
+pub converted_allowed : (scope : Scope) (leaf : Leaf) (conversion : Instr) → leaf.conversion ≡ None → All (IsAllowedIn scope) (instructions_of leaf) → IsAllowedIn scope conversion
+    → All (IsAllowedIn scope) (leaf.value ∷ (option_to_list leaf.creation ++ conversion ∷ []))
+converted_allowed scope leaf conversion none all allowed =
+    let all' : All (IsAllowedIn scope) (leaf.value ∷ (option_to_list leaf.creation ++ [])) = subst (λ (o : Option Instr). All (IsAllowedIn scope) (leaf.value ∷ (option_to_list leaf.creation ++ option_to_list o))) none all in
+    let all'' : All (IsAllowedIn scope) (leaf.value ∷ option_to_list leaf.creation) = rw append-nil at all' in
+    All-push (IsAllowedIn scope) (leaf.value ∷ option_to_list leaf.creation) conversion all'' allowed

@@ -7,12 +7,18 @@ use Rattle.std.proofs.lemmas.List.Elements.{recursion_from_All}
 use Rattle.std.proofs.lemmas.Option.{same_Some}
 use Rattle.smith_types.specs.Expressions.{IsArrayAt, IsDefaultable, IsStructAt, field_values, unpacked}
 use Rattle.smith_types.specs.Grounded.{are_defaultable, is_defaultable}
-use Rattle.smith_types.specs.Subtyping.{IsValBelow}
+use Rattle.smith_types.specs.Kinds.{bottom_of}
+use Rattle.smith_types.specs.Subtyping.{IsBelow, IsStep, IsValBelow, by_step, is_abstract_step, itself}
 use Rattle.smith_types.specs.Types.{IsOrderly}
 use Rattle.smith_types.specs.declared.composite_type.CompositeInnerType.{CompositeInnerType}
+use Rattle.smith_types.specs.declared.composite_type.CompositeInnerType.TheVariants.{Array, Func, Struct}
 use Rattle.smith_types.specs.declared.composite_type.FieldType.{FieldType}
 use Rattle.smith_types.specs.declared.composite_type.SubType.{SubType}
 use Rattle.smith_types.specs.declared.entity_type.GlobalType.{GlobalType}
+use Rattle.smith_types.specs.declared.value_type.AbstractHeapType.{AbstractHeapType}
+use Rattle.smith_types.specs.declared.value_type.AbstractHeapType.TheVariants as abstract
+use Rattle.smith_types.specs.declared.value_type.HeapType.{HeapType}
+use Rattle.smith_types.specs.declared.value_type.HeapType.TheVariants.{Abstract, Concrete, Exact}
 use Rattle.smith_types.specs.declared.value_type.ValType.{ValType}
 use Rattle.smith_types.specs.declared.value_type.ValType.TheVariants.{I32, I64, F32, F64, V128, Ref}
 use Rattle.smith_draw.specs.Below.{is_val_below}
@@ -36,7 +42,7 @@ second_is : (a b : Bool) → b ≡ true → (a || b) ≡ true
 second_is true b q = refl
 second_is false b q = q
 
-below_is : (types : List SubType) (value wanted : ValType) → IsOrderly types → IsValBelow types value wanted → is_val_below types value wanted ≡ true
+pub below_is : (types : List SubType) (value wanted : ValType) → IsOrderly types → IsValBelow types value wanted → is_val_below types value wanted ≡ true
 below_is types value wanted orderly below = (val_decides types orderly value wanted).1 below
 
 -- a local that is set
@@ -105,3 +111,34 @@ pub first_passes : (test : ℕ → Bool) (size index : ℕ) → slice_get (offer
 unfolding offered
 first_passes test zero index at = cc
 first_passes test (suc n) index at = first_of_more test (offered test n) (test n) n index refl (λ other at'. first_passes test n other at') at
+
+-- nothing else is above all internal references, and nothing above all external ones
+not_bottom : (i : CompositeInnerType) (a : AbstractHeapType) → (a ≡ abstract.Any) ⊎ (a ≡ abstract.Extern) → a ≡ bottom_of i → ⊥
+not_bottom (Array x) a (inl is) bottom = cc
+not_bottom (Array x) a (inr is) bottom = cc
+not_bottom (Func f) a (inl is) bottom = cc
+not_bottom (Func f) a (inr is) bottom = cc
+not_bottom (Struct x) a (inl is) bottom = cc
+not_bottom (Struct x) a (inr is) bottom = cc
+
+any_step : (b : AbstractHeapType) → is_abstract_step abstract.Any b ≡ true → ⊥
+any_step b is = cc
+
+extern_step : (b : AbstractHeapType) → is_abstract_step abstract.Extern b ≡ true → ⊥
+extern_step b is = cc
+
+no_step : (types : List SubType) (shared : Bool) (a : AbstractHeapType) (b : HeapType) → (a ≡ abstract.Any) ⊎ (a ≡ abstract.Extern) → IsStep types (Abstract shared a) b → ⊥
+no_step types shared a (Abstract other b) (inl is) (same, above) = any_step b (subst (λ (a : AbstractHeapType). is_abstract_step a b ≡ true) is above)
+no_step types shared a (Abstract other b) (inr is) (same, above) = extern_step b (subst (λ (a : AbstractHeapType). is_abstract_step a b ≡ true) is above)
+no_step types shared a (Concrete index) which (t, at, same, bottom) = not_bottom t.composite_type.inner a which bottom
+no_step types shared a (Exact index) which (t, at, same, bottom) = not_bottom t.composite_type.inner a which bottom
+
+top_alone : (types : List SubType) (shared : Bool) (a : AbstractHeapType) (h : HeapType) → (a ≡ abstract.Any) ⊎ (a ≡ abstract.Extern) → IsBelow types (Abstract shared a) h → h ≡ Abstract shared a
+top_alone types shared a h which itself = refl
+top_alone types shared a h which (by_step {b = b} step rest) = absurd (no_step types shared a b which step)
+
+pub any_top : (types : List SubType) (shared : Bool) (h : HeapType) → IsBelow types (Abstract shared abstract.Any) h → h ≡ Abstract shared abstract.Any
+any_top types shared h below = top_alone types shared abstract.Any h (inl refl) below
+
+pub extern_top : (types : List SubType) (shared : Bool) (h : HeapType) → IsBelow types (Abstract shared abstract.Extern) h → h ≡ Abstract shared abstract.Extern
+extern_top types shared h below = top_alone types shared abstract.Extern h (inr refl) below

@@ -15,9 +15,10 @@ use Rattle.smith_code_nodes.specs.Scopes.{is_permitted}
 use Rattle.smith_code_nodes.specs.declared.node.Node.{Node}
 use Rattle.smith_code_nodes.proofs.OfferLemmas.{both}
 use Rattle.smith_code.specs.Laws.{HasNoOther}
-use Rattle.smith_code.specs.Leaves.{leaf_at}
+use Rattle.smith_code.specs.Leaves.{leaf_at, only}
 use Rattle.smith_code.specs.Stops.{AreStopsNeeded, HaveNeededStops, IsNoStop}
-use Rattle.smith_code.proofs.LawLemmas.{no_other, stop_forbidden}
+use Rattle.smith_code.specs.declared.leaf.Leaf.{Leaf}
+use Rattle.smith_code.proofs.LawLemmas.{no_other, stop_alone, stop_forbidden}
 
 -- the end of a sequence
 pub at_end : (config : Config) (context : BodyContext) (values : List ValType) (set : List ℕ) → AreValid context values → HaveNeededStops config context [] (stacked values set) (stacked values set)
@@ -67,8 +68,9 @@ node_goes_on features config node allowed = λ disallowed stops.
     let (permitted, _) = both (is_permitted features config (head_instruction node.head)) _ head in
     stop_forbidden features config disallowed (subst (λ (i : Instr). is_permitted features config i ≡ true) stops permitted)
 
--- an `unreachable` that was drawn for a value, as no other instruction produces it
-pub only_stop : (config : Config) (context : BodyContext) (set : List ℕ) (wanted : ValType) (bytes left : List ℕ) (instruction : Instr) → IsOrderly context.types → leaf_at config context set wanted bytes ≡ (instruction, left)
-    → config.disallow_traps ≡ true → instruction ≡ instr.Unreachable → HasNoOther config context set wanted
-only_stop config context set wanted bytes left instruction orderly drawn disallowed is =
-    no_other config context set wanted bytes orderly disallowed (ap (λ (drawn : Instr × List ℕ). drawn.0) drawn ∙ is)
+-- an `unreachable` that was drawn for a value, as no other instructions produce it
+pub only_stop : (config : Config) (context : BodyContext) (set : List ℕ) (wanted : ValType) (bytes left : List ℕ) (leaf : Leaf) → IsOrderly context.types → leaf_at config context set wanted bytes ≡ (leaf, left)
+    → config.disallow_traps ≡ true → leaf.value ≡ instr.Unreachable → (leaf ≡ only instr.Unreachable) × HasNoOther config context set wanted
+only_stop config context set wanted bytes left leaf orderly drawn disallowed is =
+    let stop : (leaf_at config context set wanted bytes).0.value ≡ instr.Unreachable = ap (λ (drawn : Leaf × List ℕ). drawn.0.value) drawn ∙ is in
+    (sym (ap (λ (drawn : Leaf × List ℕ). drawn.0) drawn) ∙ stop_alone config context set wanted bytes disallowed stop, no_other config context set wanted bytes orderly disallowed stop)

@@ -10,8 +10,6 @@ use Rattle.smith_config.specs.declared.config.Config.{Config}
 use Rattle.smith_draw.specs.Choices.{chosen_at}
 use Rattle.smith_instr.specs.Contexts.{BodyContext}
 use Rattle.smith_instr.specs.declared.instr.Instr.TheVariants as instr
-use Rattle.smith_instr.specs.declared.memory.Load.{Load}
-use Rattle.smith_instr.specs.declared.memory.Store.{Store}
 use Rattle.smith_code_nodes.specs.Chosen.{Chosen, giving, or_nop}
 use Rattle.smith_code_nodes.specs.Nodes.{is_node_allowed, node_of, setting}
 use Rattle.smith_code_nodes.specs.Offered.{chunk_at, function_at, is_callable, is_local_below, is_mutable, offered}

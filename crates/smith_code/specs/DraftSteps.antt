@@ -5,14 +5,15 @@ use Rattle.smith_instr.specs.Contexts.{AreValid}
 use Rattle.smith_instr.specs.Sequences.{stacked}
 use Rattle.smith_instr.specs.declared.instr.Instr.{Instr}
 use Rattle.smith_code.specs.Bodies.{State}
+use Rattle.smith_code.specs.Leaves.{longest_leaf}
 use Rattle.smith_code.specs.Stops.{HaveNeededStops}
 use Rattle.smith_code_nodes.specs.Scopes.{bare, where_stands, most, IsAllowedIn}
 use Rattle.smith_code_nodes.specs.declared.scope.Draft.{Draft}
 use Rattle.smith_code_nodes.specs.declared.scope.Scope.{Scope}
 
 -- the new instructions take operands of the first types from the top of any stack, and leave values
--- of the second types; each `unreachable` is needed; the labels are the same, and at most `cost`
--- instructions are not paid for by the budget
+-- of the second types; each `unreachable` is needed; the labels are the same, and the budget pays
+-- for all but as many instructions as `cost` values that take no budget may have
 pub record IsDrawn (scope : Scope) (operands values : List ValType) (cost : ℕ) (old new : Draft) : Type 0 where
   pub more : List Instr
   pub longer : new.out ≡ old.out ++ more
@@ -23,7 +24,8 @@ pub record IsDrawn (scope : Scope) (operands values : List ValType) (cost : ℕ)
   pub set_more : new.set.items ≡ old.set.items ++ set
   pub same : new.labels.items ≡ old.labels.items
   pub spent : new.budget ≤ old.budget
-  pub short : length new.out + most scope.types.now.types * new.budget ≤ length old.out + cost + most scope.types.now.types * old.budget
+  pub short : length new.out + longest_leaf scope.config.now * (most scope.types.now.types * new.budget)
+      ≤ length old.out + longest_leaf scope.config.now * (cost + most scope.types.now.types * old.budget)
 
 -- the state of a draft before these bytes
 abbrev pub state_of : Scope → Draft → List ℕ → State

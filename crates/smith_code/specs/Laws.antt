@@ -1,16 +1,17 @@
--- Laws of instructions without operands.
+-- Laws of values that need no budget.
 use Rattle.std.specs.Prelude.{◌≡◌, ℕ, ◌-◌, ◌^◌, ◌<◌, true, List}
 use Rattle.smith_config.specs.declared.config.Config.{Config}
 use Rattle.smith_types.specs.Types.{IsOrderly}
 use Rattle.smith_types.specs.declared.value_type.HeapType.{HeapType}
 use Rattle.smith_types.specs.declared.value_type.ValType.{ValType}
+use Rattle.smith_types.specs.declared.value_type.ValType.TheVariants.{I32}
 use Rattle.smith_instr.specs.Contexts.{BodyContext}
 use Rattle.smith_instr.specs.declared.aggregate.AggregateInstr.TheVariants as aggregate
 use Rattle.smith_instr.specs.declared.instr.Instr.{Instr}
 use Rattle.smith_instr.specs.declared.instr.Instr.TheVariants as instr
 use Rattle.smith_instr.specs.declared.reference.ReferenceInstr.TheVariants as reference
 use Rattle.smith_code_nodes.specs.Scopes.{is_permitted}
-use Rattle.smith_code.specs.Leaves.{IsLeaf, leaf_at}
+use Rattle.smith_code.specs.Leaves.{IsLeaf, IsOver, leaf_at}
 
 -- a constant of a number or a vector
 abbrev pub IsNumber : Instr → Type 0
@@ -31,10 +32,27 @@ abbrev pub IsOther : Config → BodyContext → List ℕ → ValType → Instr �
 IsOther config context set wanted instruction =
     (is_permitted context.features config instruction ≡ true) × IsLeaf context set wanted instruction
 
+-- an instruction that is permitted, takes a value of one type, and produces one that matches another
+abbrev pub IsOtherOver : Config → BodyContext → List ℕ → (operand wanted : ValType) → Instr → Type 0
+IsOtherOver config context set operand wanted instruction =
+    (is_permitted context.features config instruction ≡ true) × IsOver context set operand wanted instruction
+
+-- the creation of an i31
+abbrev pub IsI31Creation : Instr → Type 0
+IsI31Creation (instr.Aggregate aggregate.RefI31) = Unit {0}
+IsI31Creation (instr.Aggregate aggregate.RefI31Shared) = Unit {0}
+IsI31Creation _ = ⊥
+
+-- a conversion between internal and external references
+abbrev pub IsConversion : Instr → Type 0
+IsConversion (instr.Aggregate aggregate.AnyConvertExtern) = Unit {0}
+IsConversion (instr.Aggregate aggregate.ExternConvertAny) = Unit {0}
+IsConversion _ = ⊥
+
 -- no permitted instruction produces a value that matches the wanted type: no read of a local or a
 -- global, no reference to a function, no constant, no null, no struct of default values, and no
--- array without elements
-pub record HasNoOther (config : Config) (context : BodyContext) (set : List ℕ) (wanted : ValType) : Type 0 where
+-- array without elements; nor does the creation of an i31 from a constant
+pub record HasNoShort (config : Config) (context : BodyContext) (set : List ℕ) (wanted : ValType) : Type 0 where
   pub no_local : (index : ℕ) → IsIndex index → ¬ IsOther config context set wanted (instr.LocalGet index)
   pub no_global : (index : ℕ) → IsIndex index → ¬ IsOther config context set wanted (instr.GlobalGet index)
   pub no_function : (function : ℕ) → ¬ IsOther config context set wanted (instr.Reference (reference.Func function))
@@ -42,11 +60,18 @@ pub record HasNoOther (config : Config) (context : BodyContext) (set : List ℕ)
   pub no_null : (heap_type : HeapType) → ¬ IsOther config context set wanted (instr.Reference (reference.Null heap_type))
   pub no_struct : (ty : ℕ) → IsIndex ty → ¬ IsOther config context set wanted (instr.Aggregate (aggregate.StructNewDefault ty))
   pub no_array : (ty : ℕ) → IsIndex ty → ¬ IsOther config context set wanted (instr.Aggregate (aggregate.ArrayNewFixed ty 0))
+  pub no_i31 : (number creation : Instr) → IsNumber number → IsOther config context set I32 number → IsI31Creation creation → ¬ IsOtherOver config context set I32 wanted creation
 
--- with `disallow_traps`, the instruction that produces a value is `unreachable` only if there is no
--- other such instruction
+-- neither these produce a value that matches the wanted type, nor a permitted conversion of a
+-- reference that they produce
+pub record HasNoOther (config : Config) (context : BodyContext) (set : List ℕ) (wanted : ValType) : Type 0 where
+  pub none : HasNoShort config context set wanted
+  pub none_converted : (operand : ValType) (conversion : Instr) → IsConversion conversion → IsOtherOver config context set operand wanted conversion → HasNoShort config context set operand
+
+-- with `disallow_traps`, a value is produced by `unreachable` only if no other such instructions
+-- produce one
 abbrev pub TrapsOnlyForNoOther : Type 0
 TrapsOnlyForNoOther =
     (config : Config) (context : BodyContext) (set : List ℕ) (wanted : ValType) (bytes : List ℕ)
-    → IsOrderly context.types → config.disallow_traps ≡ true → (leaf_at config context set wanted bytes).0 ≡ instr.Unreachable
+    → IsOrderly context.types → config.disallow_traps ≡ true → (leaf_at config context set wanted bytes).0.value ≡ instr.Unreachable
     → HasNoOther config context set wanted

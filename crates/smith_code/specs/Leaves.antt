@@ -1,16 +1,24 @@
--- The instruction without operands that the bytes produce. The choices and their order are rules of
--- this project.
-use Rattle.std.specs.Prelude.{◌≡◌, ℕ, Option, Some, None, option_map, unwrap_or, List, [], ◌∷◌, length, slice_get, if◌then◌else◌}
+-- The value that the bytes produce without a budget. The choices and their order are rules of this
+-- project.
+use Rattle.std.specs.Prelude.{◌≡◌, ℕ, Bool, false, true, Option, Some, None, option_map, option_to_list, unwrap_or, List, [], ◌∷◌, ◌++◌, length, pos, slice_get, if◌then◌else◌}
+use Rattle.std.specs.Option.{option_or}
 use Rattle.std.specs.Int.{cast_signed, w32, w64, w128}
 use Rattle.smith_bytes.specs.Draws.{choose_at, whole_at}
 use Rattle.smith_config.specs.declared.config.Config.{Config}
+use Rattle.smith_types.specs.Expressions.{reference_to}
 use Rattle.smith_types.specs.Subtyping.{IsValBelow}
+use Rattle.smith_types.specs.declared.value_type.AbstractHeapType.TheVariants as abstract
+use Rattle.smith_types.specs.declared.value_type.HeapType.{HeapType}
+use Rattle.smith_types.specs.declared.value_type.HeapType.TheVariants.{Abstract}
 use Rattle.smith_types.specs.declared.value_type.RefType.{RefType}
 use Rattle.smith_types.specs.declared.value_type.ValType.{ValType}
 use Rattle.smith_types.specs.declared.value_type.ValType.TheVariants.{I32, I64, F32, F64, V128, Ref}
+use Rattle.smith_draw.specs.Below.{is_val_below}
 use Rattle.smith_draw.specs.Choices.{chosen_at}
+use Rattle.smith_instr.specs.AggregateTypes.{external, internal}
 use Rattle.smith_instr.specs.Contexts.{BodyContext, IsValid}
 use Rattle.smith_instr.specs.InstrTypes.{sets, HasInstrType}
+use Rattle.smith_instr.specs.declared.aggregate.AggregateInstr.{AggregateInstr}
 use Rattle.smith_instr.specs.declared.aggregate.AggregateInstr.TheVariants as aggregate
 use Rattle.smith_instr.specs.declared.instr.Instr.{Instr}
 use Rattle.smith_instr.specs.declared.instr.Instr.TheVariants as instr
@@ -23,6 +31,7 @@ use Rattle.smith_code_nodes.specs.declared.offer.Reach.{Reach}
 use Rattle.smith_code_nodes.specs.declared.offer.Reach.TheVariants as reach
 use Rattle.smith_code.specs.declared.families.LeafFamily.{LeafFamily}
 use Rattle.smith_code.specs.declared.families.LeafFamily.TheVariants as leaf
+use Rattle.smith_code.specs.declared.leaf.Leaf.{Leaf}
 
 -- null, or `unreachable` for a reference that is not nullable
 abbrev pub null_or_stop : RefType → Instr
@@ -108,26 +117,93 @@ empty_array config context wanted =
     if_permitted config context (option_map (λ ty. instr.Aggregate (aggregate.ArrayNewFixed ty 0)) (first_created_array context wanted))
 
 -- the first local, global or reference that may be read, zero or null, a struct of default values,
--- or an array without elements; `unreachable` if there is none
-unfoldable pub first_leaf : Config → BodyContext → List ℕ → ValType → Instr
+-- or an array without elements
+unfoldable pub first_single : Config → BodyContext → List ℕ → ValType → Option Instr
+first_single config context set wanted =
+    option_or (first_of config context set wanted leaf.Local)
+    (option_or (first_of config context set wanted leaf.Global)
+    (option_or (first_of config context set wanted leaf.Reference)
+    (option_or (first_constant config context wanted)
+    (option_or (default_struct config context wanted)
+    (empty_array config context wanted)))))
+
+-- the instructions of a value, in order
+abbrev pub instructions_of : Leaf → List Instr
+instructions_of value = value.value ∷ (option_to_list value.creation ++ option_to_list value.conversion)
+
+-- a value of one instruction
+abbrev pub only : Instr → Leaf
+only instruction = record { value = instruction; creation = None; conversion = None }
+
+-- the greatest number of instructions of a value
+unfoldable pub longest_leaf : Config → ℕ
+longest_leaf config = if config.disallow_traps then 3 else 1
+
+-- the type of an i31, and the instruction that creates it
+abbrev pub i31_type : Bool → ValType
+i31_type shared = reference_to (Abstract shared abstract.I31)
+
+abbrev pub i31_of : Bool → Instr
+i31_of shared = if shared then instr.Aggregate aggregate.RefI31Shared else instr.Aggregate aggregate.RefI31
+
+-- the creation of an i31, if its type matches the wanted type
+abbrev pub i31_by : Config → BodyContext → ValType → Bool → Option Instr
+i31_by config context wanted shared =
+    if is_val_below context.types (i31_type shared) wanted then if_permitted config context (Some (i31_of shared)) else None
+
+-- an i31 of zero, if it is permitted and its type matches the wanted type
+abbrev pub i31_from : Instr → Leaf
+i31_from creation = record { value = instr.I32Const (pos 0); creation = Some creation; conversion = None }
+
+unfoldable pub i31_leaf : Config → BodyContext → ValType → Option Leaf
+i31_leaf config context wanted =
+    if is_permitted context.features config (instr.I32Const (pos 0))
+    then option_map i31_from (option_or (i31_by config context wanted false) (i31_by config context wanted true))
+    else None
+
+-- a value of one instruction, or an i31
+unfoldable pub short_leaf : Config → BodyContext → List ℕ → ValType → Option Leaf
+short_leaf config context set wanted = option_or (option_map only (first_single config context set wanted)) (i31_leaf config context wanted)
+
+-- a value, and its conversion
+abbrev pub with_conversion : Instr → Leaf → Leaf
+with_conversion conversion value = record { value = value.value; creation = value.creation; conversion = Some conversion }
+
+-- the conversion of such a value of the type of its operand, if it is permitted
+abbrev pub converted_by : Config → BodyContext → List ℕ → AggregateInstr → ValType → Option Leaf
+converted_by config context set op operand =
+    if is_permitted context.features config (instr.Aggregate op)
+    then option_map (with_conversion (instr.Aggregate op)) (short_leaf config context set operand)
+    else None
+
+-- an internal reference from an external one, or an external one from an internal one
+abbrev pub converted_to : Config → BodyContext → List ℕ → Bool → HeapType → Option Leaf
+converted_to config context set nullable (Abstract shared abstract.Any) =
+    converted_by config context set aggregate.AnyConvertExtern (external shared nullable)
+converted_to config context set nullable (Abstract shared abstract.Extern) =
+    converted_by config context set aggregate.ExternConvertAny (internal shared nullable)
+converted_to config context set nullable _ = None
+
+abbrev pub converted_leaf : Config → BodyContext → List ℕ → ValType → Option Leaf
+converted_leaf config context set (Ref to) = converted_to config context set to.nullable to.heap_type
+converted_leaf config context set _ = None
+
+-- a value of one instruction, an i31, or a converted reference; `unreachable` if there is none
+unfoldable pub first_leaf : Config → BodyContext → List ℕ → ValType → Leaf
 first_leaf config context set wanted =
-    unwrap_or (first_of config context set wanted leaf.Local)
-    (unwrap_or (first_of config context set wanted leaf.Global)
-    (unwrap_or (first_of config context set wanted leaf.Reference)
-    (unwrap_or (first_constant config context wanted)
-    (unwrap_or (default_struct config context wanted)
-    (unwrap_or (empty_array config context wanted) instr.Unreachable)))))
+    unwrap_or (short_leaf config context set wanted)
+    (unwrap_or (converted_leaf config context set wanted) (only instr.Unreachable))
 
 -- the replacement for an instruction that is not permitted: `unreachable`; with `disallow_traps`
--- the first permitted instruction
-unfoldable pub spare_leaf : Config → BodyContext → List ℕ → ValType → Instr
-spare_leaf config context set wanted = if config.disallow_traps then first_leaf config context set wanted else instr.Unreachable
+-- the first permitted value
+unfoldable pub spare_leaf : Config → BodyContext → List ℕ → ValType → Leaf
+spare_leaf config context set wanted = if config.disallow_traps then first_leaf config context set wanted else only instr.Unreachable
 
 -- the drawn instruction if it is permitted, else its replacement
-unfoldable pub leaf_at : Config → BodyContext → List ℕ → ValType → List ℕ → Instr × List ℕ
+unfoldable pub leaf_at : Config → BodyContext → List ℕ → ValType → List ℕ → Leaf × List ℕ
 leaf_at config context set wanted bytes =
     let leaf = any_leaf_at context set wanted bytes in
-    (if is_permitted context.features config leaf.0 then leaf.0 else spare_leaf config context set wanted, leaf.1)
+    (if is_permitted context.features config leaf.0 then only leaf.0 else spare_leaf config context set wanted, leaf.1)
 
 -- an instruction that produces a value that matches this type, without operands
 pub record IsLeaf (context : BodyContext) (set : List ℕ) (wanted : ValType) (instruction : Instr) : Type 0 where
@@ -139,3 +215,26 @@ pub record IsLeaf (context : BodyContext) (set : List ℕ) (wanted : ValType) (i
 -- a constant of this type, null, or `unreachable`
 abbrev pub IsConstant : ValType → Instr → Type 0
 IsConstant wanted instruction = (context : BodyContext) (set : List ℕ) → IsValid context wanted → IsLeaf context set wanted instruction
+
+-- an instruction that takes a value of one type and produces one that matches another
+pub record IsOver (context : BodyContext) (set : List ℕ) (operand wanted : ValType) (instruction : Instr) : Type 0 where
+  pub value : ValType
+  pub typed : HasInstrType context set instruction (operand ∷ []) (value ∷ [])
+  pub below : IsValBelow context.types value wanted
+  pub sets_none : sets instruction ≡ []
+
+-- the types of a value before and after an instruction other than `unreachable`; without an
+-- instruction they are the same
+abbrev pub IsThen : BodyContext → List ℕ → (operand wanted : ValType) → Option Instr → Type 0
+IsThen context set operand wanted None = operand ≡ wanted
+IsThen context set operand wanted (Some instruction) = (¬ (instruction ≡ instr.Unreachable)) × IsOver context set operand wanted instruction
+
+-- instructions that produce a value that matches this type
+pub record IsLeafOf (context : BodyContext) (set : List ℕ) (wanted : ValType) (leaf : Leaf) : Type 0 where
+  pub value : ValType
+  pub produced : IsLeaf context set value leaf.value
+  pub value_valid : IsValid context value
+  pub reference : ValType
+  pub created : IsThen context set value reference leaf.creation
+  pub reference_valid : IsValid context reference
+  pub converted : IsThen context set reference wanted leaf.conversion

@@ -12,8 +12,8 @@ use Rattle.smith_code.specs.Laws.{HasNoOther}
 abbrev pub IsNoStop : Config → Instr → Type 0
 IsNoStop config instruction = IsTrue config.disallow_traps → ¬ (instruction ≡ instr.Unreachable)
 
--- an `unreachable` takes no value and leaves one, of a type for which no other permitted instruction
--- without operands produces a value
+-- an `unreachable` takes no value and leaves one, of a type for which no other permitted instructions
+-- without a budget produce a value
 pub record IsNeeded (config : Config) (context : BodyContext) (set : List ℕ) (taken given : List ValType) : Type 0 where
   pub none : taken ≡ []
   pub wanted : ValType

@@ -4,6 +4,7 @@ ghost use Rattle.smith_types.specs.FeatureBits.{features_in};
 ghost use Rattle.smith_instr.specs.Enabled.{IsEnabled};
 ghost use Rattle.smith_instr.specs.Sequences.{IsBodyTyped};
 ghost use Rattle.smith_code.specs.Bodies.{body_at};
+ghost use Rattle.smith_code.specs.Leaves.{longest_leaf};
 ghost use Rattle.smith_code.specs.Stops.{HasNeededStops};
 ghost use Rattle.smith_code_nodes.specs.Scopes.{IsScope, bare, most};
 ghost use Rattle.smith_code_nodes.specs.Traps.{IsTrapless};
@@ -25,9 +26,10 @@ const DEPTH: u32 = 40;
 /// references to functions take none. With a budget of 0 the body is `unreachable`.
 ///
 /// With `disallow_traps` of the configuration, only `unreachable` may trap. It is then drawn only
-/// with a budget of 0, or for a value that no permitted instruction without operands produces: no
-/// local, global, function reference, constant, null, struct of default values, or array without
-/// elements.
+/// with a budget of 0, or for a value that no other permitted instructions produce without a
+/// budget. These are a local, a global, a function reference, a constant, null, a struct of default
+/// values, an array without elements, an i31 of a constant, and the conversion of one of them
+/// between internal and external references. Such a value takes at most three instructions.
 ///
 /// # Errors
 ///
@@ -45,8 +47,8 @@ pub fn draw_body(
     ensures trapless { IsTrue scope.now.config.now.disallow_traps → IfOk result (All IsTrapless) }
     ensures needed { 0 < budget
         → IfOk result (HasNeededStops scope.now.config.now (bare scope.now)) }
-    ensures short { IfOk result (λ body.
-        length body ≤ 1 + length scope.now.results.now + most scope.now.types.now.types * budget) }
+    ensures short { IfOk result (λ body. length body ≤ 1 + longest_leaf scope.now.config.now
+        * (length scope.now.results.now + most scope.now.types.now.types * budget)) }
     ensures exact { Draws (body_at scope.now.config.now (bare scope.now) budget u.old)
         result u.old u.new }
 {
@@ -71,8 +73,8 @@ fn draw_some(
         (IsEnabled (features_in scope.now.features) scope.now.config.now.allowed_instructions)) }
     ensures trapless { IsTrue scope.now.config.now.disallow_traps → IfOk result (All IsTrapless) }
     ensures needed { IfOk result (HasNeededStops scope.now.config.now (bare scope.now)) }
-    ensures short { IfOk result (λ body.
-        length body ≤ length scope.now.results.now + most scope.now.types.now.types * budget) }
+    ensures short { IfOk result (λ body. length body ≤ longest_leaf scope.now.config.now
+        * (length scope.now.results.now + most scope.now.types.now.types * budget)) }
     ensures exact { Draws (body_at scope.now.config.now (bare scope.now) budget u.old)
         result u.old u.new }
 {

@@ -1,24 +1,39 @@
-ghost use Rattle.std.specs.Prelude.{◌≡◌, [], ◌∷◌, IfSome, IfErr, OnOk};
+ghost use Rattle.std.specs.Prelude.{◌≡◌, ◌++◌, [], ◌∷◌, All, IfSome, IfErr, OnOk};
+ghost use Rattle.std.specs.Prelude.{Some, None, false, option_to_list, true};
+ghost use Rattle.std.specs.Option.{option_or};
 ghost use Rattle.smith_bytes.specs.Source.{KeepsPieces};
+ghost use Rattle.smith_types.specs.FeatureBits.{features_in};
+ghost use Rattle.smith_types.specs.declared.value_type.ValType.{ValType as Val};
+ghost use Rattle.smith_types.specs.declared.value_type.ValType.TheVariants.{I32, Ref};
 ghost use Rattle.smith_instr.specs.Contexts.{IsValid};
+ghost use Rattle.smith_instr.specs.declared.instr.Instr.TheVariants as instr;
 ghost use Rattle.smith_code.specs.Bodies.{leaf_in};
 ghost use Rattle.smith_code.specs.DraftSteps.{IsDrawn, state_of};
-ghost use Rattle.smith_code.specs.Leaves.{IsConstant, IsLeaf};
-ghost use Rattle.smith_code.specs.Leaves.{any_leaf_at, constant_instr_at, default_struct};
-ghost use Rattle.smith_code.specs.Leaves.{empty_array, first_constant, first_leaf, first_of};
-ghost use Rattle.smith_code.specs.Leaves.{leaf_at, leaf_choice_at, leaf_of, spare_leaf};
-ghost use Rattle.smith_code_nodes.specs.Scopes.{IsAllowedIn, IsScope, bare, where_stands};
+ghost use Rattle.smith_code.specs.Leaves.{IsLeafOf, IsThen, converted_by, converted_leaf};
+ghost use Rattle.smith_code.specs.Leaves.{first_leaf, i31_by, i31_leaf, i31_of, i31_type};
+ghost use Rattle.smith_code.specs.Leaves.{instructions_of, leaf_at, only, short_leaf};
+ghost use Rattle.smith_code.specs.Leaves.{spare_leaf, with_conversion};
+ghost use Rattle.smith_code_nodes.specs.Scopes.{IsAllowedIn, IsScope, bare, is_permitted};
+ghost use Rattle.smith_code_nodes.specs.Scopes.{where_stands};
 
-use crate::families::{LeafFamily, leaf_families};
-use crate::references::choose_reference;
+use crate::single::{draw_any_leaf, first_single};
 use smith_bytes::{Error, Unstructured};
-use smith_code_aggregates::{first_created_array, first_created_struct};
-use smith_code_nodes::{Draft, Reach, Scope, choose_global, choose_set_local, is_allowed};
-use smith_draw::choose;
-use smith_instr::{AggregateInstr, Instr, ReferenceInstr};
-use smith_types::ValType;
+use smith_code_nodes::{Draft, Scope, is_allowed, is_sub_type};
+use smith_instr::{AggregateInstr, Instr};
+use smith_types::{AbstractHeapType, HeapType, RefType, ValType};
 
-/// Writes an instruction that produces a value that matches `wanted`, without operands.
+/// A value that takes no budget.
+#[derive(Drop)]
+pub(crate) struct Leaf {
+    /// An instruction without operands.
+    pub(crate) value: Instr,
+    /// The creation of an i31 from this value.
+    pub(crate) creation: Option<Instr>,
+    /// The conversion of the reference, between internal and external ones.
+    pub(crate) conversion: Option<Instr>,
+}
+
+/// Writes instructions that produce a value that matches `wanted`, and take no budget.
 pub(crate) fn write_leaf(
     scope: &Scope<'_>,
     wanted: ValType,
@@ -35,249 +50,281 @@ pub(crate) fn write_leaf(
     ensures left { KeepsPieces u.old u.new }
 {
     let leaf = draw_leaf(scope, wanted, draft, u);
-    draft.out.push(leaf)
+    write_instructions(leaf, draft)
+}
+
+/// Writes the instructions of `leaf`.
+fn write_instructions(leaf: Leaf, draft: &mut Draft) -> Result<(), Error>
+    ensures out { OnOk result (draft.new.out ≡ draft.old.out ++ instructions_of leaf) }
+    ensures set { draft.new.set.items ≡ draft.old.set.items }
+    ensures same { draft.new.labels.items ≡ draft.old.labels.items }
+    ensures budget { draft.new.budget ≡ draft.old.budget }
+    ensures memory { IfErr result (λ e. e ≡ Error.Memory) }
+{
+    let Leaf {
+        value,
+        creation,
+        conversion,
+    } = leaf;
+    draft.out.push(value)?;
+    write_some(creation, draft)?;
+    write_some(conversion, draft)
+}
+
+/// Writes `instruction`, if there is one.
+fn write_some(instruction: Option<Instr>, draft: &mut Draft) -> Result<(), Error>
+    ensures out { OnOk result (draft.new.out ≡ draft.old.out ++ option_to_list instruction) }
+    ensures set { draft.new.set.items ≡ draft.old.set.items }
+    ensures same { draft.new.labels.items ≡ draft.old.labels.items }
+    ensures budget { draft.new.budget ≡ draft.old.budget }
+    ensures memory { IfErr result (λ e. e ≡ Error.Memory) }
+{
+    match instruction {
+        Some(instruction) => draft.out.push(instruction),
+        None => Ok(()),
+    }
 }
 
 /// Draws an instruction that produces a value that matches `wanted`, without operands. Returns
-/// another instead if it is not allowed.
-fn draw_leaf(scope: &Scope<'_>, wanted: ValType, draft: &Draft, u: &mut Unstructured<'_>) -> Instr
+/// another value instead if it is not allowed.
+fn draw_leaf(scope: &Scope<'_>, wanted: ValType, draft: &Draft, u: &mut Unstructured<'_>) -> Leaf
     requires scope { IsScope (bare scope.now) }
     requires wanted { IsValid (bare scope.now) wanted }
     ensures exact { leaf_at scope.now.config.now
         (where_stands scope.now draft.now) draft.now.set.items wanted u.old
         ≡ (result, u.new) }
-    ensures typed { IsLeaf (where_stands scope.now draft.now) draft.now.set.items wanted result }
-    ensures allowed { IsAllowedIn scope.now result }
+    ensures typed { IsLeafOf (where_stands scope.now draft.now) draft.now.set.items wanted result }
+    ensures allowed { All (IsAllowedIn scope.now) (instructions_of result) }
     ensures left { KeepsPieces u.old u.new }
 {
     let leaf = draw_any_leaf(scope, wanted, draft, u);
     if is_allowed(scope, &leaf) {
-        return leaf;
+        return only(leaf);
     }
     spare_leaf(scope, wanted, draft)
 }
 
-/// Returns `unreachable`. Returns the first allowed instruction instead if traps are disallowed.
+/// Creates a value of one instruction.
+fn only(instruction: Instr) -> Leaf
+    ensures { result ≡ only instruction }
+{
+    Leaf {
+        value: instruction,
+        creation: None,
+        conversion: None,
+    }
+}
+
+/// Returns `unreachable`. Returns the first allowed value instead if traps are disallowed.
 #[tactic(auto, unfolding(crate::specs::Leaves::spare_leaf))]
-fn spare_leaf(scope: &Scope<'_>, wanted: ValType, draft: &Draft) -> Instr
+fn spare_leaf(scope: &Scope<'_>, wanted: ValType, draft: &Draft) -> Leaf
     requires scope { IsScope (bare scope.now) }
     requires wanted { IsValid (bare scope.now) wanted }
     ensures exact { result
         ≡ spare_leaf scope.now.config.now
         (where_stands scope.now draft.now) draft.now.set.items wanted }
-    ensures typed { IsLeaf (where_stands scope.now draft.now) draft.now.set.items wanted result }
-    ensures allowed { IsAllowedIn scope.now result }
+    ensures typed { IsLeafOf (where_stands scope.now draft.now) draft.now.set.items wanted result }
+    ensures allowed { All (IsAllowedIn scope.now) (instructions_of result) }
 {
     if scope.config.disallow_traps {
         return first_leaf(scope, wanted, draft);
     }
-    Instr::Unreachable
+    only(Instr::Unreachable)
 }
 
-/// Returns the first allowed instruction that produces a value that matches `wanted`, without
-/// operands. Returns `unreachable` if there is none.
+/// Returns the first allowed value that matches `wanted`. Returns `unreachable` if there is none.
 #[tactic(auto, unfolding(crate::specs::Leaves::first_leaf))]
-fn first_leaf(scope: &Scope<'_>, wanted: ValType, draft: &Draft) -> Instr
+fn first_leaf(scope: &Scope<'_>, wanted: ValType, draft: &Draft) -> Leaf
     requires scope { IsScope (bare scope.now) }
     requires wanted { IsValid (bare scope.now) wanted }
     ensures exact { result
         ≡ first_leaf scope.now.config.now
         (where_stands scope.now draft.now) draft.now.set.items wanted }
-    ensures typed { IsLeaf (where_stands scope.now draft.now) draft.now.set.items wanted result }
-    ensures allowed { IsAllowedIn scope.now result }
+    ensures typed { IsLeafOf (where_stands scope.now draft.now) draft.now.set.items wanted result }
+    ensures allowed { All (IsAllowedIn scope.now) (instructions_of result) }
 {
-    if let Some(leaf) = first_of(scope, LeafFamily::Local, wanted, draft) {
+    if let Some(leaf) = short_leaf(scope, wanted, draft) {
         return leaf;
     }
-    if let Some(leaf) = first_of(scope, LeafFamily::Global, wanted, draft) {
+    if let Some(leaf) = converted_leaf(scope, wanted, draft) {
         return leaf;
     }
-    if let Some(leaf) = first_of(scope, LeafFamily::Reference, wanted, draft) {
-        return leaf;
-    }
-    if let Some(leaf) = first_constant(scope, wanted, draft) {
-        return leaf;
-    }
-    if let Some(leaf) = default_struct(scope, wanted, draft) {
-        return leaf;
-    }
-    if let Some(leaf) = empty_array(scope, wanted, draft) {
-        return leaf;
-    }
-    Instr::Unreachable
+    only(Instr::Unreachable)
 }
 
-/// Returns the first instruction of `family` among all items, if it is allowed.
-fn first_of(scope: &Scope<'_>, family: LeafFamily, wanted: ValType, draft: &Draft) -> Option<Instr>
+/// Returns the first allowed value of one instruction that matches `wanted`, or an i31 if there is
+/// none.
+#[tactic(auto, unfolding(crate::specs::Leaves::short_leaf))]
+fn short_leaf(scope: &Scope<'_>, wanted: ValType, draft: &Draft) -> Option<Leaf>
     requires scope { IsScope (bare scope.now) }
     requires wanted { IsValid (bare scope.now) wanted }
     ensures exact { result
-        ≡ first_of scope.now.config.now
-        (where_stands scope.now draft.now) draft.now.set.items wanted family }
+        ≡ short_leaf scope.now.config.now
+        (where_stands scope.now draft.now) draft.now.set.items wanted }
     ensures typed { IfSome result
-        (IsLeaf (where_stands scope.now draft.now) draft.now.set.items wanted) }
-    ensures allowed { IfSome result (IsAllowedIn scope.now) }
+        (IsLeafOf (where_stands scope.now draft.now) draft.now.set.items wanted) }
+    ensures allowed { IfSome result (λ leaf. All (IsAllowedIn scope.now) (instructions_of leaf)) }
+    ensures unconverted { IfSome result (λ leaf. leaf.conversion ≡ None) }
 {
-    let mut nothing = Unstructured::new(&[]);
-    let leaf = leaf_of(scope, family, Reach::Whole, wanted, draft, &mut nothing)?;
-    if is_allowed(scope, &leaf) {
-        return Some(leaf);
+    if let Some(instruction) = first_single(scope, wanted, draft) {
+        return Some(only(instruction));
     }
-    None
+    i31_leaf(scope, wanted, draft)
 }
 
-/// Returns zero or null, if it has the type `wanted` and is allowed.
-fn first_constant(scope: &Scope<'_>, wanted: ValType, draft: &Draft) -> Option<Instr>
-    requires wanted { IsValid (bare scope.now) wanted }
-    ensures exact { result
-        ≡ first_constant scope.now.config.now (where_stands scope.now draft.now) wanted }
-    ensures typed { IfSome result
-        (IsLeaf (where_stands scope.now draft.now) draft.now.set.items wanted) }
-    ensures allowed { IfSome result (IsAllowedIn scope.now) }
-{
-    let mut nothing = Unstructured::new(&[]);
-    let constant = draw_constant(wanted, &mut nothing);
-    if is_allowed(scope, &constant) {
-        return Some(constant);
-    }
-    None
-}
-
-/// Returns the creation of a struct of default values, of the first type for which it is a value of
-/// the type `wanted`, if it is allowed.
-fn default_struct(scope: &Scope<'_>, wanted: ValType, draft: &Draft) -> Option<Instr>
+/// Returns an i31 of zero, if it matches `wanted` and is allowed.
+#[tactic(auto, unfolding(crate::specs::Leaves::i31_leaf))]
+fn i31_leaf(scope: &Scope<'_>, wanted: ValType, draft: &Draft) -> Option<Leaf>
     requires scope { IsScope (bare scope.now) }
     requires wanted { IsValid (bare scope.now) wanted }
     ensures exact { result
-        ≡ default_struct scope.now.config.now (where_stands scope.now draft.now) wanted }
+        ≡ i31_leaf scope.now.config.now (where_stands scope.now draft.now) wanted }
     ensures typed { IfSome result
-        (IsLeaf (where_stands scope.now draft.now) draft.now.set.items wanted) }
+        (IsLeafOf (where_stands scope.now draft.now) draft.now.set.items wanted) }
+    ensures allowed { IfSome result (λ leaf. All (IsAllowedIn scope.now) (instructions_of leaf)) }
+    ensures unconverted { IfSome result (λ leaf. leaf.conversion ≡ None) }
+{
+    let value = Instr::I32Const(0);
+    if !is_allowed(scope, &value) {
+        return None;
+    }
+    let creation = i31_creation(scope, wanted, draft)?;
+    Some(Leaf {
+        value,
+        creation: Some(creation),
+        conversion: None,
+    })
+}
+
+/// Returns the creation of an i31 that matches `wanted`, if it is allowed.
+fn i31_creation(scope: &Scope<'_>, wanted: ValType, draft: &Draft) -> Option<Instr>
+    requires scope { IsScope (bare scope.now) }
+    requires wanted { IsValid (bare scope.now) wanted }
+    ensures exact { result
+        ≡ option_or
+        (i31_by scope.now.config.now (where_stands scope.now draft.now) wanted false)
+        (i31_by scope.now.config.now (where_stands scope.now draft.now) wanted true) }
+    ensures typed { IfSome result (λ creation. IsThen
+        (where_stands scope.now draft.now) draft.now.set.items I32 wanted (Some creation)) }
     ensures allowed { IfSome result (IsAllowedIn scope.now) }
 {
-    let ty = first_created_struct(scope, wanted)?;
-    let creation = Instr::Aggregate(AggregateInstr::StructNewDefault(ty));
+    if let Some(creation) = i31_by(scope, wanted, false, draft) {
+        return Some(creation);
+    }
+    i31_by(scope, wanted, true, draft)
+}
+
+/// Returns the creation of an i31 that matches `wanted`, if it is allowed. If `shared` is set, the
+/// i31 is shared.
+fn i31_by(scope: &Scope<'_>, wanted: ValType, shared: bool, draft: &Draft) -> Option<Instr>
+    requires scope { IsScope (bare scope.now) }
+    requires wanted { IsValid (bare scope.now) wanted }
+    ensures exact { result
+        ≡ i31_by scope.now.config.now (where_stands scope.now draft.now) wanted shared }
+    ensures typed { IfSome result (λ creation. IsThen
+        (where_stands scope.now draft.now) draft.now.set.items I32 wanted (Some creation)) }
+    ensures allowed { IfSome result (IsAllowedIn scope.now) }
+{
+    if !is_sub_type(scope, i31_type(shared), wanted) {
+        return None;
+    }
+    let creation = i31_of(shared);
     if is_allowed(scope, &creation) {
         return Some(creation);
     }
     None
 }
 
-/// Returns the creation of an array without elements, of the first type for which it is a value of
-/// the type `wanted`, if it is allowed.
-fn empty_array(scope: &Scope<'_>, wanted: ValType, draft: &Draft) -> Option<Instr>
+fn i31_type(shared: bool) -> ValType
+    ensures { result ≡ i31_type shared }
+{
+    abstract_reference(shared, false, AbstractHeapType::I31)
+}
+
+fn i31_of(shared: bool) -> Instr
+    ensures { result ≡ i31_of shared }
+{
+    if shared {
+        return Instr::Aggregate(AggregateInstr::RefI31Shared);
+    }
+    Instr::Aggregate(AggregateInstr::RefI31)
+}
+
+fn abstract_reference(shared: bool, nullable: bool, ty: AbstractHeapType) -> ValType
+    ensures { result
+        ≡ Ref (record { nullable = nullable; heap_type = HeapType.Abstract shared ty }) }
+{
+    ValType::Ref(RefType {
+        nullable,
+        heap_type: HeapType::Abstract { shared, ty },
+    })
+}
+
+/// Returns an internal reference converted from an external one, or an external one from an
+/// internal one, if it matches `wanted` and is allowed.
+fn converted_leaf(scope: &Scope<'_>, wanted: ValType, draft: &Draft) -> Option<Leaf>
     requires scope { IsScope (bare scope.now) }
     requires wanted { IsValid (bare scope.now) wanted }
     ensures exact { result
-        ≡ empty_array scope.now.config.now (where_stands scope.now draft.now) wanted }
+        ≡ converted_leaf scope.now.config.now
+        (where_stands scope.now draft.now) draft.now.set.items wanted }
     ensures typed { IfSome result
-        (IsLeaf (where_stands scope.now draft.now) draft.now.set.items wanted) }
-    ensures allowed { IfSome result (IsAllowedIn scope.now) }
+        (IsLeafOf (where_stands scope.now draft.now) draft.now.set.items wanted) }
+    ensures allowed { IfSome result (λ leaf. All (IsAllowedIn scope.now) (instructions_of leaf)) }
 {
-    let ty = first_created_array(scope, wanted)?;
-    let creation = Instr::Aggregate(AggregateInstr::ArrayNewFixed { ty, size: 0 });
-    if is_allowed(scope, &creation) {
-        return Some(creation);
-    }
-    None
-}
-
-/// Draws a read of a set local, a read of a global, a reference to a function, or a constant.
-fn draw_any_leaf(
-    scope: &Scope<'_>,
-    wanted: ValType,
-    draft: &Draft,
-    u: &mut Unstructured<'_>,
-) -> Instr
-    requires scope { IsScope (bare scope.now) }
-    requires wanted { IsValid (bare scope.now) wanted }
-    ensures exact { any_leaf_at (where_stands scope.now draft.now) draft.now.set.items wanted u.old
-        ≡ (result, u.new) }
-    ensures typed { IsLeaf (where_stands scope.now draft.now) draft.now.set.items wanted result }
-    ensures left { KeepsPieces u.old u.new }
-{
-    match choose_leaf(scope, wanted, draft, u) {
-        Some(instruction) => instruction,
-        None => draw_constant(wanted, u),
+    let ValType::Ref(to) = wanted else {
+        return None;
+    };
+    let HeapType::Abstract { shared, ty } = to.heap_type else {
+        return None;
+    };
+    match ty {
+        AbstractHeapType::Any => {
+            let from = abstract_reference(shared, to.nullable, AbstractHeapType::Extern);
+            converted_by(scope, AggregateInstr::AnyConvertExtern, from, draft)
+        }
+        AbstractHeapType::Extern => {
+            let from = abstract_reference(shared, to.nullable, AbstractHeapType::Any);
+            converted_by(scope, AggregateInstr::ExternConvertAny, from, draft)
+        }
+        _ => None,
     }
 }
 
-/// Chooses a read of a set local, a read of a global, or a reference to a function, if there is
-/// one.
-fn choose_leaf(
-    scope: &Scope<'_>,
-    wanted: ValType,
-    draft: &Draft,
-    u: &mut Unstructured<'_>,
-) -> Option<Instr>
+/// Returns the conversion by `op` of a value of the type `from`, if both are allowed.
+fn converted_by(scope: &Scope<'_>, op: AggregateInstr, from: ValType, draft: &Draft) -> Option<Leaf>
     requires scope { IsScope (bare scope.now) }
-    requires wanted { IsValid (bare scope.now) wanted }
-    ensures exact { leaf_choice_at (where_stands scope.now draft.now)
-        draft.now.set.items wanted u.old
-        ≡ (result, u.new) }
-    ensures typed { IfSome result
-        (IsLeaf (where_stands scope.now draft.now) draft.now.set.items wanted) }
-    ensures left { KeepsPieces u.old u.new }
+    requires from { is_permitted (features_in scope.now.features) scope.now.config.now (instr.Aggregate op)
+        ≡ true → IsValid (bare scope.now) from }
+    ensures exact { result
+        ≡ converted_by scope.now.config.now
+        (where_stands scope.now draft.now) draft.now.set.items op from }
+    ensures typed { (wanted : Val)
+        → IsThen (where_stands scope.now draft.now) draft.now.set.items
+        from wanted (Some (instr.Aggregate op))
+        → IfSome result (IsLeafOf (where_stands scope.now draft.now) draft.now.set.items wanted) }
+    ensures allowed { IfSome result (λ leaf. All (IsAllowedIn scope.now) (instructions_of leaf)) }
 {
-    let family = choose(leaf_families(), u);
-    leaf_of(scope, family, Reach::Chunk, wanted, draft, u)
-}
-
-/// Chooses an instruction of `family`, if there is one. A global or a function is one of those that
-/// `reach` covers.
-fn leaf_of(
-    scope: &Scope<'_>,
-    family: LeafFamily,
-    reach: Reach,
-    wanted: ValType,
-    draft: &Draft,
-    u: &mut Unstructured<'_>,
-) -> Option<Instr>
-    requires scope { IsScope (bare scope.now) }
-    requires wanted { IsValid (bare scope.now) wanted }
-    ensures exact { leaf_of (where_stands scope.now draft.now) draft.now.set.items
-        reach wanted family u.old
-        ≡ (result, u.new) }
-    ensures typed { IfSome result
-        (IsLeaf (where_stands scope.now draft.now) draft.now.set.items wanted) }
-    ensures left { KeepsPieces u.old u.new }
-{
-    match family {
-        LeafFamily::Local => {
-            let index = choose_set_local(scope, wanted, draft, u)?;
-            Some(Instr::LocalGet(index))
-        }
-        LeafFamily::Global => {
-            let index = choose_global(scope, reach, wanted, u)?;
-            Some(Instr::GlobalGet(index))
-        }
-        LeafFamily::Reference => {
-            let function = choose_reference(scope, reach, wanted, u)?;
-            Some(Instr::Reference(ReferenceInstr::Func(function)))
-        }
-        LeafFamily::Constant => None,
+    let conversion = Instr::Aggregate(op);
+    if !is_allowed(scope, &conversion) {
+        return None;
     }
+    let leaf = short_leaf(scope, from, draft)?;
+    Some(with_conversion(conversion, leaf))
 }
 
-/// Draws a constant of the type `wanted`, or null. Returns `unreachable` for a reference type that
-/// is not nullable.
-#[tactic(auto, unfolding(crate::specs::Leaves::constant_instr_at))]
-fn draw_constant(wanted: ValType, u: &mut Unstructured<'_>) -> Instr
-    ensures exact { constant_instr_at wanted u.old ≡ (result, u.new) }
-    ensures typed { IsConstant wanted result }
-    ensures left { KeepsPieces u.old u.new }
+/// Sets the conversion of `leaf`.
+fn with_conversion(conversion: Instr, leaf: Leaf) -> Leaf
+    ensures { result ≡ with_conversion conversion leaf }
 {
-    match wanted {
-        ValType::I32 => Instr::I32Const(u.arbitrary()),
-        ValType::I64 => Instr::I64Const(u.arbitrary()),
-        ValType::F32 => Instr::F32Const(u.arbitrary()),
-        ValType::F64 => Instr::F64Const(u.arbitrary()),
-        ValType::V128 => Instr::V128Const(u.arbitrary()),
-        ValType::Ref(reference) => {
-            if reference.nullable {
-                Instr::Reference(ReferenceInstr::Null(reference.heap_type))
-            } else {
-                Instr::Unreachable
-            }
-        }
+    let Leaf {
+        value,
+        creation,
+        conversion: _,
+    } = leaf;
+    Leaf {
+        value,
+        creation,
+        conversion: Some(conversion),
     }
 }

@@ -8,6 +8,7 @@ mod families;
 pub mod laws;
 mod leaf;
 mod references;
+mod single;
 mod written;
 
 pub use body::draw_body;

@@ -1,5 +1,5 @@
 use Rattle.smith_code.proofs.LeafLemmas.{null_constant, no_constant}
-use Rattle.smith_code.proofs.leaf.draw_constant.Goals as goal
+use Rattle.smith_code.proofs.single.draw_constant.Goals as goal
 
 pub returns-then-reference-clause-typed : goal.returns-then-reference-clause-typed
 returns-then-reference-clause-typed c = rw c.in-Ref.is (null_constant c.in-Ref.reference c.if-reference.true)

@@ -2,7 +2,7 @@ use Rattle.std.proofs.Common.{refl, ◌∙◌}
 use Rattle.smith_code_nodes.specs.Scopes.{where_stands}
 use Rattle.smith_code.specs.declared.families.LeafFamily.TheVariants as leaf
 use Rattle.smith_code.proofs.LeafChoiceLemmas.{leaf_by}
-use Rattle.smith_code.proofs.leaf.choose_leaf.Goals as goal
+use Rattle.smith_code.proofs.single.choose_leaf.Goals as goal
 
 pub returns-clause-exact : goal.returns-clause-exact
 returns-clause-exact c =

@@ -4,7 +4,7 @@ use Rattle.smith_instr.specs.declared.reference.ReferenceInstr.TheVariants as re
 use Rattle.smith_code.specs.Leaves.{by_index, named_at}
 use Rattle.smith_code_nodes.specs.Scopes.{where_stands}
 use Rattle.smith_code.proofs.LeafLemmas.{local_leaf, global_leaf}
-use Rattle.smith_code.proofs.leaf.leaf_of.Goals as goal
+use Rattle.smith_code.proofs.single.leaf_of.Goals as goal
 
 pub returns-in_ok-index-in-Global-clause-typed : goal.returns-in_ok-index-in-Global-clause-typed
 returns-in_ok-index-in-Global-clause-typed c = global_leaf (where_stands c.args.scope.now c.args.draft.now) c.args.draft.now.set.items c.args.wanted c.in_ok-index-in-Global.index c.requires.scope.orderly c.in_ok-index-in-Global.ensures.offered

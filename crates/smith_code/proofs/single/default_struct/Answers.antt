@@ -4,7 +4,7 @@ use Rattle.smith_instr.specs.declared.instr.Instr.TheVariants as instr
 use Rattle.smith_code_nodes.specs.Scopes.{where_stands}
 use Rattle.smith_code.proofs.LeafChoiceLemmas.{made_none, made_some}
 use Rattle.smith_code.proofs.LeafLemmas.{struct_leaf}
-use Rattle.smith_code.proofs.leaf.default_struct.Goals as goal
+use Rattle.smith_code.proofs.single.default_struct.Goals as goal
 
 pub returns-in_err-ty-clause-exact : goal.returns-in_err-ty-clause-exact
 returns-in_err-ty-clause-exact c =

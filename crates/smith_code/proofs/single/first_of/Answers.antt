@@ -1,7 +1,7 @@
 use Rattle.std.proofs.Common.{sym, ◌∙◌}
 use Rattle.smith_code_nodes.specs.Scopes.{where_stands}
 use Rattle.smith_code.proofs.LeafChoiceLemmas.{first_none, first_there}
-use Rattle.smith_code.proofs.leaf.first_of.Goals as goal
+use Rattle.smith_code.proofs.single.first_of.Goals as goal
 
 pub returns-in_err-leaf-clause-exact : goal.returns-in_err-leaf-clause-exact
 returns-in_err-leaf-clause-exact c =
