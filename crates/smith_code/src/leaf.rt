@@ -294,8 +294,8 @@ fn converted_leaf(scope: &Scope<'_>, wanted: ValType, draft: &Draft) -> Option<L
 /// Returns the conversion by `op` of a value of the type `from`, if both are allowed.
 fn converted_by(scope: &Scope<'_>, op: AggregateInstr, from: ValType, draft: &Draft) -> Option<Leaf>
     requires scope { IsScope (bare scope.now) }
-    requires from { is_permitted (features_in scope.now.features) scope.now.config.now (instr.Aggregate op)
-        ≡ true → IsValid (bare scope.now) from }
+    requires from { is_permitted (features_in scope.now.features) scope.now.config.now
+        (instr.Aggregate op) ≡ true → IsValid (bare scope.now) from }
     ensures exact { result
         ≡ converted_by scope.now.config.now
         (where_stands scope.now draft.now) draft.now.set.items op from }

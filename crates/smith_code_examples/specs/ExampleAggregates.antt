@@ -31,6 +31,10 @@ aggregates locals = record (function_of locals []) {
 abbrev pub unnamed : BodyContext
 unnamed = record (aggregates []) { references = [] }
 
+-- such a function without types
+abbrev pub untyped : BodyContext
+untyped = record unnamed { types = [] }
+
 -- such a function without garbage collection
 abbrev pub unmanaged : BodyContext
 unmanaged = record (aggregates []) { features = without_gc }

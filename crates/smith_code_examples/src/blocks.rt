@@ -38,6 +38,16 @@ fn openings()
         ≡ (instr.Block (block.Value I32) ∷ number 5 ∷ instr.End ∷ [], []) }
 {}
 
+fn with_an_else()
+    ensures else_for_other_results { body_at default_config (function_of [] []) 1
+        (1 ∷ 7 ∷ 5 ∷ 1 ∷ narrow 1 ++ narrow 2)
+        ≡ (
+          number 1 ∷ number 2 ∷ instr.If (block.Func 1) ∷ instr.Drop ∷ instr.Else ∷ instr.Drop
+              ∷ instr.End ∷ [],
+          [],
+        ) }
+{}
+
 fn alone()
     ensures empty { body_at default_config (function_of [] []) 1 (1 ∷ 7 ∷ 5 ∷ 0 ∷ narrow 1)
         ≡ (number 1 ∷ instr.If (block.Func 0) ∷ instr.End ∷ [], []) }
@@ -49,13 +59,6 @@ fn alone()
         ≡ (
           wide_number 1 ∷ number 2 ∷ instr.If (block.Func 0) ∷ instr.Drop ∷ wide_number 3
               ∷ instr.End ∷ instr.Drop ∷ [],
-          [],
-        ) }
-    ensures else_for_other_results { body_at default_config (function_of [] []) 1
-        (1 ∷ 7 ∷ 5 ∷ 1 ∷ narrow 1 ++ narrow 2)
-        ≡ (
-          number 1 ∷ number 2 ∷ instr.If (block.Func 1) ∷ instr.Drop ∷ instr.Else ∷ instr.Drop
-              ∷ instr.End ∷ [],
           [],
         ) }
     ensures alone_with_other_results { ¬ (body_at default_config (function_of [] []) 1
@@ -70,7 +73,9 @@ fn alone()
     ensures branch_out_of_it { body_at default_config
         (function_of [] []) 2 (1 ∷ 7 ∷ 5 ∷ 0 ∷ 0 ∷ narrow 1 ++ (1 ∷ 10 ∷ 0 ∷ 0 ∷ []))
         ≡ (number 1 ∷ instr.If (block.Func 0) ∷ instr.Br 0 ∷ instr.End ∷ [], []) }
-{}
+{
+    with_an_else();
+}
 
 fn statements()
     ensures empty { body_at default_config (function_of [] []) 1 (1 ∷ 7 ∷ 0 ∷ 0 ∷ [])
