@@ -14,6 +14,7 @@ use Rattle.smith_instr.specs.Sequences.{IsBodyTyped}
 use Rattle.smith_instr.specs.declared.instr.Instr.{Instr}
 use Rattle.smith_code_nodes.specs.Scopes.{most}
 use Rattle.smith_code_nodes.specs.Traps.{IsTrapless}
+use Rattle.smith_code.specs.Leaves.{longest_leaf}
 use Rattle.smith_code.specs.Stops.{HasNeededStops}
 use Rattle.smith_program.specs.References.{references_of}
 use Rattle.smith_program.specs.declared.program.Body.{Body}
@@ -54,13 +55,13 @@ pub record IsBodyAt (m : ModuleParts) (place : ℕ) (code : Code) (instructions 
 
 -- the same; the instructions are enabled, no more than the budget of a body allows, and with
 -- `disallow_traps` only `unreachable` may trap, which is only in place of a value that no other
--- instruction produces, unless the budget is 0 (own rules)
+-- instructions produce without a budget, unless the budget is 0 (own rules)
 pub record IsDrawnAt (m : ModuleParts) (place : ℕ) (code : Code) (instructions : List Instr) : Type 0 where
   pub body : IsBodyAt m place code instructions
   pub enabled : All (IsEnabled (module_features m) m.config.allowed_instructions) instructions
   pub trapless : IsTrue m.config.disallow_traps → All IsTrapless instructions
   pub needed : 0 < m.config.max_instructions → HasNeededStops m.config (function_context m body.function code.locals) instructions
-  pub short : length instructions ≤ 1 + length body.function.results + most m.types * m.config.max_instructions
+  pub short : length instructions ≤ 1 + longest_leaf m.config * (length body.function.results + most m.types * m.config.max_instructions)
 
 -- a body whose instructions have a property, or raw bytes, which are kept (own rule)
 abbrev pub IsOfBody : (List Instr → Type 0) → Code → Body → Type 0

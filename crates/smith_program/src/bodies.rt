@@ -12,6 +12,7 @@ ghost use Rattle.smith_program.specs.Bodies.{function_context};
 ghost use Rattle.smith_program.specs.DrawnBodies.{bodies_at, one_at};
 ghost use Rattle.smith_program.specs.Named.{IsNamed};
 ghost use Rattle.smith_code.specs.Bodies.{body_at};
+ghost use Rattle.smith_code.specs.Leaves.{longest_leaf};
 ghost use Rattle.smith_code.specs.Stops.{HasNeededStops};
 ghost use Rattle.smith_code_nodes.specs.Scopes.{most};
 ghost use Rattle.smith_code_nodes.specs.Traps.{IsTrapless};
@@ -158,8 +159,9 @@ fn draw_instructions(
     ensures needed { 0 < «module».now.config.max_instructions
         → IfOk result (HasNeededStops «module».now.config
         (function_context «module».now function.now code.now.locals)) }
-    ensures short { IfOk result (λ body. length body ≤ 1 + length function.now.results
-        + most «module».now.types * «module».now.config.max_instructions) }
+    ensures short { IfOk result (λ body. length body ≤ 1 + longest_leaf «module».now.config
+        * (length function.now.results
+        + most «module».now.types * «module».now.config.max_instructions)) }
 
     // The draw.
     ensures exact { IfOk result (λ body.
