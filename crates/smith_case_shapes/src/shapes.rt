@@ -13,7 +13,7 @@ fn own_shapes() -> &'static [NamedShape] {
     &SHAPES
 }
 
-static SHAPES: [NamedShape; 47] = [
+static SHAPES: [NamedShape; 50] = [
     ("nothing", &[]),
     (
         "a function without parameters and results",
@@ -241,6 +241,22 @@ static SHAPES: [NamedShape; 47] = [
     (
         "a memory that is imported and exported as c",
         &["import env memory memory 1", "export c memory 0"],
+    ),
+    (
+        "a function of an i31 that is never null",
+        &["group func -> (ref i31)", "func 0", "export f func 0"],
+    ),
+    (
+        "a function of an external reference that is never null",
+        &["group func -> (ref extern)", "func 0", "export f func 0"],
+    ),
+    (
+        "a function from an external to an internal reference",
+        &[
+            "group func (ref extern) -> (ref any)",
+            "func 0",
+            "export f func 0",
+        ],
     ),
 ];
 
