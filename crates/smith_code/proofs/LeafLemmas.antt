@@ -125,13 +125,11 @@ pub outside_then : (context : BodyContext) (set : List ℕ) (shared nullable : B
 outside_then context set shared nullable =
     (λ is. cc, record { value = external shared nullable; typed = (shared, (nullable, (refl, refl))); below = IsValBelow-refl context.types (external shared nullable); sets_none = refl })
 
--- the operand of a permitted conversion is valid
+-- a reference type, by its parts
 pub reference_is : (wanted : ValType) (to : RefType) (shared : Bool) (ty kind : AbstractHeapType) → wanted ≡ Ref to → to.heap_type ≡ Abstract shared ty → ty ≡ kind → wanted ≡ Ref (record { nullable = to.nullable; heap_type = Abstract shared kind })
 reference_is wanted to shared ty kind is heap same = is ∙ ap (λ (h : HeapType). Ref (record { nullable = to.nullable; heap_type = h })) (heap ∙ ap (λ (a : AbstractHeapType). Abstract shared a) same)
 
-pub external_valid : (context : BodyContext) (shared nullable : Bool) → IsValid context (internal shared nullable) → IsValid context (external shared nullable)
-external_valid context shared nullable valid = (valid.0, record { heap_type = (tt, valid.1.heap_type.1); nullable = valid.1.nullable })
-
+-- the operand of a permitted conversion is valid
 pub internal_valid : (context : BodyContext) (config : Config) (shared nullable : Bool) → is_permitted context.features config (instr.Aggregate aggregate.ExternConvertAny) ≡ true → IsValid context (external shared nullable) → IsValid context (internal shared nullable)
 unfolding is_permitted is_enabled
 internal_valid context config shared nullable permitted valid =
