@@ -70,60 +70,60 @@ module _ (types : List SubType) (orderly : IsOrderly types) (n : ℕ) (within : 
   after a b below = subst (λ xs. IsValBelow xs a b) (take-append-drop n types) (IsValBelow-grown (take n types) (drop n types) a b below)
 
 -- the functions of a context ground the same of its first types, and no others
-module _ (context : Context) (orderly : IsOrderly context.types) (count : ℕ) (grounds : FuncGrounds) (record_over : IsRecordOver context count grounds) where
+module _ (context : Context) (orderly : IsOrderly context.types) (grounds : FuncGrounds) (record_over : IsRecordOver context grounds) where
   abbrev first : Context
-  first = over context (take count context.types)
+  first = over context (take record_over.count context.types)
 
   grounded_first : (ty : HeapType) → IsInRange context.types ty → IsGroundedByFuncs context ty → IsGroundedByFuncs first ty × IsInRange first.types ty
   grounded_first ty stands (function, index, at, below) =
       let reference = function_reference context function index in
       let there = reference_within context.types index (nat_le context.imported_funcs function) context.features.custom_descriptors (val_stands context.types reference (reference_to ty) below stands) in
-      let named : index < count = record_over.named function index at there in
-      let (before, inside) = reference_before context.types orderly count record_over.within index (nat_le context.imported_funcs function) context.features.custom_descriptors ty named below in
+      let named : index < record_over.count = record_over.named function index at there in
+      let (before, inside) = reference_before context.types orderly record_over.count record_over.within index (nat_le context.imported_funcs function) context.features.custom_descriptors ty named below in
       ((function, index, at, before), inside)
 
   first_grounded : (ty : HeapType) → IsGroundedByFuncs first ty → IsGroundedByFuncs context ty
-  first_grounded ty (function, index, at, below) = (function, index, at, after context.types orderly count record_over.within (function_reference context function index) (reference_to ty) below)
+  first_grounded ty (function, index, at, below) = (function, index, at, after context.types orderly record_over.count record_over.within (function_reference context function index) (reference_to ty) below)
 
-  -- the record decides for the types that there were
-  pub by_early : (ty : HeapType) (r : Bool) → IsInRange context.types ty → IsInRange first.types ty → (IsInRange first.types ty → IsTrue r ↔ IsGroundedByFuncs first ty) → r ≡ any_from (function_grounds context ty) 0 context.funcs
-  by_early ty r stands inside decides =
-      let (known, back) = decides inside in
-      by_kept context ty r orderly stands (λ on. first_grounded ty (known on), λ by. back (grounded_first ty stands by).0)
-
-  -- no function grounds a type that was added
-  pub by_later : (ty : HeapType) (r : Bool) → r ≡ false → IsInRange context.types ty → (IsInRange first.types ty → ⊥) → r ≡ any_from (function_grounds context ty) 0 context.funcs
-  by_later ty r off stands outside = by_kept context ty r orderly stands (λ on. cc (sym off ∙ on), λ by. absurd (outside (grounded_first ty stands by).1))
+  -- the record decides for the types that there were, and grounds none that was added
+  pub by_early : (ty : HeapType) (r : Bool) → IsInRange context.types ty → (IsInRange first.types ty → IsTrue r ↔ IsGroundedByFuncs first ty) → (IsTrue r → IsInRange first.types ty) → r ≡ any_from (function_grounds context ty) 0 context.funcs
+  by_early ty r stands decides within =
+      by_kept context ty r orderly stands (λ on. first_grounded ty ((decides (within on)).0 on), λ by. let (before, inside) = grounded_first ty stands by in (decides inside).1 before)
 
 -- a record over all types
-pub whole_record : (context : Context) (grounds : FuncGrounds) → AreFuncGrounds context grounds → IsRecordOver context (length context.types) grounds
+over_all : (context : Context) (grounds : FuncGrounds) → AreFuncGrounds context grounds → AreFuncGrounds (over context (take (length context.types) context.types)) grounds
+over_all context grounds right = subst (λ (xs : List SubType). AreFuncGrounds (over context xs) grounds) (sym (take_all (length context.types) context.types (omega arith))) right
+
+pub whole_record : (context : Context) (grounds : FuncGrounds) → AreFuncGrounds context grounds → IsRecordOver context grounds
 whole_record context grounds right = record {
+  count = length context.types;
   within = omega arith;
-  right = subst (λ (xs : List SubType). AreFuncGrounds (over context xs) grounds) (sym (take_all (length context.types) context.types (omega arith))) right;
+  right = over_all context grounds right;
   named = λ function index at there. there;
 }
 
 -- an early record is such a record
-pub early_record : (context : Context) (count : ℕ) (grounds : FuncGrounds) → IsEarlyRecord context count grounds → IsRecordOver context count grounds
-early_record context count grounds early = record { within = early.within; right = early.right; named = λ function index at there. early.named function index at }
+pub early_record : (context : Context) (grounds : FuncGrounds) → IsEarlyRecord context grounds → IsRecordOver context grounds
+early_record context grounds early = record { count = early.count; within = early.within; right = early.right; named = λ function index at there. early.named function index at }
 
 -- an early record is correct at first, and stays so as types are added
-pub record_begun : (context : Context) (grounds : FuncGrounds) → AreFuncGrounds context grounds → ((function index : ℕ) → slice_get context.funcs function ≡ Some index → index < length context.types) → IsEarlyRecord context (length context.types) grounds
-record_begun context grounds right named = let over = whole_record context grounds right in record { within = over.within; right = over.right; named = named }
+pub record_begun : (context : Context) (grounds : FuncGrounds) → AreFuncGrounds context grounds → ((function index : ℕ) → slice_get context.funcs function ≡ Some index → index < length context.types) → IsEarlyRecord context grounds
+record_begun context grounds right named = record { count = length context.types; within = omega arith; right = over_all context grounds right; named = named }
 
-record_grown : (context : Context) (types : List SubType) (count : ℕ) (grounds : FuncGrounds) → Extends context.types types → IsEarlyRecord context count grounds → IsEarlyRecord (over context types) count grounds
-record_grown context types count grounds grown early =
+record_grown : (context : Context) (types : List SubType) (grounds : FuncGrounds) → Extends context.types types → IsEarlyRecord context grounds → IsEarlyRecord (over context types) grounds
+record_grown context types grounds grown early =
     let long = length-append context.types grown.more in
     let same = ap length grown.parts in
-    let before : take count types ≡ take count context.types = ap (take count) grown.parts ∙ take-append-le count context.types grown.more early.within in
+    let before : take early.count types ≡ take early.count context.types = ap (take early.count) grown.parts ∙ take-append-le early.count context.types grown.more early.within in
     record {
+      count = early.count;
       within = let least = early.within in omega (arith, long, same, least);
       right = subst (λ (xs : List SubType). AreFuncGrounds (over context xs) grounds) (sym before) early.right;
       named = early.named;
     }
 
 pub early_grown : (context : Context) (old new : List SubType) (grounds : EarlyGrounds) → Extends old new → AreEarlyGrounds (over context old) grounds → AreEarlyGrounds (over context new) grounds
-early_grown context old new grounds grown early = IfSome_then grounds.kept early (λ kept. record_grown (over context old) new grounds.types kept grown)
+early_grown context old new grounds grown early = IfSome_then grounds.kept early (λ kept. record_grown (over context old) new kept grown)
 
 -- lists that grow at their ends
 pub extends_self : {A : Type 0} (xs : List A) → Extends xs xs

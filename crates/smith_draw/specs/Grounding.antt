@@ -9,6 +9,7 @@ use Rattle.smith_types.specs.declared.composite_type.SubType.{SubType}
 use Rattle.smith_config.specs.declared.config.Config.{Config}
 use Rattle.smith_config.specs.Features.{features_of}
 use Rattle.smith_draw.specs.Below.{is_val_below}
+use Rattle.smith_draw.specs.declared.early_grounds.EarlyGrounds.{EarlyGrounds}
 use Rattle.smith_draw.specs.declared.spaces.Entities.{Entities}
 use Rattle.smith_draw.specs.declared.spaces.Spaces.{Spaces}
 
@@ -31,6 +32,10 @@ function_context features types funcs imported_funcs = record {
 -- the context of these functions, without types and globals
 abbrev pub functions_in : Config → Entities → Context
 functions_in config entities = function_context (features_of config) [] entities.funcs.now entities.imported_funcs
+
+-- the same for the functions over which a call draws types
+abbrev pub functions_of : Config → EarlyGrounds → Context
+functions_of config grounds = function_context (features_of config) [] grounds.funcs.now grounds.imported_funcs
 
 -- a context over these types
 abbrev pub over : Context → List SubType → Context

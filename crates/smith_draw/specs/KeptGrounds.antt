@@ -20,9 +20,10 @@ pub record CallOver : Type 0 where
   pub context : Context
   pub grounds : KeptGrounds
 
--- the record is correct over the first types, as many as given, and each function whose type exists
--- has one of these
-pub record IsRecordOver (context : Context) (count : ℕ) (grounds : FuncGrounds) : Type 0 where
+-- the record was made over the first types and is correct over these, and each function whose type
+-- exists has one of them
+pub record IsRecordOver (context : Context) (grounds : FuncGrounds) : Type 0 where
+  pub count : ℕ
   pub within : count ≤ length context.types
   pub right : AreFuncGrounds (over context (take count context.types)) grounds
   pub named : (function index : ℕ) → slice_get context.funcs function ≡ Some index → index < length context.types → index < count
@@ -31,12 +32,14 @@ pub record IsRecordOver (context : Context) (count : ℕ) (grounds : FuncGrounds
 abbrev pub HaveTypes : List ℕ → ℕ → Type 0
 HaveTypes funcs count = (function index : ℕ) → slice_get funcs function ≡ Some index → index < count
 
--- the record that was made before types were added, if there is one, is correct over the types that
--- there were then, and each function has one of these
-pub record IsEarlyRecord (context : Context) (count : ℕ) (grounds : FuncGrounds) : Type 0 where
+-- the record was made before types were added and is correct over the types that there were then,
+-- and each function has one of these
+pub record IsEarlyRecord (context : Context) (grounds : FuncGrounds) : Type 0 where
+  pub count : ℕ
   pub within : count ≤ length context.types
   pub right : AreFuncGrounds (over context (take count context.types)) grounds
   pub named : HaveTypes context.funcs count
 
+-- the record that was made before types were added, if there is one, is as above
 abbrev pub AreEarlyGrounds : Context → EarlyGrounds → Type 0
-AreEarlyGrounds context grounds = IfSome grounds.kept (IsEarlyRecord context grounds.types)
+AreEarlyGrounds context grounds = IfSome grounds.kept (IsEarlyRecord context)

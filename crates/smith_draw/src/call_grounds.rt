@@ -53,6 +53,18 @@ impl<'a> CallGrounds<'a> {
         })
     }
 
+    /// Records nothing. Each check of whether a function grounds a heap type reads all functions, so
+    /// this is for calls that draw a single reference.
+    pub(crate) fn unread(config: &'a Config, spaces: &Spaces<'a>) -> CallGrounds<'a>
+        ensures { result.context ≡ standing_in config.now spaces.now }
+    {
+        CallGrounds {
+            config,
+            spaces: *spaces,
+            grounds: KeptGrounds::new(),
+        }
+    }
+
     /// Returns the types and functions, for the draws of this call.
     pub(crate) fn standing(&self) -> Standing<'_>
         ensures { result ≡ self.now.context }

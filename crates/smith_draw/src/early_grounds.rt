@@ -1,5 +1,5 @@
 ghost use Rattle.std.specs.Prelude.{◌≡◌, ◌↔◌, ◌<◌, length, IsTrue, IsSome, IfOk, IfErr};
-ghost use Rattle.smith_draw.specs.Grounding.{functions_in, over};
+ghost use Rattle.smith_draw.specs.Grounding.{functions_in, functions_of, over};
 ghost use Rattle.smith_draw.specs.KeptGrounds.{AreEarlyGrounds, HaveTypes};
 
 use crate::kept_grounds::record_functions;
@@ -9,17 +9,20 @@ use smith_config::Config;
 use smith_types::{FuncGrounds, TypeSpace};
 use std::alloc::Global;
 
-/// A record of the heap types that functions ground, made before types are drawn. It stays right as
-/// types are added, since the type of a function has no supertype that is added later.
+/// The functions over which a call draws types, with a record of the heap types that they ground.
+/// The record is made before types are drawn. It stays right as types are added, since the type of a
+/// function has no supertype that is added later.
 #[derive(Drop)]
-pub(crate) struct EarlyGrounds {
+pub(crate) struct EarlyGrounds<'a> {
+    /// The type index of each function. Imported functions come first.
+    pub funcs: &'a [u32],
+    /// The number of imported functions.
+    pub imported_funcs: usize,
     /// The record, if there is one.
     pub kept: Option<FuncGrounds>,
-    /// The number of types when it was made.
-    pub types: usize,
 }
 
-impl EarlyGrounds {
+impl<'a> EarlyGrounds<'a> {
     /// Records the heap types that the functions of `entities` ground. Reads each function once.
     ///
     /// Nothing is recorded or allocated if the configuration disables non-nullable references, if
@@ -29,8 +32,10 @@ impl EarlyGrounds {
         alloc: Global,
         config: &Config,
         types: &TypeSpace,
-        entities: &Entities<'_>,
-    ) -> Result<EarlyGrounds, Error>
+        entities: &Entities<'a>,
+    ) -> Result<EarlyGrounds<'a>, Error>
+        ensures same { IfOk result (λ grounds.
+            functions_of config.now grounds ≡ functions_in config.now entities.now) }
         ensures kept { IfOk result
             (AreEarlyGrounds (over (functions_in config.now entities.now) types.now.types)) }
         ensures made { IsTrue config.now.non_nullable_enabled → 0 < length entities.now.funcs.now
@@ -38,11 +43,12 @@ impl EarlyGrounds {
             → IfOk result (λ grounds. IsSome grounds.kept) }
         ensures memory { IfErr result (λ e. e ≡ Error.Memory) }
     {
-        let count = types.types().len();
-        if !config.non_nullable_enabled || !have_types(entities.funcs, count) {
+        let (funcs, imported_funcs) = (entities.funcs, entities.imported_funcs);
+        if !config.non_nullable_enabled || !have_types(funcs, types.types().len()) {
             return Ok(EarlyGrounds {
+                funcs,
+                imported_funcs,
                 kept: None,
-                types: count,
             });
         }
         let spaces = Spaces {
@@ -50,7 +56,11 @@ impl EarlyGrounds {
             entities: *entities,
         };
         let kept = record_functions(alloc, config, &spaces)?;
-        Ok(EarlyGrounds { kept, types: count })
+        Ok(EarlyGrounds {
+            funcs,
+            imported_funcs,
+            kept,
+        })
     }
 }
 

@@ -10,6 +10,7 @@ ghost use Rattle.smith_draw.specs.Grounding.{standing_in};
 ghost use Rattle.smith_draw.specs.FieldTypes.{storage_of_number_at, storage_type_at, field_type_at};
 ghost use Rattle.smith_draw.specs.Spelling.{RefersTo, SpellsStorage, SpellsField};
 
+use crate::call_grounds::CallGrounds;
 use crate::spaces::{Spaces, orderly};
 use crate::standing::Standing;
 use crate::value_type::draw_val_type;
@@ -96,7 +97,8 @@ pub fn arbitrary_storage_type(
         (SpellsStorage config.now limit)) u.old drawn u.new) }
 {
     orderly(spaces);
-    let standing = Standing::over(config, spaces);
+    let call = CallGrounds::unread(config, spaces);
+    let standing = call.standing();
     Ok(draw_storage_type(config, &standing, must_share, limit, u))
 }
 
@@ -142,6 +144,7 @@ pub fn arbitrary_field_type(
         (SpellsField config.now limit)) u.old drawn u.new) }
 {
     orderly(spaces);
-    let standing = Standing::over(config, spaces);
+    let call = CallGrounds::unread(config, spaces);
+    let standing = call.standing();
     Ok(draw_field_type(config, &standing, must_share, limit, u))
 }

@@ -12,6 +12,7 @@ ghost use Rattle.smith_draw.specs.Grounding.{standing_in};
 ghost use Rattle.smith_draw.specs.GlobalTypes.{global_sharedness_at, global_type_at};
 ghost use Rattle.smith_draw.specs.SpelledGlobals.{mutable_i32, SpellsMutableI32};
 
+use crate::call_grounds::CallGrounds;
 use crate::shared_reference::is_reference_shared;
 use crate::spaces::Spaces;
 use crate::standing::Standing;
@@ -118,6 +119,7 @@ pub fn arbitrary_global_type(
         Takes (SpellsSuch (λ global. global ≡ mutable_i32) (λ _. SpellsMutableI32 config.now))
         u.old drawn u.new) }
 {
-    let standing = Standing::over(config, spaces);
+    let call = CallGrounds::unread(config, spaces);
+    let standing = call.standing();
     Ok(draw_global_type(config, &standing, u))
 }

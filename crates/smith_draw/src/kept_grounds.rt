@@ -72,7 +72,7 @@ impl KeptGrounds {
         requires { AreKeptGrounds (standing_in config.now spaces.now) self.now }
         ensures { result ≡ standing_in config.now spaces.now }
     {
-        Standing::kept(config, spaces, self.kept.as_ref())
+        Standing::kept(config, spaces, &self.kept)
     }
 }
 

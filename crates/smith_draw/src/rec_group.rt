@@ -16,7 +16,7 @@ ghost use Rattle.smith_draw.specs.ConstBounds.{HoldsNonNullableField, HoldsUngro
 ghost use Rattle.smith_draw.specs.Drawing.{AlwaysDraws, Draws, DrawsInto};
 ghost use Rattle.smith_draw.specs.FuncSizes.{HasFewValues};
 ghost use Rattle.smith_config.specs.Granted.{AreTypesGranted};
-ghost use Rattle.smith_draw.specs.Grounding.{functions_in, over};
+ghost use Rattle.smith_draw.specs.Grounding.{functions_in, functions_of, over};
 ghost use Rattle.smith_draw.specs.KeptGrounds.{AreEarlyGrounds};
 ghost use Rattle.smith_draw.specs.RecGroups.{
   types_left,
@@ -65,22 +65,21 @@ fn add_types(
     alloc: Global,
     config: &Config,
     types: &mut TypeSpace,
-    entities: &Entities<'_>,
-    grounds: &EarlyGrounds,
+    grounds: &EarlyGrounds<'_>,
     limit: u32,
     u: &mut Unstructured<'_>,
 ) -> Result<(), Error>
     requires few { limit + 1 < 2 ^ 32 }
     requires grounds { AreEarlyGrounds
-        (over (functions_in config.now entities.now) types.old.types) grounds.now }
+        (over (functions_of config.now grounds.now) types.old.types) grounds.now }
     ensures draws { DrawsInto (types_until_at config.now
-        (functions_in config.now entities.now) limit types.old.types u.old)
+        (functions_of config.now grounds.now) limit types.old.types u.old)
         types.new.types result u.old u.new }
     ensures groups { OnOk result (types.new.groups ≡ types.old.groups) }
     ensures grown { OnOk result (Extends types.old.types types.new.types) }
 {
     for made in types.types().len()..limit as usize {
-        let added = draw_sub_type(alloc, config, types, entities, grounds, limit, u)?;
+        let added = draw_sub_type(alloc, config, types, grounds, limit, u)?;
         add_type(types, added)?;
     }
     Ok(())
@@ -110,32 +109,23 @@ fn add_new_group(
     alloc: Global,
     config: &Config,
     types: &mut TypeSpace,
-    entities: &Entities<'_>,
-    grounds: &EarlyGrounds,
+    grounds: &EarlyGrounds<'_>,
     allow_empty: bool,
     u: &mut Unstructured<'_>,
 ) -> Result<(), Error>
     requires room { length types.old.types < config.now.max_types }
     requires few { config.now.max_types ≤ 2 ^ 31 }
     requires grounds { AreEarlyGrounds
-        (over (functions_in config.now entities.now) types.old.types) grounds.now }
+        (over (functions_of config.now grounds.now) types.old.types) grounds.now }
     ensures draws { DrawsInto
-        (new_group_at config.now (functions_in config.now entities.now) allow_empty types.old u.old)
+        (new_group_at config.now (functions_of config.now grounds.now) allow_empty types.old u.old)
         types.new result u.old u.new }
     ensures grown { OnOk result (Extends types.old.types types.new.types) }
 {
     let start = types.types().len();
     let size = draw_group_size(config, allow_empty, config.max_types - start, u);
     types.reserve(size)?;
-    add_types(
-        alloc,
-        config,
-        types,
-        entities,
-        grounds,
-        (start + size) as u32,
-        u,
-    )?;
+    add_types(alloc, config, types, grounds, (start + size) as u32, u)?;
     types.push_group()?;
     Ok(())
 }
@@ -231,28 +221,27 @@ fn add_rec_group(
     alloc: Global,
     config: &Config,
     types: &mut TypeSpace,
-    entities: &Entities<'_>,
-    grounds: &EarlyGrounds,
+    grounds: &EarlyGrounds<'_>,
     allow_empty: bool,
     u: &mut Unstructured<'_>,
 ) -> Result<(), Error>
     requires room { length types.old.types < config.now.max_types }
     requires few { config.now.max_types ≤ 2 ^ 31 }
     requires grounds { AreEarlyGrounds
-        (over (functions_in config.now entities.now) types.old.types) grounds.now }
+        (over (functions_of config.now grounds.now) types.old.types) grounds.now }
     ensures draws { DrawsInto
-        (rec_group_at config.now (functions_in config.now entities.now) allow_empty types.old u.old)
+        (rec_group_at config.now (functions_of config.now grounds.now) allow_empty types.old u.old)
         types.new result u.old u.new }
     ensures grown { OnOk result (Extends types.old.types types.new.types) }
 {
     if !is_clone_wanted(config, types, u) {
-        return add_new_group(alloc, config, types, entities, grounds, allow_empty, u);
+        return add_new_group(alloc, config, types, grounds, allow_empty, u);
     }
     let added = clone_group(alloc, config, types, allow_empty, u)?;
     if added || allow_empty {
         return Ok(());
     }
-    add_new_group(alloc, config, types, entities, grounds, allow_empty, u)
+    add_new_group(alloc, config, types, grounds, allow_empty, u)
 }
 
 /// Adds groups while `types` has too few types.
@@ -260,21 +249,20 @@ fn add_least_types(
     alloc: Global,
     config: &Config,
     types: &mut TypeSpace,
-    entities: &Entities<'_>,
-    grounds: &EarlyGrounds,
+    grounds: &EarlyGrounds<'_>,
     u: &mut Unstructured<'_>,
 ) -> Result<(), Error>
     requires ordered { config.now.min_types ≤ config.now.max_types }
     requires few { config.now.max_types ≤ 2 ^ 31 }
     requires grounds { AreEarlyGrounds
-        (over (functions_in config.now entities.now) types.old.types) grounds.now }
+        (over (functions_of config.now grounds.now) types.old.types) grounds.now }
     ensures draws { DrawsInto (least_types_at config.now
-        (functions_in config.now entities.now) config.now.min_types types.old u.old)
+        (functions_of config.now grounds.now) config.now.min_types types.old u.old)
         types.new result u.old u.new }
     ensures grown { OnOk result (Extends types.old.types types.new.types) }
 {
     while types.types().len() < config.min_types {
-        add_rec_group(alloc, config, types, entities, grounds, false, u)?;
+        add_rec_group(alloc, config, types, grounds, false, u)?;
     }
     Ok(())
 }
@@ -284,21 +272,20 @@ fn add_more_types(
     alloc: Global,
     config: &Config,
     types: &mut TypeSpace,
-    entities: &Entities<'_>,
-    grounds: &EarlyGrounds,
+    grounds: &EarlyGrounds<'_>,
     u: &mut Unstructured<'_>,
 ) -> Result<(), Error>
     requires few { config.now.max_types ≤ 2 ^ 31 }
     requires grounds { AreEarlyGrounds
-        (over (functions_in config.now entities.now) types.old.types) grounds.now }
-    ensures { DrawsInto (more_types_at config.now (functions_in config.now entities.now)
+        (over (functions_of config.now grounds.now) types.old.types) grounds.now }
+    ensures { DrawsInto (more_types_at config.now (functions_of config.now grounds.now)
         (length u.old + 1) types.old u.old) types.new result u.old u.new }
 {
     while types.types().len() < config.max_types {
         if !u.arbitrary::<bool>() {
             return Ok(());
         }
-        add_rec_group(alloc, config, types, entities, grounds, true, u)?;
+        add_rec_group(alloc, config, types, grounds, true, u)?;
     }
     Ok(())
 }
@@ -317,8 +304,8 @@ fn add_all_types(
         types.new result u.old u.new }
 {
     let grounds = EarlyGrounds::of(alloc, config, types, entities)?;
-    add_least_types(alloc, config, types, entities, &grounds, u)?;
-    add_more_types(alloc, config, types, entities, &grounds, u)
+    add_least_types(alloc, config, types, &grounds, u)?;
+    add_more_types(alloc, config, types, &grounds, u)
 }
 
 /// Chooses a group of `types` and adds a clone of it. Returns whether a clone was added. See the
@@ -405,7 +392,7 @@ pub fn arbitrary_rec_group(
 {
     let _groups = types.types();
     let grounds = EarlyGrounds::of(alloc, config, types, entities)?;
-    add_rec_group(alloc, config, types, entities, &grounds, allow_empty, u)
+    add_rec_group(alloc, config, types, &grounds, allow_empty, u)
 }
 
 /// Adds groups to `types` until there are at least `config.min_types` types, then further groups as

@@ -3,12 +3,12 @@ ghost use Rattle.smith_types.specs.Types.{IsOrderly};
 ghost use Rattle.smith_types.specs.Subtyping.{IsInRange};
 ghost use Rattle.smith_types.specs.Expressions.{reference_to, function_reference};
 ghost use Rattle.smith_types.specs.FuncGrounds.{AreFuncGrounds};
-ghost use Rattle.smith_draw.specs.Grounding.{standing_in, functions_in, over, any_from};
+ghost use Rattle.smith_draw.specs.Grounding.{standing_in, functions_of, over, any_from};
 ghost use Rattle.smith_draw.specs.Grounding.{function_grounds, is_grounded};
 ghost use Rattle.smith_draw.specs.KeptGrounds.{AreEarlyGrounds, IsRecordOver};
 
 use crate::early_grounds::EarlyGrounds;
-use crate::spaces::{Entities, Spaces};
+use crate::spaces::Spaces;
 use smith_config::Config;
 use smith_types::{FuncGrounds, HeapType, SubType, TypeSpace};
 use std::marker::Model;
@@ -20,10 +20,9 @@ pub struct Standing<'a> {
     types: &'a TypeSpace,
     funcs: &'a [u32],
     imported_funcs: usize,
-    // A record of the heap types that the functions ground, if there is one, and the number of types
-    // when it was made.
-    kept: Option<&'a FuncGrounds>,
-    recorded: usize,
+    // A record of the heap types that the functions ground, if there is one. It may have been made
+    // when there were fewer types.
+    kept: &'a Option<FuncGrounds>,
 }
 
 impl<'a> Model for Standing<'a> {
@@ -39,46 +38,29 @@ impl<'a> Model for Standing<'a> {
     ghost view = { λ a.
         function_context (features_of a.config.now) a.types.now.types a.funcs.now a.imported_funcs };
 
-    ghost invariant = { λ a. IfSome a.kept (λ kept. IsRecordOver
-        (function_context (features_of a.config.now) a.types.now.types a.funcs.now a.imported_funcs)
-        a.recorded kept.now) };
+    ghost invariant = { λ a. IfSome a.kept.now (IsRecordOver
+        (function_context (features_of a.config.now) a.types.now.types a.funcs.now a.imported_funcs)) };
 }
 
 impl<'a> Standing<'a> {
-    /// Returns the types and functions of `spaces`. Each check of whether a function grounds a
-    /// heap type reads all functions, so this is for draws of a single reference.
-    pub(crate) fn over(config: &'a Config, spaces: &Spaces<'a>) -> Standing<'a>
-        ensures { result ≡ standing_in config.now spaces.now }
-    {
-        Standing {
-            config,
-            types: spaces.types,
-            funcs: spaces.entities.funcs,
-            imported_funcs: spaces.entities.imported_funcs,
-            kept: None,
-            recorded: 0,
-        }
-    }
-
-    /// Returns the types of `types` and the functions of `entities`. Checks of whether a function
-    /// grounds a heap type use the record `grounds`, to which types may have been added since.
+    /// Returns the types of `types` and the functions of `grounds`. Checks of whether a function
+    /// grounds a heap type use the record of `grounds`, if there is one. Types may have been added
+    /// since it was made.
     pub(crate) fn beside(
         config: &'a Config,
         types: &'a TypeSpace,
-        entities: &Entities<'a>,
-        grounds: &'a EarlyGrounds,
+        grounds: &'a EarlyGrounds<'a>,
     ) -> Standing<'a>
-        requires { AreEarlyGrounds (over (functions_in config.now entities.now) types.now.types)
+        requires { AreEarlyGrounds (over (functions_of config.now grounds.now) types.now.types)
             grounds.now }
-        ensures { result ≡ over (functions_in config.now entities.now) types.now.types }
+        ensures { result ≡ over (functions_of config.now grounds.now) types.now.types }
     {
         Standing {
             config,
             types,
-            funcs: entities.funcs,
-            imported_funcs: entities.imported_funcs,
-            kept: grounds.kept.as_ref(),
-            recorded: grounds.types,
+            funcs: grounds.funcs,
+            imported_funcs: grounds.imported_funcs,
+            kept: &grounds.kept,
         }
     }
 
@@ -87,10 +69,9 @@ impl<'a> Standing<'a> {
     pub(crate) fn kept(
         config: &'a Config,
         spaces: &Spaces<'a>,
-        grounds: Option<&'a FuncGrounds>,
+        grounds: &'a Option<FuncGrounds>,
     ) -> Standing<'a>
-        requires { IfSome grounds (λ kept.
-            AreFuncGrounds (standing_in config.now spaces.now) kept.now) }
+        requires { IfSome grounds.now (AreFuncGrounds (standing_in config.now spaces.now)) }
         ensures { result ≡ standing_in config.now spaces.now }
     {
         Standing {
@@ -99,7 +80,6 @@ impl<'a> Standing<'a> {
             funcs: spaces.entities.funcs,
             imported_funcs: spaces.entities.imported_funcs,
             kept: grounds,
-            recorded: spaces.types.types().len(),
         }
     }
 
@@ -139,21 +119,20 @@ impl<'a> Standing<'a> {
         ensures { result ≡ any_from (function_grounds self.now ty) 0 self.now.funcs }
     {
         if let Some(kept) = self.kept {
-            return self.is_recorded(kept, self.recorded, ty);
+            return self.is_recorded(kept, ty);
         }
         self.is_above_a_function(ty)
     }
 
-    /// Returns the same as [`Standing::is_grounded_by_functions`], from the record `kept`, which was
-    /// made over the first `recorded` types. No function grounds a type that was added later.
-    fn is_recorded(&self, kept: &FuncGrounds, recorded: usize, ty: HeapType) -> bool
+    /// Returns the same as [`Standing::is_grounded_by_functions`], from the record `kept`. No
+    /// function grounds a type that was added after it was made.
+    fn is_recorded(&self, kept: &FuncGrounds, ty: HeapType) -> bool
         requires orderly { IsOrderly self.now.types }
         requires stands { IsInRange self.now.types ty }
-        requires kept { IsRecordOver self.now recorded kept.now }
+        requires kept { IsRecordOver self.now kept.now }
         ensures { result ≡ any_from (function_grounds self.now ty) 0 self.now.funcs }
     {
-        let types = self.types.types();
-        stands(&types[..recorded], ty) && kept.are_grounding(ty)
+        kept.are_grounding(ty)
     }
 
     /// Returns the same as [`Standing::is_grounded_by_functions`], by reading each function.

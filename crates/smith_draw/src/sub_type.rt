@@ -8,7 +8,7 @@ ghost use Rattle.smith_config.specs.Features.{features_of};
 ghost use Rattle.smith_config.specs.Sanitized.{IsSanitized};
 ghost use Rattle.smith_draw.specs.Drawing.{AlwaysDraws, Draws};
 ghost use Rattle.smith_config.specs.Granted.{HasGranted, AreTypesGranted};
-ghost use Rattle.smith_draw.specs.Grounding.{functions_in, over, standing_in};
+ghost use Rattle.smith_draw.specs.Grounding.{functions_of, over, standing_in};
 ghost use Rattle.smith_draw.specs.KeptGrounds.{AreEarlyGrounds};
 ghost use Rattle.smith_draw.specs.SubTypes.{
   supertypes,
@@ -131,26 +131,25 @@ fn is_supertype_wanted(config: &Config, count: usize, u: &mut Unstructured<'_>) 
     u.ratio(1u32, 32)
 }
 
-/// Draws a type over `types` and the functions of `entities`: a subtype of a type that may have
-/// subtypes, or a type without a supertype. `grounds` is a record of the functions, which was made
-/// when there were fewer types or as many.
+/// Draws a type over `types` and the functions of `grounds`: a subtype of a type that may have
+/// subtypes, or a type without a supertype. The record of `grounds` may have been made when there
+/// were fewer types.
 #[tactic(auto, unfolding(crate::specs::SubTypes::sub_type_at))]
 pub(crate) fn draw_sub_type(
     alloc: Global,
     config: &Config,
     types: &TypeSpace,
-    entities: &Entities<'_>,
-    grounds: &EarlyGrounds,
+    grounds: &EarlyGrounds<'_>,
     limit: u32,
     u: &mut Unstructured<'_>,
 ) -> Result<SubType, Error>
-    requires { AreEarlyGrounds (over (functions_in config.now entities.now) types.now.types)
+    requires { AreEarlyGrounds (over (functions_of config.now grounds.now) types.now.types)
         grounds.now }
     ensures { Draws (sub_type_at config.now
-        (over (functions_in config.now entities.now) types.now.types) limit u.old)
+        (over (functions_of config.now grounds.now) types.now.types) limit u.old)
         result u.old u.new }
 {
-    let standing = Standing::beside(config, types, entities, grounds);
+    let standing = Standing::beside(config, types, grounds);
     let indices = supertypes(types);
     if is_supertype_wanted(config, indices.len(), u) {
         return draw_sub_type_of(alloc, config, &standing, limit, indices, u);
@@ -187,15 +186,7 @@ pub fn arbitrary_sub_type(
 {
     orderly(spaces);
     let grounds = EarlyGrounds::of(alloc, config, spaces.types, &spaces.entities)?;
-    draw_sub_type(
-        alloc,
-        config,
-        spaces.types,
-        &spaces.entities,
-        &grounds,
-        limit,
-        u,
-    )
+    draw_sub_type(alloc, config, spaces.types, &grounds, limit, u)
 }
 
 /// Draws a subtype of a type of `spaces` that may have subtypes. See the standard, section

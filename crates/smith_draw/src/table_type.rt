@@ -11,6 +11,7 @@ ghost use Rattle.smith_draw.specs.Drawing.{AlwaysDraws, Draws};
 ghost use Rattle.smith_draw.specs.Grounding.{standing_in};
 ghost use Rattle.smith_draw.specs.TableTypes.{least_elements, drawn_elements, table_type_at};
 
+use crate::call_grounds::CallGrounds;
 use crate::entity_type::draw_memory64;
 use crate::limits::arbitrary_limits64;
 use crate::shared_reference::is_reference_shared;
@@ -102,6 +103,7 @@ pub fn arbitrary_table_type(
     ensures grounded { IfOk result (λ drawn.
         ¬ IsUngrounded config.now (standing_in config.now spaces.now) (Ref drawn.element_type)) }
 {
-    let standing = Standing::over(config, spaces);
+    let call = CallGrounds::unread(config, spaces);
+    let standing = call.standing();
     Ok(draw_table_type(config, &standing, u))
 }

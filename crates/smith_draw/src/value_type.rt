@@ -32,6 +32,7 @@ ghost use Rattle.smith_draw.specs.ValueTypes.{
 ghost use Rattle.smith_draw.specs.Choices.{enabled};
 ghost use Rattle.smith_draw.specs.Spelling.{RefersTo, SpellsHeapType, SpellsRefType, SpellsValType};
 
+use crate::call_grounds::CallGrounds;
 use crate::choice::choose;
 use crate::spaces::{Spaces, orderly};
 use crate::standing::Standing;
@@ -366,7 +367,8 @@ pub fn arbitrary_ref_type(
         (SpellsRefType config.now limit)) u.old drawn u.new) }
 {
     orderly(spaces);
-    let standing = Standing::over(config, spaces);
+    let call = CallGrounds::unread(config, spaces);
+    let standing = call.standing();
     Ok(draw_ref_type(config, &standing, must_share, limit, u))
 }
 
@@ -407,6 +409,7 @@ pub fn arbitrary_valtype(
         u.old drawn u.new) }
 {
     orderly(spaces);
-    let standing = Standing::over(config, spaces);
+    let call = CallGrounds::unread(config, spaces);
+    let standing = call.standing();
     Ok(draw_val_type(config, &standing, must_share, limit, u))
 }

@@ -98,6 +98,12 @@ module _ (old new : Context) (index : ℕ) (exact : Bool) (added : IsFunctionAdd
 pub decided : (grounds : FuncGrounds) (ty : HeapType) (r : Bool) → r ≡ is_noted grounds ty → (context : Context) → AreFuncGrounds context grounds → IsInRange context.types ty → IsTrue r ↔ IsGroundedByFuncs context ty
 decided grounds ty r is context h inside = subst (λ (b : Bool). IsTrue b ↔ IsGroundedByFuncs context ty) (sym is) (h.each ty inside)
 
+-- it grounds existing types alone
+pub noted_inside : (grounds : FuncGrounds) (ty : HeapType) (r : Bool) → r ≡ is_noted grounds ty → (context : Context) → AreFuncGrounds context grounds → IsTrue r → IsInRange context.types ty
+noted_inside grounds (Abstract s b) r is context h on = tt
+noted_inside grounds (Concrete j) r is context h on = let inside = said_inside (λ (ground : Ground). ground.below) grounds.marks.items j (sym is ∙ on) in rw h.long at inside
+noted_inside grounds (Exact j) r is context h on = let inside = said_inside (λ (ground : Ground). ground.own) grounds.marks.items j (sym is ∙ on) in rw h.long at inside
+
 -- without functions
 said_none : (flag : Ground → Bool) (x : Ground) (n i : ℕ) → flag x ≡ false → said_at flag (replicate n x) i ≡ false
 said_none flag x zero i off = refl

@@ -66,10 +66,13 @@ impl FuncGrounds {
         self.kinds = self.kinds.with(ty);
     }
 
-    /// Returns whether one of the functions grounds the heap type `ty`.
+    /// Returns whether one of the functions grounds the heap type `ty`. If the record was made over
+    /// fewer types than there are now, none grounds a type that was added since.
     pub fn are_grounding(&self, ty: HeapType) -> bool
-        ensures { (context : Context) → AreFuncGrounds context self.now → IsInRange context.types ty
+        ensures decided { (context : Context) → AreFuncGrounds context self.now → IsInRange context.types ty
             → IsTrue result ↔ IsGroundedByFuncs context ty }
+        ensures within { (context : Context) → AreFuncGrounds context self.now → IsTrue result
+            → IsInRange context.types ty }
     {
         match ty {
             HeapType::Abstract { shared, ty } => self.kinds.are_below(shared, ty),

@@ -1,5 +1,5 @@
 use Rattle.std.proofs.Common.{◌<◌, length, refl, arith, rules}
-use Rattle.smith_draw.specs.Grounding.{functions_in}
+use Rattle.smith_draw.specs.Grounding.{functions_of}
 use Rattle.smith_draw.proofs.EarlyGroundLemmas.{early_grown, extends_self, extends_both}
 use Rattle.smith_draw.proofs.GroupsLoop.{group_adds, least_go, least_full}
 use Rattle.smith_draw.proofs.rec_group.add_least_types.Goals as goal
@@ -11,14 +11,14 @@ loop-types-init c = record {
 }
 
 pub add_rec_group-requires-clause-grounds : goal.add_rec_group-requires-clause-grounds
-add_rec_group-requires-clause-grounds c = early_grown (functions_in c.args.config.now c.args.entities.now) c.args.types.now.types c.loop-types.types.types c.args.grounds.now c.loop-types.invariant.longer c.requires.grounds
+add_rec_group-requires-clause-grounds c = early_grown (functions_of c.args.config.now c.args.grounds.now) c.args.types.now.types c.loop-types.types.types c.args.grounds.now c.loop-types.invariant.longer c.requires.grounds
 
 pub loop-types-smaller : goal.loop-types-smaller
 loop-types-smaller c =
     let sound = c.types.ensures.sound in
     let few = rw c.types.ensures.value at c.loop-types-test.true in
     let longer : length c.loop-types.types.types < length c.add_rec_group.new.types.types =
-    group_adds c.args.config.now (functions_in c.args.config.now c.args.entities.now) c.loop-types.types c.add_rec_group.new.types c.loop-types.u c.add_rec_group.new.u (record { consecutive = sound.consecutive; within = sound.within }) (omega arith) c.in_ok-add_rec_group.ensures.draws.exact in
+    group_adds c.args.config.now (functions_of c.args.config.now c.args.grounds.now) c.loop-types.types c.add_rec_group.new.types c.loop-types.u c.add_rec_group.new.u (record { consecutive = sound.consecutive; within = sound.within }) (omega arith) c.in_ok-add_rec_group.ensures.draws.exact in
     omega arith
 
 pub loop-types-preserved : goal.loop-types-preserved
@@ -26,7 +26,7 @@ loop-types-preserved c =
     let sound = c.types.ensures.sound in
     let few = rw c.types.ensures.value at c.loop-types-test.true in
     let longer : length c.loop-types.types.types < length c.add_rec_group.new.types.types =
-    group_adds c.args.config.now (functions_in c.args.config.now c.args.entities.now) c.loop-types.types c.add_rec_group.new.types c.loop-types.u c.add_rec_group.new.u (record { consecutive = sound.consecutive; within = sound.within }) (omega arith) c.in_ok-add_rec_group.ensures.draws.exact in
+    group_adds c.args.config.now (functions_of c.args.config.now c.args.grounds.now) c.loop-types.types c.add_rec_group.new.types c.loop-types.u c.add_rec_group.new.u (record { consecutive = sound.consecutive; within = sound.within }) (omega arith) c.in_ok-add_rec_group.ensures.draws.exact in
     record {
       so_far = least_go c.loop-types.invariant.so_far few c.in_ok-add_rec_group.ensures.draws.exact longer c.in_ok-add_rec_group.ensures.draws.left;
       longer = extends_both c.loop-types.invariant.longer c.in_ok-add_rec_group.ensures.grown;

@@ -1,13 +1,13 @@
 use Rattle.std.proofs.Common.{◌-◌, length}
 use Rattle.smith_types.specs.Grown.{Extends}
 use Rattle.smith_draw.specs.RecGroups.{least_types_at}
-use Rattle.smith_draw.specs.Grounding.{functions_in}
+use Rattle.smith_draw.specs.Grounding.{functions_of}
 use Rattle.smith_draw.proofs.GroupsLoop.{IsReaching}
 use Rattle.smith_draw.proofs.rec_group.add_least_types.Given as goal
 
 abbrev pub invariant-loop-types : goal.invariant-loop-types
 invariant-loop-types l = record {
-  so_far : IsReaching l.config (functions_in l.config l.entities) l.types l.fn.u l.u (least_types_at l.config (functions_in l.config l.entities) l.config.min_types l.fn.types l.fn.u);
+  so_far : IsReaching l.config (functions_of l.config l.grounds) l.types l.fn.u l.u (least_types_at l.config (functions_of l.config l.grounds) l.config.min_types l.fn.types l.fn.u);
   longer : Extends l.fn.types.types l.types.types;
 }
 

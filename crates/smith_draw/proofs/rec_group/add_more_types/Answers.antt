@@ -1,5 +1,5 @@
 use Rattle.std.proofs.Common.{◌+◌, Bool, length, refl, ap, ◌∙◌, arith, rules}
-use Rattle.smith_draw.specs.Grounding.{functions_in}
+use Rattle.smith_draw.specs.Grounding.{functions_of}
 use Rattle.smith_draw.proofs.EarlyGroundLemmas.{early_grown, extends_self, extends_both}
 use Rattle.smith_draw.proofs.GroupsLoop.{bool_takes, piece_short, more_go, more_stop, more_full}
 use Rattle.smith_draw.proofs.rec_group.add_more_types.Goals as goal
@@ -11,7 +11,7 @@ loop-types-init c = record {
 }
 
 pub add_rec_group-requires-clause-grounds : goal.add_rec_group-requires-clause-grounds
-add_rec_group-requires-clause-grounds c = early_grown (functions_in c.args.config.now c.args.entities.now) c.args.types.now.types c.loop-types.types.types c.args.grounds.now c.loop-types.invariant.longer c.requires.grounds
+add_rec_group-requires-clause-grounds c = early_grown (functions_of c.args.config.now c.args.grounds.now) c.args.types.now.types c.loop-types.types.types c.args.grounds.now c.loop-types.invariant.longer c.requires.grounds
 
 pub loop-types-smaller : goal.loop-types-smaller
 loop-types-smaller c =

@@ -1,13 +1,13 @@
 use Rattle.std.proofs.Common.{◌+◌, length}
 use Rattle.smith_types.specs.Grown.{Extends}
 use Rattle.smith_draw.specs.RecGroups.{more_types_at}
-use Rattle.smith_draw.specs.Grounding.{functions_in}
+use Rattle.smith_draw.specs.Grounding.{functions_of}
 use Rattle.smith_draw.proofs.GroupsLoop.{IsAdding}
 use Rattle.smith_draw.proofs.rec_group.add_more_types.Given as goal
 
 abbrev pub invariant-loop-types : goal.invariant-loop-types
 invariant-loop-types l = record {
-  so_far : IsAdding l.config (functions_in l.config l.entities) l.types l.fn.u l.u (more_types_at l.config (functions_in l.config l.entities) (length l.fn.u + 1) l.fn.types l.fn.u);
+  so_far : IsAdding l.config (functions_of l.config l.grounds) l.types l.fn.u l.u (more_types_at l.config (functions_of l.config l.grounds) (length l.fn.u + 1) l.fn.types l.fn.u);
   longer : Extends l.fn.types.types l.types.types;
 }
 

@@ -2,7 +2,7 @@ use Rattle.std.proofs.Common.{ap, ◌∙◌, arith, rules}
 use Rattle.smith_bytes.proofs.GrowingLoop.{grow_full}
 use Rattle.smith_types.specs.GroupedTypes.{GroupedTypes}
 use Rattle.smith_draw.specs.SubTypes.{HasSuperType}
-use Rattle.smith_draw.specs.Grounding.{functions_in}
+use Rattle.smith_draw.specs.Grounding.{functions_of}
 use Rattle.smith_draw.proofs.EarlyGroundLemmas.{early_grown, extends_one}
 use Rattle.smith_draw.proofs.UntilLoop.{until_go}
 use Rattle.smith_draw.proofs.ValueTypeLemmas.{drawn_is}
@@ -10,7 +10,7 @@ use Rattle.smith_draw.proofs.SubTypeLemmas.{sub_type_follows}
 use Rattle.smith_draw.proofs.rec_group.add_types.Goals as goal
 
 pub draw_sub_type-requires : goal.draw_sub_type-requires
-draw_sub_type-requires c = early_grown (functions_in c.args.config.now c.args.entities.now) c.args.types.now.types c.loop-made.types.types c.args.grounds.now c.loop-made.invariant.longer c.requires.grounds
+draw_sub_type-requires c = early_grown (functions_of c.args.config.now c.args.grounds.now) c.args.types.now.types c.loop-made.types.types c.args.grounds.now c.loop-made.invariant.longer c.requires.grounds
 
 pub add_type-requires : goal.add_type-requires
 add_type-requires c = record {

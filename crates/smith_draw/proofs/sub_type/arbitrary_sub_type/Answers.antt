@@ -1,6 +1,9 @@
-use Rattle.std.proofs.Common.{refl}
+use Rattle.std.proofs.Common.{refl, subst}
 use Rattle.std.proofs.lemmas.Result.{IfOk-weaker}
-use Rattle.smith_draw.specs.Grounding.{functions_in, standing_in}
+use Rattle.smith_types.specs.Expressions.{Context}
+use Rattle.smith_draw.specs.Drawing.{Draws}
+use Rattle.smith_draw.specs.Grounding.{functions_in, over, standing_in}
+use Rattle.smith_draw.specs.SubTypes.{sub_type_at}
 use Rattle.smith_draw.proofs.SubTypeLemmas.{sub_type_valid, sub_type_follows}
 use Rattle.smith_draw.proofs.TakenLemmas.{sub_type_taken}
 use Rattle.smith_draw.proofs.DrawingLemmas.{of_drawn}
@@ -8,16 +11,15 @@ use Rattle.smith_config.specs.Granted.{HasGranted}
 use Rattle.smith_draw.proofs.GrantedLemmas.{sub_type_granted}
 use Rattle.smith_draw.proofs.sub_type.arbitrary_sub_type.Goals as goal
 
-pub returns-clause-valid : goal.returns-clause-valid
-returns-clause-valid c = λ valid. of_drawn _ c.draw_sub_type.ensures (sub_type_valid _ (functions_in c.args.config.now c.args.spaces.now.entities) _ _ _ c.requires.sanitized valid)
-
-pub returns-clause-follows : goal.returns-clause-follows
-returns-clause-follows c = of_drawn _ c.draw_sub_type.ensures (sub_type_follows _ _ _ _)
-
-pub returns-clause-reach : goal.returns-clause-reach
-returns-clause-reach c = λ roots. IfOk-weaker c.draw_sub_type.result _ _ (λ _ e. sub_type_taken c.args.config.now (standing_in c.args.config.now c.args.spaces.now) refl _ _ _ _ c.requires.sanitized roots e) c.draw_sub_type.ensures.exact
-
-pub returns-clause-granted : goal.returns-clause-granted
-returns-clause-granted c = λ granted.
-    let context = standing_in c.args.config.now c.args.spaces.now in
-    of_drawn (HasGranted c.args.config.now context) c.draw_sub_type.ensures (sub_type_granted c.args.config.now context c.orderly.ensures c.args.limit c.args.u.now granted)
+pub returns : goal.returns
+returns c =
+    let config = c.args.config.now in
+    let context = standing_in config c.args.spaces.now in
+    let draws = subst (λ (functions : Context). Draws (sub_type_at config (over functions c.args.spaces.now.types.now.types) c.args.limit c.args.u.now) c.draw_sub_type.result c.args.u.now c.draw_sub_type.new.u) c.in_ok-grounds.ensures.same c.draw_sub_type.ensures in
+    record {
+      draws = draws;
+      valid = λ valid. of_drawn _ draws (sub_type_valid _ (functions_in config c.args.spaces.now.entities) _ _ _ c.requires.sanitized valid);
+      follows = of_drawn _ draws (sub_type_follows _ _ _ _);
+      granted = λ granted. of_drawn (HasGranted config context) draws (sub_type_granted config context c.orderly.ensures c.args.limit c.args.u.now granted);
+      reach = λ roots. IfOk-weaker c.draw_sub_type.result _ _ (λ _ e. sub_type_taken config context refl _ _ _ _ c.requires.sanitized roots e) draws.exact;
+    }
