@@ -16,10 +16,12 @@ use Rattle.smith_types.specs.declared.entity_type.GlobalType.{GlobalType}
 use Rattle.smith_types.proofs.ReferredTypeLemmas.{value_in_range}
 use Rattle.smith_draw.specs.Below.{is_val_below}
 use Rattle.smith_draw.specs.ConstOffers.{each_from, offered_if, global_offers, function_offers}
-use Rattle.smith_draw.specs.KeptOffers.{AreClasses, AreFlags, AreItemsRead, AreKeptOffers, IsEntry, IsKeptOffer, is_offered, offered_before, readable}
+use Rattle.smith_draw.specs.KeptOffers.{AreClasses, AreFewRead, AreFlags, AreItemsRead, AreKeptOffers, AreKinds, AreManyKept, IsEntry, IsKeptOffer, is_offered, offered_before, readable}
 use Rattle.smith_draw.specs.declared.const_expr.classes.Classes.{Classes}
+use Rattle.smith_draw.specs.declared.const_expr.few_items.FewItems.{FewItems}
 use Rattle.smith_draw.specs.declared.const_expr.kept_offers.KeptOffer.{KeptOffer}
 use Rattle.smith_draw.specs.declared.const_expr.kept_offers.KeptOffers.{KeptOffers}
+use Rattle.smith_draw.specs.declared.const_expr.kept_offers.ManyItems.{ManyItems}
 use Rattle.smith_draw.specs.declared.const_expr.read_items.ReadItems.{ReadItems}
 use Rattle.smith_draw.proofs.BlockCountLemmas.{counted_alike}
 use Rattle.smith_draw.proofs.ClassLemmas.{get_within_front}
@@ -139,9 +141,28 @@ module _ (old new : Context) (valid : AreValidOver old) (more : HasMore old new)
     funcs = flags_grown offer.wanted items.funcs.kinds offer.func_flags entry.kept.wanted read.funcs.in_range entry.funcs;
   }
 
+  kinds_grown : {A : Type 0} (before after : ℕ → A → Option ValType) (xs ys : List A) (kinds : List (Option ValType)) → ((i : ℕ) (x : A) → before i x ≡ after i x) → Extends xs ys → AreKinds before xs kinds → AreKinds after ys kinds
+  kinds_grown {A} before after xs ys kinds same longer are = record {
+    few = no_shorter (length kinds) xs ys longer are.few;
+    same = λ i x inside at.
+        let here : slice_get xs i ≡ Some x = get_within_front xs longer.more i x (omega (arith, inside, are.few)) (sym (ap (λ (zs : List A). slice_get zs i) longer.parts) ∙ at) in
+        are.same i x inside here ∙ ap (λ (kind : Option ValType). Some kind) (same i x);
+  }
+
+  few_grown : (few : FewItems) → AreFewRead old few → AreFewRead new few
+  few_grown few read = record {
+    globals = kinds_grown (λ index global. readable global) (λ index global. readable global) old.globals new.globals few.globals.items (λ i x. refl) more.globals read.globals;
+    funcs = kinds_grown (λ function index. Some (function_reference old function index)) (λ function index. Some (function_reference new function index)) old.funcs new.funcs few.funcs.items
+        (λ function index. ap (λ (value : ValType). Some value) (sym (reference_same function index))) more.funcs read.funcs;
+  }
+
+  many_grown : (many : Option ManyItems) → IfSome many (AreManyKept old) → IfSome many (AreManyKept new)
+  many_grown None are = tt
+  many_grown (Some many) are = record {
+    items = items_grown many.items are.items;
+    entries = All-weaker (IsEntry old many.items) (IsEntry new many.items) (entry_grown many.items are.items) many.kept.items are.entries;
+  }
+
   -- the kept globals and functions are correct
   pub kept_grown : (kept : KeptOffers) → AreKeptOffers old kept → AreKeptOffers new kept
-  kept_grown kept are = record {
-    items = items_grown kept.items are.items;
-    entries = All-weaker (IsEntry old kept.items) (IsEntry new kept.items) (entry_grown kept.items are.items) kept.kept.items are.entries;
-  }
+  kept_grown kept are = record { few = few_grown kept.few are.few; many = many_grown kept.many are.many }

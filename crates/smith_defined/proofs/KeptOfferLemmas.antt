@@ -2,6 +2,7 @@
 use Rattle.std.proofs.Common.{◌≡◌, Bool, List, [], ◌∷◌, ◌++◌, refl}
 use Rattle.std.specs.Prelude.{All}
 use Rattle.std.proofs.lemmas.List.Elements.{All-weaker}
+use Rattle.std.proofs.lemmas.Option.{IfSome_then}
 use Rattle.smith_types.specs.Entities.{IsFuncTypeIndex, IsGlobalValid}
 use Rattle.smith_types.specs.Grown.{Extends}
 use Rattle.smith_types.specs.Imports.{EntitySpaces}
@@ -46,14 +47,18 @@ pub kept_alike : (config : Config) (types : List SubType) (spaces : EntitySpaces
 kept_alike config types spaces defined one other kept all =
     let same : (classes : ReadItems) → AreItemsRead (scope_beside config types spaces defined one) classes → AreItemsRead (scope_beside config types spaces defined other) classes = λ classes read. record { globals = read.globals; funcs = read.funcs } in
     record {
-      items = same kept.items all.items;
-      entries = All-weaker (IsEntry (scope_beside config types spaces defined one) kept.items) (IsEntry (scope_beside config types spaces defined other) kept.items)
-          (λ offer entry. record {
-            kept = record { wanted = entry.kept.wanted; globals_seen = entry.kept.globals_seen; globals = entry.kept.globals; funcs_seen = entry.kept.funcs_seen; funcs = entry.kept.funcs };
-            globals = entry.globals;
-            funcs = entry.funcs;
-          })
-          kept.kept.items all.entries;
+      few = record { globals = all.few.globals; funcs = all.few.funcs };
+      many = IfSome_then kept.many all.many
+          (λ many are. record {
+            items = same many.items are.items;
+            entries = All-weaker (IsEntry (scope_beside config types spaces defined one) many.items) (IsEntry (scope_beside config types spaces defined other) many.items)
+                (λ offer entry. record {
+                  kept = record { wanted = entry.kept.wanted; globals_seen = entry.kept.globals_seen; globals = entry.kept.globals; funcs_seen = entry.kept.funcs_seen; funcs = entry.kept.funcs };
+                  globals = entry.globals;
+                  funcs = entry.funcs;
+                })
+                many.kept.items are.entries;
+          });
     }
 
 module _ (config : Config) (space : GroupedTypes) (spaces : EntitySpaces) (defined : Definitions) (allow : Bool) (may : MayDefineMore config space spaces defined 1) where

@@ -39,7 +39,8 @@ get_last {A} xs x i end =
     slice_get-get_or (xs ++ x ∷ []) i x (omega (arith, length-append xs (x ∷ []), end))
     ∙ ap (λ (n : ℕ). Some (get_or (xs ++ x ∷ []) n x)) end ∙ ap (λ (each : A). Some each) (get_or-append_seam xs x [] x)
 
-same_element : {A : Type 0} (xs : List A) (i : ℕ) (x y : A) → slice_get xs i ≡ Some x → slice_get xs i ≡ Some y → x ≡ y
+-- two readings of one element
+pub same_element : {A : Type 0} (xs : List A) (i : ℕ) (x y : A) → slice_get xs i ≡ Some x → slice_get xs i ≡ Some y → x ≡ y
 same_element xs i x y is other = sym (get_or_from_slice_get xs i x x is) ∙ get_or_from_slice_get xs i y x other
 
 -- the class that is noted has its type after
@@ -125,7 +126,8 @@ tally types wanted offer type_of choice_of xs d classes flags each classed are i
     offered_more offer xs i d within
     ∙ ap (λ (n : ℕ). offered_before offer xs i + n) (ap length (each i x) ∙ ap (λ (b : Bool). length (offered_if b (choice_of i))) same ∙ length_if flag (choice_of i))
 
-readable_same : (types : List SubType) (wanted value : ValType) (mutable : Bool) → (not mutable && is_val_below types value wanted) ≡ is_offered types wanted (if mutable then None else Some value)
+-- an immutable global is offered as its type is
+pub readable_same : (types : List SubType) (wanted value : ValType) (mutable : Bool) → (not mutable && is_val_below types value wanted) ≡ is_offered types wanted (if mutable then None else Some value)
 readable_same types wanted value true = refl
 readable_same types wanted value false = refl
 

@@ -48,6 +48,7 @@ pub mod EarlyGroundLemmas
 pub mod BlockCountLemmas
 pub mod KeptOfferLemmas
 pub mod ClassLemmas
+pub mod KnownLemmas
 pub mod WiderOfferLemmas
 pub mod ReadableLemmas
 pub mod ConstScopeLemmas

@@ -12,7 +12,11 @@ use Rattle.smith_draw.specs.declared.const_expr.block_counts.BlockCounts.{BlockC
 use Rattle.smith_draw.specs.declared.const_expr.classes.Classes.{Classes}
 use Rattle.smith_draw.specs.declared.const_expr.node_choice.Choice.{Choice}
 use Rattle.smith_draw.specs.declared.const_expr.kept_offers.KeptOffer.{KeptOffer}
+use Rattle.smith_draw.specs.declared.const_expr.few_items.FewItems.{FewItems}
 use Rattle.smith_draw.specs.declared.const_expr.kept_offers.KeptOffers.{KeptOffers}
+use Rattle.smith_draw.specs.declared.const_expr.kept_offers.ManyItems.{ManyItems}
+use Rattle.smith_draw.specs.declared.const_expr.known.Known.{Known}
+use Rattle.smith_draw.specs.declared.const_expr.known.Known.TheVariants.{Few, Many}
 use Rattle.smith_draw.specs.declared.const_expr.read_items.ReadItems.{ReadItems}
 
 -- how many of the first items of a list are offered
@@ -87,10 +91,36 @@ pub record IsTested (items : ReadItems) (offer : KeptOffer) : Type 0 where
   pub globals : length offer.global_flags ≡ length items.globals.kinds
   pub funcs : length offer.func_flags ≡ length items.funcs.kinds
 
+-- the recorded kinds of the first items of a list: each is that of its item
+pub record AreKinds {A : Type 0} (kind_of : ℕ → A → Option ValType) (xs : List A) (kinds : List (Option ValType)) : Type 0 where
+  pub few : length kinds ≤ length xs
+  pub same : (i : ℕ) (x : A) → i < length kinds → slice_get xs i ≡ Some x → slice_get kinds i ≡ Some (kind_of i x)
+
+-- the recorded kinds of globals and of functions are correct
+pub record AreFewRead (context : Context) (few : FewItems) : Type 0 where
+  pub globals : AreKinds (λ index global. readable global) context.globals few.globals.items
+  pub funcs : AreKinds (λ function index. Some (function_reference context function index)) context.funcs few.funcs.items
+
+-- they are, and all visible globals and all functions have been read
+pub record IsFewWhole (context : Context) (few : FewItems) : Type 0 where
+  pub read : AreFewRead context few
+  pub globals : context.visible ≤ length few.globals.items
+  pub funcs : length context.funcs ≤ length few.funcs.items
+
 -- the classes and all entries are correct
+pub record AreManyKept (context : Context) (many : ManyItems) : Type 0 where
+  pub items : AreItemsRead context many.items
+  pub entries : All (IsEntry context many.items) many.kept.items
+
+-- all that is recorded is correct
 pub record AreKeptOffers (context : Context) (kept : KeptOffers) : Type 0 where
-  pub items : AreItemsRead context kept.items
-  pub entries : All (IsEntry context kept.items) kept.kept.items
+  pub few : AreFewRead context kept.few
+  pub many : IfSome kept.many (AreManyKept context)
+
+-- all visible globals and all functions have been read, as few items or as many
+pub record HasReadAll (context : Context) (kept : KeptOffers) : Type 0 where
+  pub few : kept.many ≡ None → IsFewWhole context kept.few
+  pub many : IfSome kept.many (λ many. AreAllRead context many.items)
 
 -- the entry at this position is for this type
 abbrev pub IsKeptAt : List KeptOffer → ℕ → ValType → Type 0
@@ -107,3 +137,9 @@ pub record IsWhole (context : Context) (wanted : ValType) (offer : KeptOffer) : 
   pub globals : IsCounted (offered_before (global_offers context wanted) context.globals) offer.globals
   pub funcs_seen : offer.funcs.seen ≡ length context.funcs
   pub funcs : IsCounted (offered_before (function_offers context wanted) context.funcs) offer.funcs
+
+-- all visible globals and all functions have been read; the counts are of those that are offered
+-- for a value of this type
+abbrev pub IsKnown : Context → ValType → Known → Type 0
+IsKnown context wanted (Few items) = IsFewWhole context items.now
+IsKnown context wanted (Many items counts) = AreAllRead context items.now × IfSome counts (λ offer. IsWhole context wanted offer.now)

@@ -10,7 +10,7 @@ use Rattle.smith_draw.specs.KeptOffers.{AreClasses, readable}
 use Rattle.smith_draw.specs.declared.const_expr.block_counts.BlockCounts.{BlockCounts}
 use Rattle.smith_draw.specs.declared.const_expr.classes.Classes.{Classes}
 use Rattle.smith_draw.specs.declared.const_expr.kept_offers.KeptOffer.{KeptOffer}
-use Rattle.smith_draw.specs.declared.const_expr.kept_offers.KeptOffers.{KeptOffers}
+use Rattle.smith_draw.specs.declared.const_expr.kept_offers.ManyItems.{ManyItems}
 
 -- the counts of items read: all, those offered, and those offered before each block
 abbrev pub counts : ℕ → ℕ → List ℕ → BlockCounts
@@ -46,6 +46,6 @@ HasClasses classes kinds of = (classes.kinds ≡ kinds) × (classes.of ≡ of)
 abbrev pub AreGlobalClasses : Classes → Type 0
 AreGlobalClasses classes = AreClasses context_types (λ index global. readable global) (constant_global I32 ∷ variable_global I32 ∷ constant_global I32 ∷ []) classes
 
--- no global and no function has been read, and the entries are given
-abbrev pub HasEntries : KeptOffers → List KeptOffer → Type 0
-HasEntries kept entries = HasClasses kept.items.globals [] [] × HasClasses kept.items.funcs [] [] × (kept.kept.items ≡ entries)
+-- no global and no function is in a class, and the entries are given
+abbrev pub HasEntries : ManyItems → List KeptOffer → Type 0
+HasEntries many entries = HasClasses many.items.globals [] [] × HasClasses many.items.funcs [] [] × (many.kept.items ≡ entries)

@@ -9,10 +9,10 @@ ghost use Rattle.smith_types.specs.ExampleFeatures.{usual_features};
 ghost use Rattle.smith_types.specs.ExampleTypes.{nullable, not_null};
 ghost use Rattle.smith_types.specs.ExampleContexts.{context_with};
 ghost use Rattle.smith_draw.specs.ExampleConstExprs.{context_of_types};
-ghost use Rattle.smith_draw.specs.KeptOffers.{AreFlags, AreKeptOffers, IsCounted, IsKeptOffer};
+ghost use Rattle.smith_draw.specs.KeptOffers.{AreFlags, AreManyKept, IsCounted, IsKeptOffer};
 ghost use Rattle.smith_draw.specs.KeptOffers.{IsWhole};
 ghost use Rattle.smith_draw.specs.declared.const_expr.classes.Classes.{Classes};
-ghost use Rattle.smith_draw.specs.declared.const_expr.kept_offers.KeptOffers.{KeptOffers};
+ghost use Rattle.smith_draw.specs.declared.const_expr.kept_offers.ManyItems.{ManyItems};
 ghost use Rattle.smith_draw_examples.specs.ExampleKeptOffers.{counts, unread, kept_for, functions};
 ghost use Rattle.smith_draw_examples.specs.ExampleKeptOffers.{to_functions, numbers, HasClasses};
 ghost use Rattle.smith_draw_examples.specs.ExampleKeptOffers.{HasEntries, AreGlobalClasses};
@@ -129,11 +129,11 @@ fn flags()
 {}
 
 fn offers()
-    ensures nothing_kept { (kept : KeptOffers) → HasEntries kept []
-        → AreKeptOffers (context_with usual_features 3) kept }
-    ensures of_two_types { (kept : KeptOffers) → HasEntries kept (numbers ∷ functions ∷ [])
-        → AreKeptOffers (context_with usual_features 3) kept }
-    ensures of_which_one_is_wrong { (kept : KeptOffers)
-        → HasEntries kept (numbers ∷ too_few_functions ∷ [])
-        → ¬ AreKeptOffers (context_with usual_features 3) kept }
+    ensures nothing_kept { (many : ManyItems) → HasEntries many []
+        → AreManyKept (context_with usual_features 3) many }
+    ensures of_two_types { (many : ManyItems) → HasEntries many (numbers ∷ functions ∷ [])
+        → AreManyKept (context_with usual_features 3) many }
+    ensures of_which_one_is_wrong { (many : ManyItems)
+        → HasEntries many (numbers ∷ too_few_functions ∷ [])
+        → ¬ AreManyKept (context_with usual_features 3) many }
 {}

@@ -62,6 +62,16 @@ impl Classes {
         Ok(class)
     }
 
+    /// Returns the type of the item at `index`.
+    pub fn kind_of(&self, index: usize) -> Option<ValType>
+        requires there { index < length self.now.of }
+        requires classed { slice_index self.now.of index < length self.now.kinds }
+        ensures { slice_get self.now.kinds (slice_index self.now.of index) ≡ Some result }
+    {
+        let class = self.of.as_slice()[index];
+        self.kinds.as_slice()[class as usize]
+    }
+
     /// Counts the items from the index `first` up to `end` whose class has the flag `true`.
     pub fn count(&self, flags: &[bool], first: usize, end: usize) -> usize
         requires there { first ≤ end × end ≤ length self.now.of }

@@ -1,4 +1,4 @@
-ghost use Rattle.std.specs.Prelude.{◌≡◌, [], ◌∷◌, length, Some, None, IfOk, IfErr, IfSome, OnOk};
+ghost use Rattle.std.specs.Prelude.{◌≡◌, [], ◌∷◌, length, Some, None, IfOk, IfErr, OnOk};
 ghost use Rattle.smith_bytes.specs.Source.{KeepsPieces};
 ghost use Rattle.smith_bytes.specs.Draws.{choose_at};
 ghost use Rattle.smith_types.specs.Subtyping.{IsValInRange};
@@ -7,9 +7,10 @@ ghost use Rattle.smith_draw.specs.ConstScopes.{context_of, IsScope};
 ghost use Rattle.smith_draw.specs.ConstOffers.{offers};
 ghost use Rattle.smith_draw.specs.ConstBounds.{MayRefuseConstExpr};
 ghost use Rattle.smith_draw.specs.ConstSteps.{IsFit};
-ghost use Rattle.smith_draw.specs.KeptOffers.{AreKeptOffers, IsWhole};
+ghost use Rattle.smith_draw.specs.KeptOffers.{AreKeptOffers, IsKnown};
 
-use super::kept_offers::{KeptOffer, KeptOffers};
+use super::kept_offers::KeptOffers;
+use super::known::Known;
 use super::node_choice::Choice;
 use super::offers::past_offers;
 use super::scope::Scope;
@@ -18,20 +19,20 @@ use smith_types::ValType;
 use std::alloc::Global;
 
 /// Counts the choices offered for a value of the type `wanted`.
-fn count_offers(scope: &Scope<'_>, kept: Option<&KeptOffer>, wanted: ValType, fuel: u32) -> usize
+fn count_offers(scope: &Scope<'_>, known: Known<'_>, wanted: ValType, fuel: u32) -> usize
     requires scope { IsScope (context_of scope.now) }
     requires upper { IsValInRange (context_of scope.now).types wanted }
-    requires kept { IfSome kept (λ offer. IsWhole (context_of scope.now) wanted offer.now) }
+    requires known { IsKnown (context_of scope.now) wanted known }
     ensures { result ≡ length (offers scope.now.config.now (context_of scope.now) wanted fuel) }
 {
-    match past_offers(scope, kept, wanted, fuel, usize::MAX) {
+    match past_offers(scope, known, wanted, fuel, usize::MAX) {
         Ok(rest) => usize::MAX - rest,
         Err(_) => usize::MAX,
     }
 }
 
-/// Chooses how to produce a value of the type `wanted`. Records in `kept` which globals and
-/// functions are offered.
+/// Chooses how to produce a value of the type `wanted`. Records in `kept` the globals and functions
+/// that it reads.
 pub(super) fn choose_offer(
     alloc: Global,
     scope: &Scope<'_>,
@@ -61,14 +62,13 @@ pub(super) fn choose_offer(
     ensures left { KeepsPieces u.old u.new }
 {
     let place = kept.look(alloc, scope, wanted)?;
-    choose_among(scope, kept.covering(scope, place), wanted, fuel, u)
+    choose_among(scope, kept.known(scope, place), wanted, fuel, u)
 }
 
-/// Chooses how to produce a value of the type `wanted`. Reads from `kept`, if given, which globals
-/// and functions are offered.
+/// Chooses how to produce a value of the type `wanted`, with the globals and functions in `known`.
 fn choose_among(
     scope: &Scope<'_>,
-    kept: Option<&KeptOffer>,
+    known: Known<'_>,
     wanted: ValType,
     fuel: u32,
     u: &mut Unstructured<'_>,
@@ -76,7 +76,7 @@ fn choose_among(
     requires scope { IsScope (context_of scope.now) }
     requires wanted { IsValTypeValid (context_of scope.now).features
         (length (context_of scope.now).types) wanted }
-    requires kept { IfSome kept (λ offer. IsWhole (context_of scope.now) wanted offer.now) }
+    requires known { IsKnown (context_of scope.now) wanted known }
     ensures exact { IfOk result (λ choice.
         choose_at (offers scope.now.config.now (context_of scope.now) wanted fuel) u.old
         ≡ (Some choice, u.new)) }
@@ -88,12 +88,12 @@ fn choose_among(
         (MayRefuseConstExpr scope.now.config.now (context_of scope.now) wanted) }
     ensures left { KeepsPieces u.old u.new }
 {
-    let count = count_offers(scope, kept, wanted, fuel);
+    let count = count_offers(scope, known, wanted, fuel);
     if count == 0 {
         return Err(Error::EmptyChoose);
     }
     let place = u.int_in_range(0..=count - 1);
-    match past_offers(scope, kept, wanted, fuel, place) {
+    match past_offers(scope, known, wanted, fuel, place) {
         Ok(_) => Err(Error::EmptyChoose),
         Err(choice) => Ok(choice),
     }

@@ -6,12 +6,15 @@ ghost use Rattle.smith_types.specs.Types.{IsOrderly};
 ghost use Rattle.smith_types.specs.declared.value_type.ValType.{ValType as Wanted};
 ghost use Rattle.smith_draw.specs.ConstOffers.{function_offers, global_offers};
 ghost use Rattle.smith_draw.specs.ConstScopes.{context_of, IsScope};
-ghost use Rattle.smith_draw.specs.KeptOffers.{AreAllRead, AreFlags, AreItemsRead, AreKeptOffers};
-ghost use Rattle.smith_draw.specs.KeptOffers.{IsCounted, IsEntry, IsKeptAt, IsTested, IsWhole};
+ghost use Rattle.smith_draw.specs.KeptOffers.{AreAllRead, AreFewRead, AreFlags, AreItemsRead};
+ghost use Rattle.smith_draw.specs.KeptOffers.{AreKeptOffers, AreManyKept, HasReadAll, IsCounted};
+ghost use Rattle.smith_draw.specs.KeptOffers.{IsEntry, IsKeptAt, IsKnown, IsTested, IsWhole};
 ghost use Rattle.smith_draw.specs.KeptOffers.{IsWiderOffer, offered_before};
 ghost use Rattle.smith_draw.specs.declared.const_expr.read_items.ReadItems.{ReadItems as Read};
 
 use super::block_counts::BlockCounts;
+use super::few_items::{FewItems, MOST};
+use super::known::Known;
 use super::read_items::ReadItems;
 use super::references::{is_offered, widest};
 use super::scope::Scope;
@@ -20,23 +23,32 @@ use smith_types::{Items, TypeSpace, ValType, is_same};
 use std::alloc::Global;
 use std::mem;
 
-/// The number of globals and functions below which nothing is recorded: counts would cost more than
-/// reading them again.
-const FEW: usize = 32;
-
-/// The counts of globals and functions offered for each wanted type. All draws together look at
-/// each global and each function once, to put it into a class. A first draw of a type tests each
-/// class and counts the items of the classes that are offered. Each later draw looks at a few items
-/// at most.
+/// The globals and functions that have been read, and the counts of those offered for each wanted
+/// type. All draws together look at each global and each function once.
+///
+/// If there are few globals and functions, the type of each is recorded, and each draw tests these
+/// types. Nothing is counted or allocated.
+///
+/// If there are many, each is put into a class. A first draw of a type tests each class and counts
+/// the items of the classes that are offered. Each later draw tests the classes of a few items at
+/// most.
 ///
 /// For a type of unshared references, a first draw counts only the globals near one that is offered
 /// for the top of its hierarchy.
 ///
-/// Initialisers of tables and of globals may share one value: an entry that has read defined
-/// globals is not used where only imported globals are visible. If there are few globals and
-/// functions, nothing is recorded or allocated.
+/// Initialisers of tables and of globals may share one value: an entry that has counted defined
+/// globals is not used where only imported globals are visible.
 #[derive(Drop)]
 pub struct KeptOffers {
+    // The types of the first globals and functions.
+    few: FewItems,
+    // The classes and counts, once there are many globals and functions.
+    many: Option<ManyItems>,
+}
+
+/// The classes of the globals and functions read so far, and an entry for each wanted type.
+#[derive(Drop)]
+pub(super) struct ManyItems {
     kept: Vec<KeptOffer>,
     // The classes of the globals and functions.
     items: ReadItems,
@@ -61,39 +73,98 @@ impl KeptOffers {
     pub fn new(alloc: Global) -> KeptOffers
         ensures { (context : Context) → AreKeptOffers context result }
     {
+        let _ = alloc;
         KeptOffers {
-            kept: Vec::new(alloc),
-            items: ReadItems::new(alloc),
+            few: FewItems::new(),
+            many: None,
         }
     }
 
-    /// Reads the globals and functions of `scope` that have not been read for the type `wanted`.
-    /// Returns the position of the entry for `wanted`, if there is one.
+    /// Reads the globals and functions of `scope` that have not been read and, if there are many,
+    /// counts those that have not been counted for the type `wanted`. Returns the position of the
+    /// entry for `wanted`, or 0 if nothing is counted.
     pub(super) fn look(
         &mut self,
         alloc: Global,
         scope: &Scope<'_>,
         wanted: ValType,
-    ) -> Result<Option<usize>, Error>
+    ) -> Result<usize, Error>
         requires scope { IsScope (context_of scope.now) }
         requires upper { IsValInRange (context_of scope.now).types wanted }
         requires kept { AreKeptOffers (context_of scope.now) self.old }
         ensures kept { OnOk result (AreKeptOffers (context_of scope.now) self.new) }
+        ensures all { OnOk result (HasReadAll (context_of scope.now) self.new) }
         ensures place { IfOk result (λ place.
-            IfSome place (λ at. IsKeptAt self.new.kept.items at wanted)) }
+            IfSome self.new.many (λ many. IsKeptAt many.kept.items place wanted)) }
         ensures memory { IfErr result (λ e. e ≡ Error.Memory) }
     {
-        let entities = scope.spaces.entities;
-        if scope.visible + entities.funcs.len() < FEW {
-            return Ok(None);
+        if self.many.is_none() {
+            let entities = scope.spaces.entities;
+            if scope.visible + entities.funcs.len() <= MOST {
+                self.few.read(scope);
+                return Ok(0);
+            }
+            self.many = Some(ManyItems::new(alloc));
         }
+        match &mut self.many {
+            Some(many) => many.look(alloc, scope, &self.few, wanted),
+            None => unreachable!(),
+        }
+    }
+
+    /// Returns what has been read. The entry for the wanted type is at `place`, if there are many
+    /// globals and functions.
+    pub(super) fn known(&self, scope: &Scope<'_>, place: usize) -> Known<'_>
+        requires kept { AreKeptOffers (context_of scope.now) self.now }
+        requires all { HasReadAll (context_of scope.now) self.now }
+        ensures { (wanted : Wanted)
+            → IfSome self.now.many (λ many. IsKeptAt many.kept.items place wanted)
+            → IsKnown (context_of scope.now) wanted result }
+    {
+        match &self.many {
+            Some(many) => Known::Many(&many.items, many.covering(scope, place)),
+            None => Known::Few(&self.few),
+        }
+    }
+}
+
+impl ManyItems {
+    /// Creates an empty record. Does not allocate.
+    fn new(alloc: Global) -> ManyItems
+        ensures { (context : Context) → AreManyKept context result }
+    {
+        ManyItems {
+            kept: Vec::new(alloc),
+            items: ReadItems::new(alloc),
+        }
+    }
+
+    /// Reads the globals and functions of `scope` that have not been read, the first ones from
+    /// `few`, and counts those that have not been counted for the type `wanted`. Returns the
+    /// position of the entry for `wanted`.
+    fn look(
+        &mut self,
+        alloc: Global,
+        scope: &Scope<'_>,
+        few: &FewItems,
+        wanted: ValType,
+    ) -> Result<usize, Error>
+        requires scope { IsScope (context_of scope.now) }
+        requires upper { IsValInRange (context_of scope.now).types wanted }
+        requires few { AreFewRead (context_of scope.now) few.now }
+        requires kept { AreManyKept (context_of scope.now) self.old }
+        ensures kept { OnOk result (AreManyKept (context_of scope.now) self.new) }
+        ensures all { OnOk result (AreAllRead (context_of scope.now) self.new.items) }
+        ensures place { IfOk result (λ place. IsKeptAt self.new.kept.items place wanted) }
+        ensures memory { IfErr result (λ e. e ≡ Error.Memory) }
+    {
         let place = self.place_of(alloc, wanted, scope.visible)?;
+        self.items.read(scope, few)?;
         if self.kept[place].is_current(scope) {
-            return Ok(Some(place));
+            return Ok(place);
         }
-        self.items.read(scope)?;
         self.look_at(alloc, scope, wanted, place)?;
-        Ok(Some(place))
+        Ok(place)
     }
 
     /// Counts the globals and functions of `scope` that have not been counted for the entry at
@@ -107,10 +178,11 @@ impl KeptOffers {
     ) -> Result<(), Error>
         requires scope { IsScope (context_of scope.now) }
         requires upper { IsValInRange (context_of scope.now).types wanted }
-        requires kept { AreKeptOffers (context_of scope.now) self.old }
+        requires kept { AreManyKept (context_of scope.now) self.old }
         requires read { AreAllRead (context_of scope.now) self.old.items }
         requires place { IsKeptAt self.old.kept.items place wanted }
-        ensures kept { OnOk result (AreKeptOffers (context_of scope.now) self.new) }
+        ensures kept { OnOk result (AreManyKept (context_of scope.now) self.new) }
+        ensures items { OnOk result (self.new.items ≡ self.old.items) }
         ensures place { OnOk result (IsKeptAt self.new.kept.items place wanted) }
         ensures memory { IfErr result (λ e. e ≡ Error.Memory) }
     {
@@ -130,7 +202,7 @@ impl KeptOffers {
     /// first `visible`, and adds one if there is none.
     fn place_of(&mut self, alloc: Global, wanted: ValType, visible: usize) -> Result<usize, Error>
         ensures kept { (context : Context) → IsValInRange context.types wanted
-            → AreKeptOffers context self.old → OnOk result (AreKeptOffers context self.new) }
+            → AreManyKept context self.old → OnOk result (AreManyKept context self.new) }
         ensures items { OnOk result (self.new.items ≡ self.old.items) }
         ensures place { IfOk result (λ place. IsKeptAt self.new.kept.items place wanted) }
         ensures still { (at : ℕ) (other : Wanted) → IsKeptAt self.old.kept.items at other
@@ -146,12 +218,12 @@ impl KeptOffers {
     }
 
     /// Returns the entry at `place` if it covers the globals and functions of `scope`.
-    pub(super) fn covering(&self, scope: &Scope<'_>, place: Option<usize>) -> Option<&KeptOffer>
-        requires { AreKeptOffers (context_of scope.now) self.now }
-        ensures { (wanted : Wanted) → IfSome place (λ at. IsKeptAt self.now.kept.items at wanted)
+    fn covering(&self, scope: &Scope<'_>, place: usize) -> Option<&KeptOffer>
+        requires { AreManyKept (context_of scope.now) self.now }
+        ensures { (wanted : Wanted) → IsKeptAt self.now.kept.items place wanted
             → IfSome result (λ offer. IsWhole (context_of scope.now) wanted offer.now) }
     {
-        let kept = self.kept.as_slice().get(place?)?;
+        let kept = self.kept.as_slice().get(place)?;
         if kept.is_current(scope) {
             Some(kept)
         } else {

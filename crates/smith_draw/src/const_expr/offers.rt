@@ -1,6 +1,5 @@
 ghost use Rattle.std.specs.Prelude.{◌≡◌, ◌<◌, ◌≤◌, ◌++◌, [], ◌∷◌, length, take, drop, Some, IfOk};
 ghost use Rattle.std.specs.Prelude.{IfErr};
-ghost use Rattle.std.specs.Prelude.{IfSome};
 ghost use Rattle.smith_types.specs.Subtyping.{IsValInRange};
 ghost use Rattle.smith_types.specs.Expressions.{unpacked};
 ghost use Rattle.smith_types.specs.Grounded.{is_defaultable, are_defaultable};
@@ -25,15 +24,15 @@ ghost use Rattle.smith_draw.specs.ConstOffers.{
   constant_offers,
   offers,
 };
-ghost use Rattle.smith_draw.specs.KeptOffers.{IsWhole};
+ghost use Rattle.smith_draw.specs.KeptOffers.{IsKnown};
 
 // Each of these functions searches the choices of one kind for the one at `place`, counted from the
 // first of them. It returns that choice as an `Err`, so that `?` ends the search. If there are too
 // few choices, it returns the place, counted from the end of them, as an `Ok`.
 
-use super::kept_offers::KeptOffer;
+use super::known::{Known, kind_of_function, kind_of_global};
 use super::node_choice::Choice;
-use super::references::{function_reference, gives, i31, is_below};
+use super::references::{gives, i31, is_below, is_offered};
 use super::scope::Scope;
 use smith_config::Config;
 use smith_types::{
@@ -45,39 +44,39 @@ use smith_types::{
 #[tactic(auto, unfolding(crate::specs::ConstOffers::past))]
 pub(super) fn past_offers(
     scope: &Scope<'_>,
-    kept: Option<&KeptOffer>,
+    known: Known<'_>,
     wanted: ValType,
     fuel: u32,
     place: usize,
 ) -> Result<usize, Choice>
     requires scope { IsScope (context_of scope.now) }
     requires upper { IsValInRange (context_of scope.now).types wanted }
-    requires kept { IfSome kept (λ offer. IsWhole (context_of scope.now) wanted offer.now) }
+    requires known { IsKnown (context_of scope.now) wanted known }
     ensures { result ≡ past (offers scope.now.config.now (context_of scope.now) wanted fuel) place }
 {
-    let place = past_globals(scope, kept, wanted, place)?;
+    let place = past_globals(scope, known, wanted, place)?;
     let place = past_constants(scope, wanted, place)?;
-    past_references(scope, kept, wanted, fuel, place)
+    past_references(scope, known, wanted, fuel, place)
 }
 
 fn past_globals(
     scope: &Scope<'_>,
-    kept: Option<&KeptOffer>,
+    known: Known<'_>,
     wanted: ValType,
     place: usize,
 ) -> Result<usize, Choice>
     requires scope { IsScope (context_of scope.now) }
     requires upper { IsValInRange (context_of scope.now).types wanted }
-    requires kept { IfSome kept (λ offer. IsWhole (context_of scope.now) wanted offer.now) }
+    requires known { IsKnown (context_of scope.now) wanted known }
     ensures { result ≡ past (each_from (global_offers (context_of scope.now) wanted) 0
         (take scope.now.visible (context_of scope.now).globals)) place }
 {
-    match kept {
+    match known.counts() {
         Some(kept) => {
             let (first, place) = kept.globals.search_from(place);
-            past_globals_from(scope, wanted, first, place)
+            past_globals_from(scope, known, wanted, first, place)
         }
-        None => past_globals_from(scope, wanted, 0, place),
+        None => past_globals_from(scope, known, wanted, 0, place),
     }
 }
 
@@ -86,22 +85,22 @@ fn past_globals(
 #[tactic(auto, using(crate::proofs::ConstFoundLemmas::past_append, crate::proofs::ConstFoundLemmas::past_front), unfolding(crate::specs::ConstOffers::past))]
 fn past_globals_from(
     scope: &Scope<'_>,
+    known: Known<'_>,
     wanted: ValType,
     first: usize,
     place: usize,
 ) -> Result<usize, Choice>
     requires scope { IsScope (context_of scope.now) }
     requires upper { IsValInRange (context_of scope.now).types wanted }
+    requires known { IsKnown (context_of scope.now) wanted known }
     requires first { first ≤ scope.now.visible }
     ensures { result ≡ past (each_from (global_offers (context_of scope.now) wanted) first
         (drop first (take scope.now.visible (context_of scope.now).globals))) place }
 {
-    let entities = scope.spaces.entities;
-    let globals = &entities.globals[..scope.visible];
     let mut rest = place;
-    for index in first..globals.len() {
-        let global = globals[index];
-        let offered = !global.mutable && is_below(scope.spaces.types, global.val_type, wanted);
+    for index in first..scope.visible {
+        let kind = kind_of_global(scope, known, wanted, index);
+        let offered = is_offered(scope.spaces.types, kind, wanted);
         rest = past_if(offered, Choice::Global(index as u32), rest)?;
     }
     Ok(rest)
@@ -119,20 +118,20 @@ fn past_constants(scope: &Scope<'_>, wanted: ValType, place: usize) -> Result<us
 #[tactic(auto, using(crate::proofs::ConstFoundLemmas::past_append, crate::proofs::ConstFoundLemmas::past_front), unfolding(crate::specs::ConstOffers::past))]
 fn past_references(
     scope: &Scope<'_>,
-    kept: Option<&KeptOffer>,
+    known: Known<'_>,
     wanted: ValType,
     fuel: u32,
     place: usize,
 ) -> Result<usize, Choice>
     requires scope { IsScope (context_of scope.now) }
     requires upper { IsValInRange (context_of scope.now).types wanted }
-    requires kept { IfSome kept (λ offer. IsWhole (context_of scope.now) wanted offer.now) }
+    requires known { IsKnown (context_of scope.now) wanted known }
     ensures { result
         ≡ past (reference_offers scope.now.config.now (context_of scope.now) wanted fuel) place }
 {
     match wanted {
         ValType::Ref(reference) => {
-            let place = past_functions(scope, kept, wanted, place)?;
+            let place = past_functions(scope, known, wanted, place)?;
             if !scope.config.gc_enabled {
                 return Ok(place);
             }
@@ -144,22 +143,22 @@ fn past_references(
 
 fn past_functions(
     scope: &Scope<'_>,
-    kept: Option<&KeptOffer>,
+    known: Known<'_>,
     wanted: ValType,
     place: usize,
 ) -> Result<usize, Choice>
     requires scope { IsScope (context_of scope.now) }
     requires upper { IsValInRange (context_of scope.now).types wanted }
-    requires kept { IfSome kept (λ offer. IsWhole (context_of scope.now) wanted offer.now) }
+    requires known { IsKnown (context_of scope.now) wanted known }
     ensures { result ≡ past (each_from (function_offers (context_of scope.now) wanted) 0
         (context_of scope.now).funcs) place }
 {
-    match kept {
+    match known.counts() {
         Some(kept) => {
             let (first, place) = kept.funcs.search_from(place);
-            past_functions_from(scope, wanted, first, place)
+            past_functions_from(scope, known, wanted, first, place)
         }
-        None => past_functions_from(scope, wanted, 0, place),
+        None => past_functions_from(scope, known, wanted, 0, place),
     }
 }
 
@@ -168,22 +167,23 @@ fn past_functions(
 #[tactic(auto, using(crate::proofs::ConstFoundLemmas::past_append, crate::proofs::ConstFoundLemmas::past_front), unfolding(crate::specs::ConstOffers::past))]
 fn past_functions_from(
     scope: &Scope<'_>,
+    known: Known<'_>,
     wanted: ValType,
     first: usize,
     place: usize,
 ) -> Result<usize, Choice>
     requires scope { IsScope (context_of scope.now) }
     requires upper { IsValInRange (context_of scope.now).types wanted }
+    requires known { IsKnown (context_of scope.now) wanted known }
     requires first { first ≤ length (context_of scope.now).funcs }
     ensures { result ≡ past (each_from (function_offers (context_of scope.now) wanted) first
         (drop first (context_of scope.now).funcs)) place }
 {
     let entities = scope.spaces.entities;
-    let funcs = entities.funcs;
     let mut rest = place;
-    for index in first..funcs.len() {
-        let reference = function_reference(scope, index, funcs[index]);
-        let offered = is_below(scope.spaces.types, reference, wanted);
+    for index in first..entities.funcs.len() {
+        let kind = kind_of_function(scope, known, wanted, index);
+        let offered = is_offered(scope.spaces.types, kind, wanted);
         rest = past_if(offered, Choice::Function(index as u32), rest)?;
     }
     Ok(rest)

@@ -3,11 +3,11 @@ ghost use Rattle.smith_types.specs.Expressions.{Context, function_reference};
 ghost use Rattle.smith_types.specs.declared.composite_type.SubType.{SubType};
 ghost use Rattle.smith_types.specs.declared.value_type.ValType.{ValType as Wanted};
 ghost use Rattle.smith_draw.specs.ConstScopes.{context_of, IsScope};
-ghost use Rattle.smith_draw.specs.KeptOffers.{AreAllRead, AreClasses, AreFlags, AreItemsRead};
-ghost use Rattle.smith_draw.specs.KeptOffers.{readable};
+ghost use Rattle.smith_draw.specs.KeptOffers.{AreAllRead, AreClasses, AreFewRead, AreFlags};
+ghost use Rattle.smith_draw.specs.KeptOffers.{AreItemsRead, readable};
 
 use super::classes::Classes;
-use super::references::{function_reference, readable};
+use super::few_items::FewItems;
 use super::scope::Scope;
 use smith_bytes::Error;
 use std::alloc::Global;
@@ -32,9 +32,11 @@ impl ReadItems {
         }
     }
 
-    /// Reads the globals and functions of `scope` that have not been read.
-    pub fn read(&mut self, scope: &Scope<'_>) -> Result<(), Error>
+    /// Reads the globals and functions of `scope` that have not been read, the first ones from
+    /// `few`.
+    pub fn read(&mut self, scope: &Scope<'_>, few: &FewItems) -> Result<(), Error>
         requires scope { IsScope (context_of scope.now) }
+        requires few { AreFewRead (context_of scope.now) few.now }
         requires read { AreItemsRead (context_of scope.now) self.old }
         ensures read { OnOk result (AreAllRead (context_of scope.now) self.new) }
         ensures globals { (types : List SubType) (wanted : Wanted) (flags : List Bool)
@@ -45,14 +47,19 @@ impl ReadItems {
             → OnOk result (AreFlags types wanted self.new.funcs.kinds flags) }
         ensures memory { IfErr result (λ e. e ≡ Error.Memory) }
     {
-        read_globals(scope, &mut self.globals)?;
-        read_funcs(scope, &mut self.funcs)
+        read_globals(scope, few, &mut self.globals)?;
+        read_funcs(scope, few, &mut self.funcs)
     }
 }
 
-/// Reads the visible globals of `scope` that have not been read.
-fn read_globals(scope: &Scope<'_>, classes: &mut Classes) -> Result<(), Error>
+/// Reads the visible globals of `scope` that have not been read, the first ones from `few`.
+fn read_globals(
+    scope: &Scope<'_>,
+    few: &FewItems,
+    classes: &mut Classes,
+) -> Result<(), Error>
     requires scope { IsScope (context_of scope.now) }
+    requires few { AreFewRead (context_of scope.now) few.now }
     requires read { AreClasses (context_of scope.now).types (λ index global. readable global)
         (context_of scope.now).globals classes.old }
     ensures read { OnOk result (AreClasses (context_of scope.now).types
@@ -63,17 +70,21 @@ fn read_globals(scope: &Scope<'_>, classes: &mut Classes) -> Result<(), Error>
         → OnOk result (AreFlags types wanted classes.new.kinds flags) }
     ensures memory { IfErr result (λ e. e ≡ Error.Memory) }
 {
-    let entities = scope.spaces.entities;
     for index in classes.of.len()..scope.visible {
-        let kind = readable(entities.globals[index]);
+        let kind = few.kind_of_global(scope, index);
         classes.note(kind)?;
     }
     Ok(())
 }
 
-/// Reads the functions of `scope` that have not been read.
-fn read_funcs(scope: &Scope<'_>, classes: &mut Classes) -> Result<(), Error>
+/// Reads the functions of `scope` that have not been read, the first ones from `few`.
+fn read_funcs(
+    scope: &Scope<'_>,
+    few: &FewItems,
+    classes: &mut Classes,
+) -> Result<(), Error>
     requires scope { IsScope (context_of scope.now) }
+    requires few { AreFewRead (context_of scope.now) few.now }
     requires read { AreClasses (context_of scope.now).types
         (λ function index. Some (function_reference (context_of scope.now) function index))
         (context_of scope.now).funcs classes.old }
@@ -88,8 +99,8 @@ fn read_funcs(scope: &Scope<'_>, classes: &mut Classes) -> Result<(), Error>
 {
     let entities = scope.spaces.entities;
     for index in classes.of.len()..entities.funcs.len() {
-        let reference = function_reference(scope, index, entities.funcs[index]);
-        classes.note(Some(reference))?;
+        let kind = few.kind_of_function(scope, index);
+        classes.note(kind)?;
     }
     Ok(())
 }

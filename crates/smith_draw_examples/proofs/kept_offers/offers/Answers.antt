@@ -5,9 +5,9 @@ use Rattle.smith_types.specs.Expressions.{Context, function_reference}
 use Rattle.smith_types.specs.ExampleContexts.{context_with}
 use Rattle.smith_types.specs.ExampleFeatures.{usual_features}
 use Rattle.smith_draw.specs.Below.{is_heap_below}
-use Rattle.smith_draw.specs.KeptOffers.{AreKeptOffers, IsEntry, IsKeptOffer, readable}
+use Rattle.smith_draw.specs.KeptOffers.{AreManyKept, IsEntry, IsKeptOffer, readable}
 use Rattle.smith_draw.specs.declared.const_expr.kept_offers.KeptOffer.{KeptOffer}
-use Rattle.smith_draw.specs.declared.const_expr.kept_offers.KeptOffers.{KeptOffers}
+use Rattle.smith_draw.specs.declared.const_expr.kept_offers.ManyItems.{ManyItems}
 use Rattle.smith_draw.proofs.ClassLemmas.{no_classes, no_flags}
 use Rattle.smith_draw_examples.specs.ExampleKeptOffers.{HasEntries, numbers, functions, too_few_functions}
 use Rattle.smith_draw_examples.proofs.kept_offers.offers.Goals as goal
@@ -28,7 +28,7 @@ unfolding is_heap_below
 too_few_not_kept = search rules
 
 -- a record in which no item has been read is correct if its entries are
-kept_of : (kept : KeptOffers) (entries : List KeptOffer) → HasEntries kept entries → All (IsEntry context kept.items) entries → AreKeptOffers context kept
+kept_of : (kept : ManyItems) (entries : List KeptOffer) → HasEntries kept entries → All (IsEntry context kept.items) entries → AreManyKept context kept
 kept_of kept entries (globals, funcs, are) correct = record {
   items = record {
     globals = no_classes context.types (λ index global. readable global) context.globals kept.items.globals globals.0 globals.1;

@@ -8,18 +8,18 @@ use Rattle.smith_draw.proofs.const_expr.offers.past_functions.Goals as goal
 pub search_from-first-requires : goal.search_from-first-requires
 search_from-first-requires c =
     let context = context_of c.args.scope.now in
-    let whole : IsWhole context c.args.wanted c.in-Some.kept.now = rw c.in-Some.is at c.requires.kept in
+    let whole : IsWhole context c.args.wanted c.in-Some.kept.now = rw c.in-Some.is at (c.counts.ensures (context_of c.args.scope.now) c.args.wanted c.requires.known) in
     (offered_before (function_offers context c.args.wanted) context.funcs, refl, whole.funcs)
 
 pub past_functions_from-requires-clause-first : goal.past_functions_from-requires-clause-first
 past_functions_from-requires-clause-first c =
-    let whole : IsWhole (context_of c.args.scope.now) c.args.wanted c.in-Some.kept.now = rw c.in-Some.is at c.requires.kept in
+    let whole : IsWhole (context_of c.args.scope.now) c.args.wanted c.in-Some.kept.now = rw c.in-Some.is at (c.counts.ensures (context_of c.args.scope.now) c.args.wanted c.requires.known) in
     omega (arith, whole.funcs_seen, c.search_from-first.ensures.index)
 
 pub returns-in-Some : goal.returns-in-Some
 returns-in-Some c =
     let context = context_of c.args.scope.now in
-    let whole : IsWhole context c.args.wanted c.in-Some.kept.now = rw c.in-Some.is at c.requires.kept in
+    let whole : IsWhole context c.args.wanted c.in-Some.kept.now = rw c.in-Some.is at (c.counts.ensures (context_of c.args.scope.now) c.args.wanted c.requires.known) in
     let first = c.search_from-first.result.0 in
     let inside : first ≤ length context.funcs = omega (arith, whole.funcs_seen, c.search_from-first.ensures.index) in
     c.past_functions_from.ensures

@@ -10,18 +10,18 @@ use Rattle.smith_draw.proofs.const_expr.offers.past_globals.Goals as goal
 pub search_from-first-requires : goal.search_from-first-requires
 search_from-first-requires c =
     let context = context_of c.args.scope.now in
-    let whole : IsWhole context c.args.wanted c.in-Some.kept.now = rw c.in-Some.is at c.requires.kept in
+    let whole : IsWhole context c.args.wanted c.in-Some.kept.now = rw c.in-Some.is at (c.counts.ensures (context_of c.args.scope.now) c.args.wanted c.requires.known) in
     (offered_before (global_offers context c.args.wanted) context.globals, refl, whole.globals)
 
 pub past_globals_from-requires-clause-first : goal.past_globals_from-requires-clause-first
 past_globals_from-requires-clause-first c =
-    let whole : IsWhole (context_of c.args.scope.now) c.args.wanted c.in-Some.kept.now = rw c.in-Some.is at c.requires.kept in
+    let whole : IsWhole (context_of c.args.scope.now) c.args.wanted c.in-Some.kept.now = rw c.in-Some.is at (c.counts.ensures (context_of c.args.scope.now) c.args.wanted c.requires.known) in
     omega (arith, whole.globals_seen, c.search_from-first.ensures.index)
 
 pub returns-in-Some : goal.returns-in-Some
 returns-in-Some c =
     let context = context_of c.args.scope.now in
-    let whole : IsWhole context c.args.wanted c.in-Some.kept.now = rw c.in-Some.is at c.requires.kept in
+    let whole : IsWhole context c.args.wanted c.in-Some.kept.now = rw c.in-Some.is at (c.counts.ensures (context_of c.args.scope.now) c.args.wanted c.requires.known) in
     let visible : List GlobalType = take context.visible context.globals in
     let first = c.search_from-first.result.0 in
     let near : first ≤ context.visible = omega (arith, whole.globals_seen, c.search_from-first.ensures.index) in

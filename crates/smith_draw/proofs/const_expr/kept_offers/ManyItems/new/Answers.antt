@@ -3,7 +3,7 @@ use Rattle.std.specs.Prelude.{All}
 use Rattle.std.proofs.lemmas.List.Elements.{All-nil}
 use Rattle.smith_draw.specs.KeptOffers.{IsEntry}
 use Rattle.smith_draw.specs.declared.const_expr.kept_offers.KeptOffer.{KeptOffer}
-use Rattle.smith_draw.proofs.const_expr.kept_offers.KeptOffers.new.Goals as goal
+use Rattle.smith_draw.proofs.const_expr.kept_offers.ManyItems.new.Goals as goal
 
 pub returns : goal.returns
 returns c = λ context. record {

@@ -8,8 +8,8 @@ use Rattle.smith_draw.specs.ConstScopes.{context_of}
 use Rattle.smith_draw.specs.KeptOffers.{AreAllRead, IsEntry}
 use Rattle.smith_draw.specs.declared.const_expr.kept_offers.KeptOffer.{KeptOffer}
 use Rattle.smith_draw.proofs.KeptOfferLemmas.{HasEntries, entry_replaced, kept_again, offer_there, wanted_there}
-use Rattle.smith_draw.proofs.const_expr.kept_offers.KeptOffers.look_at.Goals as goal
-use Rattle.smith_draw.proofs.const_expr.kept_offers.KeptOffers.look_at.Goals.{In_ok-look, After-replace-offer}
+use Rattle.smith_draw.proofs.const_expr.kept_offers.ManyItems.look_at.Goals as goal
+use Rattle.smith_draw.proofs.const_expr.kept_offers.ManyItems.look_at.Goals.{In_ok-look, After-replace-offer}
 
 -- the entry for the wider type is read
 looked : (c : In_ok-look) → HasEntries (context_of c.args.scope.now) c.place_of.new.self.items (set c.place_of.new.self.kept.items c.in_ok-source.source c.look-2.new.self) c.in_ok-source.source c.in-Some.wider c.args.place c.args.wanted

@@ -1,0 +1,82 @@
+-- The globals and functions whose types have been read.
+use Rattle.std.proofs.Common.{◌≡◌, inl, inr, ℕ, ◌+◌, ◌<◌, ◌≤◌, Bool, List, [], ◌∷◌, ◌++◌, get_or, take, length, sym, ap, ◌∙◌, subst, arith}
+use Rattle.std.specs.Prelude.{Option, Some, IfSome, slice_get, slice_index, nat_le}
+use Rattle.std.proofs.lemmas.Bool.{cases_lt}
+use Rattle.std.proofs.lemmas.List.{get_or-take, length-append}
+use Rattle.std.proofs.lemmas.List.Elements.{All-get_or}
+use Rattle.std.proofs.lemmas.Option.{slice_get-get_or, slice_get_within}
+use Rattle.smith_types.specs.Expressions.{Context, function_reference}
+use Rattle.smith_types.specs.Subtyping.{IsValInRange}
+use Rattle.smith_types.specs.ValidTypes.{IsValTypeValid}
+use Rattle.smith_types.specs.declared.composite_type.SubType.{SubType}
+use Rattle.smith_types.specs.declared.entity_type.GlobalType.{GlobalType}
+use Rattle.smith_types.specs.declared.value_type.ValType.{ValType}
+use Rattle.smith_types.proofs.ReferredTypeLemmas.{value_in_range}
+use Rattle.smith_draw.specs.ConstOffers.{offered_if, global_offers, function_offers}
+use Rattle.smith_draw.specs.ConstScopes.{IsScope}
+use Rattle.smith_draw.specs.KeptOffers.{AreClasses, AreKinds, is_offered, readable}
+use Rattle.smith_draw.specs.declared.const_expr.classes.Classes.{Classes}
+use Rattle.smith_draw.specs.declared.const_expr.node_choice.Choice.TheVariants as choice
+use Rattle.smith_draw.proofs.ClassLemmas.{get_front, get_last, readable_in_range, readable_same, same_element}
+use Rattle.smith_draw.proofs.GroundingLemmas.{within_reference}
+
+-- no kind is recorded
+pub no_kinds : {A : Type 0} (kind_of : ℕ → A → Option ValType) (xs : List A) (kinds : List (Option ValType)) → kinds ≡ [] → AreKinds kind_of xs kinds
+no_kinds kind_of xs kinds none = record {
+  few = omega (arith, ap length none);
+  same = λ i x inside there. absurd (omega (arith, inside, ap length none));
+}
+
+-- the kind of one more item is recorded
+pub kind_recorded : {A : Type 0} (kind_of : ℕ → A → Option ValType) (xs : List A) (x : A) (kind : Option ValType) (kinds longer : List (Option ValType)) → AreKinds kind_of xs kinds → slice_get xs (length kinds) ≡ Some x → kind ≡ kind_of (length kinds) x → longer ≡ kinds ++ kind ∷ []
+    → AreKinds kind_of xs longer
+kind_recorded {A} kind_of xs x kind kinds longer are at is more =
+    let one : length longer ≡ length kinds + 1 = ap length more ∙ length-append kinds (kind ∷ []) in
+    record {
+      few = omega (arith, one, slice_get_within xs (length kinds) x at);
+      same = λ i y inside there. ap (λ (all : List (Option ValType)). slice_get all i) more ∙ elim (cases_lt i (length kinds)) [
+        | inl h ↦ get_front kinds (kind ∷ []) i (kind_of i y) (are.same i y h there)
+        | inr h ↦
+            let last : i ≡ length kinds = omega (arith, h, inside, one) in
+            let item : x ≡ y = same_element xs i x y (ap (slice_get xs) last ∙ at) there in
+            get_last kinds kind i last ∙ ap (λ (each : Option ValType). Some each) (is ∙ ap (kind_of (length kinds)) item ∙ ap (λ (n : ℕ). kind_of n y) (sym last))
+      ];
+    }
+
+-- the class of an item exists
+pub class_exists : {A : Type 0} (types : List SubType) (kind_of : ℕ → A → Option ValType) (xs : List A) (d : A) (classes : Classes) (i : ℕ) → AreClasses types kind_of xs classes → i < length classes.of → slice_index classes.of i < length classes.kinds
+class_exists types kind_of xs d classes i are inside =
+    let at = slice_get-get_or xs i d (omega (arith, inside, are.seen)) in
+    slice_get_within classes.kinds (slice_index classes.of i) (kind_of i (get_or xs i d)) (are.same i (get_or xs i d) inside at)
+
+module _ (context : Context) (scope : IsScope context) where
+  -- the type that is read from a global exists
+  pub global_kind_exists : (d : GlobalType) (index : ℕ) (kind : Option ValType) → index < length context.globals → ((global : GlobalType) → slice_get context.globals index ≡ Some global → kind ≡ readable global) → IfSome kind (IsValInRange context.types)
+  global_kind_exists d index kind inside is =
+      let global : GlobalType = get_or context.globals index d in
+      let valid : IsValTypeValid context.features (length context.types) global.val_type = All-get_or (λ (each : GlobalType). IsValTypeValid context.features (length context.types) each.val_type) context.globals index d inside scope.globals in
+      subst (λ (each : Option ValType). IfSome each (IsValInRange context.types)) (sym (is global (slice_get-get_or context.globals index d inside)))
+      (readable_in_range context.types global.val_type global.mutable (value_in_range context.features context.types global.val_type valid))
+
+  -- the type of a reference to a function exists
+  pub function_kind_exists : (index : ℕ) (kind : Option ValType) → index < length context.funcs → ((type : ℕ) → slice_get context.funcs index ≡ Some type → kind ≡ Some (function_reference context index type)) → IfSome kind (IsValInRange context.types)
+  function_kind_exists index kind inside is =
+      let type : ℕ = get_or context.funcs index 0 in
+      let valid : type < length context.types = All-get_or (λ (each : ℕ). each < length context.types) context.funcs index 0 inside scope.funcs in
+      subst (λ (each : Option ValType). IfSome each (IsValInRange context.types)) (sym (is type (slice_get-get_or context.funcs index 0 inside)))
+      (within_reference context.types type (nat_le context.imported_funcs index) context.features.custom_descriptors valid)
+
+-- a visible global is offered as its type is
+pub global_offered : (context : Context) (wanted : ValType) (d : GlobalType) (visible index : ℕ) (kind : Option ValType) (offered : Bool) → index < visible → visible ≤ length context.globals → ((global : GlobalType) → slice_get context.globals index ≡ Some global → kind ≡ readable global) → offered ≡ is_offered context.types wanted kind
+    → offered_if offered (choice.Global index) ≡ global_offers context wanted index (get_or (take visible context.globals) index d)
+global_offered context wanted d visible index kind offered near inside is test =
+    let global : GlobalType = get_or context.globals index d in
+    let same : kind ≡ readable global = is global (slice_get-get_or context.globals index d (omega (arith, near, inside))) in
+    ap (λ (b : Bool). offered_if b (choice.Global index)) (test ∙ ap (is_offered context.types wanted) same ∙ sym (readable_same context.types wanted global.val_type global.mutable))
+    ∙ ap (global_offers context wanted index) (sym (get_or-take visible context.globals index d near))
+
+-- a function is offered as the type of a reference to it is
+pub function_offered : (context : Context) (wanted : ValType) (index : ℕ) (kind : Option ValType) (offered : Bool) → index < length context.funcs → ((type : ℕ) → slice_get context.funcs index ≡ Some type → kind ≡ Some (function_reference context index type)) → offered ≡ is_offered context.types wanted kind
+    → offered_if offered (choice.Function index) ≡ function_offers context wanted index (get_or context.funcs index 0)
+function_offered context wanted index kind offered inside is test =
+    ap (λ (b : Bool). offered_if b (choice.Function index)) (test ∙ ap (is_offered context.types wanted) (is (get_or context.funcs index 0) (slice_get-get_or context.funcs index 0 inside)))

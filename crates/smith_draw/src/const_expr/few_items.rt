@@ -1,0 +1,115 @@
+ghost use Rattle.std.specs.Prelude.{◌≡◌, ◌+◌, ◌<◌, ◌≤◌, ℕ, [], Some, length};
+ghost use Rattle.std.specs.Prelude.{slice_get};
+ghost use Rattle.smith_types.specs.Expressions.{function_reference};
+ghost use Rattle.smith_types.specs.declared.entity_type.GlobalType.{GlobalType};
+ghost use Rattle.smith_draw.specs.ConstScopes.{context_of, IsScope};
+ghost use Rattle.smith_draw.specs.KeptOffers.{AreFewRead, AreKinds, IsFewWhole, readable};
+
+use super::references::{function_reference, readable};
+use super::scope::Scope;
+use arrayvec::ArrayVec;
+use smith_types::ValType;
+
+/// The greatest number of globals and functions that are recorded without allocation.
+pub(super) const MOST: usize = 31;
+
+/// The types of the globals and functions read so far, if there are few.
+#[derive(Drop)]
+pub(super) struct FewItems {
+    /// The type of each global, or `None` for a mutable global, which cannot be read.
+    pub globals: ArrayVec<Option<ValType>, MOST>,
+    /// The type of a reference to each function.
+    pub funcs: ArrayVec<Option<ValType>, MOST>,
+}
+
+impl FewItems {
+    /// Creates a record with no global and no function read.
+    pub fn new() -> FewItems
+        ensures globals { result.globals.items ≡ [] }
+        ensures funcs { result.funcs.items ≡ [] }
+    {
+        FewItems {
+            globals: ArrayVec::new(),
+            funcs: ArrayVec::new(),
+        }
+    }
+
+    /// Reads the globals and functions of `scope` that have not been read.
+    pub fn read(&mut self, scope: &Scope<'_>)
+        requires scope { IsScope (context_of scope.now) }
+        requires few { scope.now.visible + length (context_of scope.now).funcs ≤ 31 }
+        requires read { AreFewRead (context_of scope.now) self.old }
+        ensures { IsFewWhole (context_of scope.now) self.new }
+    {
+        read_globals(scope, &mut self.globals);
+        read_funcs(scope, &mut self.funcs);
+    }
+
+    /// Returns the type of the global of `scope` at `index`, or `None` if it is mutable. Reads the
+    /// global if it has not been read.
+    pub fn kind_of_global(&self, scope: &Scope<'_>, index: usize) -> Option<ValType>
+        requires scope { IsScope (context_of scope.now) }
+        requires read { AreFewRead (context_of scope.now) self.now }
+        requires there { index < scope.now.visible }
+        ensures { (global : GlobalType)
+            → slice_get (context_of scope.now).globals index ≡ Some global
+            → result ≡ readable global }
+    {
+        let kinds = self.globals.as_slice();
+        if index < kinds.len() {
+            return kinds[index];
+        }
+        let entities = scope.spaces.entities;
+        readable(entities.globals[index])
+    }
+
+    /// Returns the type of a reference to the function of `scope` at `index`. Reads the function if
+    /// it has not been read.
+    pub fn kind_of_function(&self, scope: &Scope<'_>, index: usize) -> Option<ValType>
+        requires read { AreFewRead (context_of scope.now) self.now }
+        requires there { index < length (context_of scope.now).funcs }
+        ensures { (type : ℕ) → slice_get (context_of scope.now).funcs index ≡ Some type
+            → result ≡ Some (function_reference (context_of scope.now) index type) }
+    {
+        let kinds = self.funcs.as_slice();
+        if index < kinds.len() {
+            return kinds[index];
+        }
+        let entities = scope.spaces.entities;
+        Some(function_reference(scope, index, entities.funcs[index]))
+    }
+}
+
+/// Appends to `kinds` those of the visible globals of `scope` that have not been read.
+fn read_globals(scope: &Scope<'_>, kinds: &mut ArrayVec<Option<ValType>, MOST>)
+    requires scope { IsScope (context_of scope.now) }
+    requires few { scope.now.visible ≤ 31 }
+    requires read { AreKinds (λ index global. readable global)
+        (context_of scope.now).globals kinds.old.items }
+    ensures read { AreKinds (λ index global. readable global)
+        (context_of scope.now).globals kinds.new.items }
+    ensures all { scope.now.visible ≤ length kinds.new.items }
+{
+    let entities = scope.spaces.entities;
+    for index in kinds.len()..scope.visible {
+        kinds.push(readable(entities.globals[index]));
+    }
+}
+
+/// Appends to `kinds` those of the functions of `scope` that have not been read.
+fn read_funcs(scope: &Scope<'_>, kinds: &mut ArrayVec<Option<ValType>, MOST>)
+    requires few { length (context_of scope.now).funcs ≤ 31 }
+    requires read {
+        AreKinds (λ function index. Some (function_reference (context_of scope.now) function index))
+        (context_of scope.now).funcs kinds.old.items }
+    ensures read {
+        AreKinds (λ function index. Some (function_reference (context_of scope.now) function index))
+        (context_of scope.now).funcs kinds.new.items }
+    ensures all { length (context_of scope.now).funcs ≤ length kinds.new.items }
+{
+    let entities = scope.spaces.entities;
+    for index in kinds.len()..entities.funcs.len() {
+        let reference = function_reference(scope, index, entities.funcs[index]);
+        kinds.push(Some(reference));
+    }
+}

@@ -1,0 +1,71 @@
+ghost use Rattle.std.specs.Prelude.{◌≡◌, ◌<◌, ℕ, Some, IfSome, length, slice_get};
+ghost use Rattle.smith_types.specs.declared.entity_type.GlobalType.{GlobalType};
+ghost use Rattle.smith_types.specs.declared.value_type.ValType.{ValType as Wanted};
+ghost use Rattle.smith_types.specs.Expressions.{Context, function_reference};
+ghost use Rattle.smith_draw.specs.ConstScopes.{context_of, IsScope};
+ghost use Rattle.smith_draw.specs.KeptOffers.{IsKnown, IsWhole, readable};
+
+use super::few_items::FewItems;
+use super::kept_offers::KeptOffer;
+use super::read_items::ReadItems;
+use super::scope::Scope;
+use smith_types::ValType;
+
+/// What has been read of the visible globals and the functions, which are all known.
+#[derive(Clone, Copy)]
+pub(super) enum Known<'a> {
+    /// Their types.
+    Few(&'a FewItems),
+    /// Their classes, and the counts of those that are offered for one type.
+    Many(&'a ReadItems, Option<&'a KeptOffer>),
+}
+
+impl<'a> Known<'a> {
+    /// Returns the counts of the globals and functions that are offered, if these are known.
+    pub fn counts(self) -> Option<&'a KeptOffer>
+        ensures { (context : Context) (wanted : Wanted) → IsKnown context wanted self.entry
+            → IfSome result (λ offer. IsWhole context wanted offer.now) }
+    {
+        match self {
+            Known::Few(_) => None,
+            Known::Many(_, counts) => counts,
+        }
+    }
+}
+
+/// Returns the type of the global at `index`, or `None` if it is mutable.
+pub(super) fn kind_of_global(
+    scope: &Scope<'_>,
+    known: Known<'_>,
+    wanted: ValType,
+    index: usize,
+) -> Option<ValType>
+    requires scope { IsScope (context_of scope.now) }
+    requires known { IsKnown (context_of scope.now) wanted known }
+    requires there { index < scope.now.visible }
+    ensures { (global : GlobalType) → slice_get (context_of scope.now).globals index ≡ Some global
+        → result ≡ readable global }
+{
+    match known {
+        Known::Few(items) => items.globals.as_slice()[index],
+        Known::Many(items, _) => items.globals.kind_of(index),
+    }
+}
+
+/// Returns the type of a reference to the function at `index`.
+pub(super) fn kind_of_function(
+    scope: &Scope<'_>,
+    known: Known<'_>,
+    wanted: ValType,
+    index: usize,
+) -> Option<ValType>
+    requires known { IsKnown (context_of scope.now) wanted known }
+    requires there { index < length (context_of scope.now).funcs }
+    ensures { (type : ℕ) → slice_get (context_of scope.now).funcs index ≡ Some type
+        → result ≡ Some (function_reference (context_of scope.now) index type) }
+{
+    match known {
+        Known::Few(items) => items.funcs.as_slice()[index],
+        Known::Many(items, _) => items.funcs.kind_of(index),
+    }
+}
