@@ -99,8 +99,8 @@ fn read_funcs(
 {
     let entities = scope.spaces.entities;
     for index in classes.of.len()..entities.funcs.len() {
-        let kind = few.kind_of_function(scope, index);
-        classes.note(kind)?;
+        let reference = few.kind_of_function(scope, index);
+        classes.note(reference)?;
     }
     Ok(())
 }
