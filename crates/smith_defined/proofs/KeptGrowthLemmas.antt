@@ -16,7 +16,7 @@ use Rattle.smith_types.specs.declared.entity_type.GlobalType.{GlobalType}
 use Rattle.smith_types.proofs.ReferredTypeLemmas.{value_in_range}
 use Rattle.smith_draw.specs.Below.{is_val_below}
 use Rattle.smith_draw.specs.ConstOffers.{each_from, offered_if, global_offers, function_offers}
-use Rattle.smith_draw.specs.KeptOffers.{AreClasses, AreFewRead, AreFlags, AreItemsRead, AreKeptOffers, AreKinds, AreManyKept, IsEntry, IsKeptOffer, is_offered, offered_before, readable}
+use Rattle.smith_draw.specs.KeptOffers.{AreClasses, AreFewRead, AreFlags, AreItemsRead, AreKeptOffers, AreManyKept, AreRecorded, IsEntry, IsKeptOffer, is_offered, offered_before, readable}
 use Rattle.smith_draw.specs.declared.const_expr.classes.Classes.{Classes}
 use Rattle.smith_draw.specs.declared.const_expr.few_items.FewItems.{FewItems}
 use Rattle.smith_draw.specs.declared.const_expr.kept_offers.KeptOffer.{KeptOffer}
@@ -141,19 +141,17 @@ module _ (old new : Context) (valid : AreValidOver old) (more : HasMore old new)
     funcs = flags_grown offer.wanted items.funcs.kinds offer.func_flags entry.kept.wanted read.funcs.in_range entry.funcs;
   }
 
-  kinds_grown : {A : Type 0} (before after : ℕ → A → Option ValType) (xs ys : List A) (kinds : List (Option ValType)) → ((i : ℕ) (x : A) → before i x ≡ after i x) → Extends xs ys → AreKinds before xs kinds → AreKinds after ys kinds
-  kinds_grown {A} before after xs ys kinds same longer are = record {
-    few = no_shorter (length kinds) xs ys longer are.few;
-    same = λ i x inside at.
-        let here : slice_get xs i ≡ Some x = get_within_front xs longer.more i x (omega (arith, inside, are.few)) (sym (ap (λ (zs : List A). slice_get zs i) longer.parts) ∙ at) in
-        are.same i x inside here ∙ ap (λ (kind : Option ValType). Some kind) (same i x);
+  -- what is recorded of the first items is correct for a longer list
+  recorded_grown : {A B : Type 0} (record_of : ℕ → A → B) (xs ys : List A) (records : List B) → Extends xs ys → AreRecorded record_of xs records → AreRecorded record_of ys records
+  recorded_grown {A} record_of xs ys records longer are = record {
+    few = no_shorter (length records) xs ys longer are.few;
+    same = λ i x inside at. are.same i x inside (get_within_front xs longer.more i x (omega (arith, inside, are.few)) (sym (ap (λ (zs : List A). slice_get zs i) longer.parts) ∙ at));
   }
 
   few_grown : (few : FewItems) → AreFewRead old few → AreFewRead new few
   few_grown few read = record {
-    globals = kinds_grown (λ index global. readable global) (λ index global. readable global) old.globals new.globals few.globals.items (λ i x. refl) more.globals read.globals;
-    funcs = kinds_grown (λ function index. Some (function_reference old function index)) (λ function index. Some (function_reference new function index)) old.funcs new.funcs few.funcs.items
-        (λ function index. ap (λ (value : ValType). Some value) (sym (reference_same function index))) more.funcs read.funcs;
+    globals = recorded_grown (λ index global. readable global) old.globals new.globals few.globals.items more.globals read.globals;
+    funcs = recorded_grown (λ function index. index) old.funcs new.funcs few.funcs.items more.funcs read.funcs;
   }
 
   many_grown : (many : Option ManyItems) → IfSome many (AreManyKept old) → IfSome many (AreManyKept new)

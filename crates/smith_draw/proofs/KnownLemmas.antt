@@ -14,32 +14,31 @@ use Rattle.smith_types.specs.declared.value_type.ValType.{ValType}
 use Rattle.smith_types.proofs.ReferredTypeLemmas.{value_in_range}
 use Rattle.smith_draw.specs.ConstOffers.{offered_if, global_offers, function_offers}
 use Rattle.smith_draw.specs.ConstScopes.{IsScope}
-use Rattle.smith_draw.specs.KeptOffers.{AreClasses, AreKinds, is_offered, readable}
+use Rattle.smith_draw.specs.KeptOffers.{AreClasses, AreRecorded, is_offered, readable}
 use Rattle.smith_draw.specs.declared.const_expr.classes.Classes.{Classes}
 use Rattle.smith_draw.specs.declared.const_expr.node_choice.Choice.TheVariants as choice
 use Rattle.smith_draw.proofs.ClassLemmas.{get_front, get_last, readable_in_range, readable_same, same_element}
 use Rattle.smith_draw.proofs.GroundingLemmas.{within_reference}
 
--- no kind is recorded
-pub no_kinds : {A : Type 0} (kind_of : ℕ → A → Option ValType) (xs : List A) (kinds : List (Option ValType)) → kinds ≡ [] → AreKinds kind_of xs kinds
-no_kinds kind_of xs kinds none = record {
+-- nothing is recorded
+pub none_recorded : {A B : Type 0} (record_of : ℕ → A → B) (xs : List A) (records : List B) → records ≡ [] → AreRecorded record_of xs records
+none_recorded record_of xs records none = record {
   few = omega (arith, ap length none);
   same = λ i x inside there. absurd (omega (arith, inside, ap length none));
 }
 
--- the kind of one more item is recorded
-pub kind_recorded : {A : Type 0} (kind_of : ℕ → A → Option ValType) (xs : List A) (x : A) (kind : Option ValType) (kinds longer : List (Option ValType)) → AreKinds kind_of xs kinds → slice_get xs (length kinds) ≡ Some x → kind ≡ kind_of (length kinds) x → longer ≡ kinds ++ kind ∷ []
-    → AreKinds kind_of xs longer
-kind_recorded {A} kind_of xs x kind kinds longer are at is more =
-    let one : length longer ≡ length kinds + 1 = ap length more ∙ length-append kinds (kind ∷ []) in
+-- one more item is recorded
+pub one_recorded : {A B : Type 0} (record_of : ℕ → A → B) (xs : List A) (x : A) (one : B) (records longer : List B) → AreRecorded record_of xs records → slice_get xs (length records) ≡ Some x → one ≡ record_of (length records) x → longer ≡ records ++ one ∷ [] → AreRecorded record_of xs longer
+one_recorded {A} {B} record_of xs x one records longer are at is more =
+    let next : length longer ≡ length records + 1 = ap length more ∙ length-append records (one ∷ []) in
     record {
-      few = omega (arith, one, slice_get_within xs (length kinds) x at);
-      same = λ i y inside there. ap (λ (all : List (Option ValType)). slice_get all i) more ∙ elim (cases_lt i (length kinds)) [
-        | inl h ↦ get_front kinds (kind ∷ []) i (kind_of i y) (are.same i y h there)
+      few = omega (arith, next, slice_get_within xs (length records) x at);
+      same = λ i y inside there. ap (λ (all : List B). slice_get all i) more ∙ elim (cases_lt i (length records)) [
+        | inl h ↦ get_front records (one ∷ []) i (record_of i y) (are.same i y h there)
         | inr h ↦
-            let last : i ≡ length kinds = omega (arith, h, inside, one) in
+            let last : i ≡ length records = omega (arith, h, inside, next) in
             let item : x ≡ y = same_element xs i x y (ap (slice_get xs) last ∙ at) there in
-            get_last kinds kind i last ∙ ap (λ (each : Option ValType). Some each) (is ∙ ap (kind_of (length kinds)) item ∙ ap (λ (n : ℕ). kind_of n y) (sym last))
+            get_last records one i last ∙ ap (λ (each : B). Some each) (is ∙ ap (record_of (length records)) item ∙ ap (λ (n : ℕ). record_of n y) (sym last))
       ];
     }
 

@@ -91,15 +91,15 @@ pub record IsTested (items : ReadItems) (offer : KeptOffer) : Type 0 where
   pub globals : length offer.global_flags ≡ length items.globals.kinds
   pub funcs : length offer.func_flags ≡ length items.funcs.kinds
 
--- the recorded kinds of the first items of a list: each is that of its item
-pub record AreKinds {A : Type 0} (kind_of : ℕ → A → Option ValType) (xs : List A) (kinds : List (Option ValType)) : Type 0 where
-  pub few : length kinds ≤ length xs
-  pub same : (i : ℕ) (x : A) → i < length kinds → slice_get xs i ≡ Some x → slice_get kinds i ≡ Some (kind_of i x)
+-- what is recorded of the first items of a list: each record is that of its item
+pub record AreRecorded {A B : Type 0} (record_of : ℕ → A → B) (xs : List A) (records : List B) : Type 0 where
+  pub few : length records ≤ length xs
+  pub same : (i : ℕ) (x : A) → i < length records → slice_get xs i ≡ Some x → slice_get records i ≡ Some (record_of i x)
 
--- the recorded kinds of globals and of functions are correct
+-- the recorded types of globals, and indices of the types of functions, are correct
 pub record AreFewRead (context : Context) (few : FewItems) : Type 0 where
-  pub globals : AreKinds (λ index global. readable global) context.globals few.globals.items
-  pub funcs : AreKinds (λ function index. Some (function_reference context function index)) context.funcs few.funcs.items
+  pub globals : AreRecorded (λ index global. readable global) context.globals few.globals.items
+  pub funcs : AreRecorded (λ function index. index) context.funcs few.funcs.items
 
 -- they are, and all visible globals and all functions have been read
 pub record IsFewWhole (context : Context) (few : FewItems) : Type 0 where

@@ -3,7 +3,7 @@ ghost use Rattle.std.specs.Prelude.{slice_get};
 ghost use Rattle.smith_types.specs.Expressions.{function_reference};
 ghost use Rattle.smith_types.specs.declared.entity_type.GlobalType.{GlobalType};
 ghost use Rattle.smith_draw.specs.ConstScopes.{context_of, IsScope};
-ghost use Rattle.smith_draw.specs.KeptOffers.{AreFewRead, AreKinds, IsFewWhole, readable};
+ghost use Rattle.smith_draw.specs.KeptOffers.{AreFewRead, AreRecorded, IsFewWhole, readable};
 
 use super::references::{function_reference, readable};
 use super::scope::Scope;
@@ -13,13 +13,13 @@ use smith_types::ValType;
 /// The greatest number of globals and functions that are recorded without allocation.
 pub(super) const MOST: usize = 31;
 
-/// The types of the globals and functions read so far, if there are few.
+/// The globals and functions read so far, if there are few.
 #[derive(Drop)]
 pub(super) struct FewItems {
     /// The type of each global, or `None` for a mutable global, which cannot be read.
     pub globals: ArrayVec<Option<ValType>, MOST>,
-    /// The type of a reference to each function.
-    pub funcs: ArrayVec<Option<ValType>, MOST>,
+    /// The index of the type of each function.
+    pub funcs: ArrayVec<u32, MOST>,
 }
 
 impl FewItems {
@@ -66,14 +66,15 @@ impl FewItems {
     /// Returns the type of a reference to the function of `scope` at `index`. Reads the function if
     /// it has not been read.
     pub fn kind_of_function(&self, scope: &Scope<'_>, index: usize) -> Option<ValType>
+        requires scope { IsScope (context_of scope.now) }
         requires read { AreFewRead (context_of scope.now) self.now }
         requires there { index < length (context_of scope.now).funcs }
         ensures { (type : ℕ) → slice_get (context_of scope.now).funcs index ≡ Some type
             → result ≡ Some (function_reference (context_of scope.now) index type) }
     {
-        let kinds = self.funcs.as_slice();
-        if index < kinds.len() {
-            return kinds[index];
+        let funcs = self.funcs.as_slice();
+        if index < funcs.len() {
+            return Some(function_reference(scope, index, funcs[index]));
         }
         let entities = scope.spaces.entities;
         Some(function_reference(scope, index, entities.funcs[index]))
@@ -84,9 +85,9 @@ impl FewItems {
 fn read_globals(scope: &Scope<'_>, kinds: &mut ArrayVec<Option<ValType>, MOST>)
     requires scope { IsScope (context_of scope.now) }
     requires few { scope.now.visible ≤ 31 }
-    requires read { AreKinds (λ index global. readable global)
+    requires read { AreRecorded (λ index global. readable global)
         (context_of scope.now).globals kinds.old.items }
-    ensures read { AreKinds (λ index global. readable global)
+    ensures read { AreRecorded (λ index global. readable global)
         (context_of scope.now).globals kinds.new.items }
     ensures all { scope.now.visible ≤ length kinds.new.items }
 {
@@ -96,20 +97,17 @@ fn read_globals(scope: &Scope<'_>, kinds: &mut ArrayVec<Option<ValType>, MOST>)
     }
 }
 
-/// Appends to `kinds` those of the functions of `scope` that have not been read.
-fn read_funcs(scope: &Scope<'_>, kinds: &mut ArrayVec<Option<ValType>, MOST>)
+/// Appends to `funcs` the functions of `scope` that have not been read.
+fn read_funcs(scope: &Scope<'_>, funcs: &mut ArrayVec<u32, MOST>)
     requires few { length (context_of scope.now).funcs ≤ 31 }
-    requires read {
-        AreKinds (λ function index. Some (function_reference (context_of scope.now) function index))
-        (context_of scope.now).funcs kinds.old.items }
-    ensures read {
-        AreKinds (λ function index. Some (function_reference (context_of scope.now) function index))
-        (context_of scope.now).funcs kinds.new.items }
-    ensures all { length (context_of scope.now).funcs ≤ length kinds.new.items }
+    requires read { AreRecorded (λ function index. index)
+        (context_of scope.now).funcs funcs.old.items }
+    ensures read { AreRecorded (λ function index. index)
+        (context_of scope.now).funcs funcs.new.items }
+    ensures all { length (context_of scope.now).funcs ≤ length funcs.new.items }
 {
     let entities = scope.spaces.entities;
-    for index in kinds.len()..entities.funcs.len() {
-        let reference = function_reference(scope, index, entities.funcs[index]);
-        kinds.push(Some(reference));
+    for index in funcs.len()..entities.funcs.len() {
+        funcs.push(entities.funcs[index]);
     }
 }

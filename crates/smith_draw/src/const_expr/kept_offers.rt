@@ -26,8 +26,8 @@ use std::mem;
 /// The globals and functions that have been read, and the counts of those offered for each wanted
 /// type. All draws together look at each global and each function once.
 ///
-/// If there are few globals and functions, the type of each is recorded, and each draw tests these
-/// types. Nothing is counted or allocated.
+/// If there are few globals and functions, their types are recorded, and each draw tests these.
+/// Nothing is counted or allocated.
 ///
 /// If there are many, each is put into a class. A first draw of a type tests each class and counts
 /// the items of the classes that are offered. Each later draw tests the classes of a few items at

@@ -8,13 +8,14 @@ ghost use Rattle.smith_draw.specs.KeptOffers.{IsKnown, IsWhole, readable};
 use super::few_items::FewItems;
 use super::kept_offers::KeptOffer;
 use super::read_items::ReadItems;
+use super::references::function_reference;
 use super::scope::Scope;
 use smith_types::ValType;
 
 /// What has been read of the visible globals and the functions, which are all known.
 #[derive(Clone, Copy)]
 pub(super) enum Known<'a> {
-    /// Their types.
+    /// Each of them.
     Few(&'a FewItems),
     /// Their classes, and the counts of those that are offered for one type.
     Many(&'a ReadItems, Option<&'a KeptOffer>),
@@ -65,7 +66,10 @@ pub(super) fn kind_of_function(
         → result ≡ Some (function_reference (context_of scope.now) index type) }
 {
     match known {
-        Known::Few(items) => items.funcs.as_slice()[index],
+        Known::Few(items) => {
+            let index_of_type = items.funcs.as_slice()[index];
+            Some(function_reference(scope, index, index_of_type))
+        }
         Known::Many(items, _) => items.funcs.kind_of(index),
     }
 }

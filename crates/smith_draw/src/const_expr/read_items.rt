@@ -53,11 +53,7 @@ impl ReadItems {
 }
 
 /// Reads the visible globals of `scope` that have not been read, the first ones from `few`.
-fn read_globals(
-    scope: &Scope<'_>,
-    few: &FewItems,
-    classes: &mut Classes,
-) -> Result<(), Error>
+fn read_globals(scope: &Scope<'_>, few: &FewItems, classes: &mut Classes) -> Result<(), Error>
     requires scope { IsScope (context_of scope.now) }
     requires few { AreFewRead (context_of scope.now) few.now }
     requires read { AreClasses (context_of scope.now).types (λ index global. readable global)
@@ -78,11 +74,7 @@ fn read_globals(
 }
 
 /// Reads the functions of `scope` that have not been read, the first ones from `few`.
-fn read_funcs(
-    scope: &Scope<'_>,
-    few: &FewItems,
-    classes: &mut Classes,
-) -> Result<(), Error>
+fn read_funcs(scope: &Scope<'_>, few: &FewItems, classes: &mut Classes) -> Result<(), Error>
     requires scope { IsScope (context_of scope.now) }
     requires few { AreFewRead (context_of scope.now) few.now }
     requires read { AreClasses (context_of scope.now).types
@@ -99,8 +91,8 @@ fn read_funcs(
 {
     let entities = scope.spaces.entities;
     for index in classes.of.len()..entities.funcs.len() {
-        let kind = few.kind_of_function(scope, index);
-        classes.note(kind)?;
+        let reference = few.kind_of_function(scope, index);
+        classes.note(reference)?;
     }
     Ok(())
 }

@@ -5,7 +5,7 @@ use Rattle.smith_types.specs.declared.entity_type.GlobalType.{GlobalType}
 use Rattle.smith_types.specs.declared.value_type.ValType.TheVariants.{I32}
 use Rattle.smith_draw.specs.ConstScopes.{context_of}
 use Rattle.smith_draw.specs.KeptOffers.{readable}
-use Rattle.smith_draw.proofs.KnownLemmas.{kind_recorded}
+use Rattle.smith_draw.proofs.KnownLemmas.{one_recorded}
 use Rattle.smith_draw.proofs.const_expr.few_items.read_globals.Goals as goal
 
 pub loop-index-preserved : goal.loop-index-preserved
@@ -17,6 +17,6 @@ loop-index-preserved c =
     let global : GlobalType = get_or context.globals index d in
     let there : slice_get context.globals (length c.loop-index.kinds.items) ≡ Some global = ap (slice_get context.globals) c.loop-index.invariant.here ∙ slice_get-get_or context.globals index d inside in
     record {
-      read = kind_recorded (λ place each. readable each) context.globals global c.readable.result c.loop-index.kinds.items c.push.new.self.items c.loop-index.invariant.read there c.readable.ensures c.push.ensures.items;
+      read = one_recorded (λ place each. readable each) context.globals global c.readable.result c.loop-index.kinds.items c.push.new.self.items c.loop-index.invariant.read there c.readable.ensures c.push.ensures.items;
       here = c.push.ensures.len ∙ ap (λ (n : ℕ). n + 1) c.loop-index.invariant.here;
     }

@@ -1,10 +1,10 @@
 use Rattle.std.proofs.Common.{◌≡◌, length}
 use Rattle.smith_draw.specs.ConstScopes.{context_of}
-use Rattle.smith_draw.specs.KeptOffers.{AreKinds, readable}
+use Rattle.smith_draw.specs.KeptOffers.{AreRecorded, readable}
 use Rattle.smith_draw.proofs.const_expr.few_items.read_globals.Given as goal
 
 abbrev pub invariant-loop-index : goal.invariant-loop-index
 invariant-loop-index l = record {
-  read : AreKinds (λ index global. readable global) (context_of l.scope).globals l.kinds.items;
+  read : AreRecorded (λ index global. readable global) (context_of l.scope).globals l.kinds.items;
   here : length l.kinds.items ≡ l.index;
 }

@@ -1,5 +1,5 @@
-use Rattle.std.proofs.Common.{◌≡◌, ◌∙◌, ap, arith, length, List}
-use Rattle.std.specs.Prelude.{Option, None, Some, slice_index, slice_index_or}
+use Rattle.std.proofs.Common.{◌≡◌, ◌∙◌, ap, arith, length, List, ℕ}
+use Rattle.std.specs.Prelude.{Some, slice_index}
 use Rattle.std.proofs.lemmas.Option.{get_or_from_slice_get}
 use Rattle.smith_types.specs.Expressions.{function_reference}
 use Rattle.smith_types.specs.declared.value_type.ValType.{ValType}
@@ -25,9 +25,10 @@ pub returns-in-Few : goal.returns-in-Few
 returns-in-Few c = λ type at.
     let context = context_of c.args.scope.now in
     let whole = few (goal.at.returns-in-Few c).In-Few in
-    let kinds : List (Option ValType) = c.in-Few.items.now.funcs.items in
-    ap (λ (all : List (Option ValType)). slice_index_or all c.args.index None) c.as_slice.ensures.value
-    ∙ get_or_from_slice_get kinds c.args.index (Some (function_reference context c.args.index type)) None (whole.read.funcs.same c.args.index type (omega (arith, whole.funcs, c.requires.there)) at)
+    let funcs : List ℕ = c.in-Few.items.now.funcs.items in
+    let recorded : slice_index c.as_slice.result.now c.args.index ≡ type =
+    ap (λ (all : List ℕ). slice_index all c.args.index) c.as_slice.ensures.value ∙ get_or_from_slice_get funcs c.args.index type 0 (whole.read.funcs.same c.args.index type (omega (arith, whole.funcs, c.requires.there)) at) in
+    ap (λ (reference : ValType). Some reference) (c.function_reference.ensures ∙ ap (function_reference context c.args.index) recorded)
 
 pub kind_of-requires-clause-there : goal.kind_of-requires-clause-there
 kind_of-requires-clause-there c =
