@@ -20,13 +20,6 @@ use Rattle.smith_draw.specs.declared.const_expr.node_choice.Choice.TheVariants a
 use Rattle.smith_draw.proofs.ClassLemmas.{get_front, get_last, readable_in_range, readable_same, same_element}
 use Rattle.smith_draw.proofs.GroundingLemmas.{within_reference}
 
--- nothing is recorded
-pub none_recorded : {A B : Type 0} (record_of : ℕ → A → B) (xs : List A) (records : List B) → records ≡ [] → AreRecorded record_of xs records
-none_recorded record_of xs records none = record {
-  few = omega (arith, ap length none);
-  same = λ i x inside there. absurd (omega (arith, inside, ap length none));
-}
-
 -- one more item is recorded
 pub one_recorded : {A B : Type 0} (record_of : ℕ → A → B) (xs : List A) (x : A) (one : B) (records longer : List B) → AreRecorded record_of xs records → slice_get xs (length records) ≡ Some x → one ≡ record_of (length records) x → longer ≡ records ++ one ∷ [] → AreRecorded record_of xs longer
 one_recorded {A} {B} record_of xs x one records longer are at is more =

@@ -1,4 +1,4 @@
-use Rattle.std.proofs.Common.{false, ◌≡◌, ◌∙◌, ap, arith, length, List}
+use Rattle.std.proofs.Common.{false, ◌∙◌, ap, arith, length, List}
 use Rattle.std.specs.Prelude.{Option, None, slice_index, slice_index_or}
 use Rattle.std.proofs.lemmas.Option.{get_or_from_slice_get}
 use Rattle.smith_types.specs.declared.entity_type.GlobalType.{GlobalType}

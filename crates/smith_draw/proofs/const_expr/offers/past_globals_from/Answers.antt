@@ -1,4 +1,4 @@
-use Rattle.std.proofs.Common.{◌≡◌, ◌∙◌, ◌<◌, false, ap, arith, length, take, List}
+use Rattle.std.proofs.Common.{◌∙◌, false, ap, arith, take, List}
 use Rattle.std.proofs.lemmas.List.{length-take-le}
 use Rattle.smith_types.specs.declared.entity_type.GlobalType.{GlobalType}
 use Rattle.smith_types.specs.declared.value_type.ValType.TheVariants.{I32}

@@ -1,5 +1,5 @@
-use Rattle.std.proofs.Common.{◌≡◌, ◌∙◌, ap, List, ℕ}
-use Rattle.std.specs.Prelude.{Some, slice_index}
+use Rattle.std.proofs.Common.{◌∙◌, ap}
+use Rattle.std.specs.Prelude.{Some}
 use Rattle.std.proofs.lemmas.Option.{get_or_from_slice_get}
 use Rattle.smith_types.specs.Expressions.{function_reference}
 use Rattle.smith_types.specs.declared.value_type.ValType.{ValType}

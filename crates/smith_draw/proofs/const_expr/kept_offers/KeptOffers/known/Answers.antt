@@ -1,4 +1,3 @@
-use Rattle.std.proofs.Common.{sym, subst, ◌∙◌}
 use Rattle.smith_draw.proofs.const_expr.kept_offers.KeptOffers.known.Goals as goal
 
 pub returns-in-Some : goal.returns-in-Some

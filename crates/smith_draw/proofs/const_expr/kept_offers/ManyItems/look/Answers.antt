@@ -1,7 +1,5 @@
-use Rattle.std.proofs.Common.{subst, sym}
-use Rattle.std.proofs.lemmas.Result.{on_ok_weaker}
 use Rattle.smith_draw.specs.ConstScopes.{context_of}
-use Rattle.smith_draw.specs.KeptOffers.{AreAllRead, AreManyKept}
+use Rattle.smith_draw.specs.KeptOffers.{AreManyKept}
 use Rattle.smith_draw.proofs.ClassLemmas.{entries_read}
 use Rattle.smith_draw.proofs.const_expr.kept_offers.ManyItems.look.Goals as goal
 use Rattle.smith_draw.proofs.const_expr.kept_offers.ManyItems.look.Goals.{In_ok-read}
