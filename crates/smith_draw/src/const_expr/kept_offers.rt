@@ -1,5 +1,5 @@
 ghost use Rattle.std.specs.Prelude.{◌≡◌, ◌+◌, ◌*◌, ◌/◌, ◌<◌, ◌≤◌, ◌↔◌, ℕ, false, IsTrue, IfSome};
-ghost use Rattle.std.specs.Prelude.{IfOk, IfErr, OnOk, All, length, max, slice_index};
+ghost use Rattle.std.specs.Prelude.{IfNone, IfOk, IfErr, OnOk, All, length, max, slice_index};
 ghost use Rattle.smith_types.specs.Expressions.{Context};
 ghost use Rattle.smith_types.specs.Subtyping.{IsValInRange};
 ghost use Rattle.smith_types.specs.Types.{IsOrderly};
@@ -223,7 +223,8 @@ impl ManyItems {
 /// Returns the position of the entry in `kept` for the type `wanted` that has read no global past
 /// the first `visible`, if there is one.
 fn find(kept: &[KeptOffer], wanted: ValType, visible: usize) -> Option<usize>
-    ensures { IfSome result (λ place. IsKeptAt kept.now place wanted visible) }
+    ensures found { IfSome result (λ place. IsKeptAt kept.now place wanted visible) }
+    ensures none { IfNone result (All (λ offer. ¬ IsFor wanted visible offer) kept.now) }
 {
     for place in 0..kept.len() {
         if kept[place].is_for(wanted, visible) {
