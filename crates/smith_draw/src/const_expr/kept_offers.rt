@@ -70,10 +70,9 @@ pub(super) struct KeptOffer {
 
 impl KeptOffers {
     /// Creates an empty record. Does not allocate.
-    pub fn new(alloc: Global) -> KeptOffers
+    pub fn new() -> KeptOffers
         ensures { (context : Context) → AreKeptOffers context result }
     {
-        let _ = alloc;
         KeptOffers {
             few: FewItems::new(),
             many: None,
