@@ -1,5 +1,5 @@
 -- The record of the globals and functions that are offered, kept for many draws.
-use Rattle.std.specs.Prelude.{◌≡◌, ℕ, ◌+◌, ◌*◌, ◌/◌, ◌<◌, ◌≤◌, ◌⊎◌, Bool, false, IsTrue, Option, None, Some, IfSome, List, [], ◌∷◌, ◌++◌, map, take, length, slice_get, slice_index, All, if◌then◌else◌}
+use Rattle.std.specs.Prelude.{◌≡◌, ℕ, ◌+◌, ◌*◌, ◌/◌, ◌<◌, ◌≤◌, ◌≢◌, ◌⊎◌, min, Bool, false, IsTrue, Option, None, Some, IfSome, List, [], ◌∷◌, ◌++◌, map, take, length, slice_get, slice_index, All, if◌then◌else◌}
 use Rattle.std.specs.Borrow.{Bor}
 use Rattle.std.specs.List.{range_with_len}
 use Rattle.smith_types.specs.Subtyping.{IsValInRange}
@@ -29,6 +29,11 @@ offered_before offer xs n = length (each_from offer 0 (take n xs))
 pub record IsCounted (before : ℕ → ℕ) (counts : BlockCounts) : Type 0 where
   pub total : counts.total ≡ before counts.seen
   pub starts : counts.starts ≡ map (λ block. before (8 * block)) (range_with_len 0 ((counts.seen + 7) / 8))
+
+-- by the counts, an item of the block of `first` may be on offer before `end`: not all items before
+-- `end` have been read, or one of those read of the block is on offer
+abbrev pub MayOffer : (ℕ → ℕ) → BlockCounts → ℕ → ℕ → Type 0
+MayOffer before counts first end = (counts.seen < end) ⊎ (before (8 * (first / 8)) ≢ before (min (8 * (first / 8 + 1)) counts.seen))
 
 -- the entry for a type counts the globals and functions, among those read, that are offered for a
 -- value of that type

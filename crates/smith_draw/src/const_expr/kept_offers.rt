@@ -9,7 +9,8 @@ ghost use Rattle.smith_draw.specs.ConstScopes.{context_of, IsScope};
 ghost use Rattle.smith_draw.specs.KeptOffers.{AreAllRead, AreFewRead, AreFlags, AreItemsRead};
 ghost use Rattle.smith_draw.specs.KeptOffers.{AreKeptOffers, AreManyKept, HasReadAll, IsCounted};
 ghost use Rattle.smith_draw.specs.KeptOffers.{IsEntry, IsFor, IsKeptAt, IsKnown, IsTested};
-ghost use Rattle.smith_draw.specs.KeptOffers.{IsWhole, IsWholeAt, IsWiderOffer, offered_before};
+ghost use Rattle.smith_draw.specs.KeptOffers.{IsWhole, IsWholeAt, IsWiderOffer, MayOffer};
+ghost use Rattle.smith_draw.specs.KeptOffers.{offered_before};
 ghost use Rattle.smith_draw.specs.declared.const_expr.read_items.ReadItems.{ReadItems as Read};
 
 use super::block_counts::BlockCounts;
@@ -237,9 +238,13 @@ fn find(kept: &[KeptOffer], wanted: ValType, visible: usize) -> Option<usize>
 /// for a wider type, does not exclude them. They belong to one block.
 fn may_offer(wider: Option<&KeptOffer>, first: usize, end: usize) -> bool
     requires { first < end × end ≤ 8 * (first / 8 + 1) }
-    ensures { (before : ℕ → ℕ) → IfSome wider.entry (λ offer. IsCounted before offer.now.globals)
+    ensures none { (before : ℕ → ℕ)
+        → IfSome wider.entry (λ offer. IsCounted before offer.now.globals)
         → ((m n : ℕ) → m ≤ n → before m ≤ before n)
         → result ≡ false → before end ≡ before first }
+    ensures some { (before : ℕ → ℕ) → IfSome wider.entry (λ offer.
+        IsCounted before offer.now.globals
+        → IsTrue result → MayOffer before offer.now.globals first end) }
 {
     match wider {
         Some(wider) => wider.globals.may_offer(first, end),
