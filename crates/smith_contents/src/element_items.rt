@@ -262,7 +262,7 @@ fn draw_each_expression(
         (MayRefuseConstExpr config.now (standing_in config.now spaces.now) (Ref ty)) }
     ensures left { KeepsPieces u.old u.new }
 {
-    let mut kept = KeptOffers::new(alloc);
+    let mut kept = KeptOffers::new();
     let mut items = Items::new(alloc);
     for made in 0..most {
         if !goes_on(u, made, config.min_elements) {

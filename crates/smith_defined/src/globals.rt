@@ -124,7 +124,7 @@ fn push_globals<'a>(
 {
     let before = globals.len();
     let least = config.min_globals.saturating_sub(before);
-    let mut kept = KeptOffers::new(alloc);
+    let mut kept = KeptOffers::new();
     for made in 0..config.max_globals.saturating_sub(before) {
         if !goes_on(u, made, least) {
             return Ok(());

@@ -109,7 +109,7 @@ fn push_exports(
 {
     let imported = imported_spaces_of(alloc, shape.imports.as_slice())?;
     let mut exports = Items::with_capacity(alloc, shape.exports.len())?;
-    let mut kept = KeptOffers::new(alloc);
+    let mut kept = KeptOffers::new();
     for one in shape.exports.as_slice() {
         let made = make_export(
             alloc,

@@ -76,7 +76,7 @@ fn push_tables(
     let before = tables.len();
     let least = (config.min_tables as usize).saturating_sub(before);
     let most = config.max_tables.saturating_sub(before);
-    let mut kept = KeptOffers::new(alloc);
+    let mut kept = KeptOffers::new();
     for made in 0..most {
         if !goes_on(u, made, least) {
             return Ok(());

@@ -1,6 +1,6 @@
 -- The record of globals and functions that are offered, as they are read in turn.
 use Rattle.std.proofs.Common.{◌≡◌, inl, inr, ℕ, zero, suc, ◌+◌, ◌<◌, ◌≤◌, Bool, true, false, cond, List, [], ◌∷◌, ◌++◌, take, drop, get_or, set, length, refl, sym, ap, ◌∙◌, subst, arith}
-use Rattle.std.specs.Prelude.{All, Some, Ok, not, ◌&&◌}
+use Rattle.std.specs.Prelude.{All, Some, Ok, not, slice_get, ◌&&◌}
 use Rattle.std.proofs.lemmas.List.{append-nil, append_assoc, get_or-set_other, get_or-set_same, length-append, length-set, length-take-le, take-append-drop, take-take}
 use Rattle.std.proofs.lemmas.List.Elements.{All-set}
 use Rattle.std.proofs.lemmas.Bool.Decides.{eqb_tells}
@@ -9,7 +9,7 @@ use Rattle.smith_types.specs.Expressions.{Context, function_reference}
 use Rattle.smith_types.specs.declared.value_type.ValType.{ValType}
 use Rattle.smith_draw.specs.Below.{is_val_below}
 use Rattle.smith_draw.specs.ConstOffers.{each_from, offered_if, past, global_offers, function_offers}
-use Rattle.smith_draw.specs.KeptOffers.{IsEntry, IsKeptAt, offered_before}
+use Rattle.smith_draw.specs.KeptOffers.{IsEntry, IsFor, IsKeptAt, IsKeptOffer, IsWhole, IsWholeAt, offered_before}
 use Rattle.smith_draw.specs.declared.const_expr.kept_offers.KeptOffer.{KeptOffer}
 use Rattle.smith_draw.specs.declared.const_expr.node_choice.Choice.{Choice}
 use Rattle.smith_draw.specs.declared.const_expr.read_items.ReadItems.{ReadItems}
@@ -81,45 +81,59 @@ pub offered_within : {A : Type 0} (offer : ℕ → A → List Choice) (xs : List
 offered_within {A} offer xs first seen le = ap (λ (ys : List A). length (each_from offer 0 ys)) (take-take first seen xs le)
 
 -- the entry at a position is recorded
-pub kept_there : (kept : List KeptOffer) (place : ℕ) (d one : KeptOffer) (wanted : ValType) → place < length kept → one ≡ get_or kept place d → one.wanted ≡ wanted → IsKeptAt kept place wanted
-kept_there kept place d one wanted inside is same = (one, slice_get-get_or kept place d inside ∙ ap (λ (each : KeptOffer). Some each) (sym is), same)
+pub kept_there : (kept : List KeptOffer) (place : ℕ) (d one : KeptOffer) (wanted : ValType) (visible : ℕ) → place < length kept → one ≡ get_or kept place d → IsFor wanted visible one → IsKeptAt kept place wanted visible
+kept_there kept place d one wanted visible inside is for = (one, slice_get-get_or kept place d inside ∙ ap (λ (each : KeptOffer). Some each) (sym is), for)
 
--- the entry lists the globals and functions that are offered
-pub offer_there : (context : Context) (items : ReadItems) (kept : List KeptOffer) (place : ℕ) (d one : KeptOffer) (wanted : ValType) → IsKeptAt kept place wanted → one ≡ get_or kept place d → All (IsEntry context items) kept → IsEntry context items one
-offer_there context items kept place d one wanted (offer, at, same) is all = subst (IsEntry context items) (sym is) (all place d (slice_get_within kept place offer at))
-
--- a replacement of the entry is recorded too
-pub kept_again : (kept : List KeptOffer) (place : ℕ) (d old new : KeptOffer) (wanted : ValType) → IsKeptAt kept place wanted → old ≡ get_or kept place d → new.wanted ≡ old.wanted → IsKeptAt (set kept place new) place wanted
-kept_again kept place d old new wanted (offer, at, same) is still =
-    let inside : place < length kept = slice_get_within kept place offer at in (
-      new,
-      slice_get-get_or (set kept place new) place new (rw (length-set kept place new) inside) ∙ ap (λ (each : KeptOffer). Some each) (get_or-set_same kept place new new inside),
-      still ∙ ap (λ (each : KeptOffer). each.wanted) (is ∙ get_or_from_slice_get kept place offer d at) ∙ same,
-    )
-
--- a replacement for the same type leaves each entry for its type
-kept_still : (kept : List KeptOffer) (at place : ℕ) (wanted : ValType) (d old new : KeptOffer) → IsKeptAt kept at wanted → old ≡ get_or kept place d → new.wanted ≡ old.wanted → IsKeptAt (set kept place new) at wanted
-kept_still kept at place wanted d old new there is still = elim (eqb_tells at place) [
-  | inl (test, same) ↦ subst (λ (n : ℕ). IsKeptAt (set kept place new) n wanted) (sym same) (kept_again kept place d old new wanted (subst (λ (n : ℕ). IsKeptAt kept n wanted) same there) is still)
-  | inr (test, other) ↦
-      let inside : at < length kept = slice_get_within kept at there.0 there.1 in
-      (there.0, slice_get-get_or (set kept place new) at there.0 (rw (length-set kept place new) inside) ∙ ap (λ (each : KeptOffer). Some each) (get_or-set_other kept place at new there.0 other ∙ get_or_from_slice_get kept at there.0 there.0 there.1), there.2)
-]
+-- the position of an entry is within the list
+pub kept_within : (kept : List KeptOffer) (place : ℕ) (wanted : ValType) (visible : ℕ) → IsKeptAt kept place wanted visible → place < length kept
+kept_within kept place wanted visible (offer, at, for) = slice_get_within kept place offer at
 
 -- the entry at a position is for its type
-pub wanted_there : (kept : List KeptOffer) (place : ℕ) (d one : KeptOffer) (wanted : ValType) → IsKeptAt kept place wanted → one ≡ get_or kept place d → one.wanted ≡ wanted
-wanted_there kept place d one wanted (offer, at, same) is = ap (λ (each : KeptOffer). each.wanted) (is ∙ get_or_from_slice_get kept place offer d at) ∙ same
+pub for_there : (kept : List KeptOffer) (place : ℕ) (d one : KeptOffer) (wanted : ValType) (visible : ℕ) → IsKeptAt kept place wanted visible → one ≡ get_or kept place d → IsFor wanted visible one
+for_there kept place d one wanted visible (offer, at, for) is = subst (IsFor wanted visible) (sym (is ∙ get_or_from_slice_get kept place offer d at)) for
+
+-- the entry lists the globals and functions that are offered
+pub offer_there : (context : Context) (items : ReadItems) (kept : List KeptOffer) (place : ℕ) (d one : KeptOffer) (wanted : ValType) (visible : ℕ) → IsKeptAt kept place wanted visible → one ≡ get_or kept place d → All (IsEntry context items) kept → IsEntry context items one
+offer_there context items kept place d one wanted visible (offer, at, for) is all = subst (IsEntry context items) (sym is) (all place d (slice_get_within kept place offer at))
+
+-- a replacement of the entry is recorded
+replaced_there : (kept : List KeptOffer) (place : ℕ) (new : KeptOffer) → place < length kept → slice_get (set kept place new) place ≡ Some new
+replaced_there kept place new inside = slice_get-get_or (set kept place new) place new (rw (length-set kept place new) inside) ∙ ap (λ (each : KeptOffer). Some each) (get_or-set_same kept place new new inside)
+
+-- a replacement for the same type leaves each entry for its type
+kept_still : (kept : List KeptOffer) (at place : ℕ) (wanted : ValType) (visible : ℕ) (d old new : KeptOffer) → IsKeptAt kept at wanted visible → old ≡ get_or kept place d → IsFor old.wanted visible new → IsKeptAt (set kept place new) at wanted visible
+kept_still kept at place wanted visible d old new there is still =
+    let inside : at < length kept = kept_within kept at wanted visible there in
+    elim (eqb_tells at place) [
+      | inl (test, same) ↦
+          let for : IsFor wanted visible old = for_there kept at d old wanted visible there (is ∙ ap (λ (n : ℕ). get_or kept n d) (sym same)) in
+          (new, ap (λ (n : ℕ). slice_get (set kept n new) at) (sym same) ∙ replaced_there kept at new inside, (still.0 ∙ for.0, still.1))
+      | inr (test, other) ↦
+          (there.0, slice_get-get_or (set kept place new) at there.0 (rw (length-set kept place new) inside) ∙ ap (λ (each : KeptOffer). Some each) (get_or-set_other kept place at new there.0 other ∙ get_or_from_slice_get kept at there.0 there.0 there.1), there.2)
+    ]
+
+-- an entry that has read all visible globals and all functions counts them for its type
+pub whole_for : (context : Context) (wanted : ValType) (offer : KeptOffer) → IsKeptOffer context offer → offer.wanted ≡ wanted → offer.globals.seen ≡ context.visible → offer.funcs.seen ≡ length context.funcs → IsWhole context wanted offer
+whole_for context wanted offer kept is globals funcs = subst (λ (w : ValType). IsWhole context w offer) is (record { globals_seen = globals; globals = kept.globals; funcs_seen = funcs; funcs = kept.funcs })
+
+-- a replacement that counts all
+pub whole_again : (context : Context) (kept : List KeptOffer) (place : ℕ) (wanted : ValType) (new : KeptOffer) → place < length kept → IsWhole context wanted new → IsWholeAt context (set kept place new) place wanted
+whole_again context kept place wanted new inside whole = (new, replaced_there kept place new inside, whole)
+
+-- the entry at a position counts all
+pub whole_there : (context : Context) (kept : List KeptOffer) (place : ℕ) (wanted : ValType) (d one : KeptOffer) → IsWholeAt context kept place wanted → one ≡ get_or kept place d → IsWhole context wanted one
+whole_there context kept place wanted d one (offer, at, whole) is = subst (IsWhole context wanted) (sym (is ∙ get_or_from_slice_get kept place offer d at)) whole
 
 -- correct entries, one of them for a type and one for a wider type
 pub record HasEntries (context : Context) (items : ReadItems) (kept : List KeptOffer) (source : ℕ) (wider : ValType) (place : ℕ) (wanted : ValType) : Type 0 where
   pub all : All (IsEntry context items) kept
-  pub at_source : IsKeptAt kept source wider
-  pub at_place : IsKeptAt kept place wanted
+  pub at_source : IsKeptAt kept source wider context.visible
+  pub at_place : IsKeptAt kept place wanted context.visible
 
-pub entry_replaced : (context : Context) (items : ReadItems) (kept : List KeptOffer) (source : ℕ) (wider : ValType) (place : ℕ) (wanted : ValType) (at : ℕ) (d old new : KeptOffer) → HasEntries context items kept source wider place wanted → old ≡ get_or kept at d → new.wanted ≡ old.wanted → IsEntry context items new
+pub entry_replaced : (context : Context) (items : ReadItems) (kept : List KeptOffer) (source : ℕ) (wider : ValType) (place : ℕ) (wanted : ValType) (at : ℕ) (d old new : KeptOffer) → HasEntries context items kept source wider place wanted → old ≡ get_or kept at d → IsFor old.wanted context.visible new → IsEntry context items new
     → HasEntries context items (set kept at new) source wider place wanted
 entry_replaced context items kept source wider place wanted at d old new has is still correct = record {
   all = All-set (IsEntry context items) kept at new correct has.all;
-  at_source = kept_still kept source at wider d old new has.at_source is still;
-  at_place = kept_still kept place at wanted d old new has.at_place is still;
+  at_source = kept_still kept source at wider context.visible d old new has.at_source is still;
+  at_place = kept_still kept place at wanted context.visible d old new has.at_place is still;
 }

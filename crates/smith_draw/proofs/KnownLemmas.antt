@@ -1,5 +1,5 @@
 -- The globals and functions whose types have been read.
-use Rattle.std.proofs.Common.{◌≡◌, inl, inr, ℕ, ◌+◌, ◌<◌, ◌≤◌, Bool, List, [], ◌∷◌, ◌++◌, get_or, take, length, sym, ap, ◌∙◌, subst, arith}
+use Rattle.std.proofs.Common.{◌≡◌, inl, inr, ℕ, Bor, ◌+◌, ◌<◌, ◌≤◌, Bool, List, [], ◌∷◌, ◌++◌, get_or, take, length, sym, ap, ◌∙◌, subst, arith}
 use Rattle.std.specs.Prelude.{Option, Some, IfSome, slice_get, slice_index, nat_le}
 use Rattle.std.proofs.lemmas.Bool.{cases_lt}
 use Rattle.std.proofs.lemmas.List.{get_or-take, length-append}
@@ -14,8 +14,11 @@ use Rattle.smith_types.specs.declared.value_type.ValType.{ValType}
 use Rattle.smith_types.proofs.ReferredTypeLemmas.{value_in_range}
 use Rattle.smith_draw.specs.ConstOffers.{offered_if, global_offers, function_offers}
 use Rattle.smith_draw.specs.ConstScopes.{IsScope}
-use Rattle.smith_draw.specs.KeptOffers.{AreClasses, AreRecorded, is_offered, readable}
+use Rattle.smith_draw.specs.KeptOffers.{AreClasses, AreRecorded, IsKnown, IsWhole, counts_of, is_offered, readable}
 use Rattle.smith_draw.specs.declared.const_expr.classes.Classes.{Classes}
+use Rattle.smith_draw.specs.declared.const_expr.kept_offers.KeptOffer.{KeptOffer}
+use Rattle.smith_draw.specs.declared.const_expr.known.Known.{Known}
+use Rattle.smith_draw.specs.declared.const_expr.known.Known.TheVariants.{Few, Many}
 use Rattle.smith_draw.specs.declared.const_expr.node_choice.Choice.TheVariants as choice
 use Rattle.smith_draw.proofs.ClassLemmas.{get_front, get_last, readable_in_range, readable_same, same_element}
 use Rattle.smith_draw.proofs.GroundingLemmas.{within_reference}
@@ -72,3 +75,8 @@ pub function_offered : (context : Context) (wanted : ValType) (index : ℕ) (kin
     → offered_if offered (choice.Function index) ≡ function_offers context wanted index (get_or context.funcs index 0)
 function_offered context wanted index kind offered inside is test =
     ap (λ (b : Bool). offered_if b (choice.Function index)) (test ∙ ap (is_offered context.types wanted) (is (get_or context.funcs index 0) (slice_get-get_or context.funcs index 0 inside)))
+
+-- the counts of what is known are of all that is offered
+pub counts_whole : (context : Context) (wanted : ValType) (known : Known) (counts : Bor KeptOffer) → IsKnown context wanted known → Some counts ≡ counts_of known → IsWhole context wanted counts.now
+counts_whole context wanted (Few items) counts known is = cc
+counts_whole context wanted (Many items all) counts known is = let same : all ≡ counts = cc in subst (λ (each : Bor KeptOffer). IsWhole context wanted each.now) same known.1

@@ -1,5 +1,6 @@
 -- The record of the globals and functions that are offered, kept for many draws.
-use Rattle.std.specs.Prelude.{◌≡◌, ℕ, ◌+◌, ◌*◌, ◌/◌, ◌<◌, ◌≤◌, ◌⊎◌, Bool, false, IsTrue, Option, None, Some, IfSome, List, [], ◌∷◌, ◌++◌, map, take, length, slice_get, slice_index, All, if◌then◌else◌}
+use Rattle.std.specs.Prelude.{◌≡◌, ℕ, ◌+◌, ◌*◌, ◌/◌, ◌<◌, ◌≤◌, ◌≢◌, ◌⊎◌, min, Bool, false, IsTrue, Option, None, Some, IfSome, List, [], ◌∷◌, ◌++◌, map, take, length, slice_get, slice_index, All, if◌then◌else◌}
+use Rattle.std.specs.Borrow.{Bor}
 use Rattle.std.specs.List.{range_with_len}
 use Rattle.smith_types.specs.Subtyping.{IsValInRange}
 use Rattle.smith_types.specs.Expressions.{Context, function_reference}
@@ -28,6 +29,11 @@ offered_before offer xs n = length (each_from offer 0 (take n xs))
 pub record IsCounted (before : ℕ → ℕ) (counts : BlockCounts) : Type 0 where
   pub total : counts.total ≡ before counts.seen
   pub starts : counts.starts ≡ map (λ block. before (8 * block)) (range_with_len 0 ((counts.seen + 7) / 8))
+
+-- by the counts, an item of the block of `first` may be on offer before `end`: not all items before
+-- `end` have been read, or one of those read of the block is on offer
+abbrev pub MayOffer : (ℕ → ℕ) → BlockCounts → ℕ → ℕ → Type 0
+MayOffer before counts first end = (counts.seen < end) ⊎ (before (8 * (first / 8)) ≢ before (min (8 * (first / 8 + 1)) counts.seen))
 
 -- the entry for a type counts the globals and functions, among those read, that are offered for a
 -- value of that type
@@ -117,14 +123,13 @@ pub record AreKeptOffers (context : Context) (kept : KeptOffers) : Type 0 where
   pub few : AreFewRead context kept.few
   pub many : IfSome kept.many (AreManyKept context)
 
--- all visible globals and all functions have been read, as few items or as many
-pub record HasReadAll (context : Context) (kept : KeptOffers) : Type 0 where
-  pub few : kept.many ≡ None → IsFewWhole context kept.few
-  pub many : IfSome kept.many (λ many. AreAllRead context many.items)
+-- the entry is for this type, and has read no global past the first `visible`
+abbrev pub IsFor : ValType → ℕ → KeptOffer → Type 0
+IsFor wanted visible offer = (offer.wanted ≡ wanted) × (offer.globals.seen ≤ visible)
 
--- the entry at this position is for this type
-abbrev pub IsKeptAt : List KeptOffer → ℕ → ValType → Type 0
-IsKeptAt kept place wanted = (offer : KeptOffer) × (slice_get kept place ≡ Some offer) × (offer.wanted ≡ wanted)
+-- so is the entry at this position
+abbrev pub IsKeptAt : List KeptOffer → ℕ → ValType → ℕ → Type 0
+IsKeptAt kept place wanted visible = (offer : KeptOffer) × (slice_get kept place ≡ Some offer) × IsFor wanted visible offer
 
 -- the entry is correct, and for this type or a wider one
 pub record IsWiderOffer (context : Context) (wanted : ValType) (offer : KeptOffer) : Type 0 where
@@ -138,8 +143,24 @@ pub record IsWhole (context : Context) (wanted : ValType) (offer : KeptOffer) : 
   pub funcs_seen : offer.funcs.seen ≡ length context.funcs
   pub funcs : IsCounted (offered_before (function_offers context wanted) context.funcs) offer.funcs
 
--- all visible globals and all functions have been read; the counts are of those that are offered
--- for a value of this type
+-- so does the entry at this position
+abbrev pub IsWholeAt : Context → List KeptOffer → ℕ → ValType → Type 0
+IsWholeAt context kept place wanted = (offer : KeptOffer) × (slice_get kept place ≡ Some offer) × IsWhole context wanted offer
+
+-- all visible globals and all functions have been read, as few items, or as many that the entry at
+-- this position counts for this type
+pub record HasReadAll (context : Context) (wanted : ValType) (place : ℕ) (kept : KeptOffers) : Type 0 where
+  pub few : kept.many ≡ None → IsFewWhole context kept.few
+  pub many : IfSome kept.many (λ many. AreAllRead context many.items)
+  pub counted : IfSome kept.many (λ many. IsWholeAt context many.kept.items place wanted)
+
+-- all visible globals and all functions have been read; the counts, of many, are of those that are
+-- offered for a value of this type
 abbrev pub IsKnown : Context → ValType → Known → Type 0
 IsKnown context wanted (Few items) = IsFewWhole context items.now
-IsKnown context wanted (Many items counts) = AreAllRead context items.now × IfSome counts (λ offer. IsWhole context wanted offer.now)
+IsKnown context wanted (Many items counts) = AreAllRead context items.now × IsWhole context wanted counts.now
+
+-- the counts of what is known, which are made of many items alone
+abbrev pub counts_of : Known → Option (Bor KeptOffer)
+counts_of (Few items) = None
+counts_of (Many items counts) = Some counts

@@ -1,6 +1,6 @@
 ghost use Rattle.std.specs.Prelude.{◌≡◌, ℕ, ◌+◌, ◌*◌, ◌/◌, ◌<◌, ◌≤◌, ◌^◌, false, min, length, OnOk};
-ghost use Rattle.std.specs.Prelude.{IfErr, slice_index};
-ghost use Rattle.smith_draw.specs.KeptOffers.{IsCounted};
+ghost use Rattle.std.specs.Prelude.{IfErr, IsTrue, slice_index};
+ghost use Rattle.smith_draw.specs.KeptOffers.{IsCounted, MayOffer};
 
 use smith_bytes::Error;
 use smith_types::Items;
@@ -80,9 +80,11 @@ impl BlockCounts {
     /// one block, and either not all of them have been read or an item of their block is on offer.
     pub fn may_offer(&self, first: usize, end: usize) -> bool
         requires { first < end × end ≤ 8 * (first / 8 + 1) }
-        ensures { (before : ℕ → ℕ) → IsCounted before self.now
+        ensures none { (before : ℕ → ℕ) → IsCounted before self.now
             → ((m n : ℕ) → m ≤ n → before m ≤ before n)
             → result ≡ false → before end ≡ before first }
+        ensures some { (before : ℕ → ℕ) → IsCounted before self.now
+            → IsTrue result → MayOffer before self.now first end }
     {
         if end > self.seen {
             return true;

@@ -41,13 +41,13 @@ impl FewItems {
         requires read { AreFewRead (context_of scope.now) self.old }
         ensures { IsFewWhole (context_of scope.now) self.new }
     {
-        read_globals(scope, &mut self.globals);
-        read_funcs(scope, &mut self.funcs);
+        record_globals(scope, &mut self.globals);
+        record_funcs(scope, &mut self.funcs);
     }
 
     /// Returns the type of the global of `scope` at `index`, or `None` if it is mutable. Reads the
     /// global if it has not been read.
-    pub fn kind_of_global(&self, scope: &Scope<'_>, index: usize) -> Option<ValType>
+    pub fn recorded_global(&self, scope: &Scope<'_>, index: usize) -> Option<ValType>
         requires scope { IsScope (context_of scope.now) }
         requires read { AreFewRead (context_of scope.now) self.now }
         requires there { index < scope.now.visible }
@@ -65,7 +65,7 @@ impl FewItems {
 
     /// Returns the type of a reference to the function of `scope` at `index`. Reads the function if
     /// it has not been read.
-    pub fn kind_of_function(&self, scope: &Scope<'_>, index: usize) -> Option<ValType>
+    pub fn recorded_function(&self, scope: &Scope<'_>, index: usize) -> Option<ValType>
         requires scope { IsScope (context_of scope.now) }
         requires read { AreFewRead (context_of scope.now) self.now }
         requires there { index < length (context_of scope.now).funcs }
@@ -82,7 +82,7 @@ impl FewItems {
 }
 
 /// Appends to `kinds` those of the visible globals of `scope` that have not been read.
-fn read_globals(scope: &Scope<'_>, kinds: &mut ArrayVec<Option<ValType>, MOST>)
+fn record_globals(scope: &Scope<'_>, kinds: &mut ArrayVec<Option<ValType>, MOST>)
     requires scope { IsScope (context_of scope.now) }
     requires few { scope.now.visible ≤ 31 }
     requires read { AreRecorded (λ index global. readable global)
@@ -98,7 +98,7 @@ fn read_globals(scope: &Scope<'_>, kinds: &mut ArrayVec<Option<ValType>, MOST>)
 }
 
 /// Appends to `funcs` the functions of `scope` that have not been read.
-fn read_funcs(scope: &Scope<'_>, funcs: &mut ArrayVec<u32, MOST>)
+fn record_funcs(scope: &Scope<'_>, funcs: &mut ArrayVec<u32, MOST>)
     requires few { length (context_of scope.now).funcs ≤ 31 }
     requires read { AreRecorded (λ function index. index)
         (context_of scope.now).funcs funcs.old.items }

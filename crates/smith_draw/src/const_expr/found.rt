@@ -62,7 +62,7 @@ pub(super) fn choose_offer(
     ensures left { KeepsPieces u.old u.new }
 {
     let place = kept.look(alloc, scope, wanted)?;
-    choose_among(scope, kept.known(scope, place), wanted, fuel, u)
+    choose_among(scope, kept.known(place), wanted, fuel, u)
 }
 
 /// Chooses how to produce a value of the type `wanted`, with the globals and functions in `known`.

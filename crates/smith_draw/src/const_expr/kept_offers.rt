@@ -1,5 +1,5 @@
 ghost use Rattle.std.specs.Prelude.{◌≡◌, ◌+◌, ◌*◌, ◌/◌, ◌<◌, ◌≤◌, ◌↔◌, ℕ, false, IsTrue, IfSome};
-ghost use Rattle.std.specs.Prelude.{IfOk, IfErr, OnOk, All, length, slice_index};
+ghost use Rattle.std.specs.Prelude.{IfNone, IfOk, IfErr, OnOk, All, length, max, slice_index};
 ghost use Rattle.smith_types.specs.Expressions.{Context};
 ghost use Rattle.smith_types.specs.Subtyping.{IsValInRange};
 ghost use Rattle.smith_types.specs.Types.{IsOrderly};
@@ -8,8 +8,9 @@ ghost use Rattle.smith_draw.specs.ConstOffers.{function_offers, global_offers};
 ghost use Rattle.smith_draw.specs.ConstScopes.{context_of, IsScope};
 ghost use Rattle.smith_draw.specs.KeptOffers.{AreAllRead, AreFewRead, AreFlags, AreItemsRead};
 ghost use Rattle.smith_draw.specs.KeptOffers.{AreKeptOffers, AreManyKept, HasReadAll, IsCounted};
-ghost use Rattle.smith_draw.specs.KeptOffers.{IsEntry, IsKeptAt, IsKnown, IsTested, IsWhole};
-ghost use Rattle.smith_draw.specs.KeptOffers.{IsWiderOffer, offered_before};
+ghost use Rattle.smith_draw.specs.KeptOffers.{IsEntry, IsFor, IsKeptAt, IsKnown, IsTested};
+ghost use Rattle.smith_draw.specs.KeptOffers.{IsWhole, IsWholeAt, IsWiderOffer, MayOffer};
+ghost use Rattle.smith_draw.specs.KeptOffers.{offered_before};
 ghost use Rattle.smith_draw.specs.declared.const_expr.read_items.ReadItems.{ReadItems as Read};
 
 use super::block_counts::BlockCounts;
@@ -70,10 +71,9 @@ pub(super) struct KeptOffer {
 
 impl KeptOffers {
     /// Creates an empty record. Does not allocate.
-    pub fn new(alloc: Global) -> KeptOffers
+    pub fn new() -> KeptOffers
         ensures { (context : Context) → AreKeptOffers context result }
     {
-        let _ = alloc;
         KeptOffers {
             few: FewItems::new(),
             many: None,
@@ -93,9 +93,8 @@ impl KeptOffers {
         requires upper { IsValInRange (context_of scope.now).types wanted }
         requires kept { AreKeptOffers (context_of scope.now) self.old }
         ensures kept { OnOk result (AreKeptOffers (context_of scope.now) self.new) }
-        ensures all { OnOk result (HasReadAll (context_of scope.now) self.new) }
-        ensures place { IfOk result (λ place.
-            IfSome self.new.many (λ many. IsKeptAt many.kept.items place wanted)) }
+        ensures all { IfOk result (λ place.
+            HasReadAll (context_of scope.now) wanted place self.new) }
         ensures memory { IfErr result (λ e. e ≡ Error.Memory) }
     {
         if self.many.is_none() {
@@ -112,17 +111,16 @@ impl KeptOffers {
         }
     }
 
-    /// Returns what has been read. The entry for the wanted type is at `place`, if there are many
-    /// globals and functions.
-    pub(super) fn known(&self, scope: &Scope<'_>, place: usize) -> Known<'_>
-        requires kept { AreKeptOffers (context_of scope.now) self.now }
-        requires all { HasReadAll (context_of scope.now) self.now }
-        ensures { (wanted : Wanted)
-            → IfSome self.now.many (λ many. IsKeptAt many.kept.items place wanted)
-            → IsKnown (context_of scope.now) wanted result }
+    /// Returns what has been read, for the type whose entry is at `place`: the position that `look`
+    /// returned.
+    pub(super) fn known(&self, place: usize) -> Known<'_>
+        requires { (context : Context) × (wanted : Wanted)
+            × HasReadAll context wanted place self.now }
+        ensures { (context : Context) (wanted : Wanted) → HasReadAll context wanted place self.now
+            → IsKnown context wanted result }
     {
         match &self.many {
-            Some(many) => Known::Many(&many.items, many.covering(scope, place)),
+            Some(many) => Known::Many(&many.items, &many.kept[place]),
             None => Known::Few(&self.few),
         }
     }
@@ -155,7 +153,8 @@ impl ManyItems {
         requires kept { AreManyKept (context_of scope.now) self.old }
         ensures kept { OnOk result (AreManyKept (context_of scope.now) self.new) }
         ensures all { OnOk result (AreAllRead (context_of scope.now) self.new.items) }
-        ensures place { IfOk result (λ place. IsKeptAt self.new.kept.items place wanted) }
+        ensures counted { IfOk result (λ place.
+            IsWholeAt (context_of scope.now) self.new.kept.items place wanted) }
         ensures memory { IfErr result (λ e. e ≡ Error.Memory) }
     {
         let place = self.place_of(alloc, wanted, scope.visible)?;
@@ -180,14 +179,16 @@ impl ManyItems {
         requires upper { IsValInRange (context_of scope.now).types wanted }
         requires kept { AreManyKept (context_of scope.now) self.old }
         requires read { AreAllRead (context_of scope.now) self.old.items }
-        requires place { IsKeptAt self.old.kept.items place wanted }
+        requires place { IsKeptAt self.old.kept.items place wanted scope.now.visible }
         ensures kept { OnOk result (AreManyKept (context_of scope.now) self.new) }
         ensures items { OnOk result (self.new.items ≡ self.old.items) }
-        ensures place { OnOk result (IsKeptAt self.new.kept.items place wanted) }
+        ensures counted { OnOk result
+            (IsWholeAt (context_of scope.now) self.new.kept.items place wanted) }
         ensures memory { IfErr result (λ e. e ≡ Error.Memory) }
     {
         let Some(wider) = widest(scope.spaces.types, wanted) else {
-            return self.kept[place].look(scope, &self.items, None);
+            self.kept[place].look(scope, &self.items, None)?;
+            return Ok(());
         };
         let source = self.place_of(alloc, wider, scope.visible)?;
         self.kept[source].look(scope, &self.items, None)?;
@@ -204,9 +205,10 @@ impl ManyItems {
         ensures kept { (context : Context) → IsValInRange context.types wanted
             → AreManyKept context self.old → OnOk result (AreManyKept context self.new) }
         ensures items { OnOk result (self.new.items ≡ self.old.items) }
-        ensures place { IfOk result (λ place. IsKeptAt self.new.kept.items place wanted) }
-        ensures still { (at : ℕ) (other : Wanted) → IsKeptAt self.old.kept.items at other
-            → OnOk result (IsKeptAt self.new.kept.items at other) }
+        ensures place { IfOk result (λ place.
+            IsKeptAt self.new.kept.items place wanted visible) }
+        ensures still { (at : ℕ) (other : Wanted) → IsKeptAt self.old.kept.items at other visible
+            → OnOk result (IsKeptAt self.new.kept.items at other visible) }
         ensures memory { IfErr result (λ e. e ≡ Error.Memory) }
     {
         if let Some(place) = find(self.kept.as_slice(), wanted, visible) {
@@ -216,26 +218,13 @@ impl ManyItems {
         self.kept.push(KeptOffer::new(alloc, wanted))?;
         Ok(place)
     }
-
-    /// Returns the entry at `place` if it covers the globals and functions of `scope`.
-    fn covering(&self, scope: &Scope<'_>, place: usize) -> Option<&KeptOffer>
-        requires { AreManyKept (context_of scope.now) self.now }
-        ensures { (wanted : Wanted) → IsKeptAt self.now.kept.items place wanted
-            → IfSome result (λ offer. IsWhole (context_of scope.now) wanted offer.now) }
-    {
-        let kept = self.kept.as_slice().get(place)?;
-        if kept.is_current(scope) {
-            Some(kept)
-        } else {
-            None
-        }
-    }
 }
 
 /// Returns the position of the entry in `kept` for the type `wanted` that has read no global past
 /// the first `visible`, if there is one.
 fn find(kept: &[KeptOffer], wanted: ValType, visible: usize) -> Option<usize>
-    ensures { IfSome result (λ place. IsKeptAt kept.now place wanted) }
+    ensures found { IfSome result (λ place. IsKeptAt kept.now place wanted visible) }
+    ensures none { IfNone result (All (λ offer. ¬ IsFor wanted visible offer) kept.now) }
 {
     for place in 0..kept.len() {
         if kept[place].is_for(wanted, visible) {
@@ -249,9 +238,13 @@ fn find(kept: &[KeptOffer], wanted: ValType, visible: usize) -> Option<usize>
 /// for a wider type, does not exclude them. They belong to one block.
 fn may_offer(wider: Option<&KeptOffer>, first: usize, end: usize) -> bool
     requires { first < end × end ≤ 8 * (first / 8 + 1) }
-    ensures { (before : ℕ → ℕ) → IfSome wider.entry (λ offer. IsCounted before offer.now.globals)
+    ensures none { (before : ℕ → ℕ)
+        → IfSome wider.entry (λ offer. IsCounted before offer.now.globals)
         → ((m n : ℕ) → m ≤ n → before m ≤ before n)
         → result ≡ false → before end ≡ before first }
+    ensures some { (before : ℕ → ℕ) → IfSome wider.entry (λ offer.
+        IsCounted before offer.now.globals
+        → IsTrue result → MayOffer before offer.now.globals first end) }
 {
     match wider {
         Some(wider) => wider.globals.may_offer(first, end),
@@ -285,6 +278,7 @@ impl KeptOffer {
         ensures kept { (context : Context) (items : Read) → IsValInRange context.types wanted
             → IsEntry context items result }
         ensures wanted { result.wanted ≡ wanted }
+        ensures none { result.globals.seen ≡ 0 }
     {
         KeptOffer {
             wanted,
@@ -298,7 +292,7 @@ impl KeptOffer {
     /// Returns whether this is the entry for the type `wanted`, and has read no global past the
     /// first `visible`.
     fn is_for(&self, wanted: ValType, visible: usize) -> bool
-        ensures { IsTrue result ↔ ((self.now.wanted ≡ wanted) × (self.now.globals.seen ≤ visible)) }
+        ensures { IsTrue result ↔ IsFor wanted visible self.now }
     {
         is_same(&self.wanted, &wanted) && self.globals.seen <= visible
     }
@@ -323,15 +317,19 @@ impl KeptOffer {
         requires scope { IsScope (context_of scope.now) }
         requires read { AreAllRead (context_of scope.now) items.now }
         requires kept { IsEntry (context_of scope.now) items.now self.old }
+        requires visible { self.old.globals.seen ≤ scope.now.visible }
         requires wider { IfSome wider (λ offer.
             IsWiderOffer (context_of scope.now) self.old.wanted offer.now) }
         ensures kept { OnOk result (IsEntry (context_of scope.now) items.now self.new) }
         ensures wanted { OnOk result (self.new.wanted ≡ self.old.wanted) }
+        ensures counted { OnOk result
+            (IsWhole (context_of scope.now) self.old.wanted self.new) }
         ensures memory { IfErr result (λ e. e ≡ Error.Memory) }
     {
         self.test(scope, items)?;
         self.look_at_globals(scope, items, wider)?;
-        self.look_at_funcs(scope, items)
+        self.look_at_funcs(scope, items)?;
+        Ok(())
     }
 
     /// Tests each class in `items` that has not been tested.
@@ -341,6 +339,7 @@ impl KeptOffer {
         ensures kept { OnOk result (IsEntry (context_of scope.now) items.now self.new) }
         ensures tested { OnOk result (IsTested items.now self.new) }
         ensures wanted { OnOk result (self.new.wanted ≡ self.old.wanted) }
+        ensures globals { OnOk result (self.new.globals ≡ self.old.globals) }
         ensures memory { IfErr result (λ e. e ≡ Error.Memory) }
     {
         let types = scope.spaces.types;
@@ -367,6 +366,8 @@ impl KeptOffer {
         ensures kept { OnOk result (IsEntry (context_of scope.now) items.now self.new) }
         ensures tested { OnOk result (IsTested items.now self.new) }
         ensures wanted { OnOk result (self.new.wanted ≡ self.old.wanted) }
+        ensures all { OnOk result
+            (self.new.globals.seen ≡ max self.old.globals.seen scope.now.visible) }
         ensures memory { IfErr result (λ e. e ≡ Error.Memory) }
     {
         while self.globals.seen < scope.visible {
@@ -413,6 +414,9 @@ impl KeptOffer {
         requires tested { IsTested items.now self.old }
         ensures kept { OnOk result (IsEntry (context_of scope.now) items.now self.new) }
         ensures wanted { OnOk result (self.new.wanted ≡ self.old.wanted) }
+        ensures globals { OnOk result (self.new.globals ≡ self.old.globals) }
+        ensures all { OnOk result
+            (self.new.funcs.seen ≡ length (context_of scope.now).funcs) }
         ensures memory { IfErr result (λ e. e ≡ Error.Memory) }
     {
         let entities = scope.spaces.entities;

@@ -1,9 +1,8 @@
-ghost use Rattle.std.specs.Prelude.{◌≡◌, ◌<◌, ℕ, Some, IfSome, length, slice_get};
+ghost use Rattle.std.specs.Prelude.{◌≡◌, ◌<◌, ℕ, Some, length, slice_get};
 ghost use Rattle.smith_types.specs.declared.entity_type.GlobalType.{GlobalType};
-ghost use Rattle.smith_types.specs.declared.value_type.ValType.{ValType as Wanted};
-ghost use Rattle.smith_types.specs.Expressions.{Context, function_reference};
+ghost use Rattle.smith_types.specs.Expressions.{function_reference};
 ghost use Rattle.smith_draw.specs.ConstScopes.{context_of, IsScope};
-ghost use Rattle.smith_draw.specs.KeptOffers.{IsKnown, IsWhole, readable};
+ghost use Rattle.smith_draw.specs.KeptOffers.{counts_of, IsKnown, readable};
 
 use super::few_items::FewItems;
 use super::kept_offers::KeptOffer;
@@ -18,18 +17,17 @@ pub(super) enum Known<'a> {
     /// Each of them.
     Few(&'a FewItems),
     /// Their classes, and the counts of those that are offered for one type.
-    Many(&'a ReadItems, Option<&'a KeptOffer>),
+    Many(&'a ReadItems, &'a KeptOffer),
 }
 
 impl<'a> Known<'a> {
-    /// Returns the counts of the globals and functions that are offered, if these are known.
+    /// Returns the counts of the globals and functions that are offered, if there are many.
     pub fn counts(self) -> Option<&'a KeptOffer>
-        ensures { (context : Context) (wanted : Wanted) → IsKnown context wanted self.entry
-            → IfSome result (λ offer. IsWhole context wanted offer.now) }
+        ensures { result ≡ counts_of self.entry }
     {
         match self {
             Known::Few(_) => None,
-            Known::Many(_, counts) => counts,
+            Known::Many(_, counts) => Some(counts),
         }
     }
 }

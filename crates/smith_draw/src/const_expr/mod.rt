@@ -97,7 +97,7 @@ pub fn arbitrary_const_expr(
         → IfOk result (λ drawn. Takes (SpellsConstExpr config.now) u.old drawn u.new) }
     ensures left { KeepsPieces u.old u.new }
 {
-    let mut kept = KeptOffers::new(alloc);
+    let mut kept = KeptOffers::new();
     draw_const_expr(alloc, config, spaces, wanted, allow_defined, &mut kept, u)
 }
 
@@ -204,7 +204,7 @@ pub fn arbitrary_table_init(
         (MayRefuseConstExpr config.now (standing_in config.now spaces.now) (Ref element)) }
     ensures left { KeepsPieces u.old u.new }
 {
-    let mut kept = KeptOffers::new(alloc);
+    let mut kept = KeptOffers::new();
     draw_table_init(alloc, config, spaces, element, &mut kept, u)
 }
 

@@ -67,7 +67,7 @@ fn read_globals(scope: &Scope<'_>, few: &FewItems, classes: &mut Classes) -> Res
     ensures memory { IfErr result (λ e. e ≡ Error.Memory) }
 {
     for index in classes.of.len()..scope.visible {
-        let kind = few.kind_of_global(scope, index);
+        let kind = few.recorded_global(scope, index);
         classes.note(kind)?;
     }
     Ok(())
@@ -91,7 +91,7 @@ fn read_funcs(scope: &Scope<'_>, few: &FewItems, classes: &mut Classes) -> Resul
 {
     let entities = scope.spaces.entities;
     for index in classes.of.len()..entities.funcs.len() {
-        let reference = few.kind_of_function(scope, index);
+        let reference = few.recorded_function(scope, index);
         classes.note(reference)?;
     }
     Ok(())

@@ -7,7 +7,7 @@ use Rattle.smith_draw.proofs.const_expr.kept_offers.KeptOffer.count_globals.Goal
 
 pub returns-then-not-may_offer : goal.returns-then-not-may_offer
 returns-then-not-may_offer c = λ context orderly read entry wider.
-    let none = excluded context c.args.self.now.wanted c.args.first c.args.end c.args.wider orderly wider c.requires.one_block.0 (omega (arith, c.requires.read, read.globals.seen)) (λ before counted rising. c.may_offer.ensures before counted rising c.if-not-may_offer.true) in
+    let none = excluded context c.args.self.now.wanted c.args.first c.args.end c.args.wider orderly wider c.requires.one_block.0 (omega (arith, c.requires.read, read.globals.seen)) (λ before counted rising. c.may_offer.ensures.none before counted rising c.if-not-may_offer.true) in
     omega (arith, none)
 
 pub returns : goal.returns

@@ -45,4 +45,5 @@ loop-self-preserved c =
       };
       tested = record { globals = c.loop-self.invariant.tested.globals; funcs = c.loop-self.invariant.tested.funcs };
       wanted = c.loop-self.invariant.wanted;
+      globals = c.loop-self.invariant.globals;
     }

@@ -8,6 +8,7 @@ invariant-loop-self l = record {
   entry : IsEntry (context_of l.scope) l.items l.self;
   tested : IsTested l.items l.self;
   wanted : l.self.wanted ≡ l.fn.self.wanted;
+  globals : l.self.globals ≡ l.fn.self.globals;
 }
 
 abbrev pub decreases-loop-self : goal.decreases-loop-self

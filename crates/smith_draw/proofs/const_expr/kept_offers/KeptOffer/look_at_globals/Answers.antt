@@ -40,4 +40,6 @@ loop-self-preserved c =
       };
       tested = record { globals = c.loop-self.invariant.tested.globals; funcs = c.loop-self.invariant.tested.funcs };
       wanted = c.loop-self.invariant.wanted;
+      before = omega (arith, c.loop-self.invariant.before, c.in_ok-read_to.ensures.seen);
+      after = omega (arith, c.in_ok-read_to.ensures.seen);
     }

@@ -14,7 +14,7 @@ returns-clause-kept c = λ context valid kept. record {
 
 pub returns-clause-place : goal.returns-clause-place
 returns-clause-place c =
-    (c.new.result, ap (λ (all : List KeptOffer). slice_get all c.len-place.result) c.in_ok-push.ensures.items ∙ get_last c.args.self.now.kept.items c.new.result c.len-place.result (omega arith), c.new.ensures.wanted)
+    (c.new.result, ap (λ (all : List KeptOffer). slice_get all c.len-place.result) c.in_ok-push.ensures.items ∙ get_last c.args.self.now.kept.items c.new.result c.len-place.result (omega arith), (c.new.ensures.wanted, omega (arith, c.new.ensures.none)))
 
 pub returns-clause-still : goal.returns-clause-still
 returns-clause-still c = λ at other there.

@@ -1,7 +1,7 @@
 use Rattle.std.proofs.Common.{◌≡◌, length}
 use Rattle.smith_draw.specs.ConstScopes.{context_of}
 use Rattle.smith_draw.specs.KeptOffers.{AreRecorded}
-use Rattle.smith_draw.proofs.const_expr.few_items.read_funcs.Given as goal
+use Rattle.smith_draw.proofs.const_expr.few_items.record_funcs.Given as goal
 
 abbrev pub invariant-loop-index : goal.invariant-loop-index
 invariant-loop-index l = record {
