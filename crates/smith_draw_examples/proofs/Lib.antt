@@ -1,1 +1,2 @@
+mod FewItemExamples
 mod OneFunctionExamples

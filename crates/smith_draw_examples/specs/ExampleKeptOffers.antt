@@ -1,15 +1,17 @@
 -- Records of the offered globals and functions, for the examples.
-use Rattle.std.specs.Prelude.{◌≡◌, ℕ, Option, List, [], ◌∷◌}
+use Rattle.std.specs.Prelude.{◌≡◌, ℕ, ◌+◌, Option, None, List, [], ◌∷◌}
 use Rattle.smith_types.specs.declared.value_type.ValType.{ValType}
 use Rattle.smith_types.specs.declared.value_type.ValType.TheVariants.{I32, Ref}
 use Rattle.smith_types.specs.declared.value_type.AbstractHeapType.TheVariants as heap
 use Rattle.smith_types.specs.ExampleContexts.{context_types}
 use Rattle.smith_types.specs.ExampleEntities.{constant_global, variable_global}
 use Rattle.smith_types.specs.ExampleTypes.{plain, nullable}
-use Rattle.smith_draw.specs.KeptOffers.{AreClasses, readable}
+use Rattle.smith_draw.specs.KeptOffers.{AreClasses, AreRecorded, readable}
 use Rattle.smith_draw.specs.declared.const_expr.block_counts.BlockCounts.{BlockCounts}
 use Rattle.smith_draw.specs.declared.const_expr.classes.Classes.{Classes}
+use Rattle.smith_draw.specs.declared.const_expr.few_items.FewItems.{FewItems}
 use Rattle.smith_draw.specs.declared.const_expr.kept_offers.KeptOffer.{KeptOffer}
+use Rattle.smith_draw.specs.declared.const_expr.kept_offers.KeptOffers.{KeptOffers}
 use Rattle.smith_draw.specs.declared.const_expr.kept_offers.ManyItems.{ManyItems}
 
 -- the counts of items read: all, those offered, and those offered before each block
@@ -45,6 +47,18 @@ HasClasses classes kinds of = (classes.kinds ≡ kinds) × (classes.of ≡ of)
 -- they are correct for an immutable, a mutable and an immutable global
 abbrev pub AreGlobalClasses : Classes → Type 0
 AreGlobalClasses classes = AreClasses context_types (λ index global. readable global) (constant_global I32 ∷ variable_global I32 ∷ constant_global I32 ∷ []) classes
+
+-- each number of the list is recorded as its sum with its place
+abbrev pub AreSums : List ℕ → List ℕ → Type 0
+AreSums = AreRecorded (λ place number. place + number)
+
+-- the recorded types of globals, and indices of the types of functions
+abbrev pub HasFew : FewItems → List (Option ValType) → List ℕ → Type 0
+HasFew few globals funcs = (few.globals.items ≡ globals) × (few.funcs.items ≡ funcs)
+
+-- these alone are recorded, and there are no classes
+abbrev pub HasFewAlone : KeptOffers → List (Option ValType) → List ℕ → Type 0
+HasFewAlone kept globals funcs = HasFew kept.few globals funcs × (kept.many ≡ None)
 
 -- no global and no function is in a class, and the entries are given
 abbrev pub HasEntries : ManyItems → List KeptOffer → Type 0

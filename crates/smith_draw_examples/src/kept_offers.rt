@@ -9,13 +9,17 @@ ghost use Rattle.smith_types.specs.ExampleFeatures.{usual_features};
 ghost use Rattle.smith_types.specs.ExampleTypes.{nullable, not_null};
 ghost use Rattle.smith_types.specs.ExampleContexts.{context_with};
 ghost use Rattle.smith_draw.specs.ExampleConstExprs.{context_of_types};
-ghost use Rattle.smith_draw.specs.KeptOffers.{AreFlags, AreManyKept, IsCounted, IsKeptOffer};
+ghost use Rattle.smith_draw.specs.KeptOffers.{AreAllRead, AreFewRead, AreFlags, AreManyKept};
+ghost use Rattle.smith_draw.specs.KeptOffers.{HasReadAll, IsCounted, IsFewWhole, IsKeptOffer};
 ghost use Rattle.smith_draw.specs.KeptOffers.{IsWhole};
 ghost use Rattle.smith_draw.specs.declared.const_expr.classes.Classes.{Classes};
+ghost use Rattle.smith_draw.specs.declared.const_expr.few_items.FewItems.{FewItems};
+ghost use Rattle.smith_draw.specs.declared.const_expr.kept_offers.KeptOffers.{KeptOffers};
 ghost use Rattle.smith_draw.specs.declared.const_expr.kept_offers.ManyItems.{ManyItems};
 ghost use Rattle.smith_draw_examples.specs.ExampleKeptOffers.{counts, unread, kept_for, functions};
 ghost use Rattle.smith_draw_examples.specs.ExampleKeptOffers.{to_functions, numbers, HasClasses};
 ghost use Rattle.smith_draw_examples.specs.ExampleKeptOffers.{HasEntries, AreGlobalClasses};
+ghost use Rattle.smith_draw_examples.specs.ExampleKeptOffers.{AreSums, HasFew, HasFewAlone};
 ghost use Rattle.smith_draw_examples.specs.ExampleKeptOffers.{too_few_functions};
 
 fn counted()
@@ -136,4 +140,75 @@ fn offers()
     ensures of_which_one_is_wrong { (many : ManyItems)
         → HasEntries many (numbers ∷ too_few_functions ∷ [])
         → ¬ AreManyKept (context_with usual_features 3) many }
+{}
+
+fn recorded()
+    ensures nothing_recorded { AreSums (5 ∷ []) [] }
+    ensures the_first_number { AreSums (5 ∷ 7 ∷ []) (5 ∷ []) }
+    ensures all_numbers { AreSums (5 ∷ 7 ∷ []) (5 ∷ 8 ∷ []) }
+    ensures without_its_place { ¬ AreSums (5 ∷ 7 ∷ []) (5 ∷ 7 ∷ []) }
+    ensures in_another_order { ¬ AreSums (5 ∷ 7 ∷ []) (8 ∷ 5 ∷ []) }
+    ensures more_records_than_numbers { ¬ AreSums (5 ∷ []) (5 ∷ 8 ∷ []) }
+{}
+
+fn few_read()
+    ensures nothing_read { (few : FewItems) → HasFew few [] []
+        → AreFewRead (context_with usual_features 3) few }
+    ensures a_global { (few : FewItems) → HasFew few (Some I32 ∷ []) []
+        → AreFewRead (context_with usual_features 3) few }
+    ensures all_items { (few : FewItems)
+        → HasFew few (Some I32 ∷ None ∷ Some I32 ∷ []) (0 ∷ 0 ∷ [])
+        → AreFewRead (context_with usual_features 3) few }
+    ensures a_mutable_global_with_a_type { (few : FewItems)
+        → HasFew few (Some I32 ∷ Some I32 ∷ []) []
+        → ¬ AreFewRead (context_with usual_features 3) few }
+    ensures an_immutable_global_without { (few : FewItems) → HasFew few (None ∷ []) []
+        → ¬ AreFewRead (context_with usual_features 3) few }
+    ensures a_global_of_another_type { (few : FewItems) → HasFew few (Some I64 ∷ []) []
+        → ¬ AreFewRead (context_with usual_features 3) few }
+    ensures a_function_of_another_type { (few : FewItems) → HasFew few [] (1 ∷ [])
+        → ¬ AreFewRead (context_with usual_features 3) few }
+    ensures more_functions_than_exist { (few : FewItems) → HasFew few [] (0 ∷ 0 ∷ 0 ∷ [])
+        → ¬ AreFewRead (context_with usual_features 3) few }
+{}
+
+fn few_whole()
+    ensures all_items { (few : FewItems)
+        → HasFew few (Some I32 ∷ None ∷ Some I32 ∷ []) (0 ∷ 0 ∷ [])
+        → IsFewWhole (context_with usual_features 3) few }
+    ensures the_visible_globals { (few : FewItems)
+        → HasFew few (Some I32 ∷ None ∷ []) (0 ∷ 0 ∷ [])
+        → IsFewWhole (context_with usual_features 2) few }
+    ensures a_visible_global_left_out { (few : FewItems)
+        → HasFew few (Some I32 ∷ None ∷ []) (0 ∷ 0 ∷ [])
+        → ¬ IsFewWhole (context_with usual_features 3) few }
+    ensures a_function_left_out { (few : FewItems)
+        → HasFew few (Some I32 ∷ None ∷ Some I32 ∷ []) (0 ∷ [])
+        → ¬ IsFewWhole (context_with usual_features 3) few }
+    ensures a_wrong_type { (few : FewItems)
+        → HasFew few (Some I32 ∷ None ∷ Some I64 ∷ []) (0 ∷ 0 ∷ [])
+        → ¬ IsFewWhole (context_with usual_features 3) few }
+{}
+
+fn all_read()
+    ensures few { (kept : KeptOffers)
+        → HasFewAlone kept (Some I32 ∷ None ∷ Some I32 ∷ []) (0 ∷ 0 ∷ [])
+        → HasReadAll (context_with usual_features 3) I32 0 kept }
+    ensures few_without_a_function { (kept : KeptOffers)
+        → HasFewAlone kept (Some I32 ∷ None ∷ Some I32 ∷ []) (0 ∷ [])
+        → ¬ HasReadAll (context_with usual_features 3) I32 0 kept }
+    ensures many { (kept : KeptOffers) (many : ManyItems) → kept.many ≡ Some many
+        → AreAllRead (context_with usual_features 3) many.items
+        → many.kept.items ≡ functions ∷ numbers ∷ []
+        → HasReadAll (context_with usual_features 3) I32 1 kept }
+    ensures an_entry_for_another_type { (kept : KeptOffers) (many : ManyItems)
+        → kept.many ≡ Some many → many.kept.items ≡ functions ∷ numbers ∷ []
+        → ¬ HasReadAll (context_with usual_features 3) I32 0 kept }
+    ensures no_entry { (kept : KeptOffers) (many : ManyItems)
+        → kept.many ≡ Some many → many.kept.items ≡ []
+        → ¬ HasReadAll (context_with usual_features 3) I32 0 kept }
+    ensures a_class_without_a_function { (kept : KeptOffers) (many : ManyItems)
+        → kept.many ≡ Some many
+        → many.items.funcs.of ≡ 0 ∷ []
+        → ¬ HasReadAll (context_with usual_features 3) I32 1 kept }
 {}
