@@ -1,0 +1,23 @@
+use Rattle.std.proofs.Common.{sym, ◌∙◌}
+use Rattle.std.proofs.lemmas.Result.{on_ok_weaker}
+use Rattle.smith_code_nodes.proofs.ResultLemmas.{ok_both}
+use Rattle.smith_code_nodes.specs.Scopes.{where_stands}
+use Rattle.smith_code.proofs.CreatedLemmas.{created_drawn}
+use Rattle.smith_code.proofs.DrawnLemmas.{leaf_drawn, stop_drawn}
+use Rattle.smith_code.proofs.LawLemmas.{none_other}
+use Rattle.smith_code.proofs.LeafChoiceLemmas.{brief_few, first_brief, first_created, first_stop}
+use Rattle.smith_code.proofs.StopLemmas.{brief_goes_on}
+use Rattle.smith_code.proofs.leaf.write_first.Goals as goal
+
+pub returns-in-Some-clause-out : goal.returns-in-Some-clause-out
+returns-in-Some-clause-out c =
+    rw (first_brief c.args.scope.now.config.now (where_stands c.args.scope.now c.args.draft.now) c.args.draft.now.set.items c.args.wanted c.in-Some.leaf c.in-Some.ensures.exact) c.write_instructions.ensures.out
+
+pub returns-in-Some-clause-drawn : goal.returns-in-Some-clause-drawn
+returns-in-Some-clause-drawn c =
+    on_ok_weaker c.write_instructions.result
+    (λ longer. leaf_drawn c.in-Some.leaf c.in-Some.ensures.typed c.requires.wanted c.in-Some.ensures.allowed
+    (brief_few c.args.scope.now.config.now c.args.scope.now.types.now.types c.in-Some.leaf c.requires.trapless)
+    (brief_goes_on c.args.scope.now.config.now (where_stands c.args.scope.now c.args.draft.now) c.args.draft.now.set.items c.args.wanted c.in-Some.leaf c.in-Some.ensures.exact)
+    longer c.write_instructions.ensures.set c.write_instructions.ensures.same c.write_instructions.ensures.budget)
+    c.write_instructions.ensures.out
