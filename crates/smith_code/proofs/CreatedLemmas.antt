@@ -1,8 +1,8 @@
 -- Structs that are created from values of one instruction each.
-use Rattle.std.proofs.Common.{◌≡◌, ℕ, zero, suc, ◌+◌, ◌<◌, ◌≤◌, Bool, true, false, List, [], ◌∷◌, ◌++◌, Option, Some, None, length, get_or, drop, drop-cons, refl, sym, subst, ap, ◌∙◌, append_assoc, arith, length-append}
+use Rattle.std.proofs.Common.{◌≡◌, ℕ, zero, suc, ◌+◌, ◌<◌, ◌≤◌, Bool, true, false, List, [], ◌∷◌, ◌++◌, Option, Some, None, length, get_or, take, drop, drop-cons, refl, sym, subst, ap, ◌∙◌, append_assoc, arith, length-append}
 use Rattle.std.specs.Prelude.{◌&&◌, All, IfSome, IsTrue, is_some, option_to_list, slice_get, if◌then◌else◌}
-use Rattle.std.proofs.lemmas.List.{append-nil, length-map}
-use Rattle.std.proofs.lemmas.List.Elements.{All-nil, All-append}
+use Rattle.std.proofs.lemmas.List.{append-nil, length-map, take_more}
+use Rattle.std.proofs.lemmas.List.Elements.{All-nil, All-append, All-push}
 use Rattle.std.proofs.lemmas.Option.{same_Some, slice_get_within}
 use Rattle.smith_config.specs.declared.config.Config.{Config}
 use Rattle.smith_types.specs.Expressions.{IsStructAt, field_values, unpacked}
@@ -53,13 +53,56 @@ next_test config context set fields place d inside =
     let next : place + 1 ≡ suc place = omega arith in
     rw (first, next) refl
 
-pub next_single : (config : Config) (context : BodyContext) (set : List ℕ) (fields : List FieldType) (place : ℕ) (d : FieldType) (out : List Instr) → place < length fields
+pub no_test : (config : Config) (context : BodyContext) (set : List ℕ) (fields : List FieldType) (place : ℕ) → length fields ≤ place → have_singles config context set (field_values (drop place fields)) ≡ true
+no_test config context set [] zero past = refl
+no_test config context set [] (suc place) past = refl
+no_test config context set (field ∷ fields) zero past = absurd (omega arith)
+no_test config context set (field ∷ fields) (suc place) past = no_test config context set fields place (omega arith)
+
+none_past : (config : Config) (context : BodyContext) (set : List ℕ) (fields : List FieldType) (place : ℕ) → length fields ≤ place → singles config context set (field_values (drop place fields)) ≡ []
+none_past config context set [] zero past = refl
+none_past config context set [] (suc place) past = refl
+none_past config context set (field ∷ fields) zero past = absurd (omega arith)
+none_past config context set (field ∷ fields) (suc place) past = none_past config context set fields place (omega arith)
+
+next_single : (config : Config) (context : BodyContext) (set : List ℕ) (fields : List FieldType) (place : ℕ) (d : FieldType) (out : List Instr) → place < length fields
     → out ++ singles config context set (field_values (drop place fields))
     ≡ (out ++ option_to_list (first_single config context set (unpacked (get_or fields place d).element_type))) ++ singles config context set (field_values (drop (place + 1) fields))
 next_single config context set fields place d out inside =
     let first : drop place fields ≡ get_or fields place d ∷ drop (suc place) fields = drop-cons fields place d inside in
     let next : place + 1 ≡ suc place = omega arith in
     rw (first, next) (sym (append_assoc out _ _))
+
+pub single_written : (config : Config) (context : BodyContext) (set : List ℕ) (fields : List FieldType) (place : ℕ) (d : FieldType) (whole out written : List Instr) (single : Option Instr) → place < length fields
+    → single ≡ first_single config context set (unpacked (get_or fields place d).element_type) → written ≡ out ++ option_to_list single → whole ≡ out ++ singles config context set (field_values (drop place fields))
+    → whole ≡ written ++ singles config context set (field_values (drop (place + 1) fields))
+single_written config context set fields place d whole out written single inside is longer so_far =
+    let rest = singles config context set (field_values (drop (place + 1) fields)) in
+    so_far
+    ∙ (next_single config context set fields place d out inside ∙ (ap (λ (o : Option Instr). (out ++ option_to_list o) ++ rest) (sym is) ∙ ap (λ (instructions : List Instr). instructions ++ rest) (sym longer)))
+
+pub no_single : (config : Config) (context : BodyContext) (set : List ℕ) (fields : List FieldType) (place : ℕ) (whole out : List Instr) → length fields ≤ place → whole ≡ out ++ singles config context set (field_values (drop place fields)) → out ≡ whole
+no_single config context set fields place whole out past so_far =
+    let none : singles config context set (field_values (drop place fields)) ≡ [] = none_past config context set fields place past in
+    sym (append-nil out) ∙ (ap (λ (rest : List Instr). out ++ rest) (sym none) ∙ sym so_far)
+
+pub more_typed : (config : Config) (context : BodyContext) (set : List ℕ) (fields : List FieldType) (place : ℕ) (d : FieldType) → place < length fields → AreSinglesTyped config context set (take place fields)
+    → IfSome (first_single config context set (unpacked (get_or fields place d).element_type)) (IsLeaf context set (unpacked (get_or fields place d).element_type)) → AreSinglesTyped config context set (take (place + 1) fields)
+more_typed config context set fields place d inside all typed =
+    rw (take_more fields place d inside)
+    (All-push (λ (field : FieldType). IfSome (first_single config context set (unpacked field.element_type)) (IsLeaf context set (unpacked field.element_type))) (take place fields) (get_or fields place d) all typed)
+
+pub creation_written : (old middle new first last : List Instr) → middle ≡ old ++ first → new ≡ middle ++ last → new ≡ old ++ (first ++ last)
+creation_written old middle new first last before after = after ∙ (ap (λ (instructions : List Instr). instructions ++ last) before ∙ append_assoc old first last)
+
+-- written values change neither the labels nor the locals that are set
+pub single_before : (scope : Scope) (old here : Draft) (value : ValType) (single : Option Instr) → here.set.items ≡ old.set.items → here.labels.items ≡ old.labels.items → single ≡ first_single scope.config.now (where_stands scope here) here.set.items value
+    → single ≡ first_single scope.config.now (where_stands scope old) old.set.items value
+single_before scope old here value single set labels is = rw (← set, ← labels) is
+
+pub leaf_before : (scope : Scope) (old here : Draft) (value : ValType) (single : Option Instr) → here.set.items ≡ old.set.items → here.labels.items ≡ old.labels.items → IfSome single (IsLeaf (where_stands scope here) here.set.items value)
+    → IfSome single (IsLeaf (where_stands scope old) old.set.items value)
+leaf_before scope old here value single set labels typed = rw (← set, ← labels) typed
 
 -- the parts of a struct type that is created
 record IsCreated (config : Config) (context : BodyContext) (set : List ℕ) (wanted : ValType) (ty : ℕ) : Type 0 where

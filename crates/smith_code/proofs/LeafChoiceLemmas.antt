@@ -52,6 +52,11 @@ pub leaf_permitted : (config : Config) (context : BodyContext) (set : List ℕ) 
 unfolding leaf_at
 leaf_permitted config context set wanted bytes left instruction permitted drawn is = rw (drawn, is) refl
 
+-- what is not some value is none
+pub not_some : {A : Type 0} (o p : Option A) → ((x : A) → o ≡ Some x → ⊥) → o ≡ p → None ≡ p
+not_some None p never is = is
+not_some (Some x) p never is = absurd (never x refl)
+
 -- the first value
 pub first_brief : (config : Config) (context : BodyContext) (set : List ℕ) (wanted : ValType) (leaf : Leaf) → Some leaf ≡ brief_leaf config context set wanted → first_leaf config context set wanted ≡ instructions_of leaf
 unfolding first_leaf
