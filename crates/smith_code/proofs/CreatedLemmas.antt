@@ -1,6 +1,6 @@
 -- Structs that are created from values of one instruction each.
 use Rattle.std.proofs.Common.{◌≡◌, ℕ, zero, suc, ◌+◌, ◌<◌, ◌≤◌, Bool, true, false, List, [], ◌∷◌, ◌++◌, Option, Some, None, length, get_or, take, drop, drop-cons, refl, sym, subst, ap, ◌∙◌, append_assoc, arith, length-append}
-use Rattle.std.specs.Prelude.{◌&&◌, All, IfSome, IsTrue, is_some, option_to_list, slice_get, if◌then◌else◌}
+use Rattle.std.specs.Prelude.{◌&&◌, All, IfSome, is_some, option_to_list, slice_get, if◌then◌else◌}
 use Rattle.std.proofs.lemmas.List.{append-nil, length-map, take_more}
 use Rattle.std.proofs.lemmas.List.Elements.{All-nil, All-append, All-push}
 use Rattle.std.proofs.lemmas.Option.{same_Some, slice_get_within}
