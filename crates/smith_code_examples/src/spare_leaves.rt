@@ -1,4 +1,4 @@
-#![tactic(auto, unfolding(smith_code::specs::Leaves::any_leaf_at, smith_code::specs::Leaves::brief_leaf, smith_code::specs::Leaves::created_type, smith_code::specs::Leaves::constant_instr_at, smith_code::specs::Leaves::first_leaf, smith_code::specs::Leaves::first_single, smith_code::specs::Leaves::i31_leaf, smith_code::specs::Leaves::short_leaf, smith_code::specs::Leaves::leaf_at, smith_code::specs::Leaves::leaf_choice_at, smith_code::specs::Leaves::named_at, smith_code::specs::Leaves::spare_leaf, smith_code_nodes::specs::Scopes::is_permitted, smith_instr::specs::Enabled::is_enabled, smith_draw::specs::Below::is_heap_below, smith_draw::specs::Choices::chosen_at, smith_draw::specs::Offered::ancestors, smith_code_nodes::specs::Offered::chunk_at, smith_code_nodes::specs::Offered::offered, smith_bytes::specs::Draws::choose_at, smith_bytes::specs::Draws::digit_count, smith_bytes::specs::Draws::range_at))]
+#![tactic(auto, unfolding(smith_code::specs::Leaves::any_leaf_at, smith_code::specs::Leaves::brief_leaf, smith_code::specs::Leaves::created_type, smith_code::specs::Leaves::constant_instr_at, smith_code::specs::Leaves::first_leaf, smith_code::specs::Leaves::first_single, smith_code::specs::Leaves::i31_leaf, smith_code::specs::Leaves::short_leaf, smith_code::specs::Leaves::leaf_at, smith_code::specs::Leaves::leaf_choice_at, smith_code::specs::Leaves::named_at, smith_code::specs::Leaves::spare_leaf, smith_code_nodes::specs::Scopes::is_permitted, smith_instr::specs::Enabled::is_enabled, smith_draw::specs::Below::is_heap_below, smith_draw::specs::Choices::chosen_at, smith_draw::specs::Offered::ancestors, smith_code_nodes::specs::Offered::chunk_at, smith_code_nodes::specs::Offered::offered, smith_bytes::specs::Draws::choose_at, smith_bytes::specs::Draws::digit_count, smith_bytes::specs::Draws::range_at, smith_bytes::specs::Draws::whole_at))]
 
 ghost use Rattle.std.specs.Prelude.{◌≡◌, ◌+◌, ◌^◌, true, [], ◌∷◌, pos};
 ghost use Rattle.smith_types.specs.Types.{IsOrderly};
@@ -73,6 +73,11 @@ fn created_structs()
         ≡ instr.Aggregate (aggregate.StructNewDefault 0)
         ∷ instr.Aggregate (aggregate.StructNew 1) ∷ [] }
     ensures beside_numbers { first_leaf trapless nested [] (some 2)
+        ≡ instr.GlobalGet 0 ∷ instr.I64Const (pos 0)
+        ∷ instr.Aggregate (aggregate.StructNewDefault 0)
+        ∷ instr.Aggregate (aggregate.StructNew 2) ∷ [] }
+    ensures beside_numbers_without_globals { first_leaf trapless
+        (record nested { globals = [] }) [] (some 2)
         ≡ number 0 ∷ instr.I64Const (pos 0) ∷ instr.Aggregate (aggregate.StructNewDefault 0)
         ∷ instr.Aggregate (aggregate.StructNew 2) ∷ [] }
     ensures of_a_function { first_leaf trapless nested [] (some 4)
