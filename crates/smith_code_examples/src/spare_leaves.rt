@@ -104,8 +104,11 @@ fn drawn_leaves()
     ensures i31_where_traps_are_allowed { leaf_at default_config unnamed [] (some_of heap.I31)
         (4 ∷ 9 ∷ []) ≡ (instr.Unreachable ∷ [], 9 ∷ []) }
     ensures struct_of_a_struct { leaf_at trapless nested [] (some 1) (4 ∷ 9 ∷ [])
-        ≡ (instr.Aggregate (aggregate.StructNewDefault 0)
-        ∷ instr.Aggregate (aggregate.StructNew 1) ∷ [], 9 ∷ []) }
+        ≡ (
+          instr.Aggregate (aggregate.StructNewDefault 0)
+              ∷ instr.Aggregate (aggregate.StructNew 1) ∷ [],
+          9 ∷ [],
+        ) }
     ensures struct_of_a_struct_where_traps_are_allowed { leaf_at default_config nested []
         (some 1) (4 ∷ 9 ∷ []) ≡ (instr.Unreachable ∷ [], 9 ∷ []) }
     ensures exception { leaf_at trapless unnamed [] (some_of heap.Exn) (4 ∷ 9 ∷ [])
@@ -126,6 +129,7 @@ fn others()
         (record trapless { allowed_instructions = kinds_of Aggregate }) untyped []
         (some_of heap.I31) }
     ensures two_levels { HasNoOther trapless nested [] (some 3) }
+    ensures struct_of_a_struct { ¬ HasNoOther trapless nested [] (some 1) }
     ensures external { ¬ HasNoOther trapless unnamed [] (some_of heap.Extern) }
     ensures external_without_types { ¬ HasNoOther trapless untyped [] (some_of heap.Extern) }
     ensures external_of_no_allowed_constant { HasNoOther

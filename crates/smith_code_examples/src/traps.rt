@@ -165,8 +165,11 @@ fn in_place_of_a_stop()
         ≡ (instr.Aggregate (aggregate.StructNewDefault 2) ∷ [], []) }
     ensures struct_of_a_struct { body_at trapless
         (record nested { results = some 1 ∷ [] }) 1 (0 ∷ 0 ∷ 4 ∷ [])
-        ≡ (instr.Aggregate (aggregate.StructNewDefault 0)
-        ∷ instr.Aggregate (aggregate.StructNew 1) ∷ [], []) }
+        ≡ (
+          instr.Aggregate (aggregate.StructNewDefault 0)
+              ∷ instr.Aggregate (aggregate.StructNew 1) ∷ [],
+          [],
+        ) }
     ensures struct_of_a_struct_of_a_struct { body_at trapless
         (record nested { results = some 3 ∷ [] }) 1 (0 ∷ 0 ∷ 4 ∷ [])
         ≡ (instr.Unreachable ∷ [], []) }
