@@ -46,19 +46,6 @@ pub fields_valid : (context : BodyContext) (ty : ℕ) → IsScope context → Ar
 fields_valid context ty scope = fields_valid_in context ty (struct_in (slice_get context.types ty)) scope refl
 
 -- one field after another
-pub next_test : (config : Config) (context : BodyContext) (set : List ℕ) (fields : List FieldType) (place : ℕ) (d : FieldType) → place < length fields
-    → have_singles config context set (field_values (drop place fields)) ≡ (is_some (first_single config context set (unpacked (get_or fields place d).element_type)) && have_singles config context set (field_values (drop (place + 1) fields)))
-next_test config context set fields place d inside =
-    let first : drop place fields ≡ get_or fields place d ∷ drop (suc place) fields = drop-cons fields place d inside in
-    let next : place + 1 ≡ suc place = omega arith in
-    rw (first, next) refl
-
-pub no_test : (config : Config) (context : BodyContext) (set : List ℕ) (fields : List FieldType) (place : ℕ) → length fields ≤ place → have_singles config context set (field_values (drop place fields)) ≡ true
-no_test config context set [] zero past = refl
-no_test config context set [] (suc place) past = refl
-no_test config context set (field ∷ fields) zero past = absurd (omega arith)
-no_test config context set (field ∷ fields) (suc place) past = no_test config context set fields place (omega arith)
-
 none_past : (config : Config) (context : BodyContext) (set : List ℕ) (fields : List FieldType) (place : ℕ) → length fields ≤ place → singles config context set (field_values (drop place fields)) ≡ []
 none_past config context set [] zero past = refl
 none_past config context set [] (suc place) past = refl
