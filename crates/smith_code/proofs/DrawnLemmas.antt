@@ -6,6 +6,7 @@ use Rattle.std.proofs.lemmas.Bool.{false≢true}
 use Rattle.std.proofs.lemmas.List.{append-nil, take_more, length-replicate}
 use Rattle.std.proofs.lemmas.List.Elements.{All-nil, All-push, All-append, All-take}
 use Rattle.smith_config.specs.declared.config.Config.{Config}
+use Rattle.smith_types.proofs.GrowthLemmas.{IsValBelow-refl}
 use Rattle.smith_types.specs.declared.value_type.ValType.{ValType}
 use Rattle.smith_types.specs.declared.value_type.ValType.TheVariants.{I32}
 use Rattle.smith_instr.specs.Contexts.{BodyContext, labelled, IsValid, AreValid, AreBelow, IsBlockType}
@@ -21,7 +22,7 @@ use Rattle.smith_code_nodes.specs.Scopes.{context_of, bare, where_stands, widest
 use Rattle.smith_code_nodes.specs.Nodes.{block_cost, IsNode, HasHeadType, MayOpen, head_sets, head_instruction, opened, label_of, taken_by}
 use Rattle.smith_code.specs.DraftSteps.{IsDrawn, IsWritten, IsOpened, IsEnded}
 use Rattle.smith_code.specs.Laws.{HasNoOther}
-use Rattle.smith_code.specs.Leaves.{IsLeafOf, IsThen, instructions_of, longest_leaf, only}
+use Rattle.smith_code.specs.Leaves.{IsLeafOf, IsThen, instructions_of, longest_leaf}
 use Rattle.smith_code.specs.declared.leaf.Leaf.{Leaf}
 use Rattle.smith_code.specs.Stops.{AreStopsNeeded, HasNeededStops, HaveNeededStops, IsNeeded, IsNoStop}
 use Rattle.smith_code_nodes.specs.declared.node.Head.{Head}
@@ -31,7 +32,9 @@ use Rattle.smith_code_nodes.specs.declared.node.Opening.{Opening}
 use Rattle.smith_code_nodes.specs.declared.node.Opening.TheVariants as opening
 use Rattle.smith_code_nodes.specs.declared.scope.Scope.{Scope}
 use Rattle.smith_code_nodes.specs.declared.scope.Draft.{Draft}
+use Rattle.smith_code_nodes.proofs.NodeLemmas.{one_valid}
 use Rattle.smith_code.proofs.LeafChoiceLemmas.{some_leaf}
+use Rattle.smith_code.proofs.LeafLemmas.{stop_allowed}
 use Rattle.smith_code.proofs.StopLemmas.{at_end, in_turn}
 
 times : (k m n : ℕ) → m ≤ n → k * m ≤ k * n
@@ -97,13 +100,6 @@ alone {config = config} context instruction operands results given base set set'
       needed = (record { exact = refl; stop = stop }, end.needed);
     }
 
--- a value without traps
-same_type : (context : BodyContext) (set : List ℕ) (wanted : ValType) (leaf : Leaf) (of : IsLeafOf context set wanted leaf) → leaf ≡ only instr.Unreachable → of.value ≡ wanted
-same_type context set wanted leaf of is =
-    let created : of.value ≡ of.reference = subst (λ (leaf : Leaf). IsThen context set of.value of.reference leaf.creation) is of.created in
-    let converted : of.reference ≡ wanted = subst (λ (leaf : Leaf). IsThen context set of.reference wanted leaf.conversion) is of.converted in
-    created ∙ converted
-
 -- an instruction that takes the value on top, if there is one
 then_drawn : (config : Config) (context : BodyContext) (set : List ℕ) (base : List ValType) (a b : ValType) (o : Option Instr) → IsThen context set a b o → AreValid context (a ∷ []) → AreValid context (b ∷ []) → AreValid context base
     → HaveNeededStops config context (option_to_list o) (stacked (base ++ a ∷ []) set) (stacked (base ++ b ∷ []) set)
@@ -114,27 +110,16 @@ then_drawn config context set base a b (Some instruction) (goes_on, over) valid 
     alone context instruction (a ∷ []) (over.value ∷ []) (b ∷ []) base set set over.typed (over.below, tt) valid' under (rw (over.sets_none, append-nil) refl) (λ disallowed is. absurd (goes_on is))
 
 -- a value that takes no budget
-pub leaf_drawn : {scope : Scope} {wanted : ValType} {old new : Draft} (leaf : Leaf) → IsLeafOf (where_stands scope old) old.set.items wanted leaf → IsValid (bare scope) wanted → All (IsAllowedIn scope) (instructions_of leaf)
-    → length (instructions_of leaf) ≤ longest_leaf scope.config.now
-    → (IsTrue scope.config.now.disallow_traps → leaf.value ≡ instr.Unreachable → (leaf ≡ only instr.Unreachable) × HasNoOther scope.config.now (where_stands scope old) old.set.items wanted)
-    → new.out ≡ old.out ++ instructions_of leaf → new.set.items ≡ old.set.items → new.labels.items ≡ old.labels.items → new.budget ≡ old.budget → IsDrawn scope [] (wanted ∷ []) 1 old new
-leaf_drawn {scope = scope} {wanted = wanted} {old = old} {new = new} leaf of valid allowed few stop longer set labels budget =
-    let config = scope.config.now in
-    let context = where_stands scope old in
-    let one_valid : (value : ValType) → IsValid context value → AreValid context (value ∷ []) = λ value valid. All-push (IsValid context) [] value (All-nil (IsValid context)) valid in
-    let len : length new.out ≡ length old.out + length (instructions_of leaf) = rw longer (length-append old.out (instructions_of leaf)) in
-    let stop' : IsTrue config.disallow_traps → leaf.value ≡ instr.Unreachable → HasNoOther config context old.set.items of.value =
-    λ disallowed is. let (alone, none) = stop disallowed is in subst (HasNoOther config context old.set.items) (sym (same_type context old.set.items wanted leaf of alone)) none in
+pub value_drawn : {scope : Scope} {wanted : ValType} {old new : Draft} (instructions : List Instr)
+    → ((base : List ValType) → AreValid (bare scope) base → HaveNeededStops scope.config.now (where_stands scope old) instructions (stacked (base ++ []) old.set.items) (stacked (base ++ wanted ∷ []) old.set.items))
+    → All (IsAllowedIn scope) instructions → length instructions ≤ longest_leaf scope.config.now scope.types.now.types
+    → new.out ≡ old.out ++ instructions → new.set.items ≡ old.set.items → new.labels.items ≡ old.labels.items → new.budget ≡ old.budget → IsDrawn scope [] (wanted ∷ []) 1 old new
+value_drawn {old = old} {new = new} instructions typed allowed few longer set labels budget =
+    let len : length new.out ≡ length old.out + length instructions = rw longer (length-append old.out instructions) in
     record {
-      more = instructions_of leaf;
+      more = instructions;
       longer = longer;
-      typed = λ base under.
-          let first = alone {config = config} context leaf.value [] (of.produced.value ∷ []) (of.value ∷ []) base old.set.items old.set.items of.produced.typed (of.produced.below, tt) (one_valid of.value of.value_valid) under
-          (rw (of.produced.sets_none, append-nil) refl)
-          (λ disallowed is. record { none = refl; wanted = of.value; one = refl; no_other = stop' disallowed is }) in
-          let second = then_drawn config context old.set.items base of.value of.reference leaf.creation of.created (one_valid of.value of.value_valid) (one_valid of.reference of.reference_valid) under in
-          let third = then_drawn config context old.set.items base of.reference wanted leaf.conversion of.converted (one_valid of.reference of.reference_valid) (one_valid wanted valid) under in
-          rw set (in_turn first (in_turn second third));
+      typed = λ base under. rw set (typed base under);
       allowed = allowed;
       set = [];
       set_more = rw append-nil set;
@@ -142,6 +127,33 @@ leaf_drawn {scope = scope} {wanted = wanted} {old = old} {new = new} leaf of val
       spent = omega arith;
       short = rw budget (omega arith);
     }
+
+pub leaf_drawn : {scope : Scope} {wanted : ValType} {old new : Draft} (leaf : Leaf) → IsLeafOf (where_stands scope old) old.set.items wanted leaf → IsValid (bare scope) wanted → All (IsAllowedIn scope) (instructions_of leaf)
+    → length (instructions_of leaf) ≤ longest_leaf scope.config.now scope.types.now.types → IsNoStop scope.config.now leaf.value
+    → new.out ≡ old.out ++ instructions_of leaf → new.set.items ≡ old.set.items → new.labels.items ≡ old.labels.items → new.budget ≡ old.budget → IsDrawn scope [] (wanted ∷ []) 1 old new
+leaf_drawn {scope = scope} {wanted = wanted} {old = old} {new = new} leaf of valid allowed few goes_on longer set labels budget =
+    let config = scope.config.now in
+    let context = where_stands scope old in
+    value_drawn {scope = scope} {wanted = wanted} {old = old} {new = new} (instructions_of leaf)
+    (λ base under.
+    let first = alone {config = config} context leaf.value [] (of.produced.value ∷ []) (of.value ∷ []) base old.set.items old.set.items of.produced.typed (of.produced.below, tt) (one_valid context of.value of.value_valid) under
+    (rw (of.produced.sets_none, append-nil) refl) (λ disallowed is. absurd (goes_on disallowed is)) in
+    let second = then_drawn config context old.set.items base of.value of.reference leaf.creation of.created (one_valid context of.value of.value_valid) (one_valid context of.reference of.reference_valid) under in
+    let third = then_drawn config context old.set.items base of.reference wanted leaf.conversion of.converted (one_valid context of.reference of.reference_valid) (one_valid context wanted valid) under in
+    in_turn first (in_turn second third))
+    allowed few longer set labels budget
+
+-- an `unreachable` in place of a value that no other instructions produce
+pub stop_drawn : {scope : Scope} {wanted : ValType} {old new : Draft} → IsValid (bare scope) wanted → (IsTrue scope.config.now.disallow_traps → HasNoOther scope.config.now (where_stands scope old) old.set.items wanted)
+    → new.out ≡ old.out ++ instr.Unreachable ∷ [] → new.set.items ≡ old.set.items → new.labels.items ≡ old.labels.items → new.budget ≡ old.budget → IsDrawn scope [] (wanted ∷ []) 1 old new
+stop_drawn {scope = scope} {wanted = wanted} {old = old} {new = new} valid none longer set labels budget =
+    let context = where_stands scope old in
+    let given = one_valid context wanted valid in
+    value_drawn {scope = scope} {wanted = wanted} {old = old} {new = new} (instr.Unreachable ∷ [])
+    (λ base under.
+    alone {config = scope.config.now} context instr.Unreachable [] (wanted ∷ []) (wanted ∷ []) base old.set.items old.set.items ([], refl, given) (IsValBelow-refl context.types wanted, tt) given under (sym (append-nil old.set.items))
+    (λ disallowed is. record { none = refl; wanted = wanted; one = refl; no_other = none disallowed }))
+    (one_allowed scope instr.Unreachable (stop_allowed scope)) (some_leaf scope.config.now scope.types.now.types) longer set labels budget
 
 pub drawn_none : (scope : Scope) (draft : Draft) → IsDrawn scope [] [] 0 draft draft
 drawn_none scope draft = record {
@@ -199,7 +211,7 @@ drawn_more {a = a} valid first second = drawn_then first (rw append-nil at (draw
 pub drawn_within : {scope : Scope} {a b : List ValType} {m n : ℕ} {old new : Draft} → m ≤ n → IsDrawn scope a b m old new → IsDrawn scope a b n old new
 drawn_within {scope = scope} {m = m} {n = n} less drawn =
     let short = drawn.short in
-    let more = times (longest_leaf scope.config.now) m n less in
+    let more = times (longest_leaf scope.config.now scope.types.now.types) m n less in
     record {
       more = drawn.more;
       longer = drawn.longer;
@@ -253,7 +265,7 @@ pub dropped_drawn : {scope : Scope} {old new : Draft} (values dropped : List Val
     → IsDrawn scope (values ++ dropped) values (length dropped) old new
 dropped_drawn {scope = scope} {old = old} {new = new} values dropped valid spare allowed out set labels budget =
     let len : length new.out ≡ length old.out + length dropped = rw out (simp (length-append, length-replicate) refl) in
-    let more = times_one (longest_leaf scope.config.now) (length dropped) (some_leaf scope.config.now) in
+    let more = times_one (longest_leaf scope.config.now scope.types.now.types) (length dropped) (some_leaf scope.config.now scope.types.now.types) in
     record {
       more = replicate (length dropped) instr.Drop;
       longer = out;
@@ -274,7 +286,7 @@ written_drawn {scope = scope} {old = old} {new = new} instruction operands resul
     let budget = written.budget in
     let then : new.set.items ≡ old.set.items ++ sets instruction = written.set_more ∙ ap (λ (set : List ℕ). old.set.items ++ set) (sym local) in
     let len : length new.out ≡ length old.out + 1 = rw written.out (simp length-append refl) in
-    let some = some_leaf scope.config.now in
+    let some = some_leaf scope.config.now scope.types.now.types in
     record {
       more = instruction ∷ [];
       longer = written.out;
@@ -308,7 +320,7 @@ paid_for {scope = scope} {n = n} {old = old} {new = new} few paid drawn =
       set_more = drawn.set_more;
       same = drawn.same;
       spent = omega arith;
-      short = pay (longest_leaf scope.config.now) (widest scope.types.now.types) n new.budget (length old.out) (length new.out) old.budget few paid drawn.short;
+      short = pay (longest_leaf scope.config.now scope.types.now.types) (widest scope.types.now.types) n new.budget (length old.out) (length new.out) old.budget few paid drawn.short;
     }
 
 -- a node: its operands, its head, and the dropped values
@@ -414,8 +426,8 @@ around_drawn {scope = scope} {old = old} {entered = entered} {inside = inside} {
     let len' : length entered.out ≡ length old.out + 1 = rw start.out (simp length-append refl) in
     let same = start.budget in
     let same' = end.budget in
-    let some = some_leaf scope.config.now in
-    let most' = times (longest_leaf scope.config.now) (length params + length results) (widest scope.types.now.types) few in
+    let some = some_leaf scope.config.now scope.types.now.types in
+    let most' = times (longest_leaf scope.config.now scope.types.now.types) (length params + length results) (widest scope.types.now.types) few in
     record {
       more = opening ∷ (drawn.more ++ instr.End ∷ []);
       longer = out;
@@ -470,10 +482,10 @@ if_drawn {scope = scope} {old = old} {entered = entered} {first = first} {other 
     let same = start.budget in
     let same' = end.budget in
     let same'' = middle.budget in
-    let longest = longest_leaf scope.config.now in
+    let longest = longest_leaf scope.config.now scope.types.now.types in
     let unit = most scope.types.now.types in
     let few' = times longest (length params + length results) (widest scope.types.now.types) few in
-    let some = some_leaf scope.config.now in
+    let some = some_leaf scope.config.now scope.types.now.types in
     let most' : length first.out + longest * (unit * first.budget) ≤ length entered.out + longest * ((length params + length results) + unit * old.budget) = rw same at short in
     let most'' : length last.out + longest * (unit * last.budget) ≤ length other.out + longest * ((length params + length results) + unit * first.budget) = rw same'' at short' in
     record {
@@ -508,7 +520,7 @@ body_needed {scope = scope} {start = start} {new = new} drawn empty unset label 
 pub body_allowed : {scope : Scope} {start new : Draft} → IsDrawn scope [] scope.results.now (length scope.results.now) start new → start.out ≡ [] → All (IsAllowedIn scope) new.out
 body_allowed drawn empty = rw (drawn.longer, empty) drawn.allowed
 
-pub body_short : {scope : Scope} {start new : Draft} → IsDrawn scope [] scope.results.now (length scope.results.now) start new → start.out ≡ [] → length new.out ≤ longest_leaf scope.config.now * (length scope.results.now + most scope.types.now.types * start.budget)
+pub body_short : {scope : Scope} {start new : Draft} → IsDrawn scope [] scope.results.now (length scope.results.now) start new → start.out ≡ [] → length new.out ≤ longest_leaf scope.config.now scope.types.now.types * (length scope.results.now + most scope.types.now.types * start.budget)
 body_short {scope = scope} {start = start} {new = new} drawn empty =
     let short = drawn.short in
     let none : length start.out ≡ 0 = rw empty refl in

@@ -12,8 +12,7 @@ use Rattle.smith_instr.specs.declared.instr.Instr.TheVariants as instr
 use Rattle.smith_code.specs.Bodies.{Drawing, State, begun, body_at, drawing_at, dropped, enclosed_at, ended, head_at, inside_at, leaf_in, node_at, statement_at, statements_within, value_at, values_at, whole_at, written}
 use Rattle.smith_code.specs.Choices.{allowed_choice_at, statement_choice_at}
 use Rattle.smith_code.specs.DraftSteps.{IsDrawn, IsEnded, IsOpened, IsWritten, state_of}
-use Rattle.smith_code.specs.Leaves.{instructions_of, leaf_at}
-use Rattle.smith_code.specs.declared.leaf.Leaf.{Leaf}
+use Rattle.smith_code.specs.Leaves.{leaf_at}
 use Rattle.smith_code_nodes.specs.Nodes.{is_node_allowed, label_of, opened}
 use Rattle.smith_code_nodes.specs.Scopes.{context_of}
 use Rattle.smith_code_nodes.specs.declared.node.Head.{Head}
@@ -60,16 +59,16 @@ unfolding drawing_at value_at
 other_value config zero wanted s left deep paid chosen = absurd (omega arith)
 other_value config (suc depth) wanted s left deep paid chosen = rw (not_zero s.budget paid, chosen) refl
 
-leaf_written : (config : Config) (wanted : ValType) (s : State) (leaf : Leaf) (out : List Instr) (left : List ℕ) → leaf_at config s.context s.set wanted s.bytes ≡ (leaf, left) → out ≡ s.out ++ instructions_of leaf
+leaf_written : (config : Config) (wanted : ValType) (s : State) (instructions out : List Instr) (left : List ℕ) → leaf_at config s.context s.set wanted s.bytes ≡ (instructions, left) → out ≡ s.out ++ instructions
     → leaf_in config wanted s ≡ record s { out = out; bytes = left }
 unfolding leaf_in
-leaf_written config wanted s leaf out left drawn is =
-    ap (λ (leaf : Leaf × List ℕ). record s { out = s.out ++ instructions_of leaf.0; bytes = leaf.1 }) drawn ∙ ap (λ (out : List Instr). record s { out = out; bytes = left }) (sym is)
+leaf_written config wanted s instructions out left drawn is =
+    ap (λ (leaf : List Instr × List ℕ). record s { out = s.out ++ leaf.0; bytes = leaf.1 }) drawn ∙ ap (λ (out : List Instr). record s { out = out; bytes = left }) (sym is)
 
-pub leaf_state : (scope : Scope) (wanted : ValType) (old new : Draft) (bytes left : List ℕ) (leaf : Leaf) → leaf_at scope.config.now (context_of scope old.labels.items) old.set.items wanted bytes ≡ (leaf, left) → new.out ≡ old.out ++ instructions_of leaf
+pub leaf_state : (scope : Scope) (wanted : ValType) (old new : Draft) (bytes left : List ℕ) (instructions : List Instr) → leaf_at scope.config.now (context_of scope old.labels.items) old.set.items wanted bytes ≡ (instructions, left) → new.out ≡ old.out ++ instructions
     → new.set.items ≡ old.set.items → new.labels.items ≡ old.labels.items → new.budget ≡ old.budget → leaf_in scope.config.now wanted (state_of scope old bytes) ≡ state_of scope new left
-leaf_state scope wanted old new bytes left leaf drawn out set labels budget =
-    leaf_written scope.config.now wanted (state_of scope old bytes) leaf (old.out ++ instructions_of leaf) left drawn refl ∙ state_is scope new old.labels.items (old.out ++ instructions_of leaf) old.set.items old.budget left labels out set budget
+leaf_state scope wanted old new bytes left instructions drawn out set labels budget =
+    leaf_written scope.config.now wanted (state_of scope old bytes) instructions (old.out ++ instructions) left drawn refl ∙ state_is scope new old.labels.items (old.out ++ instructions) old.set.items old.budget left labels out set budget
 
 pub drops_written : (scope : Scope) (count : ℕ) (old new : Draft) (bytes : List ℕ) → new.out ≡ old.out ++ replicate count instr.Drop → new.set.items ≡ old.set.items → new.labels.items ≡ old.labels.items → new.budget ≡ old.budget
     → dropped count (state_of scope old bytes) ≡ state_of scope new bytes

@@ -1,13 +1,17 @@
 -- Where `unreachable` is drawn for a value, no other instructions that take no budget produce one.
-use Rattle.std.proofs.Common.{◌≡◌, ℕ, ◌<◌, Bool, true, false, List, [], ◌∷◌, Option, Some, None, length, refl, sym, subst, ap, ◌∙◌, arith}
-use Rattle.std.specs.Prelude.{◌||◌, ℤ, pos, IfSome, IsTrue, not, option_and_then, option_map, slice_get, unwrap_or, if◌then◌else◌}
+use Rattle.std.proofs.Common.{◌≡◌, ℕ, suc, ◌<◌, Bool, true, false, List, [], ◌∷◌, ◌++◌, Option, Some, None, length, refl, sym, subst, ap, ◌∙◌, arith}
+use Rattle.std.specs.Prelude.{◌&&◌, ◌||◌, ℤ, pos, Any, IfSome, is_some, IsTrue, not, option_and_then, option_map, slice_get, unwrap_or, if◌then◌else◌}
 use Rattle.std.specs.Option.{option_or}
-use Rattle.std.proofs.lemmas.Option.{slice_get-get_or, slice_get_within}
+use Rattle.std.proofs.lemmas.Option.{get_or_from_slice_get, slice_get-get_or, slice_get_within}
 use Rattle.smith_bytes.specs.Draws.{choose_at}
 use Rattle.smith_config.specs.declared.config.Config.{Config}
+use Rattle.smith_types.specs.Expressions.{IsStructAt, field_values}
 use Rattle.smith_types.specs.Features.{Features}
 use Rattle.smith_types.specs.Subtyping.{IsValBelow}
 use Rattle.smith_types.specs.Types.{IsOrderly}
+use Rattle.smith_types.specs.declared.composite_type.CompositeInnerType.{CompositeInnerType}
+use Rattle.smith_types.specs.declared.composite_type.FieldType.{FieldType}
+use Rattle.smith_types.specs.declared.composite_type.StructType.{StructType}
 use Rattle.smith_types.specs.declared.composite_type.SubType.{SubType}
 use Rattle.smith_types.specs.declared.value_type.AbstractHeapType.{AbstractHeapType}
 use Rattle.smith_types.specs.declared.value_type.AbstractHeapType.TheVariants as abstract
@@ -25,11 +29,12 @@ use Rattle.smith_instr.specs.declared.aggregate.AggregateInstr.TheVariants as ag
 use Rattle.smith_instr.specs.declared.instr.Instr.{Instr}
 use Rattle.smith_instr.specs.declared.instr.Instr.TheVariants as instr
 use Rattle.smith_instr.specs.declared.reference.ReferenceInstr.TheVariants as reference
-use Rattle.smith_code.specs.Laws.{HasNoOther, HasNoShort, IsConversion, IsI31Creation, IsIndex, IsNumber, IsOther, IsOtherOver}
-use Rattle.smith_code.specs.Leaves.{any_leaf_at, constant_instr_at, converted_by, converted_leaf, converted_to, default_struct, empty_array, first_constant, first_leaf, first_of, first_single, i31_by, i31_from, i31_leaf, i31_of, i31_type, if_permitted, leaf_at, leaf_of, named_at, only, short_leaf, spare_leaf, with_conversion}
+use Rattle.smith_code.specs.Laws.{HasNoOther, HasNoShort, HasNoSingle, IsConversion, IsI31Creation, IsIndex, IsNumber, IsOther, IsOtherOver, IsOtherTaking}
+use Rattle.smith_code.specs.Leaves.{any_leaf_at, brief_leaf, constant_instr_at, converted_by, converted_leaf, converted_to, created_by, created_from, created_type, default_struct, empty_array, fields_at, first_constant, first_leaf, first_of, first_single, have_singles, i31_by, i31_from, i31_leaf, i31_of, i31_type, if_permitted, instructions_of, is_created_in, leaf_at, leaf_of, named_at, named_type, only, short_leaf, singles, spare_leaf, with_conversion}
 use Rattle.smith_code.specs.declared.leaf.Leaf.{Leaf}
 use Rattle.smith_code.specs.declared.families.LeafFamily.TheVariants as leaf
-use Rattle.smith_code_aggregates.specs.Aggregates.{first_created_array, first_created_struct, is_created_empty, is_created_struct}
+use Rattle.smith_code_aggregates.specs.Aggregates.{first_created_array, first_created_struct, is_created_below, is_created_empty, is_created_struct}
+use Rattle.smith_code_aggregates.specs.Fields.{struct_in, struct_of}
 use Rattle.smith_code_aggregates.proofs.FirstLemmas.{chosen_first, none_offered}
 use Rattle.smith_code_nodes.specs.Offered.{is_global_below, is_named, is_readable, is_reference, offered}
 use Rattle.smith_code_nodes.specs.Scopes.{indexed, is_permitted}
@@ -56,7 +61,7 @@ mapped_some P f None some = tt
 mapped_some P f (Some x) some = some
 
 -- an instruction that is found is permitted
-abbrev IsFound : Config → BodyContext → Instr → Type 0
+abbrev pub IsFound : Config → BodyContext → Instr → Type 0
 IsFound config context instruction = is_permitted context.features config instruction ≡ true
 
 found_by : (config : Config) (context : BodyContext) (instruction : Instr) (permitted : Bool) → is_permitted context.features config instruction ≡ permitted → IfSome (if permitted then Some instruction else None) (IsFound config context)
@@ -67,7 +72,7 @@ found : (config : Config) (context : BodyContext) (o : Option Instr) → IfSome 
 found config context None = tt
 found config context (Some instruction) = found_by config context instruction (is_permitted context.features config instruction) refl
 
-single_found : (config : Config) (context : BodyContext) (set : List ℕ) (wanted : ValType) → IfSome (first_single config context set wanted) (IsFound config context)
+pub single_found : (config : Config) (context : BodyContext) (set : List ℕ) (wanted : ValType) → IfSome (first_single config context set wanted) (IsFound config context)
 unfolding first_single
 single_found config context set wanted =
     let local = found config context (leaf_of context set reach.Whole wanted leaf.Local []).0 in
@@ -78,7 +83,7 @@ single_found config context set wanted =
     let array = found config context (option_map (λ ty. instr.Aggregate (aggregate.ArrayNewFixed ty 0)) (first_created_array context wanted)) in
     or_some (IsFound config context) _ _ local (or_some (IsFound config context) _ _ global (or_some (IsFound config context) _ _ function (or_some (IsFound config context) _ _ constant (or_some (IsFound config context) _ _ struct array))))
 
-abbrev IsLeafFound : Config → BodyContext → Leaf → Type 0
+abbrev pub IsLeafFound : Config → BodyContext → Leaf → Type 0
 IsLeafFound config context leaf = IsFound config context leaf.value
 
 always : {A : Type 0} (P : A → Type 0) (o : Option A) → ((x : A) → P x) → IfSome o P
@@ -120,18 +125,37 @@ converted_found : (config : Config) (context : BodyContext) (set : List ℕ) (wa
 converted_found config context set (Ref to) = converted_found_to config context set to.nullable to.heap_type
 converted_found config context set wanted = tt
 
--- a value that is found does not begin with `unreachable`
-apart : (config : Config) (context : BodyContext) (o : Option Leaf) (rest : Leaf) → config.disallow_traps ≡ true → IfSome o (IsLeafFound config context) → (unwrap_or o rest).value ≡ instr.Unreachable → (o ≡ None) × (rest.value ≡ instr.Unreachable)
-apart config context None rest trapless all stop = (refl, stop)
-apart config context (Some leaf) rest trapless all stop = absurd (stop_forbidden context.features config trapless (subst (λ (i : Instr). is_permitted context.features config i ≡ true) stop all))
+pub brief_found : (config : Config) (context : BodyContext) (set : List ℕ) (wanted : ValType) → IfSome (brief_leaf config context set wanted) (IsLeafFound config context)
+unfolding brief_leaf
+brief_found config context set wanted = or_some (IsLeafFound config context) _ _ (short_found config context set wanted) (converted_found config context set wanted)
 
--- no values of few instructions, and no conversions
-pub none_tried : (config : Config) (context : BodyContext) (set : List ℕ) (wanted : ValType) → config.disallow_traps ≡ true → (first_leaf config context set wanted).value ≡ instr.Unreachable → (short_leaf config context set wanted ≡ None) × (converted_leaf config context set wanted ≡ None)
+-- a value that is found does not begin with `unreachable`
+heads : (x y : Instr) (xs ys : List Instr) → x ∷ xs ≡ y ∷ ys → x ≡ y
+heads x y xs ys is = cc
+
+apart : (config : Config) (context : BodyContext) (o : Option Leaf) (rest : List Instr) → config.disallow_traps ≡ true → IfSome o (IsLeafFound config context) → unwrap_or (option_map instructions_of o) rest ≡ instr.Unreachable ∷ []
+    → (o ≡ None) × (rest ≡ instr.Unreachable ∷ [])
+apart config context None rest trapless all stop = (refl, stop)
+apart config context (Some leaf) rest trapless all stop =
+    let first : leaf.value ≡ instr.Unreachable = heads leaf.value instr.Unreachable _ _ stop in
+    absurd (stop_forbidden context.features config trapless (subst (λ (i : Instr). is_permitted context.features config i ≡ true) first all))
+
+-- a created value does not end with `unreachable`
+not_alone : (xs : List Instr) (last : Instr) → ¬ (last ≡ instr.Unreachable) → xs ++ last ∷ [] ≡ instr.Unreachable ∷ [] → ⊥
+not_alone [] last other is = other (heads last instr.Unreachable [] [] is)
+not_alone (x ∷ []) last other is = cc
+not_alone (x ∷ y ∷ xs) last other is = cc
+
+uncreated : (config : Config) (context : BodyContext) (set : List ℕ) (o : Option ℕ) → unwrap_or (option_map (created_from config context set) o) (instr.Unreachable ∷ []) ≡ instr.Unreachable ∷ [] → o ≡ None
+uncreated config context set None stop = refl
+uncreated config context set (Some ty) stop = absurd (not_alone (singles config context set (field_values (fields_at context.types ty))) (instr.Aggregate (aggregate.StructNew ty)) (λ is. cc) stop)
+
+-- no value of few instructions, and no created value
+none_tried : (config : Config) (context : BodyContext) (set : List ℕ) (wanted : ValType) → config.disallow_traps ≡ true → first_leaf config context set wanted ≡ instr.Unreachable ∷ [] → (brief_leaf config context set wanted ≡ None) × (created_type config context set wanted ≡ None)
 unfolding first_leaf
 none_tried config context set wanted trapless stop =
-    let (short, stop') = apart config context (short_leaf config context set wanted) _ trapless (short_found config context set wanted) stop in
-    let (converted, _) = apart config context (converted_leaf config context set wanted) _ trapless (converted_found config context set wanted) stop' in
-    (short, converted)
+    let (brief, stop') = apart config context (brief_leaf config context set wanted) _ trapless (brief_found config context set wanted) stop in
+    (brief, uncreated config context set (created_type config context set wanted) stop')
 
 none_both : {A : Type 0} (a b : Option A) → option_or a b ≡ None → (a ≡ None) × (b ≡ None)
 none_both None b none = (refl, none)
@@ -161,26 +185,23 @@ all_tried config context set wanted none =
     record { local = local; global = global; function = function; constant = constant; struct = struct; array = array }
 
 -- so a drawn `unreachable` is the last that is tried
-drawn_apart : (config : Config) (context : BodyContext) (instruction : Instr) (spare : Leaf) (permitted : Bool) → config.disallow_traps ≡ true → is_permitted context.features config instruction ≡ permitted → (if permitted then only instruction else spare).value ≡ instr.Unreachable
-    → permitted ≡ false
-drawn_apart config context instruction spare true trapless is stop = absurd (stop_forbidden context.features config trapless (subst (λ (i : Instr). is_permitted context.features config i ≡ true) stop is))
-drawn_apart config context instruction spare false trapless is stop = refl
+drawn_apart : (config : Config) (context : BodyContext) (instruction : Instr) (spare : List Instr) (permitted : Bool) → config.disallow_traps ≡ true → is_permitted context.features config instruction ≡ permitted → (if permitted then instruction ∷ [] else spare) ≡ instr.Unreachable ∷ []
+    → spare ≡ instr.Unreachable ∷ []
+drawn_apart config context instruction spare true trapless is stop =
+    absurd (stop_forbidden context.features config trapless (subst (λ (i : Instr). is_permitted context.features config i ≡ true) (heads instruction instr.Unreachable [] [] stop) is))
+drawn_apart config context instruction spare false trapless is stop = stop
 
-spared : (config : Config) (context : BodyContext) (set : List ℕ) (wanted : ValType) (bytes : List ℕ) → config.disallow_traps ≡ true → (leaf_at config context set wanted bytes).0.value ≡ instr.Unreachable
-    → (leaf_at config context set wanted bytes).0 ≡ first_leaf config context set wanted
+chosen_on : {A : Type 0} (on : Bool) (a b x : A) → on ≡ true → (if on then a else b) ≡ x → a ≡ x
+chosen_on true a b x is same = same
+chosen_on false a b x is same = cc
+
+spared : (config : Config) (context : BodyContext) (set : List ℕ) (wanted : ValType) (bytes : List ℕ) → config.disallow_traps ≡ true → (leaf_at config context set wanted bytes).0 ≡ instr.Unreachable ∷ []
+    → first_leaf config context set wanted ≡ instr.Unreachable ∷ []
 unfolding leaf_at spare_leaf
 spared config context set wanted bytes trapless stop =
     let drawn = (any_leaf_at context set wanted bytes).0 in
-    let off : is_permitted context.features config drawn ≡ false = drawn_apart config context drawn (spare_leaf config context set wanted) (is_permitted context.features config drawn) trapless refl stop in
-    rw (off, trapless) refl
-
-pub stop_alone : (config : Config) (context : BodyContext) (set : List ℕ) (wanted : ValType) (bytes : List ℕ) → config.disallow_traps ≡ true → (leaf_at config context set wanted bytes).0.value ≡ instr.Unreachable
-    → (leaf_at config context set wanted bytes).0 ≡ only instr.Unreachable
-unfolding first_leaf
-stop_alone config context set wanted bytes trapless stop =
-    let is = spared config context set wanted bytes trapless stop in
-    let (short, converted) = none_tried config context set wanted trapless (sym (ap (λ (leaf : Leaf). leaf.value) is) ∙ stop) in
-    is ∙ rw (short, converted) refl
+    let spare = drawn_apart config context drawn (spare_leaf config context set wanted) (is_permitted context.features config drawn) trapless refl stop in
+    chosen_on config.disallow_traps (first_leaf config context set wanted) (instr.Unreachable ∷ []) (instr.Unreachable ∷ []) trapless spare
 
 -- an instruction that is permitted is not left out
 forbidden : (config : Config) (context : BodyContext) (instruction : Instr) → if_permitted config context (Some instruction) ≡ None → is_permitted context.features config instruction ≡ true → ⊥
@@ -367,11 +388,9 @@ no_i31 config context set wanted orderly none number creation is_number other is
     neither config context set wanted orderly first second creation is_creation over
 
 -- no value of few instructions
-none_short : (config : Config) (context : BodyContext) (set : List ℕ) (wanted : ValType) → IsOrderly context.types → short_leaf config context set wanted ≡ None → HasNoShort config context set wanted
-unfolding short_leaf
-none_short config context set wanted orderly short =
-    let (single, i31) = none_both (option_map only (first_single config context set wanted)) (i31_leaf config context wanted) short in
-    let none = all_tried config context set wanted (unmapped only (first_single config context set wanted) single) in
+none_single : (config : Config) (context : BodyContext) (set : List ℕ) (wanted : ValType) → IsOrderly context.types → first_single config context set wanted ≡ None → HasNoSingle config context set wanted
+none_single config context set wanted orderly single =
+    let none = all_tried config context set wanted single in
     record {
       no_local = no_local config context set wanted orderly none.local;
       no_global = no_global config context set wanted orderly none.global;
@@ -380,6 +399,14 @@ none_short config context set wanted orderly short =
       no_null = no_null config context set wanted none.constant;
       no_struct = no_struct config context set wanted orderly none.struct;
       no_array = no_array config context set wanted orderly none.array;
+    }
+
+none_short : (config : Config) (context : BodyContext) (set : List ℕ) (wanted : ValType) → IsOrderly context.types → short_leaf config context set wanted ≡ None → HasNoShort config context set wanted
+unfolding short_leaf
+none_short config context set wanted orderly short =
+    let (single, i31) = none_both (option_map only (first_single config context set wanted)) (i31_leaf config context wanted) short in
+    record {
+      none = none_single config context set wanted orderly (unmapped only (first_single config context set wanted) single);
       no_i31 = no_i31 config context set wanted orderly i31;
     }
 
@@ -402,14 +429,17 @@ none_stricter config context set nullable more heap_type up none =
     λ i (is, leaf). (is, record { value = leaf.value; typed = leaf.typed; below = raised context.types leaf.value nullable more heap_type up leaf.below; sets_none = leaf.sets_none }) in
     let over : (i : Instr) → IsOtherOver config context set I32 wanted i → IsOtherOver config context set I32 wider i =
     λ i (is, over). (is, record { value = over.value; typed = over.typed; below = raised context.types over.value nullable more heap_type up over.below; sets_none = over.sets_none }) in
+    let single = none.none in
     record {
-      no_local = λ index few is. none.no_local index few (other _ is);
-      no_global = λ index few is. none.no_global index few (other _ is);
-      no_function = λ function is. none.no_function function (other _ is);
-      no_number = λ instruction number is. none.no_number instruction number (other _ is);
-      no_null = λ heap_type is. none.no_null heap_type (other _ is);
-      no_struct = λ ty few is. none.no_struct ty few (other _ is);
-      no_array = λ ty few is. none.no_array ty few (other _ is);
+      none = record {
+        no_local = λ index few is. single.no_local index few (other _ is);
+        no_global = λ index few is. single.no_global index few (other _ is);
+        no_function = λ function is. single.no_function function (other _ is);
+        no_number = λ instruction number is. single.no_number instruction number (other _ is);
+        no_null = λ heap_type is. single.no_null heap_type (other _ is);
+        no_struct = λ ty few is. single.no_struct ty few (other _ is);
+        no_array = λ ty few is. single.no_array ty few (other _ is);
+      };
       no_i31 = λ number creation is_number is is_creation after. none.no_i31 number creation is_number is is_creation (over _ after);
     }
 
@@ -458,8 +488,53 @@ none_converted config context set wanted orderly none operand (instr.Aggregate a
     (none_outside config context set wanted shared nullable orderly none (typed_below context.types over.value (external shared nullable) wanted results over.below) is)
 none_converted config context set wanted orderly none operand conversion converts other = absurd converts
 
-pub no_other : (config : Config) (context : BodyContext) (set : List ℕ) (wanted : ValType) (bytes : List ℕ) → IsOrderly context.types → config.disallow_traps ≡ true → (leaf_at config context set wanted bytes).0.value ≡ instr.Unreachable → HasNoOther config context set wanted
+-- a created struct
+abbrev Lacks : Config → BodyContext → List ℕ → List ValType → Type 0
+Lacks config context set values = (place : ℕ) × (value : ValType) × (slice_get values place ≡ Some value) × (first_single config context set value ≡ None)
+
+lacking_first : (config : Config) (context : BodyContext) (set : List ℕ) (value : ValType) (more : List ValType) (rest : Bool) (o : Option Instr) → first_single config context set value ≡ o → (rest ≡ false → Lacks config context set more) → (is_some o && rest) ≡ false
+    → Lacks config context set (value ∷ more)
+lacking_first config context set value more rest None is later none = (0, value, refl, is)
+lacking_first config context set value more rest (Some single) is later none = let (place, other, at, lacks) = later none in (suc place, other, at, lacks)
+
+lacking : (config : Config) (context : BodyContext) (set : List ℕ) (values : List ValType) → have_singles config context set values ≡ false → Lacks config context set values
+lacking config context set [] none = cc
+lacking config context set (value ∷ more) none =
+    lacking_first config context set value more (have_singles config context set more) (first_single config context set value) refl (λ rest. lacking config context set more rest) none
+
+last_false : (a b c : Bool) → a ≡ true → b ≡ true → ((a && b) && c) ≡ false → c ≡ false
+last_false true true c first second is = is
+last_false true false c first second is = cc
+last_false false b c first second is = cc
+
+not_kept : (test : Bool) (ty : ℕ) → (if test then Some ty else None) ≡ None → test ≡ false
+not_kept true ty is = cc
+not_kept false ty is = refl
+
+struct_is_in : (types : List SubType) (ty : ℕ) (fields : List FieldType) → IsStructAt types ty fields → struct_in (slice_get types ty) ≡ Some (record { fields = fields })
+struct_is_in types ty fields (t, at, is) = ap (λ (o : Option SubType). struct_in o) at ∙ ap (λ (x : CompositeInnerType). struct_of x) is
+
+none_created : (config : Config) (context : BodyContext) (set : List ℕ) (wanted : ValType) → IsOrderly context.types → created_type config context set wanted ≡ None → (ty : ℕ) (operands : List ValType) → named_type wanted ≡ Some ty
+    → IsOtherTaking config context set operands wanted (instr.Aggregate (aggregate.StructNew ty)) → Any (HasNoSingle config context set) operands
+unfolding created_type
+none_created config context set wanted orderly none ty operands named (is, taking) =
+    let (fields, there, (same, results)) = taking.typed in
+    let values = field_values fields in
+    let created = created_reference context ty in
+    let below : is_created_below context wanted ty ≡ true = below_is context.types created wanted orderly (typed_below context.types taking.value created wanted results taking.below) in
+    let none' : created_by config context set wanted (Some ty) ≡ None = subst (λ (o : Option ℕ). created_by config context set wanted o ≡ None) named none in
+    let tested : is_created_in config context set wanted ty (Some (record { fields = fields })) ≡ false =
+    subst (λ (o : Option StructType). is_created_in config context set wanted ty o ≡ false) (struct_is_in context.types ty fields there) (not_kept (is_created_in config context set wanted ty (struct_in (slice_get context.types ty))) ty none') in
+    let (place, value, at, lacks) = lacking config context set values (last_false (is_created_below context wanted ty) (is_permitted context.features config (instr.Aggregate (aggregate.StructNew ty))) (have_singles config context set values) below is tested) in
+    subst (Any (HasNoSingle config context set)) (sym same) (place, value, slice_get_within values place value at, get_or_from_slice_get values place value value at, none_single config context set value orderly lacks)
+
+pub none_other : (config : Config) (context : BodyContext) (set : List ℕ) (wanted : ValType) → IsOrderly context.types → brief_leaf config context set wanted ≡ None → created_type config context set wanted ≡ None → HasNoOther config context set wanted
+unfolding brief_leaf
+none_other config context set wanted orderly brief created =
+    let (short, converted) = none_both (short_leaf config context set wanted) (converted_leaf config context set wanted) brief in
+    record { none = none_short config context set wanted orderly short; none_converted = none_converted config context set wanted orderly converted; none_created = none_created config context set wanted orderly created }
+
+pub no_other : (config : Config) (context : BodyContext) (set : List ℕ) (wanted : ValType) (bytes : List ℕ) → IsOrderly context.types → config.disallow_traps ≡ true → (leaf_at config context set wanted bytes).0 ≡ instr.Unreachable ∷ [] → HasNoOther config context set wanted
 no_other config context set wanted bytes orderly trapless stop =
-    let is = spared config context set wanted bytes trapless stop in
-    let (short, converted) = none_tried config context set wanted trapless (sym (ap (λ (leaf : Leaf). leaf.value) is) ∙ stop) in
-    record { none = none_short config context set wanted orderly short; none_converted = none_converted config context set wanted orderly converted }
+    let (brief, created) = none_tried config context set wanted trapless (spared config context set wanted bytes trapless stop) in
+    none_other config context set wanted orderly brief created

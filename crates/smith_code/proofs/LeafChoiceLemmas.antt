@@ -1,15 +1,16 @@
 -- The instruction without operands that is chosen.
-use Rattle.std.proofs.Common.{◌≡◌, ℕ, ◌<◌, ◌≤◌, Bool, true, false, List, [], ◌∷◌, ◌++◌, arith, Option, Some, None, length, get_or, refl, sym, subst, ap, ◌∙◌}
+use Rattle.std.proofs.Common.{◌≡◌, ℕ, ◌+◌, ◌<◌, ◌≤◌, Bool, true, false, List, [], ◌∷◌, ◌++◌, arith, Option, Some, None, length, get_or, refl, sym, subst, ap, ◌∙◌}
 use Rattle.std.specs.Prelude.{option_map, option_to_list, slice_get, if◌then◌else◌}
 use Rattle.std.proofs.lemmas.Option.{slice_get-get_or}
 use Rattle.smith_config.specs.declared.config.Config.{Config}
+use Rattle.smith_types.specs.declared.composite_type.SubType.{SubType}
 use Rattle.smith_types.specs.declared.value_type.ValType.{ValType}
 use Rattle.smith_draw.specs.Choices.{chosen_at}
 use Rattle.smith_instr.specs.Contexts.{BodyContext}
 use Rattle.smith_instr.specs.declared.instr.Instr.{Instr}
 use Rattle.smith_instr.specs.declared.instr.Instr.TheVariants as instr
 use Rattle.smith_code_nodes.specs.Chosen.{giving}
-use Rattle.smith_code.specs.Leaves.{any_leaf_at, constant_instr_at, first_leaf, first_of, if_permitted, instructions_of, leaf_at, leaf_choice_at, leaf_families, leaf_of, longest_leaf, named_at, only, or_constant, spare_leaf}
+use Rattle.smith_code.specs.Leaves.{any_leaf_at, brief_leaf, constant_instr_at, created_from, created_type, first_leaf, first_of, if_permitted, instructions_of, leaf_at, leaf_choice_at, leaf_families, leaf_of, longest_leaf, named_at, or_constant, spare_leaf, widest_struct}
 use Rattle.smith_code_nodes.specs.Offered.{is_reference, within_at}
 use Rattle.smith_code_nodes.specs.Scopes.{is_permitted}
 use Rattle.smith_code_nodes.specs.declared.offer.Reach.{Reach}
@@ -47,9 +48,28 @@ leaf_constant context set wanted bytes middle left instruction drawn is = ap (λ
 
 -- the drawn instruction if it is permitted, else its replacement
 pub leaf_permitted : (config : Config) (context : BodyContext) (set : List ℕ) (wanted : ValType) (bytes left : List ℕ) (instruction : Instr) (permitted : Bool) → any_leaf_at context set wanted bytes ≡ (instruction, left) → is_permitted context.features config instruction ≡ permitted
-    → leaf_at config context set wanted bytes ≡ (if permitted then only instruction else spare_leaf config context set wanted, left)
+    → leaf_at config context set wanted bytes ≡ (if permitted then instruction ∷ [] else spare_leaf config context set wanted, left)
 unfolding leaf_at
 leaf_permitted config context set wanted bytes left instruction permitted drawn is = rw (drawn, is) refl
+
+-- what is not some value is none
+pub not_some : {A : Type 0} (o p : Option A) → ((x : A) → o ≡ Some x → ⊥) → o ≡ p → None ≡ p
+not_some None p never is = is
+not_some (Some x) p never is = absurd (never x refl)
+
+-- the first value
+pub first_brief : (config : Config) (context : BodyContext) (set : List ℕ) (wanted : ValType) (leaf : Leaf) → Some leaf ≡ brief_leaf config context set wanted → first_leaf config context set wanted ≡ instructions_of leaf
+unfolding first_leaf
+first_brief config context set wanted leaf is = rw (← is) refl
+
+pub first_created : (config : Config) (context : BodyContext) (set : List ℕ) (wanted : ValType) (ty : ℕ) → None ≡ brief_leaf config context set wanted → Some ty ≡ created_type config context set wanted
+    → first_leaf config context set wanted ≡ created_from config context set ty
+unfolding first_leaf
+first_created config context set wanted ty brief is = rw (← brief, ← is) refl
+
+pub first_stop : (config : Config) (context : BodyContext) (set : List ℕ) (wanted : ValType) → None ≡ brief_leaf config context set wanted → None ≡ created_type config context set wanted → first_leaf config context set wanted ≡ instr.Unreachable ∷ []
+unfolding first_leaf
+first_stop config context set wanted brief created = rw (← brief, ← created) refl
 
 -- the number of its instructions
 three : (value : Instr) (creation conversion : Option Instr) → length (value ∷ (option_to_list creation ++ option_to_list conversion)) ≤ 3
@@ -58,26 +78,32 @@ three value None (Some conversion) = omega arith
 three value (Some creation) None = omega arith
 three value (Some creation) (Some conversion) = omega arith
 
-few_by : (instruction : Instr) (first : Leaf) (permitted traps : Bool) → length (instructions_of (if permitted then only instruction else if traps then first else only instr.Unreachable)) ≤ (if traps then 3 else 1)
-few_by instruction first true true = omega arith
-few_by instruction first true false = omega arith
-few_by instruction first false true = three first.value first.creation first.conversion
-few_by instruction first false false = omega arith
+two_wide : (types : List SubType) → 2 ≤ widest_struct types
+unfolding widest_struct
+two_wide [] = omega arith
+two_wide (t ∷ types) = let rest = two_wide types in omega arith
 
-pub leaf_few : (config : Config) (context : BodyContext) (set : List ℕ) (wanted : ValType) (bytes left : List ℕ) (leaf : Leaf) → leaf_at config context set wanted bytes ≡ (leaf, left) → length (instructions_of leaf) ≤ longest_leaf config
-unfolding leaf_at spare_leaf longest_leaf
-leaf_few config context set wanted bytes left leaf drawn =
-    let instruction = (any_leaf_at context set wanted bytes).0 in
-    subst (λ (d : Leaf × List ℕ). length (instructions_of d.0) ≤ (if config.disallow_traps then 3 else 1)) drawn
-    (few_by instruction (first_leaf config context set wanted) (is_permitted context.features config instruction) config.disallow_traps)
+at_most : (on : Bool) (n w : ℕ) → on ≡ true → n ≤ 1 + w → n ≤ (if on then 1 + w else 1)
+at_most true n w is few = few
+at_most false n w is few = cc
 
-at_least_one : (traps : Bool) → 1 ≤ (if traps then 3 else 1)
-at_least_one true = omega arith
-at_least_one false = omega arith
-
-pub some_leaf : (config : Config) → 1 ≤ longest_leaf config
+pub created_few : (config : Config) (types : List SubType) (n : ℕ) → config.disallow_traps ≡ true → n ≤ 1 + widest_struct types → n ≤ longest_leaf config types
 unfolding longest_leaf
-some_leaf config = at_least_one config.disallow_traps
+created_few config types n trapless few = at_most config.disallow_traps n (widest_struct types) trapless few
+
+pub brief_few : (config : Config) (types : List SubType) (leaf : Leaf) → config.disallow_traps ≡ true → length (instructions_of leaf) ≤ longest_leaf config types
+brief_few config types leaf trapless =
+    let few = three leaf.value leaf.creation leaf.conversion in
+    let wide = two_wide types in
+    created_few config types (length (instructions_of leaf)) trapless (omega arith)
+
+at_least_one : (on : Bool) (w : ℕ) → 1 ≤ (if on then 1 + w else 1)
+at_least_one true w = omega arith
+at_least_one false w = omega arith
+
+pub some_leaf : (config : Config) (types : List SubType) → 1 ≤ longest_leaf config types
+unfolding longest_leaf
+some_leaf config types = at_least_one config.disallow_traps (widest_struct types)
 
 -- the first instruction of a family, if it is permitted
 pub first_none : (config : Config) (context : BodyContext) (set : List ℕ) (wanted : ValType) (family : LeafFamily) (bytes left : List ℕ) → bytes ≡ [] → leaf_of context set reach.Whole wanted family bytes ≡ (None, left) → None ≡ first_of config context set wanted family

@@ -83,9 +83,6 @@ array_leaf context set wanted ty orderly is =
 pub only_typed : (context : BodyContext) (set : List ℕ) (wanted : ValType) (instruction : Instr) → IsValid context wanted → IsLeaf context set wanted instruction → IsLeafOf context set wanted (only instruction)
 only_typed context set wanted instruction valid leaf = record { value = wanted; produced = leaf; value_valid = valid; reference = wanted; created = refl; reference_valid = valid; converted = refl }
 
-pub stop_typed : (context : BodyContext) (set : List ℕ) (wanted : ValType) → IsValid context wanted → IsLeafOf context set wanted (only instr.Unreachable)
-stop_typed context set wanted valid = only_typed context set wanted instr.Unreachable valid (no_constant wanted context set valid)
-
 -- an i31
 pub i31_then : (context : BodyContext) (set : List ℕ) (wanted : ValType) (shared : Bool) → IsOrderly context.types → is_val_below context.types (i31_type shared) wanted ≡ true → IsThen context set I32 wanted (Some (i31_of shared))
 i31_then context set wanted true orderly below = (λ is. cc, record { value = i31_type true; typed = (refl, refl); below = tested context.types orderly (i31_type true) wanted below; sets_none = refl })

@@ -7,5 +7,6 @@ pub mod StopLemmas
 pub mod ChoiceNodeLemmas
 pub mod ChoiceLemmas
 pub mod DrawnLemmas
+pub mod CreatedLemmas
 pub mod ExactLemmas
 pub mod BodyLemmas

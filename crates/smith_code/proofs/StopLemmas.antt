@@ -1,8 +1,8 @@
 -- Sequences in which each `unreachable` is needed, one after another; and instructions that are not
 -- `unreachable`.
-use Rattle.std.proofs.Common.{◌≡◌, ℕ, true, List, [], ◌∷◌, ◌++◌, refl, sym, subst, ap, ◌∙◌, append_assoc}
+use Rattle.std.proofs.Common.{◌≡◌, ℕ, true, List, [], ◌∷◌, ◌++◌, Option, Some, refl, sym, subst, append_assoc}
+use Rattle.std.specs.Prelude.{IfSome}
 use Rattle.smith_types.specs.Features.{Features}
-use Rattle.smith_types.specs.Types.{IsOrderly}
 use Rattle.smith_types.specs.declared.value_type.ValType.{ValType}
 use Rattle.smith_config.specs.declared.config.Config.{Config}
 use Rattle.smith_instr.specs.Contexts.{BodyContext, AreValid}
@@ -14,11 +14,10 @@ use Rattle.smith_code_nodes.specs.Nodes.{head_instruction, is_drop_allowed, is_h
 use Rattle.smith_code_nodes.specs.Scopes.{is_permitted}
 use Rattle.smith_code_nodes.specs.declared.node.Node.{Node}
 use Rattle.smith_code_nodes.proofs.OfferLemmas.{both}
-use Rattle.smith_code.specs.Laws.{HasNoOther}
-use Rattle.smith_code.specs.Leaves.{leaf_at, only}
+use Rattle.smith_code.specs.Leaves.{brief_leaf}
 use Rattle.smith_code.specs.Stops.{AreStopsNeeded, HaveNeededStops, IsNoStop}
 use Rattle.smith_code.specs.declared.leaf.Leaf.{Leaf}
-use Rattle.smith_code.proofs.LawLemmas.{no_other, stop_alone, stop_forbidden}
+use Rattle.smith_code.proofs.LawLemmas.{IsLeafFound, brief_found, stop_forbidden}
 
 -- the end of a sequence
 pub at_end : (config : Config) (context : BodyContext) (values : List ValType) (set : List ℕ) → AreValid context values → HaveNeededStops config context [] (stacked values set) (stacked values set)
@@ -61,16 +60,17 @@ append {ys = ys} (try_table {ty = ty} {clauses = clauses} {all = all} {body = bo
 pub in_turn : {config : Config} {context : BodyContext} {xs ys : List Instr} {a b c : Stacked} → HaveNeededStops config context xs a b → HaveNeededStops config context ys b c → HaveNeededStops config context (xs ++ ys) a c
 in_turn first second = append first.typed first.needed second
 
--- a node that is allowed is not an `unreachable`
+-- with `disallow_traps`, an instruction that is permitted is not an `unreachable`
+pub permitted_goes_on : (features : Features) (config : Config) (instruction : Instr) → is_permitted features config instruction ≡ true → IsNoStop config instruction
+permitted_goes_on features config instruction permitted = λ disallowed stops. stop_forbidden features config disallowed (subst (λ (i : Instr). is_permitted features config i ≡ true) stops permitted)
+
 pub node_goes_on : (features : Features) (config : Config) (node : Node) → is_node_allowed features config node ≡ true → IsNoStop config (head_instruction node.head)
-node_goes_on features config node allowed = λ disallowed stops.
+node_goes_on features config node allowed =
     let (head, _) = both (is_head_allowed features config node.head) (is_drop_allowed features config node.drops) allowed in
     let (permitted, _) = both (is_permitted features config (head_instruction node.head)) _ head in
-    stop_forbidden features config disallowed (subst (λ (i : Instr). is_permitted features config i ≡ true) stops permitted)
+    permitted_goes_on features config (head_instruction node.head) permitted
 
--- an `unreachable` that was drawn for a value, as no other instructions produce it
-pub only_stop : (config : Config) (context : BodyContext) (set : List ℕ) (wanted : ValType) (bytes left : List ℕ) (leaf : Leaf) → IsOrderly context.types → leaf_at config context set wanted bytes ≡ (leaf, left)
-    → config.disallow_traps ≡ true → leaf.value ≡ instr.Unreachable → (leaf ≡ only instr.Unreachable) × HasNoOther config context set wanted
-only_stop config context set wanted bytes left leaf orderly drawn disallowed is =
-    let stop : (leaf_at config context set wanted bytes).0.value ≡ instr.Unreachable = ap (λ (drawn : Leaf × List ℕ). drawn.0.value) drawn ∙ is in
-    (sym (ap (λ (drawn : Leaf × List ℕ). drawn.0) drawn) ∙ stop_alone config context set wanted bytes disallowed stop, no_other config context set wanted bytes orderly disallowed stop)
+pub brief_goes_on : (config : Config) (context : BodyContext) (set : List ℕ) (wanted : ValType) (leaf : Leaf) → Some leaf ≡ brief_leaf config context set wanted → IsNoStop config leaf.value
+brief_goes_on config context set wanted leaf is =
+    let found : IfSome (Some leaf) (IsLeafFound config context) = subst (λ (o : Option Leaf). IfSome o (IsLeafFound config context)) (sym is) (brief_found config context set wanted) in
+    permitted_goes_on context.features config leaf.value found

@@ -7,7 +7,7 @@ use Rattle.smith_instr.specs.Contexts.{BodyContext, labelled}
 use Rattle.smith_instr.specs.declared.instr.Instr.{Instr}
 use Rattle.smith_instr.specs.declared.instr.Instr.TheVariants as instr
 use Rattle.smith_code.specs.Choices.{allowed_choice_at, statement_choice_at}
-use Rattle.smith_code.specs.Leaves.{instructions_of, leaf_at}
+use Rattle.smith_code.specs.Leaves.{leaf_at}
 use Rattle.smith_code_nodes.specs.Nodes.{is_node_allowed, label_of, opened}
 use Rattle.smith_code_nodes.specs.declared.node.Head.{Head}
 use Rattle.smith_code_nodes.specs.declared.node.Head.TheVariants as head
@@ -67,7 +67,7 @@ node_at draw node s = dropped node.drops (head_at draw node.head node.sets (valu
 unfoldable pub leaf_in : Config → ValType → State → State
 leaf_in config wanted s =
     let leaf = leaf_at config s.context s.set wanted s.bytes in
-    record s { out = s.out ++ instructions_of leaf.0; bytes = leaf.1 }
+    record s { out = s.out ++ leaf.0; bytes = leaf.1 }
 
 -- the node that was chosen, or a value without a budget
 abbrev pub node_or_leaf_at : Config → Drawing → ValType → Option Node → State → State

@@ -24,8 +24,8 @@ pub record IsDrawn (scope : Scope) (operands values : List ValType) (cost : ℕ)
   pub set_more : new.set.items ≡ old.set.items ++ set
   pub same : new.labels.items ≡ old.labels.items
   pub spent : new.budget ≤ old.budget
-  pub short : length new.out + longest_leaf scope.config.now * (most scope.types.now.types * new.budget)
-      ≤ length old.out + longest_leaf scope.config.now * (cost + most scope.types.now.types * old.budget)
+  pub short : length new.out + longest_leaf scope.config.now scope.types.now.types * (most scope.types.now.types * new.budget)
+      ≤ length old.out + longest_leaf scope.config.now scope.types.now.types * (cost + most scope.types.now.types * old.budget)
 
 -- the state of a draft before these bytes
 abbrev pub state_of : Scope → Draft → List ℕ → State

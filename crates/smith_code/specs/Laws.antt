@@ -1,5 +1,5 @@
 -- Laws of values that need no budget.
-use Rattle.std.specs.Prelude.{◌≡◌, ℕ, ◌-◌, ◌^◌, ◌<◌, true, List}
+use Rattle.std.specs.Prelude.{◌≡◌, ℕ, ◌-◌, ◌^◌, ◌<◌, true, List, [], ◌∷◌, Some, Any}
 use Rattle.smith_config.specs.declared.config.Config.{Config}
 use Rattle.smith_types.specs.Types.{IsOrderly}
 use Rattle.smith_types.specs.declared.value_type.HeapType.{HeapType}
@@ -11,7 +11,7 @@ use Rattle.smith_instr.specs.declared.instr.Instr.{Instr}
 use Rattle.smith_instr.specs.declared.instr.Instr.TheVariants as instr
 use Rattle.smith_instr.specs.declared.reference.ReferenceInstr.TheVariants as reference
 use Rattle.smith_code_nodes.specs.Scopes.{is_permitted}
-use Rattle.smith_code.specs.Leaves.{IsLeaf, IsOver, leaf_at}
+use Rattle.smith_code.specs.Leaves.{IsLeaf, IsTaking, leaf_at, named_type}
 
 -- a constant of a number or a vector
 abbrev pub IsNumber : Instr → Type 0
@@ -32,10 +32,15 @@ abbrev pub IsOther : Config → BodyContext → List ℕ → ValType → Instr �
 IsOther config context set wanted instruction =
     (is_permitted context.features config instruction ≡ true) × IsLeaf context set wanted instruction
 
--- an instruction that is permitted, takes a value of one type, and produces one that matches another
+-- an instruction that is permitted, takes values of these types, and produces one that matches the
+-- wanted type
+abbrev pub IsOtherTaking : Config → BodyContext → List ℕ → List ValType → (wanted : ValType) → Instr → Type 0
+IsOtherTaking config context set operands wanted instruction =
+    (is_permitted context.features config instruction ≡ true) × IsTaking context set operands wanted instruction
+
+-- the same for an instruction that takes a value of one type
 abbrev pub IsOtherOver : Config → BodyContext → List ℕ → (operand wanted : ValType) → Instr → Type 0
-IsOtherOver config context set operand wanted instruction =
-    (is_permitted context.features config instruction ≡ true) × IsOver context set operand wanted instruction
+IsOtherOver config context set operand wanted instruction = IsOtherTaking config context set (operand ∷ []) wanted instruction
 
 -- the creation of an i31
 abbrev pub IsI31Creation : Instr → Type 0
@@ -51,8 +56,8 @@ IsConversion _ = ⊥
 
 -- no permitted instruction produces a value that matches the wanted type: no read of a local or a
 -- global, no reference to a function, no constant, no null, no struct of default values, and no
--- array without elements; nor does the creation of an i31 from a constant
-pub record HasNoShort (config : Config) (context : BodyContext) (set : List ℕ) (wanted : ValType) : Type 0 where
+-- array without elements
+pub record HasNoSingle (config : Config) (context : BodyContext) (set : List ℕ) (wanted : ValType) : Type 0 where
   pub no_local : (index : ℕ) → IsIndex index → ¬ IsOther config context set wanted (instr.LocalGet index)
   pub no_global : (index : ℕ) → IsIndex index → ¬ IsOther config context set wanted (instr.GlobalGet index)
   pub no_function : (function : ℕ) → ¬ IsOther config context set wanted (instr.Reference (reference.Func function))
@@ -60,18 +65,24 @@ pub record HasNoShort (config : Config) (context : BodyContext) (set : List ℕ)
   pub no_null : (heap_type : HeapType) → ¬ IsOther config context set wanted (instr.Reference (reference.Null heap_type))
   pub no_struct : (ty : ℕ) → IsIndex ty → ¬ IsOther config context set wanted (instr.Aggregate (aggregate.StructNewDefault ty))
   pub no_array : (ty : ℕ) → IsIndex ty → ¬ IsOther config context set wanted (instr.Aggregate (aggregate.ArrayNewFixed ty 0))
+
+-- nor does the creation of an i31 from a constant
+pub record HasNoShort (config : Config) (context : BodyContext) (set : List ℕ) (wanted : ValType) : Type 0 where
+  pub none : HasNoSingle config context set wanted
   pub no_i31 : (number creation : Instr) → IsNumber number → IsOther config context set I32 number → IsI31Creation creation → ¬ IsOtherOver config context set I32 wanted creation
 
 -- neither these produce a value that matches the wanted type, nor a permitted conversion of a
--- reference that they produce
+-- reference that they produce, nor the permitted creation of a struct of the type that the wanted
+-- type names, if each operand is produced by one instruction
 pub record HasNoOther (config : Config) (context : BodyContext) (set : List ℕ) (wanted : ValType) : Type 0 where
   pub none : HasNoShort config context set wanted
   pub none_converted : (operand : ValType) (conversion : Instr) → IsConversion conversion → IsOtherOver config context set operand wanted conversion → HasNoShort config context set operand
+  pub none_created : (ty : ℕ) (operands : List ValType) → named_type wanted ≡ Some ty → IsOtherTaking config context set operands wanted (instr.Aggregate (aggregate.StructNew ty)) → Any (HasNoSingle config context set) operands
 
 -- with `disallow_traps`, a value is produced by `unreachable` only if no other such instructions
 -- produce one
 abbrev pub TrapsOnlyForNoOther : Type 0
 TrapsOnlyForNoOther =
     (config : Config) (context : BodyContext) (set : List ℕ) (wanted : ValType) (bytes : List ℕ)
-    → IsOrderly context.types → config.disallow_traps ≡ true → (leaf_at config context set wanted bytes).0.value ≡ instr.Unreachable
+    → IsOrderly context.types → config.disallow_traps ≡ true → (leaf_at config context set wanted bytes).0 ≡ instr.Unreachable ∷ []
     → HasNoOther config context set wanted

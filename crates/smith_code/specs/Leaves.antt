@@ -1,20 +1,24 @@
 -- The value that the bytes produce without a budget. The choices and their order are rules of this
 -- project.
-use Rattle.std.specs.Prelude.{◌≡◌, ℕ, Bool, false, true, Option, Some, None, option_map, option_to_list, unwrap_or, List, [], ◌∷◌, ◌++◌, length, pos, slice_get, if◌then◌else◌}
+use Rattle.std.specs.Prelude.{◌≡◌, ℕ, ◌+◌, max, ◌&&◌, Bool, false, true, Option, Some, None, IfSome, is_some, option_map, option_to_list, unwrap_or, List, [], ◌∷◌, ◌++◌, length, pos, slice_get, if◌then◌else◌, All}
 use Rattle.std.specs.Option.{option_or}
 use Rattle.std.specs.Int.{cast_signed, w32, w64, w128}
 use Rattle.smith_bytes.specs.Draws.{choose_at, whole_at}
 use Rattle.smith_config.specs.declared.config.Config.{Config}
-use Rattle.smith_types.specs.Expressions.{reference_to}
+use Rattle.smith_types.specs.Expressions.{field_values, reference_to, unpacked}
 use Rattle.smith_types.specs.Subtyping.{IsValBelow}
+use Rattle.smith_types.specs.declared.composite_type.FieldType.{FieldType}
+use Rattle.smith_types.specs.declared.composite_type.StructType.{StructType}
+use Rattle.smith_types.specs.declared.composite_type.SubType.{SubType}
 use Rattle.smith_types.specs.declared.value_type.AbstractHeapType.TheVariants as abstract
 use Rattle.smith_types.specs.declared.value_type.HeapType.{HeapType}
-use Rattle.smith_types.specs.declared.value_type.HeapType.TheVariants.{Abstract}
+use Rattle.smith_types.specs.declared.value_type.HeapType.TheVariants.{Abstract, Concrete, Exact}
 use Rattle.smith_types.specs.declared.value_type.RefType.{RefType}
 use Rattle.smith_types.specs.declared.value_type.ValType.{ValType}
 use Rattle.smith_types.specs.declared.value_type.ValType.TheVariants.{I32, I64, F32, F64, V128, Ref}
 use Rattle.smith_draw.specs.Below.{is_val_below}
 use Rattle.smith_draw.specs.Choices.{chosen_at}
+use Rattle.smith_draw.specs.ConstScopes.{fields_of}
 use Rattle.smith_instr.specs.AggregateTypes.{external, internal}
 use Rattle.smith_instr.specs.Contexts.{BodyContext, IsValid}
 use Rattle.smith_instr.specs.InstrTypes.{sets, HasInstrType}
@@ -23,7 +27,8 @@ use Rattle.smith_instr.specs.declared.aggregate.AggregateInstr.TheVariants as ag
 use Rattle.smith_instr.specs.declared.instr.Instr.{Instr}
 use Rattle.smith_instr.specs.declared.instr.Instr.TheVariants as instr
 use Rattle.smith_instr.specs.declared.reference.ReferenceInstr.TheVariants as reference
-use Rattle.smith_code_aggregates.specs.Aggregates.{first_created_array, first_created_struct}
+use Rattle.smith_code_aggregates.specs.Aggregates.{first_created_array, first_created_struct, is_created_below}
+use Rattle.smith_code_aggregates.specs.Fields.{struct_in}
 use Rattle.smith_code_nodes.specs.Chosen.{giving}
 use Rattle.smith_code_nodes.specs.Offered.{is_global_below, is_readable, is_reference, offered, within_at}
 use Rattle.smith_code_nodes.specs.Scopes.{indexed, is_permitted}
@@ -135,9 +140,15 @@ instructions_of value = value.value ∷ (option_to_list value.creation ++ option
 abbrev pub only : Instr → Leaf
 only instruction = record { value = instruction; creation = None; conversion = None }
 
--- the greatest number of instructions of a value
-unfoldable pub longest_leaf : Config → ℕ
-longest_leaf config = if config.disallow_traps then 3 else 1
+-- the greater of 2 and the greatest number of fields of a struct
+unfoldable pub widest_struct : List SubType → ℕ
+widest_struct [] = 2
+widest_struct (t ∷ types) = max (length (fields_of t.composite_type.inner)) (widest_struct types)
+
+-- the greatest number of instructions of a value: with `disallow_traps` 3, or one for each field of
+-- a struct and one for its creation, if these are more
+unfoldable pub longest_leaf : Config → List SubType → ℕ
+longest_leaf config types = if config.disallow_traps then 1 + widest_struct types else 1
 
 -- the type of an i31, and the instruction that creates it
 abbrev pub i31_type : Bool → ValType
@@ -188,22 +199,76 @@ abbrev pub converted_leaf : Config → BodyContext → List ℕ → ValType → 
 converted_leaf config context set (Ref to) = converted_to config context set to.nullable to.heap_type
 converted_leaf config context set _ = None
 
--- a value of one instruction, an i31, or a converted reference; `unreachable` if there is none
-unfoldable pub first_leaf : Config → BodyContext → List ℕ → ValType → Leaf
+-- a value of at most three instructions: one of one instruction, an i31, or a converted reference
+unfoldable pub brief_leaf : Config → BodyContext → List ℕ → ValType → Option Leaf
+brief_leaf config context set wanted = option_or (short_leaf config context set wanted) (converted_leaf config context set wanted)
+
+-- the index of the type that a reference type names
+abbrev pub named_by : HeapType → Option ℕ
+named_by (Concrete index) = Some index
+named_by (Exact index) = Some index
+named_by _ = None
+
+abbrev pub named_type : ValType → Option ℕ
+named_type (Ref to) = named_by to.heap_type
+named_type _ = None
+
+-- the fields of a type, if it is a struct type
+abbrev pub fields_in : Option StructType → List FieldType
+fields_in (Some structure) = structure.fields
+fields_in None = []
+
+abbrev pub fields_at : List SubType → ℕ → List FieldType
+fields_at types ty = fields_in (struct_in (slice_get types ty))
+
+-- the first value of one instruction of each type, where there is one
+abbrev pub singles : Config → BodyContext → List ℕ → List ValType → List Instr
+singles config context set [] = []
+singles config context set (wanted ∷ more) = option_to_list (first_single config context set wanted) ++ singles config context set more
+
+-- each type has a value of one instruction
+abbrev pub have_singles : Config → BodyContext → List ℕ → List ValType → Bool
+have_singles config context set [] = true
+have_singles config context set (wanted ∷ more) = is_some (first_single config context set wanted) && have_singles config context set more
+
+-- a struct of this type matches the wanted type, its creation is permitted, and each field has a
+-- value of one instruction
+abbrev pub is_created_in : Config → BodyContext → List ℕ → ValType → ℕ → Option StructType → Bool
+is_created_in config context set wanted ty (Some structure) =
+    (is_created_below context wanted ty && is_permitted context.features config (instr.Aggregate (aggregate.StructNew ty))) && have_singles config context set (field_values structure.fields)
+is_created_in config context set wanted ty None = false
+
+abbrev pub is_created : Config → BodyContext → List ℕ → ValType → ℕ → Bool
+is_created config context set wanted ty = is_created_in config context set wanted ty (struct_in (slice_get context.types ty))
+
+-- the struct type that the wanted type names, if a struct of it is created
+abbrev pub created_by : Config → BodyContext → List ℕ → ValType → Option ℕ → Option ℕ
+created_by config context set wanted (Some ty) = if is_created config context set wanted ty then Some ty else None
+created_by config context set wanted None = None
+
+unfoldable pub created_type : Config → BodyContext → List ℕ → ValType → Option ℕ
+created_type config context set wanted = created_by config context set wanted (named_type wanted)
+
+-- a struct created from the first value of one instruction of each field
+abbrev pub created_from : Config → BodyContext → List ℕ → ℕ → List Instr
+created_from config context set ty = singles config context set (field_values (fields_at context.types ty)) ++ instr.Aggregate (aggregate.StructNew ty) ∷ []
+
+-- a value of at most three instructions, or a created struct; `unreachable` if there is none
+unfoldable pub first_leaf : Config → BodyContext → List ℕ → ValType → List Instr
 first_leaf config context set wanted =
-    unwrap_or (short_leaf config context set wanted)
-    (unwrap_or (converted_leaf config context set wanted) (only instr.Unreachable))
+    unwrap_or (option_map instructions_of (brief_leaf config context set wanted))
+    (unwrap_or (option_map (created_from config context set) (created_type config context set wanted)) (instr.Unreachable ∷ []))
 
 -- the replacement for an instruction that is not permitted: `unreachable`; with `disallow_traps`
 -- the first permitted value
-unfoldable pub spare_leaf : Config → BodyContext → List ℕ → ValType → Leaf
-spare_leaf config context set wanted = if config.disallow_traps then first_leaf config context set wanted else only instr.Unreachable
+unfoldable pub spare_leaf : Config → BodyContext → List ℕ → ValType → List Instr
+spare_leaf config context set wanted = if config.disallow_traps then first_leaf config context set wanted else instr.Unreachable ∷ []
 
 -- the drawn instruction if it is permitted, else its replacement
-unfoldable pub leaf_at : Config → BodyContext → List ℕ → ValType → List ℕ → Leaf × List ℕ
+unfoldable pub leaf_at : Config → BodyContext → List ℕ → ValType → List ℕ → List Instr × List ℕ
 leaf_at config context set wanted bytes =
     let leaf = any_leaf_at context set wanted bytes in
-    (if is_permitted context.features config leaf.0 then only leaf.0 else spare_leaf config context set wanted, leaf.1)
+    (if is_permitted context.features config leaf.0 then leaf.0 ∷ [] else spare_leaf config context set wanted, leaf.1)
 
 -- an instruction that produces a value that matches this type, without operands
 pub record IsLeaf (context : BodyContext) (set : List ℕ) (wanted : ValType) (instruction : Instr) : Type 0 where
@@ -216,12 +281,16 @@ pub record IsLeaf (context : BodyContext) (set : List ℕ) (wanted : ValType) (i
 abbrev pub IsConstant : ValType → Instr → Type 0
 IsConstant wanted instruction = (context : BodyContext) (set : List ℕ) → IsValid context wanted → IsLeaf context set wanted instruction
 
--- an instruction that takes a value of one type and produces one that matches another
-pub record IsOver (context : BodyContext) (set : List ℕ) (operand wanted : ValType) (instruction : Instr) : Type 0 where
+-- an instruction that takes values of these types and produces one that matches another
+pub record IsTaking (context : BodyContext) (set : List ℕ) (operands : List ValType) (wanted : ValType) (instruction : Instr) : Type 0 where
   pub value : ValType
-  pub typed : HasInstrType context set instruction (operand ∷ []) (value ∷ [])
+  pub typed : HasInstrType context set instruction operands (value ∷ [])
   pub below : IsValBelow context.types value wanted
   pub sets_none : sets instruction ≡ []
+
+-- an instruction that takes a value of one type and produces one that matches another
+abbrev pub IsOver : BodyContext → List ℕ → (operand wanted : ValType) → Instr → Type 0
+IsOver context set operand wanted instruction = IsTaking context set (operand ∷ []) wanted instruction
 
 -- the types of a value before and after an instruction other than `unreachable`; without an
 -- instruction they are the same
@@ -238,3 +307,8 @@ pub record IsLeafOf (context : BodyContext) (set : List ℕ) (wanted : ValType) 
   pub created : IsThen context set value reference leaf.creation
   pub reference_valid : IsValid context reference
   pub converted : IsThen context set reference wanted leaf.conversion
+
+-- where a field has a value of one instruction, the first of them matches the type of the field
+abbrev pub AreSinglesTyped : Config → BodyContext → List ℕ → List FieldType → Type 0
+AreSinglesTyped config context set fields =
+    All (λ (field : FieldType). IfSome (first_single config context set (unpacked field.element_type)) (IsLeaf context set (unpacked field.element_type))) fields

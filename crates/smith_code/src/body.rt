@@ -28,8 +28,10 @@ const DEPTH: u32 = 40;
 /// With `disallow_traps` of the configuration, only `unreachable` may trap. It is then drawn only
 /// with a budget of 0, or for a value that no other permitted instructions produce without a
 /// budget. These are a local, a global, a function reference, a constant, null, a struct of default
-/// values, an array without elements, an i31 of a constant, and the conversion of one of them
-/// between internal and external references. Such a value takes at most three instructions.
+/// values, an array without elements, an i31 of a constant, the conversion of one of them between
+/// internal and external references, and a struct of the type that a reference type names, if each
+/// field has a value of one instruction. Such a value takes at most three instructions, or one for
+/// each field and one for the creation.
 ///
 /// # Errors
 ///
@@ -48,6 +50,7 @@ pub fn draw_body(
     ensures needed { 0 < budget
         → IfOk result (HasNeededStops scope.now.config.now (bare scope.now)) }
     ensures short { IfOk result (λ body. length body ≤ 1 + longest_leaf scope.now.config.now
+        scope.now.types.now.types
         * (length scope.now.results.now + most scope.now.types.now.types * budget)) }
     ensures exact { Draws (body_at scope.now.config.now (bare scope.now) budget u.old)
         result u.old u.new }
@@ -74,6 +77,7 @@ fn draw_some(
     ensures trapless { IsTrue scope.now.config.now.disallow_traps → IfOk result (All IsTrapless) }
     ensures needed { IfOk result (HasNeededStops scope.now.config.now (bare scope.now)) }
     ensures short { IfOk result (λ body. length body ≤ longest_leaf scope.now.config.now
+        scope.now.types.now.types
         * (length scope.now.results.now + most scope.now.types.now.types * budget)) }
     ensures exact { Draws (body_at scope.now.config.now (bare scope.now) budget u.old)
         result u.old u.new }

@@ -1,5 +1,5 @@
 ghost use Rattle.std.specs.Prelude.{◌≡◌, ◌++◌, [], ◌∷◌, All, IfSome, IfErr, OnOk};
-ghost use Rattle.std.specs.Prelude.{Some, None, false, option_to_list, true};
+ghost use Rattle.std.specs.Prelude.{Some, None, false, true};
 ghost use Rattle.std.specs.Option.{option_or};
 ghost use Rattle.smith_bytes.specs.Source.{KeepsPieces};
 ghost use Rattle.smith_types.specs.FeatureBits.{features_in};
@@ -9,14 +9,16 @@ ghost use Rattle.smith_instr.specs.Contexts.{IsValid};
 ghost use Rattle.smith_instr.specs.declared.instr.Instr.TheVariants as instr;
 ghost use Rattle.smith_code.specs.Bodies.{leaf_in};
 ghost use Rattle.smith_code.specs.DraftSteps.{IsDrawn, state_of};
-ghost use Rattle.smith_code.specs.Leaves.{IsLeafOf, IsThen, converted_by, converted_leaf};
-ghost use Rattle.smith_code.specs.Leaves.{first_leaf, i31_by, i31_leaf, i31_of, i31_type};
-ghost use Rattle.smith_code.specs.Leaves.{instructions_of, leaf_at, only, short_leaf};
+ghost use Rattle.smith_code.specs.Leaves.{IsLeafOf, IsThen, brief_leaf, converted_by};
+ghost use Rattle.smith_code.specs.Leaves.{converted_leaf, first_leaf, i31_by, i31_leaf, i31_of};
+ghost use Rattle.smith_code.specs.Leaves.{i31_type, instructions_of, only, short_leaf};
 ghost use Rattle.smith_code.specs.Leaves.{spare_leaf, with_conversion};
 ghost use Rattle.smith_code_nodes.specs.Scopes.{IsAllowedIn, IsScope, bare, is_permitted};
 ghost use Rattle.smith_code_nodes.specs.Scopes.{where_stands};
 
+use crate::created::{created_type, write_created};
 use crate::single::{draw_any_leaf, first_single};
+use crate::written::write_some;
 use smith_bytes::{Error, Unstructured};
 use smith_code_nodes::{Draft, Scope, is_allowed, is_sub_type};
 use smith_instr::{AggregateInstr, Instr};
@@ -33,7 +35,8 @@ pub(crate) struct Leaf {
     pub(crate) conversion: Option<Instr>,
 }
 
-/// Writes instructions that produce a value that matches `wanted`, and take no budget.
+/// Writes instructions that produce a value that matches `wanted`, and take no budget. These are an
+/// instruction without operands that is drawn, or another value if it is not allowed.
 pub(crate) fn write_leaf(
     scope: &Scope<'_>,
     wanted: ValType,
@@ -49,8 +52,53 @@ pub(crate) fn write_leaf(
     ensures memory { IfErr result (λ e. e ≡ Error.Memory) }
     ensures left { KeepsPieces u.old u.new }
 {
-    let leaf = draw_leaf(scope, wanted, draft, u);
-    write_instructions(leaf, draft)
+    let leaf = draw_any_leaf(scope, wanted, draft, u);
+    if is_allowed(scope, &leaf) {
+        return write_instructions(only(leaf), draft);
+    }
+    write_spare(scope, wanted, draft)
+}
+
+/// Writes `unreachable`. Writes the first allowed value instead if traps are disallowed.
+#[tactic(auto, unfolding(crate::specs::Leaves::spare_leaf))]
+fn write_spare(scope: &Scope<'_>, wanted: ValType, draft: &mut Draft) -> Result<(), Error>
+    requires scope { IsScope (bare scope.now) }
+    requires wanted { IsValid (bare scope.now) wanted }
+    ensures out { OnOk result (draft.new.out ≡ draft.old.out ++ spare_leaf scope.now.config.now
+        (where_stands scope.now draft.old) draft.old.set.items wanted) }
+    ensures drawn { OnOk result (IsDrawn scope.now [] (wanted ∷ []) 1 draft.old draft.new) }
+    ensures set { draft.new.set.items ≡ draft.old.set.items }
+    ensures same { draft.new.labels.items ≡ draft.old.labels.items }
+    ensures budget { draft.new.budget ≡ draft.old.budget }
+    ensures memory { IfErr result (λ e. e ≡ Error.Memory) }
+{
+    if scope.config.disallow_traps {
+        return write_first(scope, wanted, draft);
+    }
+    write_instructions(only(Instr::Unreachable), draft)
+}
+
+/// Writes the first allowed value that matches `wanted`. Writes `unreachable` if there is none.
+/// Requires traps to be disallowed.
+fn write_first(scope: &Scope<'_>, wanted: ValType, draft: &mut Draft) -> Result<(), Error>
+    requires scope { IsScope (bare scope.now) }
+    requires wanted { IsValid (bare scope.now) wanted }
+    requires trapless { scope.now.config.now.disallow_traps ≡ true }
+    ensures out { OnOk result (draft.new.out ≡ draft.old.out ++ first_leaf scope.now.config.now
+        (where_stands scope.now draft.old) draft.old.set.items wanted) }
+    ensures drawn { OnOk result (IsDrawn scope.now [] (wanted ∷ []) 1 draft.old draft.new) }
+    ensures set { draft.new.set.items ≡ draft.old.set.items }
+    ensures same { draft.new.labels.items ≡ draft.old.labels.items }
+    ensures budget { draft.new.budget ≡ draft.old.budget }
+    ensures memory { IfErr result (λ e. e ≡ Error.Memory) }
+{
+    if let Some(leaf) = brief_leaf(scope, wanted, draft) {
+        return write_instructions(leaf, draft);
+    }
+    if let Some(ty) = created_type(scope, wanted, draft) {
+        return write_created(scope, ty, draft);
+    }
+    write_instructions(only(Instr::Unreachable), draft)
 }
 
 /// Writes the instructions of `leaf`.
@@ -71,39 +119,6 @@ fn write_instructions(leaf: Leaf, draft: &mut Draft) -> Result<(), Error>
     write_some(conversion, draft)
 }
 
-/// Writes `instruction`, if there is one.
-fn write_some(instruction: Option<Instr>, draft: &mut Draft) -> Result<(), Error>
-    ensures out { OnOk result (draft.new.out ≡ draft.old.out ++ option_to_list instruction) }
-    ensures set { draft.new.set.items ≡ draft.old.set.items }
-    ensures same { draft.new.labels.items ≡ draft.old.labels.items }
-    ensures budget { draft.new.budget ≡ draft.old.budget }
-    ensures memory { IfErr result (λ e. e ≡ Error.Memory) }
-{
-    match instruction {
-        Some(instruction) => draft.out.push(instruction),
-        None => Ok(()),
-    }
-}
-
-/// Draws an instruction that produces a value that matches `wanted`, without operands. Returns
-/// another value instead if it is not allowed.
-fn draw_leaf(scope: &Scope<'_>, wanted: ValType, draft: &Draft, u: &mut Unstructured<'_>) -> Leaf
-    requires scope { IsScope (bare scope.now) }
-    requires wanted { IsValid (bare scope.now) wanted }
-    ensures exact { leaf_at scope.now.config.now
-        (where_stands scope.now draft.now) draft.now.set.items wanted u.old
-        ≡ (result, u.new) }
-    ensures typed { IsLeafOf (where_stands scope.now draft.now) draft.now.set.items wanted result }
-    ensures allowed { All (IsAllowedIn scope.now) (instructions_of result) }
-    ensures left { KeepsPieces u.old u.new }
-{
-    let leaf = draw_any_leaf(scope, wanted, draft, u);
-    if is_allowed(scope, &leaf) {
-        return only(leaf);
-    }
-    spare_leaf(scope, wanted, draft)
-}
-
 /// Creates a value of one instruction.
 fn only(instruction: Instr) -> Leaf
     ensures { result ≡ only instruction }
@@ -115,41 +130,22 @@ fn only(instruction: Instr) -> Leaf
     }
 }
 
-/// Returns `unreachable`. Returns the first allowed value instead if traps are disallowed.
-#[tactic(auto, unfolding(crate::specs::Leaves::spare_leaf))]
-fn spare_leaf(scope: &Scope<'_>, wanted: ValType, draft: &Draft) -> Leaf
+/// Returns the first allowed value of at most three instructions that matches `wanted`.
+#[tactic(auto, unfolding(crate::specs::Leaves::brief_leaf))]
+fn brief_leaf(scope: &Scope<'_>, wanted: ValType, draft: &Draft) -> Option<Leaf>
     requires scope { IsScope (bare scope.now) }
     requires wanted { IsValid (bare scope.now) wanted }
     ensures exact { result
-        ≡ spare_leaf scope.now.config.now
+        ≡ brief_leaf scope.now.config.now
         (where_stands scope.now draft.now) draft.now.set.items wanted }
-    ensures typed { IsLeafOf (where_stands scope.now draft.now) draft.now.set.items wanted result }
-    ensures allowed { All (IsAllowedIn scope.now) (instructions_of result) }
-{
-    if scope.config.disallow_traps {
-        return first_leaf(scope, wanted, draft);
-    }
-    only(Instr::Unreachable)
-}
-
-/// Returns the first allowed value that matches `wanted`. Returns `unreachable` if there is none.
-#[tactic(auto, unfolding(crate::specs::Leaves::first_leaf))]
-fn first_leaf(scope: &Scope<'_>, wanted: ValType, draft: &Draft) -> Leaf
-    requires scope { IsScope (bare scope.now) }
-    requires wanted { IsValid (bare scope.now) wanted }
-    ensures exact { result
-        ≡ first_leaf scope.now.config.now
-        (where_stands scope.now draft.now) draft.now.set.items wanted }
-    ensures typed { IsLeafOf (where_stands scope.now draft.now) draft.now.set.items wanted result }
-    ensures allowed { All (IsAllowedIn scope.now) (instructions_of result) }
+    ensures typed { IfSome result
+        (IsLeafOf (where_stands scope.now draft.now) draft.now.set.items wanted) }
+    ensures allowed { IfSome result (λ leaf. All (IsAllowedIn scope.now) (instructions_of leaf)) }
 {
     if let Some(leaf) = short_leaf(scope, wanted, draft) {
-        return leaf;
+        return Some(leaf);
     }
-    if let Some(leaf) = converted_leaf(scope, wanted, draft) {
-        return leaf;
-    }
-    only(Instr::Unreachable)
+    converted_leaf(scope, wanted, draft)
 }
 
 /// Returns the first allowed value of one instruction that matches `wanted`, or an i31 if there is

@@ -3,6 +3,7 @@
 
 mod body;
 mod choices;
+mod created;
 mod drawn;
 mod families;
 pub mod laws;

@@ -1,7 +1,7 @@
 -- Contexts and types of the examples of structures, arrays and casts.
 use Rattle.std.specs.Prelude.{ℕ, List, [], ◌∷◌}
 use Rattle.smith_types.specs.ExampleFeatures.{without_gc}
-use Rattle.smith_types.specs.ExampleTypes.{constant, final_type, not_null, nullable, plain, struct, variable}
+use Rattle.smith_types.specs.ExampleTypes.{constant, empty_struct, final_type, not_null, nullable, plain, plain_func, struct, variable}
 use Rattle.smith_types.specs.Flags.{funcref}
 use Rattle.smith_types.specs.declared.composite_type.CompositeInnerType.TheVariants.{Array}
 use Rattle.smith_types.specs.declared.composite_type.StorageType.TheVariants.{I8, Val}
@@ -65,3 +65,20 @@ branching locals = record (aggregates locals) { labels = (I32 ∷ any 0 ∷ []) 
 -- the context without locals, with these labels
 abbrev pub labelled_by : List (List ValType) → BodyContext
 labelled_by labels = record (aggregates []) { labels = labels }
+
+-- a function over structs: without fields; of a reference to such a struct; of a packed integer, an
+-- i64 and such a reference; of a reference to the second; and of a reference to a function; and over
+-- the type of a function, which `ref.func` may name
+abbrev pub nested : BodyContext
+nested = record (function_of [] []) {
+  types =
+      final_type empty_struct
+      ∷ final_type (struct (constant (Val (some 0)) ∷ []))
+      ∷ final_type (struct (constant I8 ∷ variable (Val I64) ∷ constant (Val (some 0)) ∷ []))
+      ∷ final_type (struct (constant (Val (some 1)) ∷ []))
+      ∷ final_type (struct (constant (Val some_func) ∷ []))
+      ∷ final_type plain_func
+      ∷ [];
+  funcs = 5 ∷ [];
+  references = 0 ∷ [];
+}

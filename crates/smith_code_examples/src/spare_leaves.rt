@@ -1,6 +1,6 @@
-#![tactic(auto, unfolding(smith_code::specs::Leaves::any_leaf_at, smith_code::specs::Leaves::constant_instr_at, smith_code::specs::Leaves::first_leaf, smith_code::specs::Leaves::first_single, smith_code::specs::Leaves::i31_leaf, smith_code::specs::Leaves::short_leaf, smith_code::specs::Leaves::leaf_at, smith_code::specs::Leaves::leaf_choice_at, smith_code::specs::Leaves::named_at, smith_code::specs::Leaves::spare_leaf, smith_code_nodes::specs::Scopes::is_permitted, smith_instr::specs::Enabled::is_enabled, smith_draw::specs::Below::is_heap_below, smith_draw::specs::Choices::chosen_at, smith_draw::specs::Offered::ancestors, smith_code_nodes::specs::Offered::chunk_at, smith_code_nodes::specs::Offered::offered, smith_bytes::specs::Draws::choose_at, smith_bytes::specs::Draws::digit_count, smith_bytes::specs::Draws::range_at))]
+#![tactic(auto, unfolding(smith_code::specs::Leaves::any_leaf_at, smith_code::specs::Leaves::brief_leaf, smith_code::specs::Leaves::created_type, smith_code::specs::Leaves::constant_instr_at, smith_code::specs::Leaves::first_leaf, smith_code::specs::Leaves::first_single, smith_code::specs::Leaves::i31_leaf, smith_code::specs::Leaves::short_leaf, smith_code::specs::Leaves::leaf_at, smith_code::specs::Leaves::leaf_choice_at, smith_code::specs::Leaves::named_at, smith_code::specs::Leaves::spare_leaf, smith_code_nodes::specs::Scopes::is_permitted, smith_instr::specs::Enabled::is_enabled, smith_draw::specs::Below::is_heap_below, smith_draw::specs::Choices::chosen_at, smith_draw::specs::Offered::ancestors, smith_code_nodes::specs::Offered::chunk_at, smith_code_nodes::specs::Offered::offered, smith_bytes::specs::Draws::choose_at, smith_bytes::specs::Draws::digit_count, smith_bytes::specs::Draws::range_at, smith_bytes::specs::Draws::whole_at))]
 
-ghost use Rattle.std.specs.Prelude.{◌≡◌, ◌+◌, ◌^◌, true, [], ◌∷◌};
+ghost use Rattle.std.specs.Prelude.{◌≡◌, ◌+◌, ◌^◌, true, [], ◌∷◌, pos};
 ghost use Rattle.smith_types.specs.Types.{IsOrderly};
 ghost use Rattle.smith_types.specs.declared.instruction_kind.InstructionKind.TheVariants.{
   Aggregate,
@@ -13,73 +13,112 @@ ghost use Rattle.smith_config.specs.Config.{default_config};
 ghost use Rattle.smith_instr.specs.declared.aggregate.AggregateInstr.TheVariants as aggregate;
 ghost use Rattle.smith_instr.specs.declared.instr.Instr.TheVariants as instr;
 ghost use Rattle.smith_instr.specs.declared.reference.ReferenceInstr.TheVariants as reference;
-ghost use Rattle.smith_instr_examples.specs.ExampleBodies.{kinds_of};
+ghost use Rattle.smith_instr_examples.specs.ExampleBodies.{kinds_of, number};
 ghost use Rattle.smith_code.specs.Laws.{HasNoOther};
-ghost use Rattle.smith_code.specs.Leaves.{first_leaf, i31_from, i31_type, leaf_at, only};
-ghost use Rattle.smith_code.specs.Leaves.{with_conversion};
-ghost use Rattle.smith_code_examples.specs.ExampleAggregates.{any, some, some_of, unnamed, untyped};
+ghost use Rattle.smith_code.specs.Leaves.{first_leaf, i31_from, i31_type, instructions_of};
+ghost use Rattle.smith_code.specs.Leaves.{leaf_at, only, with_conversion};
+ghost use Rattle.smith_code_examples.specs.ExampleAggregates.{any, nested, some, some_of};
+ghost use Rattle.smith_code_examples.specs.ExampleAggregates.{unnamed, untyped};
 ghost use Rattle.smith_code_examples.specs.ExampleBytes.{trapless};
 
 fn spare_leaves()
     ensures struct_of_default_values { first_leaf trapless unnamed [] (some 0)
-        ≡ only (instr.Aggregate (aggregate.StructNewDefault 0)) }
+        ≡ instr.Aggregate (aggregate.StructNewDefault 0) ∷ [] }
     ensures array_without_elements { first_leaf trapless unnamed [] (some 3)
-        ≡ only (instr.Aggregate (aggregate.ArrayNewFixed 3 0)) }
+        ≡ instr.Aggregate (aggregate.ArrayNewFixed 3 0) ∷ [] }
     ensures first_of_three_arrays { first_leaf trapless unnamed [] (some_of heap.Array)
-        ≡ only (instr.Aggregate (aggregate.ArrayNewFixed 2 0)) }
+        ≡ instr.Aggregate (aggregate.ArrayNewFixed 2 0) ∷ [] }
     ensures struct_before_arrays { first_leaf trapless unnamed [] (some_of heap.Eq)
-        ≡ only (instr.Aggregate (aggregate.StructNewDefault 0)) }
+        ≡ instr.Aggregate (aggregate.StructNewDefault 0) ∷ [] }
     ensures null_before_a_struct { first_leaf trapless unnamed [] (any 0)
-        ≡ only (instr.Reference (reference.Null (Concrete 0))) }
+        ≡ instr.Reference (reference.Null (Concrete 0)) ∷ [] }
     ensures struct_without_default_values { first_leaf trapless unnamed [] (some 1)
-        ≡ only instr.Unreachable }
+        ≡ instr.Unreachable ∷ [] }
     ensures kind_that_is_not_allowed { first_leaf
         (record trapless { allowed_instructions = kinds_of NumericInt }) unnamed [] (some 0)
-        ≡ only instr.Unreachable }
+        ≡ instr.Unreachable ∷ [] }
     ensures exception { first_leaf trapless unnamed [] (some_of heap.Exn)
-        ≡ only instr.Unreachable }
+        ≡ instr.Unreachable ∷ [] }
 {}
 
 fn pairs()
     ensures i31 { first_leaf trapless unnamed [] (some_of heap.I31)
-        ≡ i31_from (instr.Aggregate aggregate.RefI31) }
+        ≡ instructions_of (i31_from (instr.Aggregate aggregate.RefI31)) }
     ensures shared_i31 { first_leaf trapless unnamed [] (i31_type true)
-        ≡ i31_from (instr.Aggregate aggregate.RefI31Shared) }
+        ≡ instructions_of (i31_from (instr.Aggregate aggregate.RefI31Shared)) }
     ensures i31_without_types { first_leaf trapless untyped [] (some_of heap.Any)
-        ≡ i31_from (instr.Aggregate aggregate.RefI31) }
+        ≡ instructions_of (i31_from (instr.Aggregate aggregate.RefI31)) }
     ensures constant_that_is_not_allowed { first_leaf
         (record trapless { allowed_instructions = kinds_of Aggregate }) untyped []
-        (some_of heap.I31) ≡ only instr.Unreachable }
+        (some_of heap.I31) ≡ instr.Unreachable ∷ [] }
     ensures external_struct { first_leaf trapless unnamed [] (some_of heap.Extern)
-        ≡ with_conversion (instr.Aggregate aggregate.ExternConvertAny)
-        (only (instr.Aggregate (aggregate.StructNewDefault 0))) }
+        ≡ instructions_of (with_conversion (instr.Aggregate aggregate.ExternConvertAny)
+        (only (instr.Aggregate (aggregate.StructNewDefault 0)))) }
     ensures external_i31 { first_leaf trapless untyped [] (some_of heap.Extern)
-        ≡ with_conversion (instr.Aggregate aggregate.ExternConvertAny)
-        (i31_from (instr.Aggregate aggregate.RefI31)) }
+        ≡ instructions_of (with_conversion (instr.Aggregate aggregate.ExternConvertAny)
+        (i31_from (instr.Aggregate aggregate.RefI31))) }
     ensures internal_local { first_leaf
         (record trapless { allowed_instructions = record { 0 = 2 ^ 11 + 2 ^ 6 } })
         (record untyped { locals = some_of heap.Extern ∷ []; params = 1 }) [] (some_of heap.Any)
-        ≡ with_conversion (instr.Aggregate aggregate.AnyConvertExtern) (only (instr.LocalGet 0)) }
+        ≡ instructions_of (with_conversion (instr.Aggregate aggregate.AnyConvertExtern)
+        (only (instr.LocalGet 0))) }
     ensures conversion_that_is_not_allowed { first_leaf
         (record trapless { allowed_instructions = kinds_of Variable })
         (record untyped { locals = some_of heap.Extern ∷ []; params = 1 }) [] (some_of heap.Any)
-        ≡ only instr.Unreachable }
+        ≡ instr.Unreachable ∷ [] }
+{}
+
+fn created_structs()
+    ensures of_a_struct { first_leaf trapless nested [] (some 1)
+        ≡ instr.Aggregate (aggregate.StructNewDefault 0)
+        ∷ instr.Aggregate (aggregate.StructNew 1) ∷ [] }
+    ensures beside_numbers { first_leaf trapless nested [] (some 2)
+        ≡ instr.GlobalGet 0 ∷ instr.I64Const (pos 0)
+        ∷ instr.Aggregate (aggregate.StructNewDefault 0)
+        ∷ instr.Aggregate (aggregate.StructNew 2) ∷ [] }
+    ensures beside_numbers_without_globals { first_leaf trapless
+        (record nested { globals = [] }) [] (some 2)
+        ≡ number 0 ∷ instr.I64Const (pos 0) ∷ instr.Aggregate (aggregate.StructNewDefault 0)
+        ∷ instr.Aggregate (aggregate.StructNew 2) ∷ [] }
+    ensures of_a_function { first_leaf trapless nested [] (some 4)
+        ≡ instr.Reference (reference.Func 0) ∷ instr.Aggregate (aggregate.StructNew 4) ∷ [] }
+    ensures without_functions { first_leaf trapless
+        (record nested { references = [] }) [] (some 4) ≡ instr.Unreachable ∷ [] }
+    ensures two_levels { first_leaf trapless nested [] (some 3) ≡ instr.Unreachable ∷ [] }
+    ensures two_levels_from_a_local { first_leaf trapless
+        (record nested { locals = some 1 ∷ []; params = 1 }) [] (some 3)
+        ≡ instr.LocalGet 0 ∷ instr.Aggregate (aggregate.StructNew 3) ∷ [] }
+    ensures kind_that_is_not_allowed { first_leaf
+        (record trapless { allowed_instructions = kinds_of Variable })
+        (record nested { locals = some 0 ∷ []; params = 1 }) [] (some 1)
+        ≡ instr.Unreachable ∷ [] }
+    ensures not_without_its_field { ¬ (first_leaf trapless nested [] (some 1)
+        ≡ instr.Aggregate (aggregate.StructNew 1) ∷ []) }
 {}
 
 fn drawn_leaves()
     ensures struct_of_default_values { leaf_at trapless unnamed [] (some 0) (4 ∷ 9 ∷ [])
-        ≡ (only (instr.Aggregate (aggregate.StructNewDefault 0)), 9 ∷ []) }
+        ≡ (instr.Aggregate (aggregate.StructNewDefault 0) ∷ [], 9 ∷ []) }
     ensures i31 { leaf_at trapless unnamed [] (some_of heap.I31) (4 ∷ 9 ∷ [])
-        ≡ (i31_from (instr.Aggregate aggregate.RefI31), 9 ∷ []) }
+        ≡ (instructions_of (i31_from (instr.Aggregate aggregate.RefI31)), 9 ∷ []) }
     ensures i31_where_traps_are_allowed { leaf_at default_config unnamed [] (some_of heap.I31)
-        (4 ∷ 9 ∷ []) ≡ (only instr.Unreachable, 9 ∷ []) }
+        (4 ∷ 9 ∷ []) ≡ (instr.Unreachable ∷ [], 9 ∷ []) }
+    ensures struct_of_a_struct { leaf_at trapless nested [] (some 1) (4 ∷ 9 ∷ [])
+        ≡ (
+          instr.Aggregate (aggregate.StructNewDefault 0)
+              ∷ instr.Aggregate (aggregate.StructNew 1) ∷ [],
+          9 ∷ [],
+        ) }
+    ensures struct_of_a_struct_where_traps_are_allowed { leaf_at default_config nested []
+        (some 1) (4 ∷ 9 ∷ []) ≡ (instr.Unreachable ∷ [], 9 ∷ []) }
     ensures exception { leaf_at trapless unnamed [] (some_of heap.Exn) (4 ∷ 9 ∷ [])
-        ≡ (only instr.Unreachable, 9 ∷ []) }
+        ≡ (instr.Unreachable ∷ [], 9 ∷ []) }
 {}
 
 fn orderly()
     ensures some { IsOrderly unnamed.types }
     ensures none { IsOrderly untyped.types }
+    ensures structs { IsOrderly nested.types }
 {}
 
 fn others()
@@ -89,6 +128,8 @@ fn others()
     ensures i31_of_no_allowed_constant { HasNoOther
         (record trapless { allowed_instructions = kinds_of Aggregate }) untyped []
         (some_of heap.I31) }
+    ensures two_levels { HasNoOther trapless nested [] (some 3) }
+    ensures struct_of_a_struct { ¬ HasNoOther trapless nested [] (some 1) }
     ensures external { ¬ HasNoOther trapless unnamed [] (some_of heap.Extern) }
     ensures external_without_types { ¬ HasNoOther trapless untyped [] (some_of heap.Extern) }
     ensures external_of_no_allowed_constant { HasNoOther

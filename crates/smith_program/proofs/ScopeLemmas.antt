@@ -134,7 +134,7 @@ not_raw (Arbitrary bytes) other = λ raw. other bytes refl
 -- the drawn body of a function is that of the function at its place
 pub drawn_at : (m : ModuleParts) (place : ℕ) (given : Code) (function : FuncType) (instructions : List Instr) → given ≡ get_or m.code place given → ¬ IsRaw given.instructions → HasDefinedType m place function
     → IsBodyTyped (function_context m function given.locals) instructions → All (IsEnabled (module_features m) m.config.allowed_instructions) instructions → (IsTrue m.config.disallow_traps → All IsTrapless instructions)
-    → (0 < m.config.max_instructions → HasNeededStops m.config (function_context m function given.locals) instructions) → length instructions ≤ 1 + longest_leaf m.config * (length function.results + most m.types * m.config.max_instructions)
+    → (0 < m.config.max_instructions → HasNeededStops m.config (function_context m function given.locals) instructions) → length instructions ≤ 1 + longest_leaf m.config m.types * (length function.results + most m.types * m.config.max_instructions)
     → (code : Code) → slice_get m.code place ≡ Some code → (¬ IsRaw code.instructions) × IsDrawnAt m place code instructions
 drawn_at m place given function instructions read drawn there typed enabled trapless needed short code at =
     let same : given ≡ code = read ∙ get_or_from_slice_get m.code place code given at in

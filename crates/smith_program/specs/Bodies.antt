@@ -61,7 +61,7 @@ pub record IsDrawnAt (m : ModuleParts) (place : ℕ) (code : Code) (instructions
   pub enabled : All (IsEnabled (module_features m) m.config.allowed_instructions) instructions
   pub trapless : IsTrue m.config.disallow_traps → All IsTrapless instructions
   pub needed : 0 < m.config.max_instructions → HasNeededStops m.config (function_context m body.function code.locals) instructions
-  pub short : length instructions ≤ 1 + longest_leaf m.config * (length body.function.results + most m.types * m.config.max_instructions)
+  pub short : length instructions ≤ 1 + longest_leaf m.config m.types * (length body.function.results + most m.types * m.config.max_instructions)
 
 -- a body whose instructions have a property, or raw bytes, which are kept (own rule)
 abbrev pub IsOfBody : (List Instr → Type 0) → Code → Body → Type 0

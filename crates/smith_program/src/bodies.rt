@@ -159,7 +159,8 @@ fn draw_instructions(
     ensures needed { 0 < «module».now.config.max_instructions
         → IfOk result (HasNeededStops «module».now.config
         (function_context «module».now function.now code.now.locals)) }
-    ensures short { IfOk result (λ body. length body ≤ 1 + longest_leaf «module».now.config
+    ensures short { IfOk result (λ body. length body
+        ≤ 1 + longest_leaf «module».now.config «module».now.types
         * (length function.now.results
         + most «module».now.types * «module».now.config.max_instructions)) }
 
