@@ -3,7 +3,6 @@ use smith_instr::{
 };
 use smith_instr_binary::{EncodeError, Sink, encode_body, encode_expr, encode_instr};
 use smith_types::{Items, ValType};
-use std::alloc::Global;
 use std::test::Fail;
 
 const RESULT: BlockType = BlockType::Value(ValType::I32);
@@ -23,48 +22,43 @@ const BYTES: [u8; 62] = [
     0x00, 0x00, 0x00, 0x00, 0x00, 0x00, 0xF8, 0x3F, 0xFC, 0x03, 0x1C, 0x01, 0x7F, 0x0B,
 ];
 
-// Returns the instructions before the division.
-fn branches(alloc: Global) -> Result<Vec<Instr>, Fail> {
-    let mut body = Vec::new(alloc);
-    body.push(Instr::Block(RESULT))?;
-    body.push(Instr::LocalGet(0))?;
-    body.push(Instr::BrTable(Items::from_slice(alloc, &[0, 0])?, 1))?;
-    body.push(Instr::End)?;
-    body.push(Instr::LocalGet(0))?;
-    body.push(Instr::If(RESULT))?;
-    body.push(Instr::LocalGet(0))?;
-    let at = MemArg {
-        align: 1,
-        offset: 300,
-        memory: 1,
-    };
-    body.push(Instr::Load(Load::I32, at))?;
-    body.push(Instr::Else)?;
-    body.push(Instr::I32Const(-77))?;
-    body.push(Instr::End)?;
-    Ok(body)
-}
+const AT: MemArg = MemArg {
+    align: 1,
+    offset: 300,
+    memory: 1,
+};
 
-fn body(alloc: Global) -> Result<Vec<Instr>, Fail> {
-    let mut body = branches(alloc)?;
-    body.push(Instr::Numeric(NumericInstr::I32Binary(IntBinary::DivS)))?;
-    body.push(Instr::I32Const(3))?;
-    body.push(Instr::CallIndirect { table: 0, ty: 0 })?;
-    body.push(Instr::I64Const(1_234_567_890_123))?;
-    body.push(Instr::LocalSet(2))?;
-    body.push(Instr::F64Const(0x3FF8_0000_0000_0000))?;
-    let op = SaturatingConversion::I32TruncSatF64U;
-    body.push(Instr::Numeric(NumericInstr::Saturate(op)))?;
-    body.push(Instr::SelectTyped(ValType::I32))?;
-    Ok(body)
+// Encodes the body that has these bytes. `labels` are those of its table of branches.
+fn encode(sink: &mut Sink, labels: Items<u32>) -> Result<(), EncodeError> {
+    let locals = [ValType::I32, ValType::I64];
+    let body = [
+        Instr::Block(RESULT),
+        Instr::LocalGet(0),
+        Instr::BrTable(labels, 1),
+        Instr::End,
+        Instr::LocalGet(0),
+        Instr::If(RESULT),
+        Instr::LocalGet(0),
+        Instr::Load(Load::I32, AT),
+        Instr::Else,
+        Instr::I32Const(-77),
+        Instr::End,
+        Instr::Numeric(NumericInstr::I32Binary(IntBinary::DivS)),
+        Instr::I32Const(3),
+        Instr::CallIndirect { table: 0, ty: 0 },
+        Instr::I64Const(1_234_567_890_123),
+        Instr::LocalSet(2),
+        Instr::F64Const(0x3FF8_0000_0000_0000),
+        Instr::Numeric(NumericInstr::Saturate(SaturatingConversion::I32TruncSatF64U)),
+        Instr::SelectTyped(ValType::I32),
+    ];
+    encode_body(sink, &locals, &body)
 }
 
 #[test]
 fn bodies_are_those_of_another_encoder(rt: HostRuntime) -> Result<(), Fail> {
-    let instructions = body(rt.alloc())?;
     let mut sink = Sink::new(rt.alloc());
-    let locals = [ValType::I32, ValType::I64];
-    encode_body(&mut sink, &locals, instructions.as_slice())?;
+    encode(&mut sink, Items::from_slice(rt.alloc(), &[0, 0])?)?;
     assert_eq!(rt; sink.as_slice(), BYTES.as_slice());
     Ok(())
 }

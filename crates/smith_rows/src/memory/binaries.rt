@@ -1,4 +1,4 @@
-use crate::memory::made_modules::module_of_parts;
+use crate::memory::parts::module_of_parts;
 use smith_encode::{EncodeError, encode};
 use smith_memory::{Ended, Tried, refusals};
 use std::alloc::Global;

@@ -1,7 +1,7 @@
-use crate::memory::made_configurations::{config_of_memories, set_available_imports, set_exports};
-use crate::memory::made_shapes::{one_of_each, ping_and_memory, three_memories};
+use crate::memory::shapes::{USES, config_of_memories, set_shape, shape_for};
 use crate::memory::tries::refused;
 use smith_bytes::{Error, Which};
+use smith_case::Fault;
 use smith_config::{Config, Shape};
 use smith_memory::{Ended, Tried, refusals};
 use std::alloc::Global;
@@ -28,16 +28,21 @@ fn copied(copy: Result<Config, Error>, config: &Config) -> Ended {
 }
 
 fn compared(copy: &Config, config: &Config) -> Ended {
-    if copy.exports == config.exports && copy.available_imports == config.available_imports {
+    if copy.exports == config.exports
+        && copy.available_imports == config.available_imports
+        && copy.module_shape == config.module_shape
+    {
         Ended::Given
     } else {
         Ended::Wrong("the copy is another")
     }
 }
 
-fn set_shapes(alloc: Global, config: &mut Config) -> Result<(), Error> {
-    set_exports(alloc, config)?;
-    set_available_imports(alloc, config)
+fn set_shapes(alloc: Global, config: &mut Config) -> Result<(), Fault> {
+    for which in USES {
+        set_shape(alloc, config, which)?;
+    }
+    Ok(())
 }
 
 fn refusals_of_copies(alloc: Global, config: &mut Config) -> Result<usize, Fail> {
@@ -46,11 +51,10 @@ fn refusals_of_copies(alloc: Global, config: &mut Config) -> Result<usize, Fail>
 }
 
 fn refusals_of_a_copy(alloc: Global) -> Result<usize, Fail> {
-    let mut config = config_of_memories();
-    refusals_of_copies(alloc, &mut config)
+    refusals_of_copies(alloc, &mut Config::default())
 }
 
-// Copies a configuration with two shapes.
+// Copies a configuration with all shapes.
 #[test]
 fn copies(rt: HostRuntime) -> Result<(), Fail> {
     assert!(rt; refusals_of_a_copy(rt.alloc())? > 0);
@@ -84,23 +88,16 @@ fn refusals_of(alloc: Global, shape: &Shape, which: Which) -> Result<usize, Fail
     refusals(alloc, &mut checking)
 }
 
-fn refusals_of_exports(alloc: Global) -> Result<usize, Fail> {
-    refusals_of(alloc, &one_of_each(alloc)?, Which::Exports)
-}
-
-fn refusals_of_imports(alloc: Global) -> Result<usize, Fail> {
-    refusals_of(alloc, &ping_and_memory(alloc)?, Which::AvailableImports)
-}
-
-fn refusals_of_memories(alloc: Global) -> Result<usize, Fail> {
-    refusals_of(alloc, &three_memories(alloc)?, Which::ModuleShape)
+fn refusals_of_a_check(alloc: Global, which: Which) -> Result<usize, Fail> {
+    refusals_of(alloc, &shape_for(alloc, which)?, which)
 }
 
 // Checks shapes of each use, the last one without types and exports.
 #[test]
 fn checks(rt: HostRuntime) -> Result<(), Fail> {
-    assert!(rt; refusals_of_exports(rt.alloc())? > 0);
-    assert!(rt; refusals_of_imports(rt.alloc())? > 0);
-    assert!(rt; refusals_of_memories(rt.alloc())? > 0);
+    for which in USES {
+        let refusals = refusals_of_a_check(rt.alloc(), which)?;
+        assert!(rt; refusals > 0, "at {which:?}");
+    }
     Ok(())
 }

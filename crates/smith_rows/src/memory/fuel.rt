@@ -1,4 +1,4 @@
-use crate::memory::made_modules::module_of_parts;
+use crate::memory::parts::module_of_parts;
 use crate::memory::tries::refused;
 use crate::memory::whole::{is_whole, whole};
 use smith_bytes::{Error, Unstructured};
@@ -10,15 +10,15 @@ use wasm_smith::Module;
 
 // A counter of fuel that is added to `module`. `text` is the text of the whole module before.
 #[derive(Drop)]
-struct Counting {
-    module: Module,
-    text: String,
+struct Counting<'a> {
+    module: &'a mut Module,
+    text: &'a str,
 }
 
-impl Tried for Counting {
+impl Tried for Counting<'_> {
     fn ended(&mut self, alloc: Global) -> Ended {
-        let ended = counted(alloc, &mut self.module);
-        match (ended, is_whole(&self.module, self.text.as_str())) {
+        let ended = counted(alloc, self.module);
+        match (ended, is_whole(self.module, self.text)) {
             (Ended::Refused, false) => Ended::Wrong("the module is another"),
             (Ended::Given, true) => Ended::Wrong("the module is the same"),
             (ended, _) => ended,
@@ -54,21 +54,21 @@ fn function(alloc: Global) -> Result<Module, Error> {
     Module::new(alloc, config_of_a_function(), &mut Unstructured::new(INPUT))
 }
 
-fn refusals_of(alloc: Global, module: Module, text: String) -> Result<usize, Fail> {
+fn refusals_of(alloc: Global, module: &mut Module, text: &str) -> Result<usize, Fail> {
     refusals(alloc, &mut Counting { module, text })
 }
 
-fn refusals_beside_a_text(alloc: Global, module: Module) -> Result<usize, Fail> {
-    let text = whole(alloc, &module)?;
-    refusals_of(alloc, module, text)
+fn refusals_beside_a_text(alloc: Global, module: &mut Module) -> Result<usize, Fail> {
+    let text = whole(alloc, module)?;
+    refusals_of(alloc, module, text.as_str())
 }
 
 fn refusals_of_a_function(alloc: Global) -> Result<usize, Fail> {
-    refusals_beside_a_text(alloc, function(alloc)?)
+    refusals_beside_a_text(alloc, &mut function(alloc)?)
 }
 
 fn refusals_of_parts(alloc: Global) -> Result<usize, Fail> {
-    refusals_beside_a_text(alloc, module_of_parts(alloc)?)
+    refusals_beside_a_text(alloc, &mut module_of_parts(alloc)?)
 }
 
 #[test]

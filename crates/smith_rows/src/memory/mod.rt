@@ -4,12 +4,10 @@
 mod binaries;
 mod configurations;
 mod fuel;
-mod made_configurations;
-mod made_modules;
-mod made_shapes;
-mod made_types;
 mod modules;
 mod names;
+mod parts;
+mod shapes;
 mod spelled;
 mod tries;
 mod types;

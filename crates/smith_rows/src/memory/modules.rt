@@ -1,8 +1,8 @@
-use crate::memory::made_configurations::{
-    set_available_imports, set_exports, set_minimums, set_module_shape,
-};
+use crate::memory::parts::set_minimums;
+use crate::memory::shapes::set_shape;
 use crate::memory::tries::{is_left, refused};
-use smith_bytes::{Error, Unstructured};
+use smith_bytes::{Error, Unstructured, Which};
+use smith_case::Fault;
 use smith_config::Config;
 use smith_memory::{Ended, Tried, refusals};
 use std::alloc::Global;
@@ -53,21 +53,18 @@ enum Asked {
     Nothing,
     /// At most two imports, and at least one global.
     Imports,
-    AvailableImports,
-    Exports,
-    ModuleShape,
     /// At least some of each part.
     EachPart,
+    /// The shape for this use.
+    Shape(Which),
 }
 
-fn set_asked(alloc: Global, config: &mut Config, asked: Asked) -> Result<(), Error> {
+fn set_asked(alloc: Global, config: &mut Config, asked: Asked) -> Result<(), Fault> {
     match asked {
         Asked::Nothing => {}
         Asked::Imports => set_imports(config),
-        Asked::AvailableImports => return set_available_imports(alloc, config),
-        Asked::Exports => return set_exports(alloc, config),
-        Asked::ModuleShape => return set_module_shape(alloc, config),
         Asked::EachPart => set_minimums(config),
+        Asked::Shape(which) => return set_shape(alloc, config, which),
     }
     Ok(())
 }
@@ -131,9 +128,9 @@ fn modules_without_shapes(rt: HostRuntime) -> Result<(), Fail> {
 #[test]
 fn modules_with_shapes(rt: HostRuntime) -> Result<(), Fail> {
     for (asked, input) in [
-        (Asked::AvailableImports, [1, 1].as_slice()),
-        (Asked::Exports, &[]),
-        (Asked::ModuleShape, ZEROS),
+        (Asked::Shape(Which::AvailableImports), [1, 1].as_slice()),
+        (Asked::Shape(Which::Exports), &[]),
+        (Asked::Shape(Which::ModuleShape), ZEROS),
     ] {
         let refusals = refusals_of(rt.alloc(), asked, input)?;
         assert!(rt; refusals > 0, "at {asked:?}");

@@ -1,27 +1,22 @@
-use crate::memory::made_types::{function, with_type};
 use crate::memory::tries::refused;
-use smith_bytes::Error;
-use smith_config::Config;
+use smith_case_shapes::shape_named;
+use smith_config::{Config, Shape};
 use smith_memory::{Ended, Tried, refusals};
 use smith_spell::spell;
-use smith_types::{
-    ArrayType, CompositeInnerType, CompositeType, FieldType, HeapType, Items, RefType, StorageType,
-    StructType, SubType, ValType,
-};
 use std::alloc::Global;
 use std::test::Fail;
 
-// Groups and functions that are spelled.
+// A shape whose types and functions are spelled.
 #[derive(Clone, Copy)]
 struct Spelling<'a> {
     config: &'a Config,
-    groups: &'a [Items<SubType>],
-    funcs: &'static [u32],
+    shape: &'a Shape,
 }
 
 impl Tried for Spelling<'_> {
     fn ended(&mut self, alloc: Global) -> Ended {
-        match spell(alloc, self.config, self.groups, self.funcs) {
+        let groups = self.shape.groups.as_slice();
+        match spell(alloc, self.config, groups, self.shape.funcs.as_slice()) {
             Ok(Some(_)) => Ended::Given,
             Ok(None) => Ended::Wrong("nothing is spelled"),
             Err(refusal) => refused(refusal),
@@ -29,76 +24,29 @@ impl Tried for Spelling<'_> {
     }
 }
 
-// Returns a final type of this structure.
-fn final_type(inner: CompositeInnerType) -> SubType {
-    SubType {
-        is_final: true,
-        supertype: None,
-        composite_type: CompositeType {
-            inner,
-            shared: false,
-        },
-    }
-}
-
-const BYTE: FieldType = FieldType {
-    element_type: StorageType::I8,
-    mutable: false,
-};
-
-// A variable reference to the first type.
-const FIRST: FieldType = FieldType {
-    element_type: StorageType::Val(ValType::Ref(RefType {
-        nullable: true,
-        heap_type: HeapType::Concrete(0),
-    })),
-    mutable: true,
-};
-
-// Returns a struct that refers to the first type.
-fn referrer(alloc: Global) -> Result<SubType, Error> {
-    let fields = Items::from_slice(alloc, &[FIRST])?;
-    Ok(final_type(CompositeInnerType::Struct(StructType { fields })))
-}
-
-// Returns an array of bytes, and a struct that refers to it.
-fn array_and_struct(alloc: Global) -> Result<Items<Items<SubType>>, Error> {
-    let array = final_type(CompositeInnerType::Array(ArrayType(BYTE)));
-    let groups = with_type(alloc, Items::new(alloc), array)?;
-    with_type(alloc, groups, referrer(alloc)?)
-}
-
-// Functions without parameters and results.
-fn functions(alloc: Global) -> Result<Items<Items<SubType>>, Error> {
-    let ty = function(alloc, true, &[], &[])?;
-    with_type(alloc, Items::new(alloc), ty)
-}
-
-fn refusals_of(
-    alloc: Global,
-    groups: &[Items<SubType>],
-    funcs: &'static [u32],
-) -> Result<usize, Fail> {
+fn refusals_of(alloc: Global, shape: &Shape) -> Result<usize, Fail> {
     let config = Config::default();
     let mut spelling = Spelling {
         config: &config,
-        groups,
-        funcs,
+        shape,
     };
     refusals(alloc, &mut spelling)
 }
 
-fn refusals_of_functions(alloc: Global) -> Result<usize, Fail> {
-    refusals_of(alloc, functions(alloc)?.as_slice(), &[0])
+fn refusals_of_named(alloc: Global, name: &str) -> Result<usize, Fail> {
+    refusals_of(alloc, &shape_named(alloc, name)?)
 }
 
-fn refusals_of_types(alloc: Global) -> Result<usize, Fail> {
-    refusals_of(alloc, array_and_struct(alloc)?.as_slice(), &[])
-}
+// The shapes that are spelled.
+const SHAPES: [&str; 2] = [
+    "a function without parameters and results",
+    "an array of bytes and a struct that refers to it",
+];
 
 #[test]
 fn spellings(rt: HostRuntime) -> Result<(), Fail> {
-    assert!(rt; refusals_of_functions(rt.alloc())? > 0);
-    assert!(rt; refusals_of_types(rt.alloc())? > 0);
+    for name in SHAPES {
+        assert!(rt; refusals_of_named(rt.alloc(), name)? > 0, "at {name}");
+    }
     Ok(())
 }

@@ -1,14 +1,17 @@
-use crate::memory::made_types::empty_struct;
 use smith_bytes::Error;
+use smith_case_shapes::shape_named;
+use smith_config::Shape;
 use smith_memory::{Ended, Tried, refusals};
-use smith_types::{SubType, TypeSpace};
+use smith_types::{CompositeInnerType, CompositeType, Items, StructType, SubType, TypeSpace};
 use std::alloc::Global;
 use std::ops::Range;
 use std::test::Fail;
 
-// Types that are pushed onto a space, each a subtype of the one before, in two groups.
-#[derive(Drop)]
-struct Pushes;
+// Types that are pushed onto a space, the first of `chain`, in two groups.
+#[derive(Clone, Copy)]
+struct Pushes<'a> {
+    chain: &'a [SubType],
+}
 
 // The pushes: whether each is of a group, and how many types and groups exist before it.
 const PUSHES: [(bool, u32, usize); 7] = [
@@ -24,28 +27,42 @@ const PUSHES: [(bool, u32, usize); 7] = [
 // The types of each group.
 const GROUPS: [Range<usize>; 2] = [0..2, 2..5];
 
-impl Tried for Pushes {
+impl Tried for Pushes<'_> {
     fn ended(&mut self, alloc: Global) -> Ended {
         let mut types = TypeSpace::new(alloc);
         for (is_group, standing, groups) in PUSHES {
             match push(alloc, &mut types, is_group, standing) {
                 Ok(()) => {}
-                Err(Error::Memory) if is_chain(alloc, &types, standing, groups) => {
+                Err(Error::Memory) if is_start(self.chain, &types, standing, groups) => {
                     return Ended::Refused;
                 }
                 Err(_) => return Ended::Wrong("the types are others"),
             }
         }
-        whole(alloc, &types)
+        whole(self.chain, &types)
     }
 }
 
 // Returns the outcome of all pushes.
-fn whole(alloc: Global, types: &TypeSpace) -> Ended {
-    if is_chain(alloc, types, 5, 2) {
+fn whole(chain: &[SubType], types: &TypeSpace) -> Ended {
+    if is_start(chain, types, 5, 2) {
         Ended::Given
     } else {
         Ended::Wrong("the types are others")
+    }
+}
+
+// Creates an open struct type without fields, a subtype of `supertype` if there is one.
+fn open_struct(alloc: Global, supertype: Option<u32>) -> SubType {
+    SubType {
+        is_final: false,
+        supertype,
+        composite_type: CompositeType {
+            inner: CompositeInnerType::Struct(StructType {
+                fields: Items::new(alloc),
+            }),
+            shared: false,
+        },
     }
 }
 
@@ -54,30 +71,41 @@ fn push(alloc: Global, types: &mut TypeSpace, is_group: bool, index: u32) -> Res
     if is_group {
         return types.push_group();
     }
-    let added = empty_struct(alloc, false, index.checked_sub(1));
+    let added = open_struct(alloc, index.checked_sub(1));
     if types.may_follow(&added) {
         let _ = types.push_type(added)?;
     }
     Ok(())
 }
 
-// Returns whether `types` has the first `standing` types, each a subtype of the one before, the
-// first `groups` groups, and nothing else.
-fn is_chain(alloc: Global, types: &TypeSpace, standing: u32, groups: usize) -> bool {
+// Returns whether `types` has the first `standing` types of `chain`, the first `groups` groups, and
+// nothing else.
+fn is_start(chain: &[SubType], types: &TypeSpace, standing: u32, groups: usize) -> bool {
     types.types().len() == standing as usize
         && types.rec_groups().len() == groups
         && GROUPS.starts_with(types.rec_groups())
-        && are_links(alloc, types.types())
+        && chain.starts_with(types.types())
 }
 
-// Returns whether each of `types` is an empty structure, a subtype of the one before.
-fn are_links(alloc: Global, types: &[SubType]) -> bool {
-    types.iter().zip(0u32..).all(|(ty, index)| *ty
-        == empty_struct(alloc, false, index.checked_sub(1)))
+fn refusals_of(alloc: Global, shape: &Shape) -> Result<usize, Fail> {
+    let Some(group) = shape.groups.first() else {
+        return Err(Fail::new(format_args!("the shape has no group")));
+    };
+    refusals(
+        alloc,
+        &mut Pushes {
+            chain: group.as_slice(),
+        },
+    )
+}
+
+fn refusals_of_a_chain(alloc: Global) -> Result<usize, Fail> {
+    let shape = shape_named(alloc, "63 structs, each below the one before")?;
+    refusals_of(alloc, &shape)
 }
 
 #[test]
 fn types(rt: HostRuntime) -> Result<(), Fail> {
-    assert!(rt; refusals(rt.alloc(), &mut Pushes)? > 0);
+    assert!(rt; refusals_of_a_chain(rt.alloc())? > 0);
     Ok(())
 }

@@ -1,8 +1,19 @@
-use crate::memory::made_configurations::set_minimums;
+//! A module with some of each part.
+
 use smith_bytes::{Error, Unstructured};
 use smith_config::Config;
 use std::alloc::Global;
 use wasm_smith::Module;
+
+/// Sets a minimum above 0 for types, tables, memories, globals and segments.
+pub(crate) fn set_minimums(config: &mut Config) {
+    config.min_types = 4;
+    config.min_tables = 1;
+    config.min_memories = 1;
+    config.min_globals = 2;
+    config.min_element_segments = 2;
+    config.min_data_segments = 1;
+}
 
 // The input of a module with some of each part.
 const PARTS: &[u8] = &[
