@@ -13,7 +13,7 @@ fn own_shapes() -> &'static [NamedShape] {
     &SHAPES
 }
 
-static SHAPES: [NamedShape; 50] = [
+static SHAPES: [NamedShape; 53] = [
     ("nothing", &[]),
     (
         "a function without parameters and results",
@@ -255,6 +255,37 @@ static SHAPES: [NamedShape; 50] = [
         &[
             "group func (ref extern) -> (ref any)",
             "func 0",
+            "export f func 0",
+        ],
+    ),
+    (
+        "a function of a struct of a struct",
+        &[
+            "group struct",
+            "group struct (ref 0)",
+            "group func -> (ref 1)",
+            "func 2",
+            "export f func 0",
+        ],
+    ),
+    (
+        "a function of a struct of a byte, a struct and a number",
+        &[
+            "group struct",
+            "group struct i8,(ref 0),(mut i64)",
+            "group func -> (ref 1)",
+            "func 2",
+            "export f func 0",
+        ],
+    ),
+    (
+        "a function of a struct of a struct of a struct",
+        &[
+            "group struct",
+            "group struct (ref 0)",
+            "group struct (ref 1)",
+            "group func -> (ref 2)",
+            "func 3",
             "export f func 0",
         ],
     ),
