@@ -1,5 +1,4 @@
-ghost use Rattle.std.specs.Prelude.{◌≡◌, ◌<◌, ◌&&◌, ◌++◌, Some, None, length, slice_get};
-ghost use Rattle.std.specs.Prelude.{IfErr, MatchOption, OnOk};
+ghost use Rattle.std.specs.Prelude.{◌≡◌, ◌<◌, ◌&&◌, ◌++◌, Some, length, IfErr, OnOk};
 ghost use Rattle.smith_types.specs.Expressions.{field_values};
 ghost use Rattle.smith_types.specs.FeatureBits.{features_in};
 ghost use Rattle.smith_instr.specs.Contexts.{AreValid, IsValid, created_reference};
@@ -8,18 +7,15 @@ ghost use Rattle.smith_instr.specs.declared.instr.Instr.TheVariants as instr;
 ghost use Rattle.smith_code.specs.Leaves.{AreSinglesTyped, created_from, created_type, fields_at};
 ghost use Rattle.smith_code.specs.Leaves.{have_singles, is_created, named_type, singles};
 ghost use Rattle.smith_code_aggregates.specs.Aggregates.{is_created_below};
-ghost use Rattle.smith_code_aggregates.specs.Fields.{struct_in, struct_of};
 ghost use Rattle.smith_code_nodes.specs.Scopes.{IsScope, bare, is_permitted, where_stands};
 
 use crate::single::first_single;
 use crate::written::write_some;
 use smith_bytes::Error;
+use smith_code_aggregates::struct_type_at;
 use smith_code_nodes::{Draft, Scope, is_allowed, is_sub_type};
 use smith_instr::{AggregateInstr, Instr};
-use smith_types::{
-    CompositeInnerType, FieldType, HeapType, RefType, StructType, SubType, ValType, WasmFeatures,
-    unpacked,
-};
+use smith_types::{FieldType, HeapType, RefType, ValType, WasmFeatures, unpacked};
 
 /// Returns the index of the struct type that `wanted` names, if a struct of this type matches
 /// `wanted`, its creation is allowed, and each field has an allowed value of one instruction.
@@ -61,7 +57,7 @@ fn is_created(scope: &Scope<'_>, wanted: ValType, ty: u32, draft: &Draft) -> boo
         ≡ is_created scope.now.config.now
         (where_stands scope.now draft.now) draft.now.set.items wanted ty }
 {
-    match struct_at(scope, ty as usize) {
+    match struct_type_at(scope, ty as usize) {
         Some(structure) => is_filled(scope, wanted, ty, structure.fields.as_slice(), draft),
         None => false,
     }
@@ -167,30 +163,8 @@ fn write_singles(scope: &Scope<'_>, fields: &[FieldType], draft: &mut Draft) -> 
 fn fields_at<'a>(scope: &Scope<'a>, index: usize) -> &'a [FieldType]
     ensures { result.now ≡ fields_at (bare scope.now).types index }
 {
-    match struct_at(scope, index) {
+    match struct_type_at(scope, index) {
         Some(structure) => structure.fields.as_slice(),
         None => &[],
-    }
-}
-
-/// Returns the struct type at `index`, if there is one.
-fn struct_at<'a>(scope: &Scope<'a>, index: usize) -> Option<&'a StructType>
-    ensures { MatchOption result (struct_in (slice_get (bare scope.now).types index) ≡ None)
-        (λ structure. struct_in (slice_get (bare scope.now).types index) ≡ Some structure.now) }
-{
-    let types = scope.types;
-    match types.types().get(index) {
-        Some(ty) => inner_struct(ty),
-        None => None,
-    }
-}
-
-fn inner_struct<'a>(ty: &'a SubType) -> Option<&'a StructType>
-    ensures { MatchOption result (struct_of ty.now.composite_type.inner ≡ None) (λ structure.
-        struct_of ty.now.composite_type.inner ≡ Some structure.now) }
-{
-    match &ty.composite_type.inner {
-        CompositeInnerType::Struct(structure) => Some(structure),
-        _ => None,
     }
 }

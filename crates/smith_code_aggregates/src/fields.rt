@@ -106,8 +106,8 @@ pub(crate) fn extension_of(stored: StorageType, signed: bool) -> Extension
     }
 }
 
-/// Returns the struct type at `index`, if there is one.
-pub(crate) fn struct_type_at<'a>(scope: &Scope<'a>, index: usize) -> Option<&'a StructType>
+/// Returns the struct type at `index` of the types of `scope`, if there is one.
+pub fn struct_type_at<'a>(scope: &Scope<'a>, index: usize) -> Option<&'a StructType>
     ensures { MatchOption result (struct_in (slice_get (bare scope.now).types index) ≡ None)
         (λ structure. struct_in (slice_get (bare scope.now).types index) ≡ Some structure.now) }
 {

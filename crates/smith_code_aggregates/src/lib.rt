@@ -12,3 +12,4 @@ pub use aggregates::{first_created_array, first_created_struct, names_types};
 pub use creations::choose_creation;
 pub use field_reads::choose_field_read;
 pub use field_writes::choose_field_write;
+pub use fields::struct_type_at;
