@@ -1,7 +1,7 @@
 ghost use Rattle.std.specs.Prelude.{◌≡◌, ◌<◌, ◌&&◌, ◌++◌, Some, length, IfErr, OnOk};
 ghost use Rattle.smith_types.specs.Expressions.{field_values};
 ghost use Rattle.smith_types.specs.FeatureBits.{features_in};
-ghost use Rattle.smith_instr.specs.Contexts.{AreValid, IsValid, created_reference};
+ghost use Rattle.smith_instr.specs.Contexts.{AreValid, IsValid};
 ghost use Rattle.smith_instr.specs.declared.aggregate.AggregateInstr.TheVariants as aggregate;
 ghost use Rattle.smith_instr.specs.declared.instr.Instr.TheVariants as instr;
 ghost use Rattle.smith_code.specs.Leaves.{AreSinglesTyped, created_from, created_type, fields_at};
@@ -12,10 +12,10 @@ ghost use Rattle.smith_code_nodes.specs.Scopes.{IsScope, bare, is_permitted, whe
 use crate::single::first_single;
 use crate::written::write_some;
 use smith_bytes::Error;
-use smith_code_aggregates::struct_type_at;
+use smith_code_aggregates::{created_reference, struct_type_at};
 use smith_code_nodes::{Draft, Scope, is_allowed, is_sub_type};
 use smith_instr::{AggregateInstr, Instr};
-use smith_types::{FieldType, HeapType, RefType, ValType, WasmFeatures, unpacked};
+use smith_types::{FieldType, HeapType, ValType, unpacked};
 
 /// Returns the index of the struct type that `wanted` names, if a struct of this type matches
 /// `wanted`, its creation is allowed, and each field has an allowed value of one instruction.
@@ -87,21 +87,6 @@ fn is_filled(
     is_sub_type(scope, created_reference(scope, ty), wanted)
         && is_allowed(scope, &creation)
         && have_singles(scope, fields, draft)
-}
-
-/// Returns the type of created structs of the type `index`.
-fn created_reference(scope: &Scope<'_>, index: u32) -> ValType
-    ensures { result ≡ created_reference (bare scope.now) index }
-{
-    let heap_type = if scope.features.contains(WasmFeatures::CUSTOM_DESCRIPTORS) {
-        HeapType::Exact(index)
-    } else {
-        HeapType::Concrete(index)
-    };
-    ValType::Ref(RefType {
-        nullable: false,
-        heap_type,
-    })
 }
 
 /// Returns whether each of `fields` has an allowed value of one instruction.

@@ -228,8 +228,8 @@ fn is_created_below(scope: &Scope<'_>, wanted: ValType, index: usize) -> bool
     is_sub_type(scope, created_reference(scope, index as u32), wanted)
 }
 
-/// Returns the type of created values of the type `index`.
-fn created_reference(scope: &Scope<'_>, index: u32) -> ValType
+/// Returns the type of references to created values of the type `index`.
+pub fn created_reference(scope: &Scope<'_>, index: u32) -> ValType
     ensures { result ≡ created_reference (bare scope.now) index }
 {
     let heap_type = if scope.features.contains(WasmFeatures::CUSTOM_DESCRIPTORS) {
