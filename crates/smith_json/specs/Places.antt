@@ -1,6 +1,8 @@
 -- The fields by their names in the code.
 use Rattle.std.specs.Prelude.{ℕ, Bool, List, map}
-use Rattle.std.specs.Borrow.{Bor}
+use Rattle.std.specs.Borrow.{Bor, MutBor, Fml, Lends, usize, u32, u64, bool}
+use Rattle.smith_config.specs.contracts.config.Config.{the_row}
+use Rattle.smith_config.specs.declared.config.Config.{Config}
 use Rattle.smith_json.specs.declared.place.Place.{Place}
 use Rattle.smith_json.specs.declared.place.Size.{Size}
 use Rattle.smith_json.specs.declared.place.Word.{Word}
@@ -88,6 +90,22 @@ with_flag MultibyteArrayAccessEnabled config b = record config { multibyte_array
 with_flag NonNullableEnabled config b = record config { non_nullable_enabled = b }
 with_flag CanonicalizeNans config b = record config { canonicalize_nans = b }
 with_flag GenerateCustomSections config b = record config { generate_custom_sections = b }
+
+-- the configuration ends with the field at the place set to the last value of the reference
+abbrev pub LendsSize : MutBor Config → Size → MutBor ℕ → Fml
+LendsSize config s r = Lends the_row usize config r (with_size s config.now)
+
+-- the same for `u32`
+abbrev pub LendsWord : MutBor Config → Word → MutBor ℕ → Fml
+LendsWord config w r = Lends the_row u32 config r (with_word w config.now)
+
+-- the same for `u64`
+abbrev pub LendsLong : MutBor Config → Long → MutBor ℕ → Fml
+LendsLong config l r = Lends the_row u64 config r (with_long l config.now)
+
+-- the same for a flag
+abbrev pub LendsFlag : MutBor Config → Flag → MutBor Bool → Fml
+LendsFlag config f r = Lends the_row bool config r (with_flag f config.now)
 
 -- the field at a place
 abbrev pub field_of : Place → Field

@@ -49,13 +49,18 @@ pub struct Field {
 impl Field {
     /// Finds the field named `name`.
     pub fn named(name: &str) -> Option<&'static Field> {
-        for field in &FIELDS {
-            if field.name == name {
-                return Some(field);
-            }
-        }
-        None
+        row(&FIELDS, name)
     }
+}
+
+/// Finds the first row with the name `name`.
+fn row<'a>(table: &'a [Field], name: &str) -> Option<&'a Field> {
+    for field in table {
+        if field.name == name {
+            return Some(field);
+        }
+    }
+    None
 }
 
 /// The list of the fields, in the order of `Config`: the name, the place and one sentence of each,

@@ -5,10 +5,10 @@
 #![tactic(auto)]
 
 mod field;
+mod lend;
 mod place;
 mod read;
 mod refusal;
-mod set;
 mod value;
 
 pub use field::{FIELDS, Field, FieldKind};

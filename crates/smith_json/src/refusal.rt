@@ -71,15 +71,16 @@ impl Refusal {
 
 /// Returns the line and the column, both from 1, of the byte at `offset`. A column is a character.
 fn place(text: &[u8], offset: usize) -> (usize, usize) {
-    let before = &text[..offset.min(text.len())];
-    let line = before.iter().filter(|byte| **byte == b'\n').count();
-    let column = before
-        .iter()
-        .rev()
-        .take_while(|byte| **byte != b'\n')
-        .filter(|byte| **byte & 0xC0 != 0x80)
-        .count();
-    (line.saturating_add(1), column.saturating_add(1))
+    let (mut line, mut column) = (1usize, 1usize);
+    for byte in &text[..offset.min(text.len())] {
+        if *byte == b'\n' {
+            line = line.saturating_add(1);
+            column = 1;
+        } else if *byte & 0xC0 != 0x80 {
+            column = column.saturating_add(1);
+        }
+    }
+    (line, column)
 }
 
 impl fmt::Display for ConfigRefusal {

@@ -20,9 +20,9 @@ ghost use Rattle.smith_json.specs.Values.{
 ghost use Rattle.smith_json.specs.Objects.{Sets, outcome};
 
 use crate::field::place_named;
+use crate::lend::{flag_at, long_at, size_at, word_at};
 use crate::place::{Flag, Long, Place, Size, Word};
 use crate::refusal::Fault;
-use crate::set::{set_flag, set_long, set_size, set_word};
 use bitflags::Flags;
 use json::{Reader, Token};
 use smith_config::{Config, MemoryOffsetChoices};
@@ -176,27 +176,16 @@ pub(crate) fn set_field(
     ensures shorter { length reader.new ≤ length reader.old }
 {
     match place_named(name) {
-        Some(place) => read_field(config, place, reader),
+        Some(Place::Size(size)) => read_size(config, size, reader),
+        Some(Place::Word(word)) => read_word(config, word, reader),
+        Some(Place::Long(long)) => read_long(config, long, reader),
+        Some(Place::MinUlebSize) => read_uleb_size(config, reader),
+        Some(Place::MaxMemory64Bytes) => read_memory64_bytes(config, reader),
+        Some(Place::Flag(flag)) => read_flag(config, flag, reader),
+        Some(Place::AllowedInstructions) => read_instructions(config, reader),
+        Some(Place::MemoryOffsetChoices) => read_choices(config, reader),
+        Some(Place::File) => no_file(next(reader)),
         None => Err(Fault::UnknownField),
-    }
-}
-
-/// Reads the value of the field at `place`, and sets it.
-fn read_field(config: &mut Config, place: Place, reader: &mut Reader<'_>) -> Result<(), Fault>
-    ensures exact { Sets (Some (field_of place)) config.old reader.old
-        (outcome result config.new reader.new) }
-    ensures shorter { length reader.new ≤ length reader.old }
-{
-    match place {
-        Place::Size(size) => read_size(config, size, reader),
-        Place::Word(word) => read_word(config, word, reader),
-        Place::Long(long) => read_long(config, long, reader),
-        Place::MinUlebSize => read_uleb_size(config, reader),
-        Place::MaxMemory64Bytes => read_memory64_bytes(config, reader),
-        Place::Flag(flag) => read_flag(config, flag, reader),
-        Place::AllowedInstructions => read_instructions(config, reader),
-        Place::MemoryOffsetChoices => read_choices(config, reader),
-        Place::File => no_file(next(reader)),
     }
 }
 
@@ -207,7 +196,7 @@ fn read_size(config: &mut Config, size: Size, reader: &mut Reader<'_>) -> Result
     ensures shorter { length reader.new ≤ length reader.old }
 {
     if let Some(value) = whole(next(reader), usize::MAX as u128)? {
-        set_size(config, size, value as usize);
+        *size_at(config, size) = value as usize;
     }
     Ok(())
 }
@@ -219,7 +208,7 @@ fn read_word(config: &mut Config, word: Word, reader: &mut Reader<'_>) -> Result
     ensures shorter { length reader.new ≤ length reader.old }
 {
     if let Some(value) = whole(next(reader), u32::MAX as u128)? {
-        set_word(config, word, value as u32);
+        *word_at(config, word) = value as u32;
     }
     Ok(())
 }
@@ -231,7 +220,7 @@ fn read_long(config: &mut Config, long: Long, reader: &mut Reader<'_>) -> Result
     ensures shorter { length reader.new ≤ length reader.old }
 {
     if let Some(value) = whole(next(reader), u64::MAX as u128)? {
-        set_long(config, long, value as u64);
+        *long_at(config, long) = value as u64;
     }
     Ok(())
 }
@@ -267,7 +256,7 @@ fn read_flag(config: &mut Config, flag: Flag, reader: &mut Reader<'_>) -> Result
     ensures shorter { length reader.new ≤ length reader.old }
 {
     if let Some(value) = truth(next(reader))? {
-        set_flag(config, flag, value);
+        *flag_at(config, flag) = value;
     }
     Ok(())
 }
