@@ -1,10 +1,8 @@
 -- The values that are found have their types.
-use Rattle.std.proofs.Common.{◌≡◌, ℕ, zero, suc, ◌+◌, ◌<◌, ◌≤◌, Bool, true, false, List, [], ◌∷◌, ◌++◌, Option, Some, None, length, get_or, refl, sym, subst, ap, ◌∙◌, append_assoc, arith}
-use Rattle.std.specs.Prelude.{All, IfSome, option_and_then, option_map, option_to_list, pos, slice_get, if◌then◌else◌}
-use Rattle.std.specs.Option.{option_or}
+use Rattle.std.proofs.Common.{◌≡◌, ℕ, zero, suc, ◌<◌, ◌≤◌, Bool, true, false, List, [], ◌∷◌, ◌++◌, Option, Some, None, length, get_or, refl, sym, subst, arith}
+use Rattle.std.specs.Prelude.{IfSome, option_and_then, option_map, option_to_list, pos, slice_get, if◌then◌else◌}
 use Rattle.std.proofs.lemmas.List.{append-nil}
-use Rattle.std.proofs.lemmas.List.Elements.{All-nil, All-append, All-push}
-use Rattle.std.proofs.lemmas.Option.{get_or_from_slice_get, same_Some, slice_get_within}
+use Rattle.std.proofs.lemmas.Option.{get_or_from_slice_get}
 use Rattle.smith_bytes.specs.Draws.{choose_at}
 use Rattle.smith_config.specs.declared.config.Config.{Config}
 use Rattle.smith_types.specs.Expressions.{IsStructAt, field_values, unpacked}
@@ -26,20 +24,19 @@ use Rattle.smith_instr.specs.declared.aggregate.AggregateInstr.TheVariants as ag
 use Rattle.smith_instr.specs.declared.instr.Instr.{Instr}
 use Rattle.smith_instr.specs.declared.instr.Instr.TheVariants as instr
 use Rattle.smith_instr.specs.declared.reference.ReferenceInstr.TheVariants as reference
-use Rattle.smith_code.specs.Leaves.{IsLeaf, IsTaking, constant_instr_at, conversion_over, conversion_to, conversion_to_type, created_over, creation_of, creation_over, fields_at, fields_in, first_constant, first_of, first_single, i31_by, i31_creation, i31_leaf, i31_number, i31_of, i31_type, i31_with, if_permitted, instructions_of, leaf_of, leaf_within, may_create, named_at, named_type, null_or_stop, only, searches_on, unary_permitted, value_over, with_last}
+use Rattle.smith_code.specs.Leaves.{IsLeaf, IsTaking, constant_instr_at, conversion_over, conversion_to, conversion_to_type, created_over, creation_of, creation_over, fields_at, fields_in, first_single, i31_by, i31_creation, i31_leaf, i31_number, i31_of, i31_type, i31_with, if_permitted, instructions_of, leaf_within, may_create, named_at, named_type, only, searches_on, unary_permitted, value_over, with_last}
 use Rattle.smith_code.specs.Stops.{HaveNeededStops}
-use Rattle.smith_code.specs.declared.families.LeafFamily.TheVariants as leaf
 use Rattle.smith_code.specs.declared.leaf.Leaf.{Leaf}
 use Rattle.smith_code.specs.declared.unary.Unary.{Unary}
 use Rattle.smith_code_aggregates.specs.Aggregates.{first_created_array, first_created_struct, is_created_below, is_created_empty, is_created_struct}
 use Rattle.smith_code_aggregates.specs.Fields.{struct_in}
 use Rattle.smith_code_aggregates.proofs.AggregateLemmas.{struct_there}
-use Rattle.smith_code_nodes.specs.Offered.{IsReferenceTo, is_global_below, is_named, is_readable, is_reference, offered}
+use Rattle.smith_code_nodes.specs.Offered.{IsReferenceTo, is_global_below, is_readable, is_reference, offered}
 use Rattle.smith_code_nodes.specs.Scopes.{indexed, is_permitted}
 use Rattle.smith_code_nodes.specs.declared.offer.Reach.TheVariants as reach
 use Rattle.smith_code_nodes.proofs.NodeLemmas.{one_valid}
 use Rattle.smith_code_nodes.proofs.OfferLemmas.{both, tested}
-use Rattle.smith_code.proofs.DrawnLemmas.{alone, joined_valid}
+use Rattle.smith_code.proofs.DrawnLemmas.{alone}
 use Rattle.smith_code.proofs.LawLemmas.{IsFound, first_item, found, mapped_some, single_found}
 use Rattle.smith_code.proofs.LeafLemmas.{array_leaf, global_leaf, i31_over, inside_over, internal_valid, local_leaf, no_constant, null_constant, outside_over, reference_leaf, struct_leaf}
 use Rattle.smith_code.proofs.OtherLemmas.{first_passes}

@@ -1,7 +1,6 @@
 -- Sequences in which each `unreachable` is needed, one after another; and instructions that are not
 -- `unreachable`.
-use Rattle.std.proofs.Common.{◌≡◌, ℕ, true, List, [], ◌∷◌, ◌++◌, Option, Some, refl, sym, subst, append_assoc}
-use Rattle.std.specs.Prelude.{IfSome}
+use Rattle.std.proofs.Common.{◌≡◌, ℕ, true, List, [], ◌∷◌, ◌++◌, refl, sym, subst, append_assoc}
 use Rattle.smith_types.specs.Features.{Features}
 use Rattle.smith_types.specs.declared.value_type.ValType.{ValType}
 use Rattle.smith_config.specs.declared.config.Config.{Config}
