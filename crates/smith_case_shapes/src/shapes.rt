@@ -13,7 +13,7 @@ fn own_shapes() -> &'static [NamedShape] {
     &SHAPES
 }
 
-static SHAPES: [NamedShape; 53] = [
+static SHAPES: [NamedShape; 56] = [
     ("nothing", &[]),
     (
         "a function without parameters and results",
@@ -286,6 +286,35 @@ static SHAPES: [NamedShape; 53] = [
             "group struct (ref 1)",
             "group func -> (ref 2)",
             "func 3",
+            "export f func 0",
+        ],
+    ),
+    (
+        "a function of a pair of pairs",
+        &[
+            "group struct",
+            "group struct (ref 0),(ref 0)",
+            "group struct (ref 1),(ref 1)",
+            "group func -> (ref 2)",
+            "func 3",
+            "export f func 0",
+        ],
+    ),
+    (
+        "a function of any struct, over a struct of a function",
+        &[
+            "group struct (ref func)",
+            "group func -> (ref struct)",
+            "func 1",
+            "export f func 0",
+        ],
+    ),
+    (
+        "a function of an external reference, over a struct of a function",
+        &[
+            "group struct (ref func)",
+            "group func -> (ref extern)",
+            "func 1",
             "export f func 0",
         ],
     ),

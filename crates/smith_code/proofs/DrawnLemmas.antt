@@ -1,5 +1,5 @@
 -- Drawn instructions, one part after another.
-use Rattle.std.proofs.Common.{◌≡◌, ℕ, zero, suc, Some, None, ◌+◌, ◌-◌, ◌*◌, ◌<◌, ◌≤◌, List, [], ◌∷◌, ◌++◌, length, replicate, take, get_or, refl, sym, subst, ap, ◌∙◌, append_assoc, arith, length-append}
+use Rattle.std.proofs.Common.{◌≡◌, ℕ, zero, suc, ◌+◌, ◌-◌, ◌*◌, ◌<◌, ◌≤◌, List, [], ◌∷◌, ◌++◌, length, replicate, take, get_or, refl, sym, subst, ap, ◌∙◌, append_assoc, arith, length-append}
 use Rattle.std.specs.Prelude.{option_to_list, IsTrue, Option, All}
 use Rattle.std.proofs.Math.Seq.{take-append_seam}
 use Rattle.std.proofs.lemmas.Bool.{false≢true}
@@ -22,8 +22,7 @@ use Rattle.smith_code_nodes.specs.Scopes.{context_of, bare, where_stands, widest
 use Rattle.smith_code_nodes.specs.Nodes.{block_cost, IsNode, HasHeadType, MayOpen, head_sets, head_instruction, opened, label_of, taken_by}
 use Rattle.smith_code.specs.DraftSteps.{IsDrawn, IsWritten, IsOpened, IsEnded}
 use Rattle.smith_code.specs.Laws.{HasNoOther}
-use Rattle.smith_code.specs.Leaves.{IsLeafOf, IsThen, instructions_of, longest_leaf}
-use Rattle.smith_code.specs.declared.leaf.Leaf.{Leaf}
+use Rattle.smith_code.specs.Leaves.{longest_leaf}
 use Rattle.smith_code.specs.Stops.{AreStopsNeeded, HasNeededStops, HaveNeededStops, IsNeeded, IsNoStop}
 use Rattle.smith_code_nodes.specs.declared.node.Head.{Head}
 use Rattle.smith_code_nodes.specs.declared.node.Head.TheVariants as heads
@@ -100,15 +99,6 @@ alone {config = config} context instruction operands results given base set set'
       needed = (record { exact = refl; stop = stop }, end.needed);
     }
 
--- an instruction that takes the value on top, if there is one
-then_drawn : (config : Config) (context : BodyContext) (set : List ℕ) (base : List ValType) (a b : ValType) (o : Option Instr) → IsThen context set a b o → AreValid context (a ∷ []) → AreValid context (b ∷ []) → AreValid context base
-    → HaveNeededStops config context (option_to_list o) (stacked (base ++ a ∷ []) set) (stacked (base ++ b ∷ []) set)
-then_drawn config context set base a b None same valid valid' under =
-    subst (λ (b : ValType). HaveNeededStops config context [] (stacked (base ++ a ∷ []) set) (stacked (base ++ b ∷ []) set)) same
-    (at_end config context (base ++ a ∷ []) set (joined_valid context base (a ∷ []) under valid))
-then_drawn config context set base a b (Some instruction) (goes_on, over) valid valid' under =
-    alone context instruction (a ∷ []) (over.value ∷ []) (b ∷ []) base set set over.typed (over.below, tt) valid' under (rw (over.sets_none, append-nil) refl) (λ disallowed is. absurd (goes_on is))
-
 -- a value that takes no budget
 pub value_drawn : {scope : Scope} {wanted : ValType} {old new : Draft} (instructions : List Instr)
     → ((base : List ValType) → AreValid (bare scope) base → HaveNeededStops scope.config.now (where_stands scope old) instructions (stacked (base ++ []) old.set.items) (stacked (base ++ wanted ∷ []) old.set.items))
@@ -127,21 +117,6 @@ value_drawn {old = old} {new = new} instructions typed allowed few longer set la
       spent = omega arith;
       short = rw budget (omega arith);
     }
-
-pub leaf_drawn : {scope : Scope} {wanted : ValType} {old new : Draft} (leaf : Leaf) → IsLeafOf (where_stands scope old) old.set.items wanted leaf → IsValid (bare scope) wanted → All (IsAllowedIn scope) (instructions_of leaf)
-    → length (instructions_of leaf) ≤ longest_leaf scope.config.now scope.types.now.types → IsNoStop scope.config.now leaf.value
-    → new.out ≡ old.out ++ instructions_of leaf → new.set.items ≡ old.set.items → new.labels.items ≡ old.labels.items → new.budget ≡ old.budget → IsDrawn scope [] (wanted ∷ []) 1 old new
-leaf_drawn {scope = scope} {wanted = wanted} {old = old} {new = new} leaf of valid allowed few goes_on longer set labels budget =
-    let config = scope.config.now in
-    let context = where_stands scope old in
-    value_drawn {scope = scope} {wanted = wanted} {old = old} {new = new} (instructions_of leaf)
-    (λ base under.
-    let first = alone {config = config} context leaf.value [] (of.produced.value ∷ []) (of.value ∷ []) base old.set.items old.set.items of.produced.typed (of.produced.below, tt) (one_valid context of.value of.value_valid) under
-    (rw (of.produced.sets_none, append-nil) refl) (λ disallowed is. absurd (goes_on disallowed is)) in
-    let second = then_drawn config context old.set.items base of.value of.reference leaf.creation of.created (one_valid context of.value of.value_valid) (one_valid context of.reference of.reference_valid) under in
-    let third = then_drawn config context old.set.items base of.reference wanted leaf.conversion of.converted (one_valid context of.reference of.reference_valid) (one_valid context wanted valid) under in
-    in_turn first (in_turn second third))
-    allowed few longer set labels budget
 
 -- an `unreachable` in place of a value that no other instructions produce
 pub stop_drawn : {scope : Scope} {wanted : ValType} {old new : Draft} → IsValid (bare scope) wanted → (IsTrue scope.config.now.disallow_traps → HasNoOther scope.config.now (where_stands scope old) old.set.items wanted)

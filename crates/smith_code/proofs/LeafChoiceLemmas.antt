@@ -10,7 +10,7 @@ use Rattle.smith_instr.specs.Contexts.{BodyContext}
 use Rattle.smith_instr.specs.declared.instr.Instr.{Instr}
 use Rattle.smith_instr.specs.declared.instr.Instr.TheVariants as instr
 use Rattle.smith_code_nodes.specs.Chosen.{giving}
-use Rattle.smith_code.specs.Leaves.{any_leaf_at, brief_leaf, constant_instr_at, created_from, created_type, first_leaf, first_of, if_permitted, instructions_of, leaf_at, leaf_choice_at, leaf_families, leaf_of, longest_leaf, named_at, or_constant, spare_leaf, widest_struct}
+use Rattle.smith_code.specs.Leaves.{any_leaf_at, constant_instr_at, created_from, created_type, first_leaf, first_of, if_permitted, instructions_of, leaf_at, leaf_choice_at, leaf_families, leaf_of, leaf_within, longest_leaf, named_at, or_constant, spare_leaf, widest_struct}
 use Rattle.smith_code_nodes.specs.Offered.{is_reference, within_at}
 use Rattle.smith_code_nodes.specs.Scopes.{is_permitted}
 use Rattle.smith_code_nodes.specs.declared.offer.Reach.{Reach}
@@ -58,25 +58,25 @@ not_some None p never is = is
 not_some (Some x) p never is = absurd (never x refl)
 
 -- the first value
-pub first_brief : (config : Config) (context : BodyContext) (set : List ℕ) (wanted : ValType) (leaf : Leaf) → Some leaf ≡ brief_leaf config context set wanted → first_leaf config context set wanted ≡ instructions_of leaf
+pub first_brief : (config : Config) (context : BodyContext) (set : List ℕ) (wanted : ValType) (leaf : Leaf) → Some leaf ≡ leaf_within config context set 2 true wanted → first_leaf config context set wanted ≡ instructions_of leaf
 unfolding first_leaf
 first_brief config context set wanted leaf is = rw (← is) refl
 
-pub first_created : (config : Config) (context : BodyContext) (set : List ℕ) (wanted : ValType) (ty : ℕ) → None ≡ brief_leaf config context set wanted → Some ty ≡ created_type config context set wanted
+pub first_created : (config : Config) (context : BodyContext) (set : List ℕ) (wanted : ValType) (ty : ℕ) → None ≡ leaf_within config context set 2 true wanted → Some ty ≡ created_type config context set wanted
     → first_leaf config context set wanted ≡ created_from config context set ty
 unfolding first_leaf
 first_created config context set wanted ty brief is = rw (← brief, ← is) refl
 
-pub first_stop : (config : Config) (context : BodyContext) (set : List ℕ) (wanted : ValType) → None ≡ brief_leaf config context set wanted → None ≡ created_type config context set wanted → first_leaf config context set wanted ≡ instr.Unreachable ∷ []
+pub first_stop : (config : Config) (context : BodyContext) (set : List ℕ) (wanted : ValType) → None ≡ leaf_within config context set 2 true wanted → None ≡ created_type config context set wanted → first_leaf config context set wanted ≡ instr.Unreachable ∷ []
 unfolding first_leaf
 first_stop config context set wanted brief created = rw (← brief, ← created) refl
 
 -- the number of its instructions
-three : (value : Instr) (creation conversion : Option Instr) → length (value ∷ (option_to_list creation ++ option_to_list conversion)) ≤ 3
+three : (value : Instr) (next last : Option Instr) → length (value ∷ (option_to_list next ++ option_to_list last)) ≤ 3
 three value None None = omega arith
-three value None (Some conversion) = omega arith
-three value (Some creation) None = omega arith
-three value (Some creation) (Some conversion) = omega arith
+three value None (Some last) = omega arith
+three value (Some next) None = omega arith
+three value (Some next) (Some last) = omega arith
 
 two_wide : (types : List SubType) → 2 ≤ widest_struct types
 unfolding widest_struct
@@ -93,7 +93,7 @@ created_few config types n trapless few = at_most config.disallow_traps n (wides
 
 pub brief_few : (config : Config) (types : List SubType) (leaf : Leaf) → config.disallow_traps ≡ true → length (instructions_of leaf) ≤ longest_leaf config types
 brief_few config types leaf trapless =
-    let few = three leaf.value leaf.creation leaf.conversion in
+    let few = three leaf.value leaf.next leaf.last in
     let wide = two_wide types in
     created_few config types (length (instructions_of leaf)) trapless (omega arith)
 

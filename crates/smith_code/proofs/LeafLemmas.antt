@@ -1,14 +1,9 @@
 -- Instructions that produce a value, and take no budget.
-use Rattle.std.proofs.Common.{◌≡◌, ℕ, Bool, true, false, List, [], ◌∷◌, ◌++◌, Option, Some, None, ap, refl, subst, ◌∙◌}
-use Rattle.std.specs.Prelude.{◌||◌, not, All, option_to_list, pos, slice_get}
-use Rattle.std.proofs.lemmas.List.{append-nil}
-use Rattle.std.proofs.lemmas.List.Elements.{All-nil, All-push}
+use Rattle.std.proofs.Common.{◌≡◌, ℕ, Bool, true, false, List, [], ◌∷◌, refl}
+use Rattle.std.specs.Prelude.{◌||◌, not, slice_get}
 use Rattle.smith_config.specs.declared.config.Config.{Config}
 use Rattle.smith_types.specs.Types.{IsOrderly}
 use Rattle.smith_types.specs.Subtyping.{itself}
-use Rattle.smith_types.specs.declared.value_type.AbstractHeapType.{AbstractHeapType}
-use Rattle.smith_types.specs.declared.value_type.HeapType.{HeapType}
-use Rattle.smith_types.specs.declared.value_type.HeapType.TheVariants.{Abstract}
 use Rattle.smith_types.specs.declared.value_type.RefType.{RefType}
 use Rattle.smith_types.specs.declared.value_type.ValType.{ValType}
 use Rattle.smith_types.specs.declared.value_type.ValType.TheVariants.{I32, Ref}
@@ -18,11 +13,9 @@ use Rattle.smith_instr.specs.AggregateTypes.{external, internal}
 use Rattle.smith_instr.specs.Contexts.{BodyContext, IsValid, created_reference}
 use Rattle.smith_instr.specs.Enabled.{is_enabled}
 use Rattle.smith_instr.specs.declared.aggregate.AggregateInstr.TheVariants as aggregate
-use Rattle.smith_instr.specs.declared.instr.Instr.{Instr}
 use Rattle.smith_instr.specs.declared.instr.Instr.TheVariants as instr
 use Rattle.smith_instr.specs.declared.reference.ReferenceInstr.TheVariants as reference
-use Rattle.smith_code.specs.Leaves.{IsConstant, IsLeaf, IsLeafOf, IsThen, i31_from, i31_of, i31_type, instructions_of, only, with_conversion}
-use Rattle.smith_code.specs.declared.leaf.Leaf.{Leaf}
+use Rattle.smith_code.specs.Leaves.{IsConstant, IsLeaf, IsTaking, i31_of, i31_type}
 use Rattle.smith_code_aggregates.specs.Aggregates.{is_creatable_in, is_created_below, is_created_empty, is_created_struct}
 use Rattle.smith_code_aggregates.specs.Fields.{struct_in}
 use Rattle.smith_code_aggregates.proofs.CreationLemmas.{default_there}
@@ -79,52 +72,19 @@ array_leaf context set wanted ty orderly is =
     let (below, (element, there)) = array_created context wanted ty is in
     record { value = created_reference context ty; typed = (element, there, (refl, refl)); below = tested context.types orderly (created_reference context ty) wanted below; sets_none = refl }
 
--- a value of one instruction
-pub only_typed : (context : BodyContext) (set : List ℕ) (wanted : ValType) (instruction : Instr) → IsValid context wanted → IsLeaf context set wanted instruction → IsLeafOf context set wanted (only instruction)
-only_typed context set wanted instruction valid leaf = record { value = wanted; produced = leaf; value_valid = valid; reference = wanted; created = refl; reference_valid = valid; converted = refl }
-
 -- an i31
-pub i31_then : (context : BodyContext) (set : List ℕ) (wanted : ValType) (shared : Bool) → IsOrderly context.types → is_val_below context.types (i31_type shared) wanted ≡ true → IsThen context set I32 wanted (Some (i31_of shared))
-i31_then context set wanted true orderly below = (λ is. cc, record { value = i31_type true; typed = (refl, refl); below = tested context.types orderly (i31_type true) wanted below; sets_none = refl })
-i31_then context set wanted false orderly below = (λ is. cc, record { value = i31_type false; typed = (refl, refl); below = tested context.types orderly (i31_type false) wanted below; sets_none = refl })
-
-pub i31_typed : (context : BodyContext) (set : List ℕ) (wanted : ValType) (creation : Instr) → IsValid context wanted → IsThen context set I32 wanted (Some creation) → IsLeafOf context set wanted (i31_from creation)
-i31_typed context set wanted creation valid after = record {
-  value = I32;
-  produced = record { value = I32; typed = (refl, refl); below = tt; sets_none = refl };
-  value_valid = tt;
-  reference = wanted;
-  created = after;
-  reference_valid = valid;
-  converted = refl;
-}
+pub i31_over : (context : BodyContext) (set : List ℕ) (wanted : ValType) (shared : Bool) → IsOrderly context.types → is_val_below context.types (i31_type shared) wanted ≡ true → IsTaking context set (I32 ∷ []) wanted (i31_of shared)
+i31_over context set wanted true orderly below = record { value = i31_type true; typed = (refl, refl); below = tested context.types orderly (i31_type true) wanted below; sets_none = refl }
+i31_over context set wanted false orderly below = record { value = i31_type false; typed = (refl, refl); below = tested context.types orderly (i31_type false) wanted below; sets_none = refl }
 
 -- a conversion
-pub converted_typed : (context : BodyContext) (set : List ℕ) (from wanted : ValType) (leaf : Leaf) (conversion : Instr) → IsValid context from → IsLeafOf context set from leaf → leaf.conversion ≡ None → IsThen context set from wanted (Some conversion)
-    → IsLeafOf context set wanted (with_conversion conversion leaf)
-converted_typed context set from wanted leaf conversion valid of none after =
-    let same : of.reference ≡ from = subst (IsThen context set of.reference from) none of.converted in
-    record {
-      value = of.value;
-      produced = of.produced;
-      value_valid = of.value_valid;
-      reference = from;
-      created = subst (λ (reference : ValType). IsThen context set of.value reference leaf.creation) same of.created;
-      reference_valid = valid;
-      converted = after;
-    }
+pub inside_over : (context : BodyContext) (set : List ℕ) (shared nullable : Bool) → IsTaking context set (external shared nullable ∷ []) (internal shared nullable) (instr.Aggregate aggregate.AnyConvertExtern)
+inside_over context set shared nullable =
+    record { value = internal shared nullable; typed = (shared, (nullable, (refl, refl))); below = IsValBelow-refl context.types (internal shared nullable); sets_none = refl }
 
-pub inside_then : (context : BodyContext) (set : List ℕ) (shared nullable : Bool) → IsThen context set (external shared nullable) (internal shared nullable) (Some (instr.Aggregate aggregate.AnyConvertExtern))
-inside_then context set shared nullable =
-    (λ is. cc, record { value = internal shared nullable; typed = (shared, (nullable, (refl, refl))); below = IsValBelow-refl context.types (internal shared nullable); sets_none = refl })
-
-pub outside_then : (context : BodyContext) (set : List ℕ) (shared nullable : Bool) → IsThen context set (internal shared nullable) (external shared nullable) (Some (instr.Aggregate aggregate.ExternConvertAny))
-outside_then context set shared nullable =
-    (λ is. cc, record { value = external shared nullable; typed = (shared, (nullable, (refl, refl))); below = IsValBelow-refl context.types (external shared nullable); sets_none = refl })
-
--- a reference type, by its parts
-pub reference_is : (wanted : ValType) (to : RefType) (shared : Bool) (ty kind : AbstractHeapType) → wanted ≡ Ref to → to.heap_type ≡ Abstract shared ty → ty ≡ kind → wanted ≡ Ref (record { nullable = to.nullable; heap_type = Abstract shared kind })
-reference_is wanted to shared ty kind is heap same = is ∙ ap (λ (h : HeapType). Ref (record { nullable = to.nullable; heap_type = h })) (heap ∙ ap (λ (a : AbstractHeapType). Abstract shared a) same)
+pub outside_over : (context : BodyContext) (set : List ℕ) (shared nullable : Bool) → IsTaking context set (internal shared nullable ∷ []) (external shared nullable) (instr.Aggregate aggregate.ExternConvertAny)
+outside_over context set shared nullable =
+    record { value = external shared nullable; typed = (shared, (nullable, (refl, refl))); below = IsValBelow-refl context.types (external shared nullable); sets_none = refl }
 
 -- the operand of a permitted conversion is valid
 pub internal_valid : (context : BodyContext) (config : Config) (shared nullable : Bool) → is_permitted context.features config (instr.Aggregate aggregate.ExternConvertAny) ≡ true → IsValid context (external shared nullable) → IsValid context (internal shared nullable)
@@ -133,17 +93,3 @@ internal_valid context config shared nullable permitted valid =
     let (enabled, _) = both (is_enabled context.features config.allowed_instructions (instr.Aggregate aggregate.ExternConvertAny)) (not config.disallow_traps || not (may_trap (instr.Aggregate aggregate.ExternConvertAny))) permitted in
     let (gc, _) = both context.features.gc _ enabled in
     (valid.0, record { heap_type = (gc, valid.1.heap_type.1); nullable = valid.1.nullable })
-
--- the instructions of a value are allowed
-pub only_allowed : (scope : Scope) (instruction : Instr) → IsAllowedIn scope instruction → All (IsAllowedIn scope) (instructions_of (only instruction))
-only_allowed scope instruction allowed = All-push (IsAllowedIn scope) [] instruction (All-nil (IsAllowedIn scope)) allowed
-
-pub i31_allowed : (scope : Scope) (creation : Instr) → IsAllowedIn scope (instr.I32Const (pos 0)) → IsAllowedIn scope creation → All (IsAllowedIn scope) (instr.I32Const (pos 0) ∷ creation ∷ [])
-i31_allowed scope creation number allowed = All-push (IsAllowedIn scope) (instr.I32Const (pos 0) ∷ []) creation (only_allowed scope (instr.I32Const (pos 0)) number) allowed
-
-pub converted_allowed : (scope : Scope) (leaf : Leaf) (conversion : Instr) → leaf.conversion ≡ None → All (IsAllowedIn scope) (instructions_of leaf) → IsAllowedIn scope conversion
-    → All (IsAllowedIn scope) (leaf.value ∷ (option_to_list leaf.creation ++ conversion ∷ []))
-converted_allowed scope leaf conversion none all allowed =
-    let all' : All (IsAllowedIn scope) (leaf.value ∷ (option_to_list leaf.creation ++ [])) = subst (λ (o : Option Instr). All (IsAllowedIn scope) (leaf.value ∷ (option_to_list leaf.creation ++ option_to_list o))) none all in
-    let all'' : All (IsAllowedIn scope) (leaf.value ∷ option_to_list leaf.creation) = rw append-nil at all' in
-    All-push (IsAllowedIn scope) (leaf.value ∷ option_to_list leaf.creation) conversion all'' allowed

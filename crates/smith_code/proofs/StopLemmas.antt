@@ -1,7 +1,6 @@
 -- Sequences in which each `unreachable` is needed, one after another; and instructions that are not
 -- `unreachable`.
-use Rattle.std.proofs.Common.{◌≡◌, ℕ, true, List, [], ◌∷◌, ◌++◌, Option, Some, refl, sym, subst, append_assoc}
-use Rattle.std.specs.Prelude.{IfSome}
+use Rattle.std.proofs.Common.{◌≡◌, ℕ, true, List, [], ◌∷◌, ◌++◌, refl, sym, subst, append_assoc}
 use Rattle.smith_types.specs.Features.{Features}
 use Rattle.smith_types.specs.declared.value_type.ValType.{ValType}
 use Rattle.smith_config.specs.declared.config.Config.{Config}
@@ -14,10 +13,8 @@ use Rattle.smith_code_nodes.specs.Nodes.{head_instruction, is_drop_allowed, is_h
 use Rattle.smith_code_nodes.specs.Scopes.{is_permitted}
 use Rattle.smith_code_nodes.specs.declared.node.Node.{Node}
 use Rattle.smith_code_nodes.proofs.OfferLemmas.{both}
-use Rattle.smith_code.specs.Leaves.{brief_leaf}
 use Rattle.smith_code.specs.Stops.{AreStopsNeeded, HaveNeededStops, IsNoStop}
-use Rattle.smith_code.specs.declared.leaf.Leaf.{Leaf}
-use Rattle.smith_code.proofs.LawLemmas.{IsLeafFound, brief_found, stop_forbidden}
+use Rattle.smith_code.proofs.LawLemmas.{stop_forbidden}
 
 -- the end of a sequence
 pub at_end : (config : Config) (context : BodyContext) (values : List ValType) (set : List ℕ) → AreValid context values → HaveNeededStops config context [] (stacked values set) (stacked values set)
@@ -69,8 +66,3 @@ node_goes_on features config node allowed =
     let (head, _) = both (is_head_allowed features config node.head) (is_drop_allowed features config node.drops) allowed in
     let (permitted, _) = both (is_permitted features config (head_instruction node.head)) _ head in
     permitted_goes_on features config (head_instruction node.head) permitted
-
-pub brief_goes_on : (config : Config) (context : BodyContext) (set : List ℕ) (wanted : ValType) (leaf : Leaf) → Some leaf ≡ brief_leaf config context set wanted → IsNoStop config leaf.value
-brief_goes_on config context set wanted leaf is =
-    let found : IfSome (Some leaf) (IsLeafFound config context) = subst (λ (o : Option Leaf). IfSome o (IsLeafFound config context)) (sym is) (brief_found config context set wanted) in
-    permitted_goes_on context.features config leaf.value found

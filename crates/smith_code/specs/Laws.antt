@@ -1,5 +1,5 @@
 -- Laws of values that need no budget.
-use Rattle.std.specs.Prelude.{◌≡◌, ℕ, ◌-◌, ◌^◌, ◌<◌, true, List, [], ◌∷◌, Some, Any}
+use Rattle.std.specs.Prelude.{◌≡◌, ℕ, zero, suc, ◌-◌, ◌^◌, ◌<◌, Bool, true, IsTrue, List, [], ◌∷◌, Option, Some, None, Any}
 use Rattle.smith_config.specs.declared.config.Config.{Config}
 use Rattle.smith_types.specs.Types.{IsOrderly}
 use Rattle.smith_types.specs.declared.value_type.HeapType.{HeapType}
@@ -11,7 +11,7 @@ use Rattle.smith_instr.specs.declared.instr.Instr.{Instr}
 use Rattle.smith_instr.specs.declared.instr.Instr.TheVariants as instr
 use Rattle.smith_instr.specs.declared.reference.ReferenceInstr.TheVariants as reference
 use Rattle.smith_code_nodes.specs.Scopes.{is_permitted}
-use Rattle.smith_code.specs.Leaves.{IsLeaf, IsTaking, leaf_at, named_type}
+use Rattle.smith_code.specs.Leaves.{IsLeaf, IsTaking, leaf_at, named_type, searches_on}
 
 -- a constant of a number or a vector
 abbrev pub IsNumber : Instr → Type 0
@@ -66,18 +66,36 @@ pub record HasNoSingle (config : Config) (context : BodyContext) (set : List ℕ
   pub no_struct : (ty : ℕ) → IsIndex ty → ¬ IsOther config context set wanted (instr.Aggregate (aggregate.StructNewDefault ty))
   pub no_array : (ty : ℕ) → IsIndex ty → ¬ IsOther config context set wanted (instr.Aggregate (aggregate.ArrayNewFixed ty 0))
 
--- nor does the creation of an i31 from a constant
-pub record HasNoShort (config : Config) (context : BodyContext) (set : List ℕ) (wanted : ValType) : Type 0 where
-  pub none : HasNoSingle config context set wanted
-  pub no_i31 : (number creation : Instr) → IsNumber number → IsOther config context set I32 number → IsI31Creation creation → ¬ IsOtherOver config context set I32 wanted creation
+-- a struct type that is tried: the type that is named, or if none is, any type, but only if `search`
+-- is set
+abbrev pub IsTriedBy : (search : Bool) → Option ℕ → ℕ → Type 0
+IsTriedBy search (Some named) ty = named ≡ ty
+IsTriedBy search None ty = IsTrue search × IsIndex ty
 
--- neither these produce a value that matches the wanted type, nor a permitted conversion of a
--- reference that they produce, nor the permitted creation of a struct of the type that the wanted
--- type names, if each operand is produced by one instruction
+abbrev pub IsTried : (search : Bool) → ValType → ℕ → Type 0
+IsTried search wanted ty = IsTriedBy search (named_type wanted) ty
+
+-- no permitted instruction produces a value that matches the wanted type from one operand: no
+-- creation of an i31 whose operand has a value of one instruction, no conversion whose operand has a
+-- value, and no creation of a struct of one field, of a type that is tried, whose field has a value;
+-- after a search of the struct types, none is made for this field
+pub record HasNoUnary (config : Config) (context : BodyContext) (set : List ℕ) (search : Bool) (HasNone : Bool → ValType → Type 0) (wanted : ValType) : Type 0 where
+  pub no_i31 : (creation : Instr) → IsI31Creation creation → IsOtherOver config context set I32 wanted creation → HasNoSingle config context set I32
+  pub no_conversion : (operand : ValType) (conversion : Instr) → IsConversion conversion → IsOtherOver config context set operand wanted conversion → HasNone search operand
+  pub no_struct : (ty : ℕ) (operand : ValType) → IsTried search wanted ty → IsOtherOver config context set operand wanted (instr.Aggregate (aggregate.StructNew ty)) → HasNone (searches_on search (named_type wanted)) operand
+
+-- no value of the wanted type consists of a single instruction, and then at most this number of such
+-- instructions with one operand
+abbrev pub HasNoValue : Config → BodyContext → List ℕ → ℕ → (search : Bool) → ValType → Type 0
+HasNoValue config context set zero search wanted = HasNoSingle config context set wanted
+HasNoValue config context set (suc more) search wanted =
+    HasNoSingle config context set wanted × HasNoUnary config context set search (HasNoValue config context set more) wanted
+
+-- no value of the wanted type consists of a single instruction and at most two such instructions
+-- with one operand, nor of a permitted creation of a struct and a single instruction for each operand
 pub record HasNoOther (config : Config) (context : BodyContext) (set : List ℕ) (wanted : ValType) : Type 0 where
-  pub none : HasNoShort config context set wanted
-  pub none_converted : (operand : ValType) (conversion : Instr) → IsConversion conversion → IsOtherOver config context set operand wanted conversion → HasNoShort config context set operand
-  pub none_created : (ty : ℕ) (operands : List ValType) → named_type wanted ≡ Some ty → IsOtherTaking config context set operands wanted (instr.Aggregate (aggregate.StructNew ty)) → Any (HasNoSingle config context set) operands
+  pub none : HasNoValue config context set 2 true wanted
+  pub none_created : (ty : ℕ) (operands : List ValType) → IsTried true wanted ty → IsOtherTaking config context set operands wanted (instr.Aggregate (aggregate.StructNew ty)) → Any (HasNoSingle config context set) operands
 
 -- with `disallow_traps`, a value is produced by `unreachable` only if no other such instructions
 -- produce one

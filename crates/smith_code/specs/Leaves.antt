@@ -1,6 +1,6 @@
 -- The value that the bytes produce without a budget. The choices and their order are rules of this
 -- project.
-use Rattle.std.specs.Prelude.{◌≡◌, ℕ, ◌+◌, max, ◌&&◌, Bool, false, true, Option, Some, None, IfSome, is_some, option_map, option_to_list, unwrap_or, List, [], ◌∷◌, ◌++◌, length, pos, slice_get, if◌then◌else◌, All}
+use Rattle.std.specs.Prelude.{◌≡◌, ℕ, zero, suc, ◌+◌, max, ◌&&◌, Bool, false, true, Option, Some, None, is_some, option_and_then, option_map, option_to_list, unwrap_or, List, [], ◌∷◌, ◌++◌, length, pos, slice_get, if◌then◌else◌}
 use Rattle.std.specs.Option.{option_or}
 use Rattle.std.specs.Int.{cast_signed, w32, w64, w128}
 use Rattle.smith_bytes.specs.Draws.{choose_at, whole_at}
@@ -22,7 +22,6 @@ use Rattle.smith_draw.specs.ConstScopes.{fields_of}
 use Rattle.smith_instr.specs.AggregateTypes.{external, internal}
 use Rattle.smith_instr.specs.Contexts.{BodyContext, IsValid}
 use Rattle.smith_instr.specs.InstrTypes.{sets, HasInstrType}
-use Rattle.smith_instr.specs.declared.aggregate.AggregateInstr.{AggregateInstr}
 use Rattle.smith_instr.specs.declared.aggregate.AggregateInstr.TheVariants as aggregate
 use Rattle.smith_instr.specs.declared.instr.Instr.{Instr}
 use Rattle.smith_instr.specs.declared.instr.Instr.TheVariants as instr
@@ -37,6 +36,7 @@ use Rattle.smith_code_nodes.specs.declared.offer.Reach.TheVariants as reach
 use Rattle.smith_code.specs.declared.families.LeafFamily.{LeafFamily}
 use Rattle.smith_code.specs.declared.families.LeafFamily.TheVariants as leaf
 use Rattle.smith_code.specs.declared.leaf.Leaf.{Leaf}
+use Rattle.smith_code.specs.declared.unary.Unary.{Unary}
 
 -- null, or `unreachable` for a reference that is not nullable
 abbrev pub null_or_stop : RefType → Instr
@@ -134,11 +134,15 @@ first_single config context set wanted =
 
 -- the instructions of a value, in order
 abbrev pub instructions_of : Leaf → List Instr
-instructions_of value = value.value ∷ (option_to_list value.creation ++ option_to_list value.conversion)
+instructions_of leaf = leaf.value ∷ (option_to_list leaf.next ++ option_to_list leaf.last)
 
 -- a value of one instruction
 abbrev pub only : Instr → Leaf
-only instruction = record { value = instruction; creation = None; conversion = None }
+only instruction = record { value = instruction; next = None; last = None }
+
+-- a value of at most two instructions, and then an instruction that takes it
+abbrev pub with_last : Instr → Leaf → Leaf
+with_last instruction leaf = record { value = leaf.value; next = leaf.last; last = Some instruction }
 
 -- the greater of 2 and the greatest number of fields of a struct
 unfoldable pub widest_struct : List SubType → ℕ
@@ -150,6 +154,11 @@ widest_struct (t ∷ types) = max (length (fields_of t.composite_type.inner)) (w
 unfoldable pub longest_leaf : Config → List SubType → ℕ
 longest_leaf config types = if config.disallow_traps then 1 + widest_struct types else 1
 
+-- a value, and then an instruction that takes it, if there is one
+abbrev pub value_over : (ValType → Option Leaf) → Option Unary → Option Leaf
+value_over operand None = None
+value_over operand (Some unary) = option_map (with_last unary.instruction) (operand unary.operand)
+
 -- the type of an i31, and the instruction that creates it
 abbrev pub i31_type : Bool → ValType
 i31_type shared = reference_to (Abstract shared abstract.I31)
@@ -157,51 +166,68 @@ i31_type shared = reference_to (Abstract shared abstract.I31)
 abbrev pub i31_of : Bool → Instr
 i31_of shared = if shared then instr.Aggregate aggregate.RefI31Shared else instr.Aggregate aggregate.RefI31
 
--- the creation of an i31, if its type matches the wanted type
+-- the creation of an i31, if it is permitted and its type matches the wanted type
 abbrev pub i31_by : Config → BodyContext → ValType → Bool → Option Instr
 i31_by config context wanted shared =
     if is_val_below context.types (i31_type shared) wanted then if_permitted config context (Some (i31_of shared)) else None
 
--- an i31 of zero, if it is permitted and its type matches the wanted type
-abbrev pub i31_from : Instr → Leaf
-i31_from creation = record { value = instr.I32Const (pos 0); creation = Some creation; conversion = None }
+abbrev pub i31_creation : Config → BodyContext → ValType → Option Instr
+i31_creation config context wanted = option_or (i31_by config context wanted false) (i31_by config context wanted true)
 
-unfoldable pub i31_leaf : Config → BodyContext → ValType → Option Leaf
-i31_leaf config context wanted =
-    if is_permitted context.features config (instr.I32Const (pos 0))
-    then option_map i31_from (option_or (i31_by config context wanted false) (i31_by config context wanted true))
+-- the number of an i31: zero, or the first i32 of one instruction
+abbrev pub i31_number : Config → BodyContext → List ℕ → Option Instr
+i31_number config context set = option_or (if_permitted config context (Some (instr.I32Const (pos 0)))) (first_single config context set I32)
+
+-- an i31
+abbrev pub i31_with : Option Instr → Instr → Option Leaf
+i31_with number creation = option_map (λ number. with_last creation (only number)) number
+
+unfoldable pub i31_leaf : Config → BodyContext → List ℕ → ValType → Option Leaf
+i31_leaf config context set wanted = option_and_then (i31_with (i31_number config context set)) (i31_creation config context wanted)
+
+-- an instruction with its operand, if it is permitted
+abbrev pub unary_permitted : Config → BodyContext → Option Unary → Option Unary
+unary_permitted config context None = None
+unary_permitted config context (Some unary) = if is_permitted context.features config unary.instruction then Some unary else None
+
+-- the conversion to an internal reference from an external one, or to an external one from an
+-- internal one
+abbrev pub conversion_over : Bool → HeapType → Option Unary
+conversion_over nullable (Abstract shared abstract.Any) =
+    Some (record { instruction = instr.Aggregate aggregate.AnyConvertExtern; operand = external shared nullable })
+conversion_over nullable (Abstract shared abstract.Extern) =
+    Some (record { instruction = instr.Aggregate aggregate.ExternConvertAny; operand = internal shared nullable })
+conversion_over nullable _ = None
+
+abbrev pub conversion_to_type : ValType → Option Unary
+conversion_to_type (Ref to) = conversion_over to.nullable to.heap_type
+conversion_to_type _ = None
+
+abbrev pub conversion_to : Config → BodyContext → ValType → Option Unary
+conversion_to config context wanted = unary_permitted config context (conversion_to_type wanted)
+
+-- the fields of a type, if it is a struct type
+abbrev pub fields_in : Option StructType → List FieldType
+fields_in (Some structure) = structure.fields
+fields_in None = []
+
+abbrev pub fields_at : List SubType → ℕ → List FieldType
+fields_at types ty = fields_in (struct_in (slice_get types ty))
+
+-- a struct of this type matches the wanted type, and its creation is permitted
+abbrev pub may_create : Config → BodyContext → ValType → ℕ → Bool
+may_create config context wanted ty = is_created_below context wanted ty && is_permitted context.features config (instr.Aggregate (aggregate.StructNew ty))
+
+-- the creation of a struct of one field
+abbrev pub creation_over : Config → BodyContext → ValType → ℕ → List FieldType → Option Unary
+creation_over config context wanted ty (field ∷ []) =
+    if may_create config context wanted ty
+    then Some (record { instruction = instr.Aggregate (aggregate.StructNew ty); operand = unpacked field.element_type })
     else None
+creation_over config context wanted ty _ = None
 
--- a value of one instruction, or an i31
-unfoldable pub short_leaf : Config → BodyContext → List ℕ → ValType → Option Leaf
-short_leaf config context set wanted = option_or (option_map only (first_single config context set wanted)) (i31_leaf config context wanted)
-
--- a value, and its conversion
-abbrev pub with_conversion : Instr → Leaf → Leaf
-with_conversion conversion value = record { value = value.value; creation = value.creation; conversion = Some conversion }
-
--- the conversion of such a value of the type of its operand, if it is permitted
-abbrev pub converted_by : Config → BodyContext → List ℕ → AggregateInstr → ValType → Option Leaf
-converted_by config context set op operand =
-    if is_permitted context.features config (instr.Aggregate op)
-    then option_map (with_conversion (instr.Aggregate op)) (short_leaf config context set operand)
-    else None
-
--- an internal reference from an external one, or an external one from an internal one
-abbrev pub converted_to : Config → BodyContext → List ℕ → Bool → HeapType → Option Leaf
-converted_to config context set nullable (Abstract shared abstract.Any) =
-    converted_by config context set aggregate.AnyConvertExtern (external shared nullable)
-converted_to config context set nullable (Abstract shared abstract.Extern) =
-    converted_by config context set aggregate.ExternConvertAny (internal shared nullable)
-converted_to config context set nullable _ = None
-
-abbrev pub converted_leaf : Config → BodyContext → List ℕ → ValType → Option Leaf
-converted_leaf config context set (Ref to) = converted_to config context set to.nullable to.heap_type
-converted_leaf config context set _ = None
-
--- a value of at most three instructions: one of one instruction, an i31, or a converted reference
-unfoldable pub brief_leaf : Config → BodyContext → List ℕ → ValType → Option Leaf
-brief_leaf config context set wanted = option_or (short_leaf config context set wanted) (converted_leaf config context set wanted)
+abbrev pub creation_of : Config → BodyContext → ValType → ℕ → Option Unary
+creation_of config context wanted ty = creation_over config context wanted ty (fields_at context.types ty)
 
 -- the index of the type that a reference type names
 abbrev pub named_by : HeapType → Option ℕ
@@ -213,13 +239,45 @@ abbrev pub named_type : ValType → Option ℕ
 named_type (Ref to) = named_by to.heap_type
 named_type _ = None
 
--- the fields of a type, if it is a struct type
-abbrev pub fields_in : Option StructType → List FieldType
-fields_in (Some structure) = structure.fields
-fields_in None = []
+-- what the first index below an end has
+abbrev pub first_below : {A : Type 0} → (ℕ → Option A) → ℕ → Option A
+first_below found zero = None
+first_below found (suc n) = option_or (first_below found n) (found n)
 
-abbrev pub fields_at : List SubType → ℕ → List FieldType
-fields_at types ty = fields_in (struct_in (slice_get types ty))
+-- what the first of the types has that are tried: the type that is named, or if none is, any type,
+-- but only if `search` is set
+abbrev pub first_tried : {A : Type 0} → BodyContext → Bool → Option ℕ → (ℕ → Option A) → Option A
+first_tried context search (Some ty) found = found ty
+first_tried context search None found = if search then first_below found (indexed (length context.types)) else None
+
+-- whether the struct types are searched for the field of a struct: at most one search is made for a
+-- value, and none for a type that is named
+abbrev pub searches_on : Bool → Option ℕ → Bool
+searches_on search (Some ty) = search
+searches_on search None = false
+
+-- a struct of one field, which has such a value
+abbrev pub created_over : Config → BodyContext → (ValType → Option Leaf) → ValType → ℕ → Option Leaf
+created_over config context operand wanted ty = value_over operand (creation_of config context wanted ty)
+
+abbrev pub created_leaf : Config → BodyContext → Bool → (Bool → ValType → Option Leaf) → ValType → Option Leaf
+created_leaf config context search operand wanted =
+    first_tried context search (named_type wanted) (created_over config context (operand (searches_on search (named_type wanted))) wanted)
+
+-- an i31, a converted reference, or a struct of one field
+abbrev pub unary_leaf : Config → BodyContext → List ℕ → Bool → (Bool → ValType → Option Leaf) → ValType → Option Leaf
+unary_leaf config context set search operand wanted =
+    option_or (i31_leaf config context set wanted)
+    (option_or (value_over (operand search) (conversion_to config context wanted))
+    (created_leaf config context search operand wanted))
+
+-- a value of one instruction, and at most this number of instructions that each take the value
+-- before them
+unfoldable pub leaf_within : Config → BodyContext → List ℕ → ℕ → Bool → ValType → Option Leaf
+leaf_within config context set zero search wanted = option_map only (first_single config context set wanted)
+leaf_within config context set (suc more) search wanted =
+    option_or (option_map only (first_single config context set wanted))
+    (unary_leaf config context set search (leaf_within config context set more) wanted)
 
 -- the first value of one instruction of each type, where there is one
 abbrev pub singles : Config → BodyContext → List ℕ → List ValType → List Instr
@@ -234,29 +292,28 @@ have_singles config context set (wanted ∷ more) = is_some (first_single config
 -- a struct of this type matches the wanted type, its creation is permitted, and each field has a
 -- value of one instruction
 abbrev pub is_created_in : Config → BodyContext → List ℕ → ValType → ℕ → Option StructType → Bool
-is_created_in config context set wanted ty (Some structure) =
-    (is_created_below context wanted ty && is_permitted context.features config (instr.Aggregate (aggregate.StructNew ty))) && have_singles config context set (field_values structure.fields)
+is_created_in config context set wanted ty (Some structure) = may_create config context wanted ty && have_singles config context set (field_values structure.fields)
 is_created_in config context set wanted ty None = false
 
 abbrev pub is_created : Config → BodyContext → List ℕ → ValType → ℕ → Bool
 is_created config context set wanted ty = is_created_in config context set wanted ty (struct_in (slice_get context.types ty))
 
--- the struct type that the wanted type names, if a struct of it is created
-abbrev pub created_by : Config → BodyContext → List ℕ → ValType → Option ℕ → Option ℕ
-created_by config context set wanted (Some ty) = if is_created config context set wanted ty then Some ty else None
-created_by config context set wanted None = None
+-- the first struct type that is tried and of which a struct is created
+abbrev pub created_at : Config → BodyContext → List ℕ → ValType → ℕ → Option ℕ
+created_at config context set wanted ty = if is_created config context set wanted ty then Some ty else None
 
 unfoldable pub created_type : Config → BodyContext → List ℕ → ValType → Option ℕ
-created_type config context set wanted = created_by config context set wanted (named_type wanted)
+created_type config context set wanted = first_tried context true (named_type wanted) (created_at config context set wanted)
 
 -- a struct created from the first value of one instruction of each field
 abbrev pub created_from : Config → BodyContext → List ℕ → ℕ → List Instr
 created_from config context set ty = singles config context set (field_values (fields_at context.types ty)) ++ instr.Aggregate (aggregate.StructNew ty) ∷ []
 
--- a value of at most three instructions, or a created struct; `unreachable` if there is none
+-- a value of at most three instructions, or a struct of values of one instruction; `unreachable` if
+-- there is none
 unfoldable pub first_leaf : Config → BodyContext → List ℕ → ValType → List Instr
 first_leaf config context set wanted =
-    unwrap_or (option_map instructions_of (brief_leaf config context set wanted))
+    unwrap_or (option_map instructions_of (leaf_within config context set 2 true wanted))
     (unwrap_or (option_map (created_from config context set) (created_type config context set wanted)) (instr.Unreachable ∷ []))
 
 -- the replacement for an instruction that is not permitted: `unreachable`; with `disallow_traps`
@@ -287,28 +344,3 @@ pub record IsTaking (context : BodyContext) (set : List ℕ) (operands : List Va
   pub typed : HasInstrType context set instruction operands (value ∷ [])
   pub below : IsValBelow context.types value wanted
   pub sets_none : sets instruction ≡ []
-
--- an instruction that takes a value of one type and produces one that matches another
-abbrev pub IsOver : BodyContext → List ℕ → (operand wanted : ValType) → Instr → Type 0
-IsOver context set operand wanted instruction = IsTaking context set (operand ∷ []) wanted instruction
-
--- the types of a value before and after an instruction other than `unreachable`; without an
--- instruction they are the same
-abbrev pub IsThen : BodyContext → List ℕ → (operand wanted : ValType) → Option Instr → Type 0
-IsThen context set operand wanted None = operand ≡ wanted
-IsThen context set operand wanted (Some instruction) = (¬ (instruction ≡ instr.Unreachable)) × IsOver context set operand wanted instruction
-
--- instructions that produce a value that matches this type
-pub record IsLeafOf (context : BodyContext) (set : List ℕ) (wanted : ValType) (leaf : Leaf) : Type 0 where
-  pub value : ValType
-  pub produced : IsLeaf context set value leaf.value
-  pub value_valid : IsValid context value
-  pub reference : ValType
-  pub created : IsThen context set value reference leaf.creation
-  pub reference_valid : IsValid context reference
-  pub converted : IsThen context set reference wanted leaf.conversion
-
--- where a field has a value of one instruction, the first of them matches the type of the field
-abbrev pub AreSinglesTyped : Config → BodyContext → List ℕ → List FieldType → Type 0
-AreSinglesTyped config context set fields =
-    All (λ (field : FieldType). IfSome (first_single config context set (unpacked field.element_type)) (IsLeaf context set (unpacked field.element_type))) fields

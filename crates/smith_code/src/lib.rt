@@ -9,7 +9,9 @@ mod families;
 pub mod laws;
 mod leaf;
 mod references;
+mod search;
 mod single;
+mod unary;
 mod written;
 
 pub use body::draw_body;

@@ -1,11 +1,11 @@
-ghost use Rattle.std.specs.Prelude.{◌≡◌, IfSome};
+ghost use Rattle.std.specs.Prelude.{◌≡◌, is_some, IfSome};
 ghost use Rattle.smith_bytes.specs.Source.{KeepsPieces};
 ghost use Rattle.smith_instr.specs.Contexts.{IsValid};
 ghost use Rattle.smith_code.specs.Leaves.{IsConstant, IsLeaf};
 ghost use Rattle.smith_code.specs.Leaves.{any_leaf_at, constant_instr_at, default_struct};
 ghost use Rattle.smith_code.specs.Leaves.{empty_array, first_constant, first_of, first_single};
 ghost use Rattle.smith_code.specs.Leaves.{leaf_choice_at, leaf_of};
-ghost use Rattle.smith_code_nodes.specs.Scopes.{IsAllowedIn, IsScope, bare, where_stands};
+ghost use Rattle.smith_code_nodes.specs.Scopes.{IsScope, bare, where_stands};
 
 use crate::families::{LeafFamily, leaf_families};
 use crate::references::choose_reference;
@@ -22,12 +22,9 @@ use smith_types::ValType;
 pub(crate) fn first_single(scope: &Scope<'_>, wanted: ValType, draft: &Draft) -> Option<Instr>
     requires scope { IsScope (bare scope.now) }
     requires wanted { IsValid (bare scope.now) wanted }
-    ensures exact { result
+    ensures { result
         ≡ first_single scope.now.config.now
         (where_stands scope.now draft.now) draft.now.set.items wanted }
-    ensures typed { IfSome result
-        (IsLeaf (where_stands scope.now draft.now) draft.now.set.items wanted) }
-    ensures allowed { IfSome result (IsAllowedIn scope.now) }
 {
     if let Some(leaf) = first_of(scope, LeafFamily::Local, wanted, draft) {
         return Some(leaf);
@@ -47,16 +44,28 @@ pub(crate) fn first_single(scope: &Scope<'_>, wanted: ValType, draft: &Draft) ->
     empty_array(scope, wanted, draft)
 }
 
+/// Returns whether there is an allowed instruction that produces a value that matches `wanted`,
+/// without operands. Tries zero or null first, for which nothing is searched.
+pub(crate) fn has_single(scope: &Scope<'_>, wanted: ValType, draft: &Draft) -> bool
+    requires scope { IsScope (bare scope.now) }
+    requires wanted { IsValid (bare scope.now) wanted }
+    ensures { result
+        ≡ is_some (first_single scope.now.config.now
+        (where_stands scope.now draft.now) draft.now.set.items wanted) }
+{
+    if first_constant(scope, wanted, draft).is_some() {
+        return true;
+    }
+    first_single(scope, wanted, draft).is_some()
+}
+
 /// Returns the first instruction of `family` among all items, if it is allowed.
 fn first_of(scope: &Scope<'_>, family: LeafFamily, wanted: ValType, draft: &Draft) -> Option<Instr>
     requires scope { IsScope (bare scope.now) }
     requires wanted { IsValid (bare scope.now) wanted }
-    ensures exact { result
+    ensures { result
         ≡ first_of scope.now.config.now
         (where_stands scope.now draft.now) draft.now.set.items wanted family }
-    ensures typed { IfSome result
-        (IsLeaf (where_stands scope.now draft.now) draft.now.set.items wanted) }
-    ensures allowed { IfSome result (IsAllowedIn scope.now) }
 {
     let mut nothing = Unstructured::new(&[]);
     let leaf = leaf_of(scope, family, Reach::Whole, wanted, draft, &mut nothing)?;
@@ -69,11 +78,8 @@ fn first_of(scope: &Scope<'_>, family: LeafFamily, wanted: ValType, draft: &Draf
 /// Returns zero or null, if it has the type `wanted` and is allowed.
 fn first_constant(scope: &Scope<'_>, wanted: ValType, draft: &Draft) -> Option<Instr>
     requires wanted { IsValid (bare scope.now) wanted }
-    ensures exact { result
+    ensures { result
         ≡ first_constant scope.now.config.now (where_stands scope.now draft.now) wanted }
-    ensures typed { IfSome result
-        (IsLeaf (where_stands scope.now draft.now) draft.now.set.items wanted) }
-    ensures allowed { IfSome result (IsAllowedIn scope.now) }
 {
     let mut nothing = Unstructured::new(&[]);
     let constant = draw_constant(wanted, &mut nothing);
@@ -88,11 +94,8 @@ fn first_constant(scope: &Scope<'_>, wanted: ValType, draft: &Draft) -> Option<I
 fn default_struct(scope: &Scope<'_>, wanted: ValType, draft: &Draft) -> Option<Instr>
     requires scope { IsScope (bare scope.now) }
     requires wanted { IsValid (bare scope.now) wanted }
-    ensures exact { result
+    ensures { result
         ≡ default_struct scope.now.config.now (where_stands scope.now draft.now) wanted }
-    ensures typed { IfSome result
-        (IsLeaf (where_stands scope.now draft.now) draft.now.set.items wanted) }
-    ensures allowed { IfSome result (IsAllowedIn scope.now) }
 {
     let ty = first_created_struct(scope, wanted)?;
     let creation = Instr::Aggregate(AggregateInstr::StructNewDefault(ty));
@@ -107,11 +110,8 @@ fn default_struct(scope: &Scope<'_>, wanted: ValType, draft: &Draft) -> Option<I
 fn empty_array(scope: &Scope<'_>, wanted: ValType, draft: &Draft) -> Option<Instr>
     requires scope { IsScope (bare scope.now) }
     requires wanted { IsValid (bare scope.now) wanted }
-    ensures exact { result
+    ensures { result
         ≡ empty_array scope.now.config.now (where_stands scope.now draft.now) wanted }
-    ensures typed { IfSome result
-        (IsLeaf (where_stands scope.now draft.now) draft.now.set.items wanted) }
-    ensures allowed { IfSome result (IsAllowedIn scope.now) }
 {
     let ty = first_created_array(scope, wanted)?;
     let creation = Instr::Aggregate(AggregateInstr::ArrayNewFixed { ty, size: 0 });

@@ -82,3 +82,27 @@ nested = record (function_of [] []) {
   funcs = 5 ∷ [];
   references = 0 ∷ [];
 }
+
+-- a function over structs: without fields, of two references to such a struct, and of two references
+-- to the second
+abbrev pub paired : BodyContext
+paired = record (function_of [] []) {
+  types =
+      final_type empty_struct
+      ∷ final_type (struct (constant (Val (some 0)) ∷ constant (Val (some 0)) ∷ []))
+      ∷ final_type (struct (constant (Val (some 1)) ∷ constant (Val (some 1)) ∷ []))
+      ∷ [];
+}
+
+-- a function over a struct of a reference to a function, a struct of a reference to any struct, and
+-- the type of a function, which `ref.func` may name
+abbrev pub wrapped : BodyContext
+wrapped = record (function_of [] []) {
+  types =
+      final_type (struct (constant (Val some_func) ∷ []))
+      ∷ final_type (struct (constant (Val (some_of heap.Struct)) ∷ []))
+      ∷ final_type plain_func
+      ∷ [];
+  funcs = 2 ∷ [];
+  references = 0 ∷ [];
+}

@@ -1,4 +1,4 @@
-#![tactic(auto, unfolding(smith_code::specs::Leaves::any_leaf_at, smith_code::specs::Leaves::brief_leaf, smith_code::specs::Leaves::created_type, smith_code::specs::Leaves::constant_instr_at, smith_code::specs::Leaves::first_leaf, smith_code::specs::Leaves::first_single, smith_code::specs::Leaves::i31_leaf, smith_code::specs::Leaves::short_leaf, smith_code::specs::Leaves::leaf_at, smith_code::specs::Leaves::leaf_choice_at, smith_code::specs::Leaves::named_at, smith_code::specs::Leaves::spare_leaf, smith_code_nodes::specs::Scopes::is_permitted, smith_instr::specs::Enabled::is_enabled, smith_draw::specs::Below::is_heap_below, smith_draw::specs::Choices::chosen_at, smith_draw::specs::Offered::ancestors, smith_code_nodes::specs::Offered::chunk_at, smith_code_nodes::specs::Offered::offered, smith_bytes::specs::Draws::choose_at, smith_bytes::specs::Draws::digit_count, smith_bytes::specs::Draws::range_at, smith_bytes::specs::Draws::whole_at))]
+#![tactic(auto, unfolding(smith_code::specs::Leaves::any_leaf_at, smith_code::specs::Leaves::created_type, smith_code::specs::Leaves::constant_instr_at, smith_code::specs::Leaves::first_leaf, smith_code::specs::Leaves::first_single, smith_code::specs::Leaves::i31_leaf, smith_code::specs::Leaves::leaf_within, smith_code::specs::Leaves::leaf_at, smith_code::specs::Leaves::leaf_choice_at, smith_code::specs::Leaves::named_at, smith_code::specs::Leaves::spare_leaf, smith_code_nodes::specs::Scopes::is_permitted, smith_instr::specs::Enabled::is_enabled, smith_draw::specs::Below::is_heap_below, smith_draw::specs::Choices::chosen_at, smith_draw::specs::Offered::ancestors, smith_code_nodes::specs::Offered::chunk_at, smith_code_nodes::specs::Offered::offered, smith_bytes::specs::Draws::choose_at, smith_bytes::specs::Draws::digit_count, smith_bytes::specs::Draws::range_at, smith_bytes::specs::Draws::whole_at))]
 
 ghost use Rattle.std.specs.Prelude.{◌≡◌, ◌+◌, ◌^◌, true, [], ◌∷◌, pos};
 ghost use Rattle.smith_types.specs.Types.{IsOrderly};
@@ -15,10 +15,9 @@ ghost use Rattle.smith_instr.specs.declared.instr.Instr.TheVariants as instr;
 ghost use Rattle.smith_instr.specs.declared.reference.ReferenceInstr.TheVariants as reference;
 ghost use Rattle.smith_instr_examples.specs.ExampleBodies.{kinds_of, number};
 ghost use Rattle.smith_code.specs.Laws.{HasNoOther};
-ghost use Rattle.smith_code.specs.Leaves.{first_leaf, i31_from, i31_type, instructions_of};
-ghost use Rattle.smith_code.specs.Leaves.{leaf_at, only, with_conversion};
-ghost use Rattle.smith_code_examples.specs.ExampleAggregates.{any, nested, some, some_of};
-ghost use Rattle.smith_code_examples.specs.ExampleAggregates.{unnamed, untyped};
+ghost use Rattle.smith_code.specs.Leaves.{first_leaf, i31_type, leaf_at};
+ghost use Rattle.smith_code_examples.specs.ExampleAggregates.{any, nested, paired, some};
+ghost use Rattle.smith_code_examples.specs.ExampleAggregates.{some_of, unnamed, untyped, wrapped};
 ghost use Rattle.smith_code_examples.specs.ExampleBytes.{trapless};
 
 fn spare_leaves()
@@ -43,25 +42,24 @@ fn spare_leaves()
 
 fn pairs()
     ensures i31 { first_leaf trapless unnamed [] (some_of heap.I31)
-        ≡ instructions_of (i31_from (instr.Aggregate aggregate.RefI31)) }
+        ≡ number 0 ∷ instr.Aggregate aggregate.RefI31 ∷ [] }
     ensures shared_i31 { first_leaf trapless unnamed [] (i31_type true)
-        ≡ instructions_of (i31_from (instr.Aggregate aggregate.RefI31Shared)) }
+        ≡ number 0 ∷ instr.Aggregate aggregate.RefI31Shared ∷ [] }
     ensures i31_without_types { first_leaf trapless untyped [] (some_of heap.Any)
-        ≡ instructions_of (i31_from (instr.Aggregate aggregate.RefI31)) }
+        ≡ number 0 ∷ instr.Aggregate aggregate.RefI31 ∷ [] }
     ensures constant_that_is_not_allowed { first_leaf
         (record trapless { allowed_instructions = kinds_of Aggregate }) untyped []
         (some_of heap.I31) ≡ instr.Unreachable ∷ [] }
     ensures external_struct { first_leaf trapless unnamed [] (some_of heap.Extern)
-        ≡ instructions_of (with_conversion (instr.Aggregate aggregate.ExternConvertAny)
-        (only (instr.Aggregate (aggregate.StructNewDefault 0)))) }
+        ≡ instr.Aggregate (aggregate.StructNewDefault 0)
+        ∷ instr.Aggregate aggregate.ExternConvertAny ∷ [] }
     ensures external_i31 { first_leaf trapless untyped [] (some_of heap.Extern)
-        ≡ instructions_of (with_conversion (instr.Aggregate aggregate.ExternConvertAny)
-        (i31_from (instr.Aggregate aggregate.RefI31))) }
+        ≡ number 0 ∷ instr.Aggregate aggregate.RefI31
+        ∷ instr.Aggregate aggregate.ExternConvertAny ∷ [] }
     ensures internal_local { first_leaf
         (record trapless { allowed_instructions = record { 0 = 2 ^ 11 + 2 ^ 6 } })
         (record untyped { locals = some_of heap.Extern ∷ []; params = 1 }) [] (some_of heap.Any)
-        ≡ instructions_of (with_conversion (instr.Aggregate aggregate.AnyConvertExtern)
-        (only (instr.LocalGet 0))) }
+        ≡ instr.LocalGet 0 ∷ instr.Aggregate aggregate.AnyConvertExtern ∷ [] }
     ensures conversion_that_is_not_allowed { first_leaf
         (record trapless { allowed_instructions = kinds_of Variable })
         (record untyped { locals = some_of heap.Extern ∷ []; params = 1 }) [] (some_of heap.Any)
@@ -84,7 +82,19 @@ fn created_structs()
         ≡ instr.Reference (reference.Func 0) ∷ instr.Aggregate (aggregate.StructNew 4) ∷ [] }
     ensures without_functions { first_leaf trapless
         (record nested { references = [] }) [] (some 4) ≡ instr.Unreachable ∷ [] }
-    ensures two_levels { first_leaf trapless nested [] (some 3) ≡ instr.Unreachable ∷ [] }
+    ensures two_levels { first_leaf trapless nested [] (some 3)
+        ≡ instr.Aggregate (aggregate.StructNewDefault 0)
+        ∷ instr.Aggregate (aggregate.StructNew 1) ∷ instr.Aggregate (aggregate.StructNew 3) ∷ [] }
+    ensures pair { first_leaf trapless paired [] (some 1)
+        ≡ instr.Aggregate (aggregate.StructNewDefault 0)
+        ∷ instr.Aggregate (aggregate.StructNewDefault 0)
+        ∷ instr.Aggregate (aggregate.StructNew 1) ∷ [] }
+    ensures pair_of_pairs { first_leaf trapless paired [] (some 2) ≡ instr.Unreachable ∷ [] }
+    ensures any_struct { first_leaf trapless wrapped [] (some_of heap.Struct)
+        ≡ instr.Reference (reference.Func 0) ∷ instr.Aggregate (aggregate.StructNew 0) ∷ [] }
+    ensures of_any_struct { first_leaf trapless wrapped [] (some 1)
+        ≡ instr.Reference (reference.Func 0) ∷ instr.Aggregate (aggregate.StructNew 0)
+        ∷ instr.Aggregate (aggregate.StructNew 1) ∷ [] }
     ensures two_levels_from_a_local { first_leaf trapless
         (record nested { locals = some 1 ∷ []; params = 1 }) [] (some 3)
         ≡ instr.LocalGet 0 ∷ instr.Aggregate (aggregate.StructNew 3) ∷ [] }
@@ -100,7 +110,7 @@ fn drawn_leaves()
     ensures struct_of_default_values { leaf_at trapless unnamed [] (some 0) (4 ∷ 9 ∷ [])
         ≡ (instr.Aggregate (aggregate.StructNewDefault 0) ∷ [], 9 ∷ []) }
     ensures i31 { leaf_at trapless unnamed [] (some_of heap.I31) (4 ∷ 9 ∷ [])
-        ≡ (instructions_of (i31_from (instr.Aggregate aggregate.RefI31)), 9 ∷ []) }
+        ≡ (number 0 ∷ instr.Aggregate aggregate.RefI31 ∷ [], 9 ∷ []) }
     ensures i31_where_traps_are_allowed { leaf_at default_config unnamed [] (some_of heap.I31)
         (4 ∷ 9 ∷ []) ≡ (instr.Unreachable ∷ [], 9 ∷ []) }
     ensures struct_of_a_struct { leaf_at trapless nested [] (some 1) (4 ∷ 9 ∷ [])
@@ -119,6 +129,8 @@ fn orderly()
     ensures some { IsOrderly unnamed.types }
     ensures none { IsOrderly untyped.types }
     ensures structs { IsOrderly nested.types }
+    ensures pairs { IsOrderly paired.types }
+    ensures functions { IsOrderly wrapped.types }
 {}
 
 fn others()
@@ -128,7 +140,9 @@ fn others()
     ensures i31_of_no_allowed_constant { HasNoOther
         (record trapless { allowed_instructions = kinds_of Aggregate }) untyped []
         (some_of heap.I31) }
-    ensures two_levels { HasNoOther trapless nested [] (some 3) }
+    ensures two_levels { ¬ HasNoOther trapless nested [] (some 3) }
+    ensures pair_of_pairs { HasNoOther trapless paired [] (some 2) }
+    ensures any_struct { ¬ HasNoOther trapless wrapped [] (some_of heap.Struct) }
     ensures struct_of_a_struct { ¬ HasNoOther trapless nested [] (some 1) }
     ensures external { ¬ HasNoOther trapless unnamed [] (some_of heap.Extern) }
     ensures external_without_types { ¬ HasNoOther trapless untyped [] (some_of heap.Extern) }

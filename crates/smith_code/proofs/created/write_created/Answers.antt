@@ -10,6 +10,3 @@ pub returns-clause-out : goal.returns-clause-out
 returns-clause-out c =
     let first = rw c.fields_at.ensures at c.in_ok-write_singles.ensures.out in
     on_ok_weaker c.write_some.result (λ last. creation_written _ _ _ _ _ first last) c.write_some.ensures.out
-
-pub returns-clause-typed : goal.returns-clause-typed
-returns-clause-typed c = on_ok_weaker c.write_some.result (λ last. rw c.fields_at.ensures at c.in_ok-write_singles.ensures.typed) c.write_some.ensures.out

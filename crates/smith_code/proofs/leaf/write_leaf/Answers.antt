@@ -1,13 +1,9 @@
 use Rattle.std.proofs.Common.{[], ◌∷◌, sym, true, false, ◌∙◌}
 use Rattle.std.proofs.lemmas.Result.{on_ok_weaker}
-use Rattle.smith_types.specs.FeatureBits.{features_in}
-use Rattle.smith_code.specs.Leaves.{only}
 use Rattle.smith_code_nodes.specs.Scopes.{where_stands}
-use Rattle.smith_code.proofs.DrawnLemmas.{leaf_drawn}
+use Rattle.smith_code.proofs.CreatedLemmas.{drawn_permitted, spare_drawn}
 use Rattle.smith_code.proofs.ExactLemmas.{leaf_state}
-use Rattle.smith_code.proofs.LeafChoiceLemmas.{leaf_permitted, some_leaf}
-use Rattle.smith_code.proofs.LeafLemmas.{only_allowed, only_typed}
-use Rattle.smith_code.proofs.StopLemmas.{permitted_goes_on}
+use Rattle.smith_code.proofs.LeafChoiceLemmas.{leaf_permitted}
 use Rattle.smith_code.proofs.leaf.write_leaf.Goals as goal
 
 pub returns-then-is_allowed-clause-exact : goal.returns-then-is_allowed-clause-exact
@@ -26,9 +22,12 @@ returns-clause-exact c =
 
 pub returns-then-is_allowed-clause-drawn : goal.returns-then-is_allowed-clause-drawn
 returns-then-is_allowed-clause-drawn c =
-    let leaf = c.draw_any_leaf-leaf.result in
     on_ok_weaker c.write_instructions.result
-    (λ longer. leaf_drawn (only leaf) (only_typed (where_stands c.args.scope.now c.args.draft.now) c.args.draft.now.set.items c.args.wanted leaf c.requires.wanted c.draw_any_leaf-leaf.ensures.typed) c.requires.wanted
-    (only_allowed c.args.scope.now leaf (c.is_allowed.ensures.allowed c.if-is_allowed.true)) (some_leaf c.args.scope.now.config.now c.args.scope.now.types.now.types)
-    (permitted_goes_on (features_in c.args.scope.now.features) c.args.scope.now.config.now leaf (sym c.is_allowed.ensures.exact ∙ c.if-is_allowed.true)) longer c.write_instructions.ensures.set c.write_instructions.ensures.same c.write_instructions.ensures.budget)
+    (λ longer. drawn_permitted c.draw_any_leaf-leaf.result c.requires.wanted c.draw_any_leaf-leaf.ensures.typed (sym c.is_allowed.ensures.exact ∙ c.if-is_allowed.true) longer c.write_instructions.ensures.set c.write_instructions.ensures.same c.write_instructions.ensures.budget)
     (rw c.only.ensures at c.write_instructions.ensures.out)
+
+pub returns-clause-drawn : goal.returns-clause-drawn
+returns-clause-drawn c =
+    on_ok_weaker c.write_spare.result
+    (λ longer. spare_drawn c.requires.scope c.requires.wanted longer c.write_spare.ensures.set c.write_spare.ensures.same c.write_spare.ensures.budget)
+    c.write_spare.ensures.out
