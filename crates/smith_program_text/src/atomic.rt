@@ -1,4 +1,5 @@
-ghost use Rattle.std.specs.Prelude.{◌≡◌, false, is_err};
+ghost use Rattle.std.specs.Prelude.{◌≡◌, false, is_err, OnOk};
+ghost use Rattle.smith_text.specs.Written.{Writes};
 
 use crate::memory::write_mem_arg;
 use smith_instr::{AtomicAccess, AtomicUpdate, AtomicWidth, MemArg};
@@ -50,6 +51,7 @@ fn update_keyword(update: AtomicUpdate) -> &'static str {
 fn write_update<S: Sink>(operation: &str, width: AtomicWidth, sink: &mut S) -> fmt::Result
     requires open { S.failed sink.old ≡ false }
     ensures fault { S.failed sink.new ≡ is_err result }
+    ensures writes { OnOk result (Writes S.has sink.old 1 sink.new) }
 {
     write!(sink, "{}.atomic.rmw{}", type_of(width), bits_of(width))?;
     write!(sink, ".{operation}{}", extended(width))
@@ -59,6 +61,7 @@ fn write_update<S: Sink>(operation: &str, width: AtomicWidth, sink: &mut S) -> f
 fn write_keyword<S: Sink>(access: AtomicAccess, sink: &mut S) -> fmt::Result
     requires open { S.failed sink.old ≡ false }
     ensures fault { S.failed sink.new ≡ is_err result }
+    ensures writes { OnOk result (Writes S.has sink.old 1 sink.new) }
 {
     match access {
         AtomicAccess::Notify => sink.write_str("memory.atomic.notify"),
@@ -80,6 +83,7 @@ fn write_keyword<S: Sink>(access: AtomicAccess, sink: &mut S) -> fmt::Result
 pub(crate) fn write_atomic<S: Sink>(access: AtomicAccess, at: MemArg, sink: &mut S) -> fmt::Result
     requires open { S.failed sink.old ≡ false }
     ensures fault { S.failed sink.new ≡ is_err result }
+    ensures writes { OnOk result (Writes S.has sink.old 1 sink.new) }
 {
     write_keyword(access, sink)?;
     write_mem_arg(at, sink)

@@ -1,4 +1,5 @@
-ghost use Rattle.std.specs.Prelude.{◌≡◌, false, is_err};
+ghost use Rattle.std.specs.Prelude.{◌≡◌, false, is_err, length, OnOk};
+ghost use Rattle.smith_text.specs.Written.{Keeps, Writes};
 
 use smith_instr::{BlockType, BranchCast, Catch};
 use smith_text::{Sink, TextForm};
@@ -8,6 +9,7 @@ use std::fmt;
 fn write_block_type<S: Sink>(ty: BlockType, sink: &mut S) -> fmt::Result
     requires open { S.failed sink.old ≡ false }
     ensures fault { S.failed sink.new ≡ is_err result }
+    ensures keeps { OnOk result (Keeps S.has sink.old sink.new) }
 {
     match ty {
         BlockType::Empty => Ok(()),
@@ -24,6 +26,7 @@ fn write_block_type<S: Sink>(ty: BlockType, sink: &mut S) -> fmt::Result
 pub(crate) fn write_block<S: Sink>(keyword: &str, ty: BlockType, sink: &mut S) -> fmt::Result
     requires open { S.failed sink.old ≡ false }
     ensures fault { S.failed sink.new ≡ is_err result }
+    ensures writes { OnOk result (Writes S.has sink.old (length keyword.now) sink.new) }
 {
     sink.write_str(keyword)?;
     write_block_type(ty, sink)
@@ -33,6 +36,7 @@ pub(crate) fn write_block<S: Sink>(keyword: &str, ty: BlockType, sink: &mut S) -
 fn write_catch<S: Sink>(clause: Catch, sink: &mut S) -> fmt::Result
     requires open { S.failed sink.old ≡ false }
     ensures fault { S.failed sink.new ≡ is_err result }
+    ensures keeps { OnOk result (Keeps S.has sink.old sink.new) }
 {
     match clause {
         Catch::One { tag, label } => write!(sink, " (catch {tag} {label})"),
@@ -50,6 +54,7 @@ pub(crate) fn write_try_table<S: Sink>(
 ) -> fmt::Result
     requires open { S.failed sink.old ≡ false }
     ensures fault { S.failed sink.new ≡ is_err result }
+    ensures writes { OnOk result (Writes S.has sink.old 1 sink.new) }
 {
     write_block("try_table", ty, sink)?;
     for clause in clauses {
@@ -62,10 +67,11 @@ pub(crate) fn write_try_table<S: Sink>(
 pub(crate) fn write_branch_table<S: Sink>(labels: &[u32], last: u32, sink: &mut S) -> fmt::Result
     requires open { S.failed sink.old ≡ false }
     ensures fault { S.failed sink.new ≡ is_err result }
+    ensures writes { OnOk result (Writes S.has sink.old 1 sink.new) }
 {
     sink.write_str("br_table")?;
     for label in labels {
-        write!(sink, " {label}")?;
+        (" ", label).write_text(sink)?;
     }
     write!(sink, " {last}")
 }
@@ -78,6 +84,7 @@ pub(crate) fn write_branch_cast<S: Sink>(
 ) -> fmt::Result
     requires open { S.failed sink.old ≡ false }
     ensures fault { S.failed sink.new ≡ is_err result }
+    ensures writes { OnOk result (Writes S.has sink.old 1 sink.new) }
 {
     write!(sink, "{keyword} {} ", cast.label)?;
     cast.from.write_text(sink)?;

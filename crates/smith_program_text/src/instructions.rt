@@ -1,4 +1,5 @@
-ghost use Rattle.std.specs.Prelude.{◌≡◌, false, is_err};
+ghost use Rattle.std.specs.Prelude.{◌≡◌, false, is_err, OnOk};
+ghost use Rattle.smith_text.specs.Written.{Writes};
 
 use crate::atomic::write_atomic;
 use crate::control::{write_block, write_branch_cast, write_branch_table, write_try_table};
@@ -9,7 +10,7 @@ use crate::numeric::write_numeric;
 use crate::references::{write_aggregate, write_reference, write_table};
 use crate::vector::write_vector;
 use smith_instr::{BlockType, Instr};
-use smith_text::{Sink, TextForm};
+use smith_text::{Sink, write_const_instr};
 use smith_types::ConstInstr;
 use std::fmt;
 
@@ -20,6 +21,7 @@ use std::fmt;
 pub fn write_instr<S: Sink>(instruction: &Instr, sink: &mut S) -> fmt::Result
     requires open { S.failed sink.old ≡ false }
     ensures fault { S.failed sink.new ≡ is_err result }
+    ensures writes { OnOk result (Writes S.has sink.old 1 sink.new) }
 {
     match instruction {
         Instr::Unreachable => sink.write_str("unreachable"),
@@ -56,11 +58,11 @@ pub fn write_instr<S: Sink>(instruction: &Instr, sink: &mut S) -> fmt::Result
         Instr::LocalTee(local) => write!(sink, "local.tee {local}"),
         Instr::GlobalGet(global) => write!(sink, "global.get {global}"),
         Instr::GlobalSet(global) => write!(sink, "global.set {global}"),
-        Instr::I32Const(value) => ConstInstr::I32Const(*value).write_text(sink),
-        Instr::I64Const(value) => ConstInstr::I64Const(*value).write_text(sink),
-        Instr::F32Const(bits) => ConstInstr::F32Const(*bits).write_text(sink),
-        Instr::F64Const(bits) => ConstInstr::F64Const(*bits).write_text(sink),
-        Instr::V128Const(bits) => ConstInstr::V128Const(*bits).write_text(sink),
+        Instr::I32Const(value) => write_const_instr(&ConstInstr::I32Const(*value), sink),
+        Instr::I64Const(value) => write_const_instr(&ConstInstr::I64Const(*value), sink),
+        Instr::F32Const(bits) => write_const_instr(&ConstInstr::F32Const(*bits), sink),
+        Instr::F64Const(bits) => write_const_instr(&ConstInstr::F64Const(*bits), sink),
+        Instr::V128Const(bits) => write_const_instr(&ConstInstr::V128Const(*bits), sink),
         Instr::Numeric(op) => write_numeric(*op, sink),
         Instr::Reference(op) => write_reference(*op, sink),
         Instr::Table(op) => write_table(*op, sink),

@@ -5,6 +5,7 @@
 
 mod atomic;
 mod control;
+mod examples;
 mod instructions;
 mod lines;
 mod memory;

@@ -1,4 +1,13 @@
-ghost use Rattle.std.specs.Prelude.{◌≡◌, false, is_err};
+ghost use Rattle.std.specs.Prelude.{◌≡◌, ◌*◌, ◌+◌, false, is_err, length, IfOk, OnOk};
+ghost use Rattle.smith_program_text.specs.Lines.{
+  checks_after,
+  checks_size,
+  depth_after_line,
+  depth_of_line,
+  line_size,
+  lines_size,
+};
+ghost use Rattle.smith_text.specs.Written.{Writes};
 
 use crate::instructions::write_instr;
 use smith_instr::{BlockType, Instr, IntBinary, NumericInstr};
@@ -7,7 +16,9 @@ use std::fmt;
 
 // Returns the depth at which `instruction` is written, if the instructions before it are at the
 // depth `depth`.
-fn depth_at(instruction: &Instr, depth: usize) -> usize {
+fn depth_at(instruction: &Instr, depth: usize) -> usize
+    ensures { result ≡ depth_of_line instruction.now depth }
+{
     match instruction {
         Instr::Else | Instr::End => depth.saturating_sub(1),
         _ => depth,
@@ -15,7 +26,9 @@ fn depth_at(instruction: &Instr, depth: usize) -> usize {
 }
 
 // Returns the depth of the instructions after `instruction`, which is written at the depth `depth`.
-fn depth_after(instruction: &Instr, depth: usize) -> usize {
+fn depth_after(instruction: &Instr, depth: usize) -> usize
+    ensures { result ≡ depth_after_line instruction.now depth }
+{
     match instruction {
         Instr::Block(_) | Instr::Loop(_) | Instr::If(_) | Instr::Else | Instr::TryTable(_, _) => {
             depth.saturating_add(1)
@@ -28,6 +41,7 @@ fn depth_after(instruction: &Instr, depth: usize) -> usize {
 fn write_indent<S: Sink>(depth: usize, sink: &mut S) -> fmt::Result
     requires open { S.failed sink.old ≡ false }
     ensures fault { S.failed sink.new ≡ is_err result }
+    ensures writes { OnOk result (Writes S.has sink.old (2 * depth) sink.new) }
 {
     for _ in 0..depth {
         sink.write_str("  ")?;
@@ -40,6 +54,8 @@ fn write_indent<S: Sink>(depth: usize, sink: &mut S) -> fmt::Result
 fn write_line<S: Sink>(instruction: &Instr, depth: usize, sink: &mut S) -> Result<usize, fmt::Error>
     requires open { S.failed sink.old ≡ false }
     ensures fault { S.failed sink.new ≡ is_err result }
+    ensures writes { OnOk result (Writes S.has sink.old (line_size instruction.now depth) sink.new) }
+    ensures depth { IfOk result (λ next. next ≡ depth_after_line instruction.now (depth_of_line instruction.now depth)) }
 {
     let level = depth_at(instruction, depth);
     write_indent(level, sink)?;
@@ -57,6 +73,7 @@ fn write_line<S: Sink>(instruction: &Instr, depth: usize, sink: &mut S) -> Resul
 pub fn write_instrs<S: Sink>(instructions: &[Instr], depth: usize, sink: &mut S) -> fmt::Result
     requires open { S.failed sink.old ≡ false }
     ensures fault { S.failed sink.new ≡ is_err result }
+    ensures writes { OnOk result (Writes S.has sink.old (lines_size instructions.now 0 depth) sink.new) }
 {
     let mut level = depth;
     for instruction in instructions {
@@ -69,9 +86,12 @@ pub fn write_instrs<S: Sink>(instructions: &[Instr], depth: usize, sink: &mut S)
 fn write_checks<S: Sink>(counters: &[u32], depth: usize, sink: &mut S) -> fmt::Result
     requires open { S.failed sink.old ≡ false }
     ensures fault { S.failed sink.new ≡ is_err result }
+    ensures writes { OnOk result (Writes S.has sink.old (checks_size (length counters.now)) sink.new) }
 {
-    for counter in counters.iter().rev() {
+    let mut left = counters;
+    while let Some((counter, before)) = left.split_last() {
         write_check(*counter, depth, sink)?;
+        left = before;
     }
     Ok(())
 }
@@ -80,6 +100,7 @@ fn write_checks<S: Sink>(counters: &[u32], depth: usize, sink: &mut S) -> fmt::R
 fn write_check<S: Sink>(counter: u32, depth: usize, sink: &mut S) -> fmt::Result
     requires open { S.failed sink.old ≡ false }
     ensures fault { S.failed sink.new ≡ is_err result }
+    ensures writes { OnOk result (Writes S.has sink.old (checks_size 1) sink.new) }
 {
     let check = [
         Instr::GlobalGet(counter),
@@ -93,6 +114,37 @@ fn write_check<S: Sink>(counter: u32, depth: usize, sink: &mut S) -> fmt::Result
         Instr::GlobalSet(counter),
     ];
     write_instrs(&check, depth, sink)
+}
+
+// Returns the counters that are checked after `instruction`: all of `counters` after the start of a
+// loop, and else none.
+fn checked_after<'a>(instruction: &Instr, counters: &'a [u32]) -> &'a [u32]
+    ensures { checks_after instruction.now (length counters.now) ≡ checks_size (length result.now) }
+{
+    match instruction {
+        Instr::Loop(_) => counters,
+        _ => &[],
+    }
+}
+
+// Writes `instructions` with the checks of `counters` after the start of each loop.
+fn write_lines<S: Sink>(
+    instructions: &[Instr],
+    counters: &[u32],
+    depth: usize,
+    sink: &mut S,
+) -> fmt::Result
+    requires open { S.failed sink.old ≡ false }
+    ensures fault { S.failed sink.new ≡ is_err result }
+    ensures writes { OnOk result (Writes S.has sink.old
+        (lines_size instructions.now (length counters.now) depth) sink.new) }
+{
+    let mut level = depth;
+    for instruction in instructions {
+        level = write_line(instruction, level, sink)?;
+        write_checks(checked_after(instruction, counters), level, sink)?;
+    }
+    Ok(())
 }
 
 /// Writes `instructions` as [`write_instrs`] does, with the checks of the counters of fuel
@@ -109,14 +161,9 @@ pub fn write_counted_instrs<S: Sink>(
 ) -> fmt::Result
     requires open { S.failed sink.old ≡ false }
     ensures fault { S.failed sink.new ≡ is_err result }
+    ensures writes { OnOk result (Writes S.has sink.old
+        (checks_size (length counters.now) + lines_size instructions.now (length counters.now) depth) sink.new) }
 {
     write_checks(counters, depth, sink)?;
-    let mut level = depth;
-    for instruction in instructions {
-        level = write_line(instruction, level, sink)?;
-        if let Instr::Loop(_) = instruction {
-            write_checks(counters, level, sink)?;
-        }
-    }
-    Ok(())
+    write_lines(instructions, counters, depth, sink)
 }

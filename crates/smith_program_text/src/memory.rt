@@ -1,11 +1,14 @@
-ghost use Rattle.std.specs.Prelude.{◌≡◌, false, is_err};
+ghost use Rattle.std.specs.Prelude.{◌≡◌, ◌≤◌, false, is_err, length, OnOk};
+ghost use Rattle.smith_text.specs.Written.{Keeps, Writes};
 
 use smith_instr::{Load, MemArg, MemoryInstr, Store, VectorLoad};
 use smith_text::Sink;
 use std::fmt;
 
 // Returns the keyword of a load.
-pub(crate) fn load_keyword(op: Load) -> &'static str {
+pub(crate) fn load_keyword(op: Load) -> &'static str
+    ensures { 1 ≤ length result.now }
+{
     match op {
         Load::I32 => "i32.load",
         Load::I64 => "i64.load",
@@ -25,7 +28,9 @@ pub(crate) fn load_keyword(op: Load) -> &'static str {
 }
 
 // Returns the keyword of a store.
-pub(crate) fn store_keyword(op: Store) -> &'static str {
+pub(crate) fn store_keyword(op: Store) -> &'static str
+    ensures { 1 ≤ length result.now }
+{
     match op {
         Store::I32 => "i32.store",
         Store::I64 => "i64.store",
@@ -40,7 +45,9 @@ pub(crate) fn store_keyword(op: Store) -> &'static str {
 }
 
 // Returns the keyword of a load of a vector.
-pub(crate) fn vector_load_keyword(op: VectorLoad) -> &'static str {
+pub(crate) fn vector_load_keyword(op: VectorLoad) -> &'static str
+    ensures { 1 ≤ length result.now }
+{
     match op {
         VectorLoad::V128 => "v128.load",
         VectorLoad::I8x8S => "v128.load8x8_s",
@@ -62,6 +69,7 @@ pub(crate) fn vector_load_keyword(op: VectorLoad) -> &'static str {
 fn write_memory_index<S: Sink>(memory: u32, sink: &mut S) -> fmt::Result
     requires open { S.failed sink.old ≡ false }
     ensures fault { S.failed sink.new ≡ is_err result }
+    ensures keeps { OnOk result (Keeps S.has sink.old sink.new) }
 {
     if memory == 0 {
         return Ok(());
@@ -73,6 +81,7 @@ fn write_memory_index<S: Sink>(memory: u32, sink: &mut S) -> fmt::Result
 pub(crate) fn write_access<S: Sink>(keyword: &str, at: MemArg, sink: &mut S) -> fmt::Result
     requires open { S.failed sink.old ≡ false }
     ensures fault { S.failed sink.new ≡ is_err result }
+    ensures writes { OnOk result (Writes S.has sink.old (length keyword.now) sink.new) }
 {
     sink.write_str(keyword)?;
     write_mem_arg(at, sink)
@@ -83,6 +92,7 @@ pub(crate) fn write_access<S: Sink>(keyword: &str, at: MemArg, sink: &mut S) -> 
 pub(crate) fn write_mem_arg<S: Sink>(at: MemArg, sink: &mut S) -> fmt::Result
     requires open { S.failed sink.old ≡ false }
     ensures fault { S.failed sink.new ≡ is_err result }
+    ensures keeps { OnOk result (Keeps S.has sink.old sink.new) }
 {
     write_memory_index(at.memory, sink)?;
     let alignment = 1u64.checked_shl(at.align).unwrap_or(0);
@@ -99,6 +109,7 @@ pub(crate) fn write_lane_access<S: Sink>(
 ) -> fmt::Result
     requires open { S.failed sink.old ≡ false }
     ensures fault { S.failed sink.new ≡ is_err result }
+    ensures writes { OnOk result (Writes S.has sink.old 1 sink.new) }
 {
     let bits = 8u64.checked_shl(log2_bytes).unwrap_or(0);
     write!(sink, "v128.{verb}{bits}_lane")?;
@@ -110,6 +121,7 @@ pub(crate) fn write_lane_access<S: Sink>(
 pub(crate) fn write_memory<S: Sink>(instruction: MemoryInstr, sink: &mut S) -> fmt::Result
     requires open { S.failed sink.old ≡ false }
     ensures fault { S.failed sink.new ≡ is_err result }
+    ensures writes { OnOk result (Writes S.has sink.old 1 sink.new) }
 {
     match instruction {
         MemoryInstr::Size(memory) => {

@@ -1,4 +1,5 @@
-ghost use Rattle.std.specs.Prelude.{◌≡◌, false, is_err};
+ghost use Rattle.std.specs.Prelude.{◌≡◌, ◌≤◌, false, is_err, length, OnOk};
+ghost use Rattle.smith_text.specs.Written.{Writes};
 
 use smith_instr::{
     Conversion, FloatBinary, FloatCompare, FloatUnary, IntBinary, IntCompare, IntUnary,
@@ -87,7 +88,9 @@ fn float_compare(op: FloatCompare) -> &'static str {
 }
 
 // Returns the keyword of a conversion.
-fn conversion(op: Conversion) -> &'static str {
+fn conversion(op: Conversion) -> &'static str
+    ensures { 1 ≤ length result.now }
+{
     match op {
         Conversion::I32WrapI64 => "i32.wrap_i64",
         Conversion::I64ExtendI32S => "i64.extend_i32_s",
@@ -118,7 +121,9 @@ fn conversion(op: Conversion) -> &'static str {
 }
 
 // Returns the keyword of a conversion that saturates.
-fn saturating(op: SaturatingConversion) -> &'static str {
+fn saturating(op: SaturatingConversion) -> &'static str
+    ensures { 1 ≤ length result.now }
+{
     match op {
         SaturatingConversion::I32TruncSatF32S => "i32.trunc_sat_f32_s",
         SaturatingConversion::I32TruncSatF32U => "i32.trunc_sat_f32_u",
@@ -132,7 +137,9 @@ fn saturating(op: SaturatingConversion) -> &'static str {
 }
 
 // Returns the keyword of an extension of a sign.
-fn extension(op: SignExtension) -> &'static str {
+fn extension(op: SignExtension) -> &'static str
+    ensures { 1 ≤ length result.now }
+{
     match op {
         SignExtension::I32From8 => "i32.extend8_s",
         SignExtension::I32From16 => "i32.extend16_s",
@@ -143,7 +150,9 @@ fn extension(op: SignExtension) -> &'static str {
 }
 
 // Returns the keyword of wide arithmetic.
-fn wide(op: WideArithmetic) -> &'static str {
+fn wide(op: WideArithmetic) -> &'static str
+    ensures { 1 ≤ length result.now }
+{
     match op {
         WideArithmetic::Add128 => "i64.add128",
         WideArithmetic::Sub128 => "i64.sub128",
@@ -156,6 +165,7 @@ fn wide(op: WideArithmetic) -> &'static str {
 pub(crate) fn write_numeric<S: Sink>(instruction: NumericInstr, sink: &mut S) -> fmt::Result
     requires open { S.failed sink.old ≡ false }
     ensures fault { S.failed sink.new ≡ is_err result }
+    ensures writes { OnOk result (Writes S.has sink.old 1 sink.new) }
 {
     match instruction {
         NumericInstr::I32Unary(op) => write!(sink, "i32.{}", int_unary(op)),

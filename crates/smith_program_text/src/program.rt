@@ -1,4 +1,17 @@
-ghost use Rattle.std.specs.Prelude.{◌≡◌, false, is_err, IfErr};
+ghost use Rattle.std.specs.Prelude.{
+  ◌≡◌,
+  ◌≤◌,
+  false,
+  is_err,
+  length,
+  slice_get,
+  IfOk,
+  IfErr,
+  OnOk,
+};
+ghost use Rattle.std.specs.String.{string_bytes};
+ghost use Rattle.smith_program_text.specs.Bodies.{body_size};
+ghost use Rattle.smith_text.specs.Written.{Writes};
 
 use crate::lines::write_counted_instrs;
 use smith_bytes::Error;
@@ -18,6 +31,8 @@ struct Bodies<'a> {
 }
 
 impl<'a> BodyText for Bodies<'a> {
+    ghost size = { λ bodies place body counters. body_size (slice_get bodies.bodies.now place) body counters };
+
     fn write_body<S: Sink>(
         &self,
         place: usize,
@@ -45,6 +60,7 @@ impl<'a> BodyText for Bodies<'a> {
 pub fn write_program<S: Sink>(program: &Program, sink: &mut S) -> fmt::Result
     requires open { S.failed sink.old ≡ false }
     ensures fault { S.failed sink.new ≡ is_err result }
+    ensures writes { OnOk result (Writes S.has sink.old 1 sink.new) }
 {
     let bodies = Bodies {
         bodies: program.bodies.as_slice(),
@@ -59,10 +75,11 @@ pub fn write_program<S: Sink>(program: &Program, sink: &mut S) -> fmt::Result
 /// Returns `Memory` if an allocation fails.
 pub fn text(alloc: Global, program: &Program) -> Result<String, Error>
     ensures memory { IfErr result (λ e. e ≡ Error.Memory) }
+    ensures some { IfOk result (λ text. 1 ≤ length (string_bytes text)) }
 {
-    let mut text = String::new(alloc);
-    match write_program(program, &mut FromFmt::new(&mut text)) {
-        Ok(()) => Ok(text),
+    let mut sink = FromFmt::new(String::new(alloc));
+    match write_program(program, &mut sink) {
+        Ok(()) => Ok(sink.into_string()),
         Err(fmt::Error) => Err(Error::Memory),
     }
 }

@@ -1,4 +1,5 @@
-ghost use Rattle.std.specs.Prelude.{◌≡◌, false, is_err};
+ghost use Rattle.std.specs.Prelude.{◌≡◌, false, is_err, OnOk};
+ghost use Rattle.smith_text.specs.Written.{Writes};
 
 use smith_instr::{AggregateInstr, Extension, ReferenceInstr, TableInstr};
 use smith_text::{Sink, TextForm};
@@ -9,6 +10,7 @@ use std::fmt;
 fn write_cast<S: Sink>(keyword: &str, ty: RefType, sink: &mut S) -> fmt::Result
     requires open { S.failed sink.old ≡ false }
     ensures fault { S.failed sink.new ≡ is_err result }
+    ensures writes { OnOk result (Writes S.has sink.old 1 sink.new) }
 {
     write!(sink, "{keyword} ")?;
     ty.write_text(sink)
@@ -18,6 +20,7 @@ fn write_cast<S: Sink>(keyword: &str, ty: RefType, sink: &mut S) -> fmt::Result
 pub(crate) fn write_reference<S: Sink>(instruction: ReferenceInstr, sink: &mut S) -> fmt::Result
     requires open { S.failed sink.old ≡ false }
     ensures fault { S.failed sink.new ≡ is_err result }
+    ensures writes { OnOk result (Writes S.has sink.old 1 sink.new) }
 {
     match instruction {
         ReferenceInstr::Null(heap_type) => {
@@ -37,6 +40,7 @@ pub(crate) fn write_reference<S: Sink>(instruction: ReferenceInstr, sink: &mut S
 pub(crate) fn write_table<S: Sink>(instruction: TableInstr, sink: &mut S) -> fmt::Result
     requires open { S.failed sink.old ≡ false }
     ensures fault { S.failed sink.new ≡ is_err result }
+    ensures writes { OnOk result (Writes S.has sink.old 1 sink.new) }
 {
     match instruction {
         TableInstr::Get(table) => write!(sink, "table.get {table}"),
@@ -64,6 +68,7 @@ fn extended(extension: Extension) -> &'static str {
 pub(crate) fn write_aggregate<S: Sink>(instruction: AggregateInstr, sink: &mut S) -> fmt::Result
     requires open { S.failed sink.old ≡ false }
     ensures fault { S.failed sink.new ≡ is_err result }
+    ensures writes { OnOk result (Writes S.has sink.old 1 sink.new) }
 {
     match instruction {
         AggregateInstr::StructNew(ty) => write!(sink, "struct.new {ty}"),

@@ -1,15 +1,18 @@
-ghost use Rattle.std.specs.Prelude.{◌≡◌, false, is_err};
+ghost use Rattle.std.specs.Prelude.{◌≡◌, ◌≤◌, false, is_err, length, OnOk};
+ghost use Rattle.smith_text.specs.Written.{Writes};
 
 use smith_instr::{
     IntShape, LaneExtract, LaneShape, RelaxedBinary, RelaxedFloatBinary, RelaxedFloatTernary,
     RelaxedFloatUnary, RelaxedTernary, VectorBinary, VectorFloatBinary, VectorFloatUnary,
     VectorInstr, VectorShift, VectorUnary,
 };
-use smith_text::Sink;
+use smith_text::{Sink, TextForm};
 use std::fmt;
 
 // Returns the keyword of an operator.
-fn unary(op: VectorUnary) -> &'static str {
+fn unary(op: VectorUnary) -> &'static str
+    ensures { 1 ≤ length result.now }
+{
     match op {
         VectorUnary::V128Not => "v128.not",
         VectorUnary::I8x16Abs => "i8x16.abs",
@@ -41,7 +44,9 @@ fn unary(op: VectorUnary) -> &'static str {
 }
 
 // Returns the keyword of an operator.
-fn float_unary(op: VectorFloatUnary) -> &'static str {
+fn float_unary(op: VectorFloatUnary) -> &'static str
+    ensures { 1 ≤ length result.now }
+{
     match op {
         VectorFloatUnary::F32x4Abs => "f32x4.abs",
         VectorFloatUnary::F32x4Neg => "f32x4.neg",
@@ -71,7 +76,9 @@ fn float_unary(op: VectorFloatUnary) -> &'static str {
 }
 
 // Returns the keyword of an operator.
-fn binary(op: VectorBinary) -> &'static str {
+fn binary(op: VectorBinary) -> &'static str
+    ensures { 1 ≤ length result.now }
+{
     match op {
         VectorBinary::V128And => "v128.and",
         VectorBinary::V128AndNot => "v128.andnot",
@@ -169,7 +176,9 @@ fn binary(op: VectorBinary) -> &'static str {
 }
 
 // Returns the keyword of an operator.
-fn float_binary(op: VectorFloatBinary) -> &'static str {
+fn float_binary(op: VectorFloatBinary) -> &'static str
+    ensures { 1 ≤ length result.now }
+{
     match op {
         VectorFloatBinary::F32x4Eq => "f32x4.eq",
         VectorFloatBinary::F32x4Ne => "f32x4.ne",
@@ -203,7 +212,9 @@ fn float_binary(op: VectorFloatBinary) -> &'static str {
 }
 
 // Returns the keyword of a relaxed operator.
-fn relaxed_float_unary(op: RelaxedFloatUnary) -> &'static str {
+fn relaxed_float_unary(op: RelaxedFloatUnary) -> &'static str
+    ensures { 1 ≤ length result.now }
+{
     match op {
         RelaxedFloatUnary::I32x4TruncF32x4S => "i32x4.relaxed_trunc_f32x4_s",
         RelaxedFloatUnary::I32x4TruncF32x4U => "i32x4.relaxed_trunc_f32x4_u",
@@ -213,7 +224,9 @@ fn relaxed_float_unary(op: RelaxedFloatUnary) -> &'static str {
 }
 
 // Returns the keyword of a relaxed operator.
-fn relaxed_binary(op: RelaxedBinary) -> &'static str {
+fn relaxed_binary(op: RelaxedBinary) -> &'static str
+    ensures { 1 ≤ length result.now }
+{
     match op {
         RelaxedBinary::I8x16Swizzle => "i8x16.relaxed_swizzle",
         RelaxedBinary::I16x8Q15MulrS => "i16x8.relaxed_q15mulr_s",
@@ -222,7 +235,9 @@ fn relaxed_binary(op: RelaxedBinary) -> &'static str {
 }
 
 // Returns the keyword of a relaxed operator.
-fn relaxed_float_binary(op: RelaxedFloatBinary) -> &'static str {
+fn relaxed_float_binary(op: RelaxedFloatBinary) -> &'static str
+    ensures { 1 ≤ length result.now }
+{
     match op {
         RelaxedFloatBinary::F32x4Min => "f32x4.relaxed_min",
         RelaxedFloatBinary::F32x4Max => "f32x4.relaxed_max",
@@ -232,7 +247,9 @@ fn relaxed_float_binary(op: RelaxedFloatBinary) -> &'static str {
 }
 
 // Returns the keyword of a relaxed operator.
-fn relaxed_ternary(op: RelaxedTernary) -> &'static str {
+fn relaxed_ternary(op: RelaxedTernary) -> &'static str
+    ensures { 1 ≤ length result.now }
+{
     match op {
         RelaxedTernary::I8x16Laneselect => "i8x16.relaxed_laneselect",
         RelaxedTernary::I16x8Laneselect => "i16x8.relaxed_laneselect",
@@ -243,7 +260,9 @@ fn relaxed_ternary(op: RelaxedTernary) -> &'static str {
 }
 
 // Returns the keyword of a relaxed operator.
-fn relaxed_float_ternary(op: RelaxedFloatTernary) -> &'static str {
+fn relaxed_float_ternary(op: RelaxedFloatTernary) -> &'static str
+    ensures { 1 ≤ length result.now }
+{
     match op {
         RelaxedFloatTernary::F32x4Madd => "f32x4.relaxed_madd",
         RelaxedFloatTernary::F32x4Nmadd => "f32x4.relaxed_nmadd",
@@ -275,7 +294,9 @@ fn lane_shape(shape: LaneShape) -> &'static str {
 }
 
 // Returns the keyword of an extraction.
-fn extract(op: LaneExtract) -> &'static str {
+fn extract(op: LaneExtract) -> &'static str
+    ensures { 1 ≤ length result.now }
+{
     match op {
         LaneExtract::I8x16S => "i8x16.extract_lane_s",
         LaneExtract::I8x16U => "i8x16.extract_lane_u",
@@ -301,10 +322,11 @@ fn shift(op: VectorShift) -> &'static str {
 fn write_shuffle<S: Sink>(lanes: &[u8], sink: &mut S) -> fmt::Result
     requires open { S.failed sink.old ≡ false }
     ensures fault { S.failed sink.new ≡ is_err result }
+    ensures writes { OnOk result (Writes S.has sink.old 1 sink.new) }
 {
     sink.write_str("i8x16.shuffle")?;
     for lane in lanes {
-        write!(sink, " {lane}")?;
+        (" ", u32::from(*lane)).write_text(sink)?;
     }
     Ok(())
 }
@@ -313,6 +335,7 @@ fn write_shuffle<S: Sink>(lanes: &[u8], sink: &mut S) -> fmt::Result
 pub(crate) fn write_vector<S: Sink>(instruction: VectorInstr, sink: &mut S) -> fmt::Result
     requires open { S.failed sink.old ≡ false }
     ensures fault { S.failed sink.new ≡ is_err result }
+    ensures writes { OnOk result (Writes S.has sink.old 1 sink.new) }
 {
     match instruction {
         VectorInstr::Unary(op) => sink.write_str(unary(op)),

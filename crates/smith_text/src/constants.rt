@@ -1,12 +1,15 @@
-ghost use Rattle.std.specs.Prelude.{◌≡◌, false, is_err};
+ghost use Rattle.std.specs.Prelude.{◌≡◌, ◌≤◌, false, is_err, length, OnOk};
+ghost use Rattle.smith_text.specs.Written.{Keeps, Writes};
 
 use crate::floats::{write_f32, write_f64};
 use crate::sink::Sink;
-use crate::text_form::{Shown, TextForm};
+use crate::text_form::TextForm;
 use smith_types::ConstInstr;
 use std::fmt;
 
-fn keyword_of(instruction: &ConstInstr) -> &'static str {
+fn keyword_of(instruction: &ConstInstr) -> &'static str
+    ensures { 1 ≤ length result.now }
+{
     match instruction {
         ConstInstr::I32Const(_) => "i32.const",
         ConstInstr::I64Const(_) => "i64.const",
@@ -38,6 +41,7 @@ fn keyword_of(instruction: &ConstInstr) -> &'static str {
 fn write_lanes<S: Sink>(value: i128, sink: &mut S) -> fmt::Result
     requires open { S.failed sink.old ≡ false }
     ensures fault { S.failed sink.new ≡ is_err result }
+    ensures keeps { OnOk result (Keeps S.has sink.old sink.new) }
 {
     let bits = value.cast_unsigned();
     sink.write_str(" i32x4")?;
@@ -52,10 +56,11 @@ fn write_lanes<S: Sink>(value: i128, sink: &mut S) -> fmt::Result
 fn write_arguments<S: Sink>(instruction: &ConstInstr, sink: &mut S) -> fmt::Result
     requires open { S.failed sink.old ≡ false }
     ensures fault { S.failed sink.new ≡ is_err result }
+    ensures keeps { OnOk result (Keeps S.has sink.old sink.new) }
 {
     match instruction {
-        ConstInstr::I32Const(value) => (" ", Shown(*value)).write_text(sink),
-        ConstInstr::I64Const(value) => (" ", Shown(*value)).write_text(sink),
+        ConstInstr::I32Const(value) => (" ", value).write_text(sink),
+        ConstInstr::I64Const(value) => (" ", value).write_text(sink),
         ConstInstr::F32Const(bits) => write_f32(*bits, sink),
         ConstInstr::F64Const(bits) => write_f64(*bits, sink),
         ConstInstr::V128Const(bits) => write_lanes(*bits, sink),
@@ -74,12 +79,26 @@ fn write_arguments<S: Sink>(instruction: &ConstInstr, sink: &mut S) -> fmt::Resu
     }
 }
 
+/// Writes `instruction` to `sink` as [`TextForm::write_text`] does, and thus its keyword. Requires
+/// that no write to `sink` has failed.
+///
+/// # Errors
+///
+/// Returns the error of the first write that fails. Nothing is written after it.
+pub fn write_const_instr<S: Sink>(instruction: &ConstInstr, sink: &mut S) -> fmt::Result
+    requires open { S.failed sink.old ≡ false }
+    ensures fault { S.failed sink.new ≡ is_err result }
+    ensures writes { OnOk result (Writes S.has sink.old 1 sink.new) }
+{
+    sink.write_str(keyword_of(instruction))?;
+    write_arguments(instruction, sink)
+}
+
 /// The sections Text Format, Numeric, Vector, Reference, Aggregate and Variable Instructions;
 /// `ref.i31_shared` as the shared-everything-threads proposal writes it. Integers are written in
 /// decimal, with their sign.
 impl TextForm for ConstInstr {
     fn write_text<S: Sink>(&self, sink: &mut S) -> fmt::Result {
-        sink.write_str(keyword_of(self))?;
-        write_arguments(self, sink)
+        write_const_instr(self, sink)
     }
 }

@@ -1,4 +1,5 @@
-ghost use Rattle.std.specs.Prelude.{◌≡◌, false, is_err};
+ghost use Rattle.std.specs.Prelude.{◌≡◌, false, is_err, OnOk};
+ghost use Rattle.smith_text.specs.Written.{Keeps};
 
 use crate::sink::Sink;
 use crate::text_form::TextForm;
@@ -47,6 +48,7 @@ impl TextForm for TableType {
 fn write_page_size<S: Sink>(log2: u32, sink: &mut S) -> fmt::Result
     requires open { S.failed sink.old ≡ false }
     ensures fault { S.failed sink.new ≡ is_err result }
+    ensures keeps { OnOk result (Keeps S.has sink.old sink.new) }
 {
     match 1u64.checked_shl(log2) {
         Some(bytes) => (" (pagesize ", bytes, ")").write_text(sink),

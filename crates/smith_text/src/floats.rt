@@ -1,4 +1,5 @@
-ghost use Rattle.std.specs.Prelude.{◌≡◌, false, is_err};
+ghost use Rattle.std.specs.Prelude.{◌≡◌, false, is_err, OnOk};
+ghost use Rattle.smith_text.specs.Written.{Keeps};
 
 use crate::sink::Sink;
 use std::fmt;
@@ -24,6 +25,7 @@ struct Float {
 fn write_fraction<S: Sink>(fraction: u64, digits: u32, sink: &mut S) -> fmt::Result
     requires open { S.failed sink.old ≡ false }
     ensures fault { S.failed sink.new ≡ is_err result }
+    ensures keeps { OnOk result (Keeps S.has sink.old sink.new) }
 {
     if fraction == 0 {
         return Ok(());
@@ -38,6 +40,7 @@ fn write_fraction<S: Sink>(fraction: u64, digits: u32, sink: &mut S) -> fmt::Res
 fn write_magnitude<S: Sink>(float: &Float, sink: &mut S) -> fmt::Result
     requires open { S.failed sink.old ≡ false }
     ensures fault { S.failed sink.new ≡ is_err result }
+    ensures keeps { OnOk result (Keeps S.has sink.old sink.new) }
 {
     if float.exponent == float.greatest {
         return match float.significand {
@@ -58,6 +61,7 @@ fn write_magnitude<S: Sink>(float: &Float, sink: &mut S) -> fmt::Result
 fn write_float<S: Sink>(float: &Float, sink: &mut S) -> fmt::Result
     requires open { S.failed sink.old ≡ false }
     ensures fault { S.failed sink.new ≡ is_err result }
+    ensures keeps { OnOk result (Keeps S.has sink.old sink.new) }
 {
     sink.write_str(if float.is_negative { " -" } else { " " })?;
     write_magnitude(float, sink)
@@ -68,6 +72,7 @@ fn write_float<S: Sink>(float: &Float, sink: &mut S) -> fmt::Result
 pub(crate) fn write_f32<S: Sink>(bits: u32, sink: &mut S) -> fmt::Result
     requires open { S.failed sink.old ≡ false }
     ensures fault { S.failed sink.new ≡ is_err result }
+    ensures keeps { OnOk result (Keeps S.has sink.old sink.new) }
 {
     let significand = u64::from(bits & 0x007f_ffff);
     let float = Float {
@@ -86,6 +91,7 @@ pub(crate) fn write_f32<S: Sink>(bits: u32, sink: &mut S) -> fmt::Result
 pub(crate) fn write_f64<S: Sink>(bits: u64, sink: &mut S) -> fmt::Result
     requires open { S.failed sink.old ≡ false }
     ensures fault { S.failed sink.new ≡ is_err result }
+    ensures keeps { OnOk result (Keeps S.has sink.old sink.new) }
 {
     let significand = bits & 0x000f_ffff_ffff_ffff;
     let float = Float {

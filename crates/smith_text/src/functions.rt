@@ -1,7 +1,9 @@
-ghost use Rattle.std.specs.Prelude.{◌≡◌, false, is_err};
+ghost use Rattle.std.specs.Prelude.{◌≡◌, ℕ, List, false, is_err, OnOk};
+ghost use Rattle.smith_text.specs.Written.{Keeps, Writes, own_size};
+ghost use Rattle.smith_types.specs.declared.code.Code.{Code};
 
 use crate::sink::Sink;
-use crate::text_form::{Listed, Shown, TextForm};
+use crate::text_form::{Listed, TextForm};
 use smith_types::{Code, Instructions};
 use std::fmt;
 
@@ -9,6 +11,7 @@ use std::fmt;
 fn write_check<S: Sink>(global: u32, sink: &mut S) -> fmt::Result
     requires open { S.failed sink.old ≡ false }
     ensures fault { S.failed sink.new ≡ is_err result }
+    ensures keeps { OnOk result (Keeps S.has sink.old sink.new) }
 {
     let trap = "\n    i32.eqz\n    if\n      unreachable\n    end\n";
     let check = ("    global.get ", global, trap);
@@ -25,6 +28,7 @@ fn write_check<S: Sink>(global: u32, sink: &mut S) -> fmt::Result
 fn write_trap<S: Sink>(fuel_globals: &[u32], sink: &mut S) -> fmt::Result
     requires open { S.failed sink.old ≡ false }
     ensures fault { S.failed sink.new ≡ is_err result }
+    ensures writes { OnOk result (Writes S.has sink.old 1 sink.new) }
 {
     for global in fuel_globals.iter().rev() {
         write_check(*global, sink)?;
@@ -34,6 +38,9 @@ fn write_trap<S: Sink>(fuel_globals: &[u32], sink: &mut S) -> fmt::Result
 
 /// The instructions of the bodies of a module, as text.
 pub trait BodyText {
+    // The least number of bytes of a body: by its place, the module's body and the counters of fuel.
+    ghost size: { Self → ℕ → Code → List ℕ → ℕ };
+
     /// Writes the instructions of the defined function `place` to `sink`: one line each, at least
     /// four spaces deep. `body` is the module's, and `fuel_globals` are the indices of its globals
     /// that count fuel. Requires that no write to `sink` has failed.
@@ -49,7 +56,8 @@ pub trait BodyText {
         sink: &mut S,
     ) -> fmt::Result
         requires open { S.failed sink.old ≡ false }
-        ensures fault { S.failed sink.new ≡ is_err result };
+        ensures fault { S.failed sink.new ≡ is_err result }
+        ensures writes { OnOk result (Writes S.has sink.old (size self.now place body.now fuel_globals.now) sink.new) };
 }
 
 /// The bodies that a module has. Raw bytes have no text: they follow the module.
@@ -57,6 +65,8 @@ pub trait BodyText {
 pub struct OwnBodies;
 
 impl BodyText for OwnBodies {
+    ghost size = { λ _ _ body _. own_size body.instructions };
+
     fn write_body<S: Sink>(
         &self,
         _place: usize,
@@ -82,12 +92,13 @@ pub(crate) fn write_functions<B: BodyText, S: Sink>(
 ) -> fmt::Result
     requires open { S.failed sink.old ≡ false }
     ensures fault { S.failed sink.new ≡ is_err result }
+    ensures keeps { OnOk result (Keeps S.has sink.old sink.new) }
 {
     let imported = types.len().saturating_sub(code.len());
     let defined = types.iter().enumerate().skip(imported);
     for ((index, ty), body) in defined.zip(code) {
         let locals = Listed("    (local", body.locals.as_slice(), ")\n");
-        let opening = ("  (func (;", Shown(index), ";) (type ");
+        let opening = ("  (func (;", index, ";) (type ");
         (opening, ty, (")\n", locals)).write_text(sink)?;
         let place = index.saturating_sub(imported);
         bodies.write_body(place, body, fuel_globals, sink)?;

@@ -1,4 +1,5 @@
-ghost use Rattle.std.specs.Prelude.{◌≡◌, false, is_err};
+ghost use Rattle.std.specs.Prelude.{◌≡◌, false, is_err, OnOk};
+ghost use Rattle.smith_text.specs.Written.{Keeps};
 
 use crate::entities::Indexed;
 use crate::sink::Sink;
@@ -35,6 +36,7 @@ impl NextIndices {
 fn write_single<S: Sink>(import: &Import, indices: &mut NextIndices, sink: &mut S) -> fmt::Result
     requires open { S.failed sink.old ≡ false }
     ensures fault { S.failed sink.new ≡ is_err result }
+    ensures keeps { OnOk result (Keeps S.has sink.old sink.new) }
 {
     let ty = indices.take(&import.entity_type);
     let opening = ("  (import ", &import.module, " ");
@@ -50,6 +52,7 @@ fn write_typed_group<S: Sink>(
 ) -> fmt::Result
     requires open { S.failed sink.old ≡ false }
     ensures fault { S.failed sink.new ≡ is_err result }
+    ensures keeps { OnOk result (Keeps S.has sink.old sink.new) }
 {
     ("  (import ", module, "\n").write_text(sink)?;
     for item in items {
@@ -69,6 +72,7 @@ fn write_uniform_group<S: Sink>(
 ) -> fmt::Result
     requires open { S.failed sink.old ≡ false }
     ensures fault { S.failed sink.new ≡ is_err result }
+    ensures keeps { OnOk result (Keeps S.has sink.old sink.new) }
 {
     ("  (import ", module, "\n").write_text(sink)?;
     for name in names {
@@ -81,6 +85,7 @@ fn write_uniform_group<S: Sink>(
 fn write_group<S: Sink>(group: &Imports, indices: &mut NextIndices, sink: &mut S) -> fmt::Result
     requires open { S.failed sink.old ≡ false }
     ensures fault { S.failed sink.new ≡ is_err result }
+    ensures keeps { OnOk result (Keeps S.has sink.old sink.new) }
 {
     match group {
         Imports::Single(import) => write_single(import, indices, sink),
@@ -98,6 +103,7 @@ fn write_group<S: Sink>(group: &Imports, indices: &mut NextIndices, sink: &mut S
 pub(crate) fn write_imports<S: Sink>(imports: &[Imports], sink: &mut S) -> fmt::Result
     requires open { S.failed sink.old ≡ false }
     ensures fault { S.failed sink.new ≡ is_err result }
+    ensures keeps { OnOk result (Keeps S.has sink.old sink.new) }
 {
     let mut indices = NextIndices::default();
     for group in imports {

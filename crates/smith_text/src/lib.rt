@@ -16,6 +16,7 @@ mod text_form;
 mod types;
 mod values;
 
+pub use constants::write_const_instr;
 pub use functions::{BodyText, OwnBodies};
 pub use module::{text, write_with_bodies};
 pub use sink::{FromFmt, Sink};

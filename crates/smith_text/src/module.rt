@@ -1,11 +1,13 @@
-ghost use Rattle.std.specs.Prelude.{◌≡◌, false, is_err, IfErr};
+ghost use Rattle.std.specs.Prelude.{◌≡◌, ◌≤◌, false, is_err, length, IfOk, IfErr, OnOk};
+ghost use Rattle.std.specs.String.{string_bytes};
+ghost use Rattle.smith_text.specs.Written.{Keeps, Writes};
 
 use crate::functions::{BodyText, OwnBodies, write_functions};
 use crate::imports::write_imports;
 use crate::notes::write_notes;
 use crate::segments::{write_data_segments, write_element_segments};
 use crate::sink::{FromFmt, Sink};
-use crate::text_form::{Shown, TextForm};
+use crate::text_form::TextForm;
 use crate::types::write_types;
 use smith_bytes::Error;
 use smith_types::{ConstInstr, ExportKind, GlobalType, Items, MemoryType, Name, TableType};
@@ -22,11 +24,12 @@ fn write_tables<S: Sink>(
 ) -> fmt::Result
     requires open { S.failed sink.old ≡ false }
     ensures fault { S.failed sink.new ≡ is_err result }
+    ensures keeps { OnOk result (Keeps S.has sink.old sink.new) }
 {
     let imported = tables.len().saturating_sub(initialisers.len());
     let defined = tables.iter().enumerate().skip(imported);
     for ((index, table), initialiser) in defined.zip(initialisers) {
-        let opening = ("  (table (;", Shown(index), ";) ");
+        let opening = ("  (table (;", index, ";) ");
         (opening, table, (initialiser, ")\n")).write_text(sink)?;
     }
     Ok(())
@@ -37,10 +40,11 @@ fn write_tables<S: Sink>(
 fn write_memories<S: Sink>(memories: &[MemoryType], defined: usize, sink: &mut S) -> fmt::Result
     requires open { S.failed sink.old ≡ false }
     ensures fault { S.failed sink.new ≡ is_err result }
+    ensures keeps { OnOk result (Keeps S.has sink.old sink.new) }
 {
     let imported = memories.len().saturating_sub(defined);
     for (index, memory) in memories.iter().enumerate().skip(imported) {
-        let opening = ("  (memory (;", Shown(index), ";) ");
+        let opening = ("  (memory (;", index, ";) ");
         (opening, memory, ")\n").write_text(sink)?;
     }
     Ok(())
@@ -50,10 +54,11 @@ fn write_memories<S: Sink>(memories: &[MemoryType], defined: usize, sink: &mut S
 fn write_tags<S: Sink>(tags: &[u32], defined: usize, sink: &mut S) -> fmt::Result
     requires open { S.failed sink.old ≡ false }
     ensures fault { S.failed sink.new ≡ is_err result }
+    ensures keeps { OnOk result (Keeps S.has sink.old sink.new) }
 {
     let imported = tags.len().saturating_sub(defined);
     for (index, ty) in tags.iter().enumerate().skip(imported) {
-        let opening = ("  (tag (;", Shown(index), ";) (type ");
+        let opening = ("  (tag (;", index, ";) (type ");
         (opening, ty, "))\n").write_text(sink)?;
     }
     Ok(())
@@ -68,6 +73,7 @@ fn write_globals<S: Sink>(
 ) -> fmt::Result
     requires open { S.failed sink.old ≡ false }
     ensures fault { S.failed sink.new ≡ is_err result }
+    ensures keeps { OnOk result (Keeps S.has sink.old sink.new) }
 {
     let imported = globals.len().saturating_sub(initialisers.len());
     let defined = globals.iter().skip(imported);
@@ -87,6 +93,7 @@ fn write_exports<S: Sink>(
 ) -> fmt::Result
     requires open { S.failed sink.old ≡ false }
     ensures fault { S.failed sink.new ≡ is_err result }
+    ensures keeps { OnOk result (Keeps S.has sink.old sink.new) }
 {
     for (name, kind, index) in exports {
         let opening = ("  (export ", name, " (");
@@ -111,6 +118,7 @@ pub fn write_with_bodies<B: BodyText, S: Sink>(
 ) -> fmt::Result
     requires open { S.failed sink.old ≡ false }
     ensures fault { S.failed sink.new ≡ is_err result }
+    ensures writes { OnOk result (Writes S.has sink.old 1 sink.new) }
 {
     sink.write_str("(module\n")?;
     write_types(module.types(), module.rec_groups(), sink)?;
@@ -144,10 +152,11 @@ impl TextForm for Module {
 /// Returns `Memory` if an allocation fails.
 pub fn text(alloc: Global, module: &Module) -> Result<String, Error>
     ensures memory { IfErr result (λ e. e ≡ Error.Memory) }
+    ensures some { IfOk result (λ text. 1 ≤ length (string_bytes text)) }
 {
-    let mut text = String::new(alloc);
-    match module.write_text(&mut FromFmt::new(&mut text)) {
-        Ok(()) => Ok(text),
+    let mut sink = FromFmt::new(String::new(alloc));
+    match write_with_bodies(module, &OwnBodies, &mut sink) {
+        Ok(()) => Ok(sink.into_string()),
         Err(fmt::Error) => Err(Error::Memory),
     }
 }

@@ -1,7 +1,8 @@
-ghost use Rattle.std.specs.Prelude.{◌≡◌, false, is_err};
+ghost use Rattle.std.specs.Prelude.{◌≡◌, false, is_err, OnOk};
+ghost use Rattle.smith_text.specs.Written.{Keeps};
 
 use crate::sink::Sink;
-use crate::text_form::{Shown, TextForm};
+use crate::text_form::TextForm;
 use smith_types::{Code, Instructions};
 use std::fmt;
 use wasm_smith::Module;
@@ -10,6 +11,7 @@ use wasm_smith::Module;
 fn write_values<T: TextForm, S: Sink>(name: &str, values: &[T], sink: &mut S) -> fmt::Result
     requires open { S.failed sink.old ≡ false }
     ensures fault { S.failed sink.new ≡ is_err result }
+    ensures keeps { OnOk result (Keeps S.has sink.old sink.new) }
 {
     ((";; ", name), values, "\n").write_text(sink)
 }
@@ -18,8 +20,9 @@ fn write_values<T: TextForm, S: Sink>(name: &str, values: &[T], sink: &mut S) ->
 fn write_raw_body<S: Sink>(index: usize, bytes: &[u8], sink: &mut S) -> fmt::Result
     requires open { S.failed sink.old ≡ false }
     ensures fault { S.failed sink.new ≡ is_err result }
+    ensures keeps { OnOk result (Keeps S.has sink.old sink.new) }
 {
-    (";; raw-body ", Shown(index), " 0x").write_text(sink)?;
+    (";; raw-body ", index, " 0x").write_text(sink)?;
     for byte in bytes {
         write!(sink, "{byte:02x}")?;
     }
@@ -31,6 +34,7 @@ fn write_raw_body<S: Sink>(index: usize, bytes: &[u8], sink: &mut S) -> fmt::Res
 fn write_raw_bodies<S: Sink>(start: usize, code: &[Code], sink: &mut S) -> fmt::Result
     requires open { S.failed sink.old ≡ false }
     ensures fault { S.failed sink.new ≡ is_err result }
+    ensures keeps { OnOk result (Keeps S.has sink.old sink.new) }
 {
     for (place, body) in code.iter().enumerate() {
         if let Instructions::Arbitrary(bytes) = &body.instructions {
@@ -44,14 +48,15 @@ fn write_raw_bodies<S: Sink>(start: usize, code: &[Code], sink: &mut S) -> fmt::
 pub(crate) fn write_notes<S: Sink>(module: &Module, sink: &mut S) -> fmt::Result
     requires open { S.failed sink.old ≡ false }
     ensures fault { S.failed sink.new ≡ is_err result }
+    ensures keeps { OnOk result (Keeps S.has sink.old sink.new) }
 {
     let code = module.code();
     let imported = module.funcs().len().saturating_sub(code.len());
-    let encodes_types = [Shown(module.should_encode_types())];
-    let encodes_imports = [Shown(module.should_encode_imports())];
+    let encodes_types = [module.should_encode_types()];
+    let encodes_imports = [module.should_encode_imports()];
     write_values("should-encode-types", &encodes_types, sink)?;
     write_values("should-encode-imports", &encodes_imports, sink)?;
-    write_values("num-imports", &[Shown(module.num_imports())], sink)?;
+    write_values("num-imports", &[module.num_imports()], sink)?;
     write_values("type-size", &[module.type_size()], sink)?;
     write_values("fuel-globals", module.fuel_globals(), sink)?;
     write_raw_bodies(imported, code, sink)?;

@@ -1,8 +1,9 @@
-ghost use Rattle.std.specs.Prelude.{◌≡◌, false, is_err};
+ghost use Rattle.std.specs.Prelude.{◌≡◌, false, is_err, OnOk};
+ghost use Rattle.smith_text.specs.Written.{Keeps};
 
 use crate::sink::Sink;
 use crate::strings::write_string;
-use crate::text_form::{Shown, TextForm};
+use crate::text_form::TextForm;
 use smith_types::{
     AbstractHeapType, ConstInstr, DataSegment, DataSegmentKind, ElementKind, ElementSegment,
     Elements, HeapType, Items, Offset, RefType,
@@ -22,8 +23,8 @@ const FUNCREF: RefType = RefType {
 impl TextForm for Offset {
     fn write_text<S: Sink>(&self, sink: &mut S) -> fmt::Result {
         match self {
-            Offset::Const32(value) => ("(i32.const ", Shown(*value), ")").write_text(sink),
-            Offset::Const64(value) => ("(i64.const ", Shown(*value), ")").write_text(sink),
+            Offset::Const32(value) => ("(i32.const ", value, ")").write_text(sink),
+            Offset::Const64(value) => ("(i64.const ", value, ")").write_text(sink),
             Offset::Global(index) => ("(global.get ", index, ")").write_text(sink),
         }
     }
@@ -53,6 +54,7 @@ impl TextForm for ElementKind {
 fn write_functions<S: Sink>(ty: &RefType, functions: &[u32], sink: &mut S) -> fmt::Result
     requires open { S.failed sink.old ≡ false }
     ensures fault { S.failed sink.new ≡ is_err result }
+    ensures keeps { OnOk result (Keeps S.has sink.old sink.new) }
 {
     if *ty == FUNCREF {
         return ("func", functions).write_text(sink);
@@ -67,6 +69,7 @@ fn write_expressions<S: Sink>(
 ) -> fmt::Result
     requires open { S.failed sink.old ≡ false }
     ensures fault { S.failed sink.new ≡ is_err result }
+    ensures keeps { OnOk result (Keeps S.has sink.old sink.new) }
 {
     ty.write_text(sink)?;
     for expression in expressions {
@@ -144,9 +147,10 @@ pub(crate) fn write_element_segments<S: Sink>(
 ) -> fmt::Result
     requires open { S.failed sink.old ≡ false }
     ensures fault { S.failed sink.new ≡ is_err result }
+    ensures keeps { OnOk result (Keeps S.has sink.old sink.new) }
 {
     for (index, segment) in segments.iter().enumerate() {
-        let opening = ("  (elem (;", Shown(index), ";) ");
+        let opening = ("  (elem (;", index, ";) ");
         (opening, ElementDetails(segment), ")\n").write_text(sink)?;
     }
     Ok(())
@@ -156,9 +160,10 @@ pub(crate) fn write_element_segments<S: Sink>(
 pub(crate) fn write_data_segments<S: Sink>(segments: &[DataSegment], sink: &mut S) -> fmt::Result
     requires open { S.failed sink.old ≡ false }
     ensures fault { S.failed sink.new ≡ is_err result }
+    ensures keeps { OnOk result (Keeps S.has sink.old sink.new) }
 {
     for (index, segment) in segments.iter().enumerate() {
-        let opening = ("  (data (;", Shown(index), ";) ");
+        let opening = ("  (data (;", index, ";) ");
         (opening, DataDetails(segment), ")\n").write_text(sink)?;
     }
     Ok(())

@@ -1,4 +1,5 @@
-ghost use Rattle.std.specs.Prelude.{◌≡◌, false, is_err};
+ghost use Rattle.std.specs.Prelude.{◌≡◌, false, is_err, OnOk};
+ghost use Rattle.smith_text.specs.Written.{Keeps};
 
 use crate::sink::Sink;
 use crate::text_form::TextForm;
@@ -8,6 +9,7 @@ use std::fmt;
 fn write_byte<S: Sink>(byte: u8, sink: &mut S) -> fmt::Result
     requires open { S.failed sink.old ≡ false }
     ensures fault { S.failed sink.new ≡ is_err result }
+    ensures keeps { OnOk result (Keeps S.has sink.old sink.new) }
 {
     match byte {
         b'"' => sink.write_str("\\\""),
@@ -23,6 +25,7 @@ fn write_byte<S: Sink>(byte: u8, sink: &mut S) -> fmt::Result
 pub(crate) fn write_string<S: Sink>(bytes: &[u8], sink: &mut S) -> fmt::Result
     requires open { S.failed sink.old ≡ false }
     ensures fault { S.failed sink.new ≡ is_err result }
+    ensures keeps { OnOk result (Keeps S.has sink.old sink.new) }
 {
     sink.write_str("\"")?;
     for byte in bytes {

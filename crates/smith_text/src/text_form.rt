@@ -1,9 +1,9 @@
-ghost use Rattle.std.specs.Prelude.{◌≡◌, false, is_err};
+ghost use Rattle.std.specs.Prelude.{◌≡◌, false, is_err, OnOk};
+ghost use Rattle.smith_text.specs.Written.{Keeps};
 
 use crate::sink::Sink;
 use smith_types::Items;
 use std::fmt;
-use std::fmt::Display;
 
 /// Plain data with a form in the text format of the standard, and texts made of such parts.
 pub trait TextForm {
@@ -14,7 +14,8 @@ pub trait TextForm {
     /// Returns the error of the first write that fails. Nothing is written after it.
     fn write_text<S: Sink>(&self, sink: &mut S) -> fmt::Result
         requires open { S.failed sink.old ≡ false }
-        ensures fault { S.failed sink.new ≡ is_err result };
+        ensures fault { S.failed sink.new ≡ is_err result }
+        ensures keeps { OnOk result (Keeps S.has sink.old sink.new) };
 }
 
 /// A text is written as it is.
@@ -62,6 +63,7 @@ impl<T: TextForm> TextForm for Option<T> {
 fn write_each<T: TextForm, S: Sink>(values: &[T], sink: &mut S) -> fmt::Result
     requires open { S.failed sink.old ≡ false }
     ensures fault { S.failed sink.new ≡ is_err result }
+    ensures keeps { OnOk result (Keeps S.has sink.old sink.new) }
 {
     for item in values {
         sink.write_str(" ")?;
@@ -84,16 +86,6 @@ impl<T: TextForm> TextForm for Items<T> {
     }
 }
 
-/// The printed form of a value.
-#[derive(Clone, Copy)]
-pub(crate) struct Shown<D>(pub(crate) D);
-
-impl<D: Copy + Display> TextForm for Shown<D> {
-    fn write_text<S: Sink>(&self, sink: &mut S) -> fmt::Result {
-        sink.write_fmt(self.0)
-    }
-}
-
 /// An index: the standard's section Text Format, Indices.
 impl TextForm for u32 {
     fn write_text<S: Sink>(&self, sink: &mut S) -> fmt::Result {
@@ -103,6 +95,34 @@ impl TextForm for u32 {
 
 /// A number of 64 bits, in decimal.
 impl TextForm for u64 {
+    fn write_text<S: Sink>(&self, sink: &mut S) -> fmt::Result {
+        sink.write_fmt(*self)
+    }
+}
+
+/// A place in a list, in decimal.
+impl TextForm for usize {
+    fn write_text<S: Sink>(&self, sink: &mut S) -> fmt::Result {
+        sink.write_fmt(*self)
+    }
+}
+
+/// A number of 32 bits, in decimal, with its sign if it is negative.
+impl TextForm for i32 {
+    fn write_text<S: Sink>(&self, sink: &mut S) -> fmt::Result {
+        sink.write_fmt(*self)
+    }
+}
+
+/// A number of 64 bits, in decimal, with its sign if it is negative.
+impl TextForm for i64 {
+    fn write_text<S: Sink>(&self, sink: &mut S) -> fmt::Result {
+        sink.write_fmt(*self)
+    }
+}
+
+/// `true` or `false`.
+impl TextForm for bool {
     fn write_text<S: Sink>(&self, sink: &mut S) -> fmt::Result {
         sink.write_fmt(*self)
     }

@@ -1,7 +1,8 @@
-ghost use Rattle.std.specs.Prelude.{◌≡◌, false, is_err};
+ghost use Rattle.std.specs.Prelude.{◌≡◌, false, is_err, OnOk};
+ghost use Rattle.smith_text.specs.Written.{Keeps};
 
 use crate::sink::Sink;
-use crate::text_form::{Listed, Shown, TextForm};
+use crate::text_form::{Listed, TextForm};
 use smith_types::{
     ArrayType, CompositeInnerType, CompositeType, FieldType, FuncType, StorageType, StructType,
     SubType,
@@ -102,8 +103,9 @@ impl TextForm for SubType {
 fn write_type<S: Sink>(indent: &str, index: usize, ty: &SubType, sink: &mut S) -> fmt::Result
     requires open { S.failed sink.old ≡ false }
     ensures fault { S.failed sink.new ≡ is_err result }
+    ensures keeps { OnOk result (Keeps S.has sink.old sink.new) }
 {
-    let opening = (indent, "(type (;", Shown(index));
+    let opening = (indent, "(type (;", index);
     (opening, ";) ", (ty, ")\n")).write_text(sink)
 }
 
@@ -111,6 +113,7 @@ fn write_type<S: Sink>(indent: &str, index: usize, ty: &SubType, sink: &mut S) -
 fn write_several<S: Sink>(start: usize, members: &[SubType], sink: &mut S) -> fmt::Result
     requires open { S.failed sink.old ≡ false }
     ensures fault { S.failed sink.new ≡ is_err result }
+    ensures keeps { OnOk result (Keeps S.has sink.old sink.new) }
 {
     sink.write_str("  (rec\n")?;
     for (place, ty) in members.iter().enumerate() {
@@ -124,6 +127,7 @@ fn write_several<S: Sink>(start: usize, members: &[SubType], sink: &mut S) -> fm
 fn write_group<S: Sink>(types: &[SubType], group: &Range<usize>, sink: &mut S) -> fmt::Result
     requires open { S.failed sink.old ≡ false }
     ensures fault { S.failed sink.new ≡ is_err result }
+    ensures keeps { OnOk result (Keeps S.has sink.old sink.new) }
 {
     match types.get(group.start..group.end).unwrap_or(&[]) {
         [only] => write_type("  ", group.start, only, sink),
@@ -139,6 +143,7 @@ pub(crate) fn write_types<S: Sink>(
 ) -> fmt::Result
     requires open { S.failed sink.old ≡ false }
     ensures fault { S.failed sink.new ≡ is_err result }
+    ensures keeps { OnOk result (Keeps S.has sink.old sink.new) }
 {
     for group in groups {
         write_group(types, group, sink)?;

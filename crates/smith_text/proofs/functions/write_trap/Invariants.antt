@@ -1,5 +1,9 @@
 use Rattle.std.proofs.Common.{◌≡◌, false}
+use Rattle.smith_text.specs.Written.{Keeps}
 use Rattle.smith_text.proofs.functions.write_trap.Given as goal
 
 abbrev pub invariant-loop-global : goal.invariant-loop-global
-invariant-loop-global g l = g.S.Sink.failed l.sink ≡ false
+invariant-loop-global g l = record {
+  unfailed : g.S.Sink.failed l.sink ≡ false;
+  keeps : Keeps g.S.Sink.has l.fn.sink l.sink;
+}

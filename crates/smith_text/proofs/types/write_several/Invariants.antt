@@ -1,5 +1,9 @@
 use Rattle.std.proofs.Common.{◌≡◌, false}
+use Rattle.smith_text.specs.Written.{Keeps}
 use Rattle.smith_text.proofs.types.write_several.Given as goal
 
 abbrev pub invariant-loop-place : goal.invariant-loop-place
-invariant-loop-place g l = g.S.Sink.failed l.sink ≡ false
+invariant-loop-place g l = record {
+  unfailed : g.S.Sink.failed l.sink ≡ false;
+  keeps : Keeps g.S.Sink.has l.fn.sink l.sink;
+}
