@@ -56,7 +56,7 @@ pub enum ProgramCall {
 }
 
 /// Calls on a configuration, or under it.
-#[derive(Clone, Copy, PartialEq)]
+#[derive(Clone, Copy)]
 pub enum ConfigCall {
     /// `Config::arbitrary`.
     Arbitrary,
@@ -521,8 +521,10 @@ pub fn call_named(name: &str) -> Option<Call> {
 
 // Finds the call named `name` among `calls`.
 fn call_among(calls: &[(&str, Call)], name: &str) -> Option<Call> {
-    calls
-        .iter()
-        .find(|(other, _)| *other == name)
-        .map(|(_, call)| *call)
+    for (other, call) in calls {
+        if *other == name {
+            return Some(*call);
+        }
+    }
+    None
 }

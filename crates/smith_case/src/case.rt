@@ -161,20 +161,20 @@ fn read_member(
 ) -> Result<(), Fault> {
     let place = reader.offset();
     if key == "config" {
-        pass(reader)?;
-        return put(&mut case.config, (), place);
+        return put(&mut case.config, pass(reader), place);
     }
     if let Some(slot) = case.text_under(key) {
-        return put(slot, read_text(alloc, reader)?, place);
+        return put(slot, read_text(alloc, reader), place);
     }
     match case.list_under(key) {
-        Some(slot) => put(slot, read_list(alloc, reader)?, place),
+        Some(slot) => put(slot, read_list(alloc, reader), place),
         None => Err(Fault::UnknownKey(place)),
     }
 }
 
-// Puts `value` into `slot`, which must be empty.
-fn put<T: Drop>(slot: &mut Option<T>, value: T, place: usize) -> Result<(), Fault> {
+// Puts `value` into `slot`, which must be empty, if it could be read.
+fn put<T: Drop>(slot: &mut Option<T>, value: Result<T, Fault>, place: usize) -> Result<(), Fault> {
+    let value = value?;
     if slot.is_some() {
         return Err(Fault::RepeatedKey(place));
     }
@@ -202,12 +202,22 @@ const MOST_TEXTS: usize = 100_000;
 
 fn read_list(alloc: Global, reader: &mut Reader<'_>) -> Result<Vec<String>, Fault> {
     let mut texts = Vec::new(alloc);
+    read_texts(alloc, reader, &mut texts)?;
+    Ok(texts)
+}
+
+// Reads the list that `reader` is at into `texts`.
+fn read_texts(
+    alloc: Global,
+    reader: &mut Reader<'_>,
+    texts: &mut Vec<String>,
+) -> Result<(), Fault> {
     if !matches!(reader.next(), Some(Token::BeginArray)) {
         return Err(Fault::Syntax(reader.offset()));
     }
     for _ in 0..MOST_TEXTS {
         if reader.take_end_array() {
-            return Ok(texts);
+            return Ok(());
         }
         texts.push(read_text(alloc, reader)?)?;
     }

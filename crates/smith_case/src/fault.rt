@@ -1,60 +1,44 @@
 use smith_bytes::Error;
 use std::alloc::{AllocError, AllocFailed};
+use std::fmt;
 
 /// A reason why a case cannot be answered.
-#[derive(Clone, Copy, Debug, thiserror::Error)]
+#[derive(Clone, Copy)]
 pub enum Fault {
     /// The line is not a JSON object of strings and lists of strings, from this byte on.
-    #[error("not a JSON object of a case, from byte {0}")]
     Syntax(usize),
     /// A key that no case has.
-    #[error("an unknown key before byte {0}")]
     UnknownKey(usize),
     /// The same key twice.
-    #[error("the key before byte {0} occurs twice")]
     RepeatedKey(usize),
     /// No name, or an empty one.
-    #[error("no name")]
     NoName,
     /// No call, or an unknown one.
-    #[error("an unknown call")]
     UnknownCall,
     /// An unknown shape.
-    #[error("an unknown shape")]
     UnknownShape,
     /// An unknown type space.
-    #[error("an unknown type space")]
     UnknownTypes,
     /// An input that is not hexadecimal.
-    #[error("the input is not hexadecimal")]
     Input,
     /// An unknown way to make several inputs.
-    #[error("unknown inputs")]
     UnknownInputs,
     /// The argument at this place, from 0, is missing, or is not valid for the call.
-    #[error("argument {0} is missing or not valid for the call")]
     Argument(usize),
     /// More arguments than the call has.
-    #[error("more arguments than the call has")]
     TooManyArguments,
     /// A key that the call does not read.
-    #[error("a key that the call does not read")]
     UselessKey,
     /// Nothing is wanted, or an empty list.
-    #[error("nothing is wanted")]
     WantsNothing,
     /// A line or a piece is wanted that each answer has.
-    #[error("an empty piece is wanted")]
     EmptyPiece,
     /// The second run returns a different answer.
-    #[error("the second run returned a different answer")]
     Unsteady,
     /// The call may not be made: the configuration, or its context, does not meet the conditions of
     /// the call.
-    #[error("the call may not be made: {0}")]
     NotCallable(&'static str),
     /// The configuration cannot be read.
-    #[error("the configuration, line {line}, column {column}: {fault}")]
     Config {
         /// The name of the fault.
         fault: &'static str,
@@ -64,8 +48,62 @@ pub enum Fault {
         column: usize,
     },
     /// Memory ran out, which is the only refusal of plain data.
-    #[error("refused: Memory")]
     Memory,
+}
+
+// Returns the text of a fault that has no contents.
+fn plain_text(fault: Fault) -> &'static str {
+    match fault {
+        Fault::NoName => "no name",
+        Fault::UnknownCall => "an unknown call",
+        Fault::UnknownShape => "an unknown shape",
+        Fault::UnknownTypes => "an unknown type space",
+        Fault::Input => "the input is not hexadecimal",
+        Fault::UnknownInputs => "unknown inputs",
+        Fault::TooManyArguments => "more arguments than the call has",
+        Fault::UselessKey => "a key that the call does not read",
+        Fault::WantsNothing => "nothing is wanted",
+        Fault::EmptyPiece => "an empty piece is wanted",
+        Fault::Unsteady => "the second run returned a different answer",
+        _ => "refused: Memory",
+    }
+}
+
+impl fmt::Display for Fault {
+    fn fmt<W: fmt::Write>(&self, f: &mut fmt::Formatter<W>) -> fmt::Result {
+        let (before, place, after) = match *self {
+            Fault::Syntax(byte) => ("not a JSON object of a case, from byte ", Some(byte), ""),
+            Fault::UnknownKey(byte) => ("an unknown key before byte ", Some(byte), ""),
+            Fault::RepeatedKey(byte) => ("the key before byte ", Some(byte), " occurs twice"),
+            Fault::Argument(place) => (
+                "argument ",
+                Some(place),
+                " is missing or not valid for the call",
+            ),
+            Fault::NotCallable(why) => ("the call may not be made: ", None, why),
+            Fault::Config {
+                fault,
+                line,
+                column,
+            } => return write!(
+                f,
+                "the configuration, line {line}, column {column}: {fault}"
+            ),
+            plain => (plain_text(plain), None, ""),
+        };
+        f.write_str(before)?;
+        if let Some(place) = place {
+            place.fmt(f)?;
+        }
+        f.write_str(after)
+    }
+}
+
+// A test that ends with a fault shows its text.
+impl fmt::Debug for Fault {
+    fn fmt<W: fmt::Write>(&self, f: &mut fmt::Formatter<W>) -> fmt::Result {
+        fmt::Display::fmt(self, f)
+    }
 }
 
 impl From<AllocError> for Fault {

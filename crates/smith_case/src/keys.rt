@@ -96,12 +96,12 @@ fn keys_of_module(call: ModuleCall) -> Keys {
 }
 
 fn keys_of_config(call: ConfigCall) -> Keys {
-    let is_drawn = call == ConfigCall::Arbitrary;
+    let is_drawn = matches!(call, ConfigCall::Arbitrary);
     Keys {
         config: !is_drawn,
         shapes: !is_drawn,
         shape: matches!(call, ConfigCall::ShapeCheck | ConfigCall::Spell),
-        args: call == ConfigCall::ShapeCheck,
+        args: matches!(call, ConfigCall::ShapeCheck),
         input: is_drawn,
         ..NONE
     }

@@ -26,44 +26,51 @@ pub enum Difference<'a> {
 
 impl fmt::Display for Difference<'_> {
     fn fmt<W: fmt::Write>(&self, f: &mut fmt::Formatter<W>) -> fmt::Result {
-        match self {
-            Difference::Kind(given) => write!(f, "the answer is {given}"),
+        let (before, text) = match *self {
+            Difference::Kind(given) => return write!(f, "the answer is {given}"),
             Difference::Line {
                 place,
                 wanted,
                 given,
-            } => write!(f, "line {place} is {given:?}, and {wanted:?} is wanted"),
-            Difference::NoLine(wanted) => write!(f, "no line {wanted:?}"),
-            Difference::NoPiece(wanted) => write!(f, "no piece {wanted:?}"),
-            Difference::Piece(given) => write!(f, "a piece {given:?}"),
-        }
+            } => return write!(f, "line {place} is {given:?}, and {wanted:?} is wanted"),
+            Difference::NoLine(wanted) => ("no line", wanted),
+            Difference::NoPiece(wanted) => ("no piece", wanted),
+            Difference::Piece(given) => ("a piece", given),
+        };
+        write!(f, "{before} {text:?}")
     }
 }
 
 /// Checks that `case` wants something that not every answer has, and no list that is empty.
 pub fn check_wanted(case: &Case) -> Result<(), Fault> {
-    let wanted = [
-        &case.wanted.answer,
-        &case.wanted.lines,
-        &case.wanted.pieces,
-        &case.wanted.may,
-    ];
-    if wanted.iter().all(|texts| texts.is_none())
-        || begins_with_anything(list(&case.wanted.answer))
+    let wanted = &case.wanted;
+    if wanted.answer.is_none()
+        && wanted.lines.is_none()
+        && wanted.pieces.is_none()
+        && wanted.may.is_none()
     {
         return Err(Fault::WantsNothing);
     }
-    for texts in [
-        &case.wanted.answer,
-        &case.wanted.lines,
-        &case.wanted.pieces,
-        &case.wanted.absent,
-        &case.wanted.may,
-    ] {
-        if texts.as_ref().is_some_and(|texts| texts.is_empty()) {
-            return Err(Fault::WantsNothing);
-        }
-        if has_blank(list(texts)) {
+    if begins_with_anything(list(&wanted.answer)) {
+        return Err(Fault::WantsNothing);
+    }
+    check_texts(&wanted.answer)?;
+    check_texts(&wanted.lines)?;
+    check_texts(&wanted.pieces)?;
+    check_texts(&wanted.absent)?;
+    check_texts(&wanted.may)
+}
+
+// Checks that `texts` is no empty list, and has no blank text.
+fn check_texts(texts: &Option<Vec<String>>) -> Result<(), Fault> {
+    let Some(texts) = texts else {
+        return Ok(());
+    };
+    if texts.is_empty() {
+        return Err(Fault::WantsNothing);
+    }
+    for text in texts.as_slice() {
+        if text.as_str().trim().is_empty() {
             return Err(Fault::EmptyPiece);
         }
     }
@@ -71,35 +78,35 @@ pub fn check_wanted(case: &Case) -> Result<(), Fault> {
 }
 
 fn begins_with_anything(lines: &[String]) -> bool {
-    lines
-        .first()
-        .is_some_and(|line| line.as_str().trim() == ANYTHING)
-}
-
-fn has_blank(texts: &[String]) -> bool {
-    texts.iter().any(|text| text.as_str().trim().is_empty())
+    match lines.first() {
+        Some(line) => line.as_str().trim() == ANYTHING,
+        None => false,
+    }
 }
 
 /// Returns the first difference of the answer `answer` from the one that `case` wants: of its kind,
 /// then of all of its lines, then of single lines, of pieces, and of absent pieces.
 pub fn first_difference<'a>(answer: &'a str, case: &'a Case) -> Option<Difference<'a>> {
-    let kind = kind_of(answer);
-    if case.wanted.may.is_some()
-        && !list(&case.wanted.may)
-            .iter()
-            .any(|may| may.as_str() == kind)
-    {
-        return Some(Difference::Kind(kind));
-    }
-    if case.wanted.answer.is_some() {
-        let other = other_line(answer, list(&case.wanted.answer));
-        if other.is_some() {
-            return other;
+    let wanted = &case.wanted;
+    other_kind(answer, &wanted.may)
+        .or(other_line(answer, &wanted.answer))
+        .or(missing_line(answer, list(&wanted.lines)))
+        .or(missing_piece(answer, list(&wanted.pieces)))
+        .or(stray_piece(answer, list(&wanted.absent)))
+}
+
+// Returns the kind of `answer` if it is none of those that `may` lists.
+fn other_kind<'a>(answer: &'a str, may: &Option<Vec<String>>) -> Option<Difference<'a>> {
+    let Some(may) = may else {
+        return None;
+    };
+    let given = kind_of(answer);
+    for kind in may.as_slice() {
+        if kind.as_str() == given {
+            return None;
         }
     }
-    missing_line(answer, list(&case.wanted.lines))
-        .or_else(|| missing_piece(answer, list(&case.wanted.pieces)))
-        .or_else(|| stray_piece(answer, list(&case.wanted.absent)))
+    Some(Difference::Kind(given))
 }
 
 /// Returns the kind of an answer: its refusal, or `Ok`.
@@ -114,24 +121,28 @@ pub(crate) fn kind_of(answer: &str) -> &str {
 const ANYTHING: &str = "...";
 
 // Returns the first line of `answer` that is not the line at its place in `wanted`.
-fn other_line<'a>(answer: &'a str, wanted: &'a [String]) -> Option<Difference<'a>> {
+fn other_line<'a>(answer: &'a str, wanted: &'a Option<Vec<String>>) -> Option<Difference<'a>> {
+    let Some(wanted) = wanted else {
+        return None;
+    };
+    let mut left = wanted.as_slice();
     let mut place: usize = 0;
     for line in answer.lines() {
-        let given = line.trim();
-        let line = wanted.get(place).map_or("", |line| line.as_str().trim());
-        if line == ANYTHING {
+        place = place.saturating_add(1);
+        let (wanted, others) = next_line(left);
+        if wanted == ANYTHING {
             return None;
         }
-        place = place.saturating_add(1);
-        if given != line {
+        if line.trim() != wanted {
             return Some(Difference::Line {
                 place,
-                wanted: line,
-                given,
+                wanted,
+                given: line.trim(),
             });
         }
+        left = others;
     }
-    let line = wanted.get(place)?;
+    let line = left.first()?;
     Some(Difference::Line {
         place: place.saturating_add(1),
         wanted: line.as_str(),
@@ -139,8 +150,16 @@ fn other_line<'a>(answer: &'a str, wanted: &'a [String]) -> Option<Difference<'a
     })
 }
 
+// Returns the first of `lines` without blanks around it, or an empty text, and the others.
+fn next_line(lines: &[String]) -> (&str, &[String]) {
+    match lines.split_first() {
+        Some((line, others)) => (line.as_str().trim(), others),
+        None => ("", &[]),
+    }
+}
+
 // Returns the first of `wanted` that does not follow those before it among the lines of `answer`.
-fn missing_line<'a>(answer: &'a str, wanted: &'a [String]) -> Option<Difference<'a>> {
+fn missing_line<'a>(answer: &str, wanted: &'a [String]) -> Option<Difference<'a>> {
     let mut left = wanted;
     for line in answer.lines() {
         let Some((first, others)) = left.split_first() else {
@@ -150,19 +169,26 @@ fn missing_line<'a>(answer: &'a str, wanted: &'a [String]) -> Option<Difference<
             left = others;
         }
     }
-    left.first().map(|line| Difference::NoLine(line.as_str()))
+    match left.first() {
+        Some(line) => Some(Difference::NoLine(line.as_str())),
+        None => None,
+    }
 }
 
-fn missing_piece<'a>(answer: &'a str, wanted: &'a [String]) -> Option<Difference<'a>> {
-    wanted
-        .iter()
-        .find(|piece| !answer.contains(piece.as_str()))
-        .map(|piece| Difference::NoPiece(piece.as_str()))
+fn missing_piece<'a>(answer: &str, wanted: &'a [String]) -> Option<Difference<'a>> {
+    for piece in wanted {
+        if !answer.contains(piece.as_str()) {
+            return Some(Difference::NoPiece(piece.as_str()));
+        }
+    }
+    None
 }
 
-fn stray_piece<'a>(answer: &'a str, absent: &'a [String]) -> Option<Difference<'a>> {
-    absent
-        .iter()
-        .find(|piece| answer.contains(piece.as_str()))
-        .map(|piece| Difference::Piece(piece.as_str()))
+fn stray_piece<'a>(answer: &str, absent: &'a [String]) -> Option<Difference<'a>> {
+    for piece in absent {
+        if answer.contains(piece.as_str()) {
+            return Some(Difference::Piece(piece.as_str()));
+        }
+    }
+    None
 }

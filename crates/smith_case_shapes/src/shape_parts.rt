@@ -1,10 +1,11 @@
-use crate::large_parts::{cycle_of, export_many, fan_of, wide_of};
+use crate::large_parts::{add_chain, add_cycle, add_fan, add_wide, export_many};
 use crate::type_names::{field_type_of, ref_type_of, val_type_of};
 use smith_case::Fault;
 use smith_config::Shape;
 use smith_types::{
-    ArrayType, CompositeInnerType, CompositeType, EntityType, ExportKind, FuncType, GlobalType,
-    Import, ImportItem, Imports, Items, MemoryType, Name, StructType, SubType, TableType,
+    ArrayType, CompositeInnerType, CompositeType, EntityType, ExportKind, FieldType, FuncType,
+    GlobalType, Import, ImportItem, Imports, Items, MemoryType, Name, StructType, SubType,
+    TableType, ValType,
 };
 use std::alloc::Global;
 
@@ -28,30 +29,14 @@ use std::alloc::Global;
 /// - `export NAME KIND INDEX`.
 pub(crate) fn add_part(alloc: Global, part: &str, shape: &mut Shape) -> Result<(), Fault> {
     let (word, rest) = split_word(part);
-    match list_of_word(word) {
-        List::Groups => push(&mut shape.groups, types_of(alloc, word, rest)),
-        List::Imports => push(&mut shape.imports, imports_of(alloc, word, rest)),
-        List::Exports => add_exports(alloc, word, rest, &mut shape.exports),
-        List::Definitions => add_definition(part, shape),
-    }
-}
-
-// Lists of a shape that parts are added to.
-#[derive(Clone, Copy)]
-enum List {
-    Groups,
-    Imports,
-    Exports,
-    Definitions,
-}
-
-// Returns the list that a part which begins with `word` is added to.
-fn list_of_word(word: &str) -> List {
     match word {
-        "group" | "chain" | "cycle" | "wide" | "fan" => List::Groups,
-        "import" | "items" | "names" => List::Imports,
-        "export" | "exports" => List::Exports,
-        _ => List::Definitions,
+        "group" | "chain" | "cycle" | "wide" | "fan" => {
+            add_group(alloc, word, rest, &mut shape.groups)
+        }
+        "import" | "items" | "names" => push(&mut shape.imports, imports_of(alloc, word, rest)),
+        "export" => push(&mut shape.exports, export_of(alloc, rest)),
+        "exports" => export_many(alloc, known(number(rest))?, &mut shape.exports),
+        _ => add_definition(part, shape),
     }
 }
 
@@ -60,17 +45,34 @@ fn push<T: Drop>(items: &mut Items<T>, item: Result<T, Fault>) -> Result<(), Fau
     Ok(items.push(item?)?)
 }
 
-// Returns the types of a part that begins with `word`.
-fn types_of(alloc: Global, word: &str, rest: &str) -> Result<Items<SubType>, Fault> {
+// Adds the group of a part that begins with `word` to `groups`.
+fn add_group(
+    alloc: Global,
+    word: &str,
+    rest: &str,
+    groups: &mut Items<Items<SubType>>,
+) -> Result<(), Fault> {
+    let mut types = Items::new(alloc);
+    add_types(alloc, word, rest, &mut types)?;
+    Ok(groups.push(types)?)
+}
+
+// Adds the types of a part that begins with `word` to `types`.
+fn add_types(
+    alloc: Global,
+    word: &str,
+    rest: &str,
+    types: &mut Items<SubType>,
+) -> Result<(), Fault> {
     if word == "group" {
-        return group_of(alloc, rest);
+        return add_written(alloc, rest, types);
     }
-    let count = known(rest.parse::<u32>().ok())?;
+    let count = known(number(rest))?;
     match word {
-        "chain" => chain_of(alloc, count),
-        "cycle" => cycle_of(alloc, count),
-        "wide" => wide_of(alloc, count),
-        _ => fan_of(alloc, count),
+        "chain" => add_chain(alloc, count, types),
+        "cycle" => add_cycle(alloc, count, types),
+        "wide" => add_wide(alloc, count, types),
+        _ => add_fan(alloc, count, types),
     }
 }
 
@@ -83,19 +85,6 @@ fn imports_of(alloc: Global, word: &str, rest: &str) -> Result<Imports, Fault> {
     }
 }
 
-// Adds the exports of a part that begins with `word` to `exports`.
-fn add_exports(
-    alloc: Global,
-    word: &str,
-    rest: &str,
-    exports: &mut Items<(Name, ExportKind, u32)>,
-) -> Result<(), Fault> {
-    if word == "exports" {
-        return export_many(alloc, known(rest.parse::<u32>().ok())?, exports);
-    }
-    push(exports, export_of(alloc, rest))
-}
-
 // Returns the value that was read, or the fault if there is none.
 fn known<T: Drop>(value: Option<T>) -> Result<T, Fault> {
     value.ok_or(Fault::UnknownShape)
@@ -106,52 +95,31 @@ fn split_word(text: &str) -> (&str, &str) {
     text.trim().split_once(' ').unwrap_or((text.trim(), ""))
 }
 
-fn group_of(alloc: Global, text: &str) -> Result<Items<SubType>, Fault> {
-    let mut types = Items::new(alloc);
+// Returns the number that `text` denotes.
+fn number(text: &str) -> Option<u32> {
+    text.parse::<u32>().ok()
+}
+
+// Returns the long number that `text` denotes.
+fn long(text: &str) -> Option<u64> {
+    text.parse::<u64>().ok()
+}
+
+// Adds the types between semicolons in `text` to `types`.
+fn add_written(alloc: Global, text: &str, types: &mut Items<SubType>) -> Result<(), Fault> {
     for part in text.split(';') {
         if !part.trim().is_empty() {
-            types.push(sub_type_of(alloc, part.trim())?)?;
+            push(types, sub_type_of(alloc, part.trim()))?;
         }
     }
-    Ok(types)
-}
-
-fn chain_of(alloc: Global, count: u32) -> Result<Items<SubType>, Fault> {
-    let mut types = Items::new(alloc);
-    for index in 0..count {
-        types.push(open_struct(alloc, index.checked_sub(1)))?;
-    }
-    Ok(types)
-}
-
-/// Creates an open struct without fields, a subtype of `supertype` if there is one.
-pub(crate) fn open_struct(alloc: Global, supertype: Option<u32>) -> SubType {
-    SubType {
-        is_final: false,
-        supertype,
-        composite_type: CompositeType {
-            inner: CompositeInnerType::Struct(StructType {
-                fields: Items::new(alloc),
-            }),
-            shared: false,
-        },
-    }
+    Ok(())
 }
 
 fn sub_type_of(alloc: Global, text: &str) -> Result<SubType, Fault> {
-    let (is_final, text) = match text.strip_prefix("open ") {
-        Some(rest) => (false, rest),
-        None => (true, text),
-    };
-    let (supertype, text) = match text.strip_prefix("below ") {
-        Some(rest) => {
-            let (index, rest) = split_word(rest);
-            (Some(known(index.parse::<u32>().ok())?), rest)
-        }
-        None => (None, text),
-    };
+    let (is_open, text) = take_word(text, "open ");
+    let (supertype, text) = known(supertype_of(text))?;
     Ok(SubType {
-        is_final,
+        is_final: !is_open,
         supertype,
         composite_type: CompositeType {
             inner: inner_of(alloc, text)?,
@@ -160,11 +128,20 @@ fn sub_type_of(alloc: Global, text: &str) -> Result<SubType, Fault> {
     })
 }
 
+// Reads the index of the supertype, if `text` begins with one. Returns the text after it.
+fn supertype_of(text: &str) -> Option<(Option<u32>, &str)> {
+    let Some(text) = text.strip_prefix("below ") else {
+        return Some((None, text));
+    };
+    let (index, text) = split_word(text);
+    Some((Some(number(index)?), text))
+}
+
 fn inner_of(alloc: Global, text: &str) -> Result<CompositeInnerType, Fault> {
     let (word, rest) = split_word(text);
     match word {
         "struct" => Ok(CompositeInnerType::Struct(StructType {
-            fields: list_of(alloc, rest, field_type_of)?,
+            fields: list_of(alloc, rest)?,
         })),
         "array" => Ok(CompositeInnerType::Array(ArrayType(known(field_type_of(rest))?))),
         "func" => Ok(CompositeInnerType::Func(function_of(alloc, rest)?)),
@@ -178,26 +155,44 @@ pub fn function_of(alloc: Global, text: &str) -> Result<FuncType, Fault> {
         return Err(Fault::UnknownShape);
     };
     Ok(FuncType {
-        params: list_of(alloc, params, val_type_of)?,
-        results: list_of(alloc, results, val_type_of)?,
+        params: list_of(alloc, params)?,
+        results: list_of(alloc, results)?,
     })
 }
 
-// Reads the items between commas in `text`, each with `read`.
-fn list_of<T: Drop, F: Fn(&str) -> Option<T>>(
-    alloc: Global,
-    text: &str,
-    read: F,
-) -> Result<Items<T>, Fault>
-    requires { F.IsAlwaysCallable read }
-{
-    let mut items = Items::new(alloc);
+// A type that is written in lists, between commas.
+trait Listed: Sized {
+    // Reads the type that `text` denotes.
+    fn of(text: &str) -> Option<Self>;
+}
+
+impl Listed for FieldType {
+    fn of(text: &str) -> Option<FieldType> {
+        field_type_of(text)
+    }
+}
+
+impl Listed for ValType {
+    fn of(text: &str) -> Option<ValType> {
+        val_type_of(text)
+    }
+}
+
+// Reads the types between commas in `text`.
+fn list_of<T: Listed + Drop>(alloc: Global, text: &str) -> Result<Items<T>, Fault> {
+    let mut types = Items::new(alloc);
+    add_listed(text, &mut types)?;
+    Ok(types)
+}
+
+// Adds the types between commas in `text` to `types`.
+fn add_listed<T: Listed + Drop>(text: &str, types: &mut Items<T>) -> Result<(), Fault> {
     for part in text.split(',') {
         if !part.trim().is_empty() {
-            items.push(known(read(part.trim()))?)?;
+            push(types, known(T::of(part.trim())))?;
         }
     }
-    Ok(items)
+    Ok(())
 }
 
 fn import_of(alloc: Global, text: &str) -> Result<Imports, Fault> {
@@ -212,51 +207,65 @@ fn import_of(alloc: Global, text: &str) -> Result<Imports, Fault> {
 
 fn item_of(alloc: Global, text: &str) -> Result<ImportItem, Fault> {
     let (name, entity) = split_word(text);
+    let entity_type = known(entity_of(entity))?;
     Ok(ImportItem {
         name: Name::from_text(alloc, name)?,
-        entity_type: known(entity_of(entity))?,
+        entity_type,
     })
 }
 
 fn items_of(alloc: Global, text: &str) -> Result<Imports, Fault> {
     let (module, rest) = split_word(text);
     let mut items = Items::new(alloc);
-    for part in rest.split(';') {
-        if !part.trim().is_empty() {
-            items.push(item_of(alloc, part)?)?;
-        }
-    }
+    add_items(alloc, rest, &mut items)?;
     Ok(Imports::Compact1 {
         module: Name::from_text(alloc, module)?,
         items,
     })
 }
 
+// Adds the imports between semicolons in `text` to `items`.
+fn add_items(alloc: Global, text: &str, items: &mut Items<ImportItem>) -> Result<(), Fault> {
+    for part in text.split(';') {
+        if !part.trim().is_empty() {
+            push(items, item_of(alloc, part))?;
+        }
+    }
+    Ok(())
+}
+
 fn names_of(alloc: Global, text: &str) -> Result<Imports, Fault> {
     let (module, rest) = split_word(text);
     let (texts, entity) = split_word(rest);
+    let entity_type = known(entity_of(entity))?;
     let mut names = Items::new(alloc);
-    for text in texts.split(',') {
-        if text != "-" {
-            names.push(Name::from_text(alloc, text)?)?;
-        }
-    }
+    add_names(alloc, texts, &mut names)?;
     Ok(Imports::Compact2 {
         module: Name::from_text(alloc, module)?,
-        entity_type: known(entity_of(entity))?,
+        entity_type,
         names,
     })
+}
+
+// Adds the names between commas in `text` to `names`.
+fn add_names(alloc: Global, text: &str, names: &mut Items<Name>) -> Result<(), Fault> {
+    for name in text.split(',') {
+        if name != "-" {
+            names.push(Name::from_text(alloc, name)?)?;
+        }
+    }
+    Ok(())
 }
 
 /// Reads the entity that `text` denotes.
 pub fn entity_of(text: &str) -> Option<EntityType> {
     let (word, rest) = split_word(text);
     match word {
-        "func" => Some(EntityType::Func(rest.parse::<u32>().ok()?)),
-        "tag" => Some(EntityType::Tag(rest.parse::<u32>().ok()?)),
-        "table" => Some(EntityType::Table(table_of(rest)?)),
-        "memory" => Some(EntityType::Memory(memory_of(rest)?)),
-        "global" => Some(EntityType::Global(global_of(rest)?)),
+        "func" => Some(EntityType::Func(number(rest)?)),
+        "tag" => Some(EntityType::Tag(number(rest)?)),
+        "table" => table_of(rest),
+        "memory" => memory_of(rest),
+        "global" => global_of(rest),
         _ => None,
     }
 }
@@ -271,42 +280,37 @@ fn take_word<'a>(text: &'a str, word: &str) -> (bool, &'a str) {
 
 fn limits_of(text: &str) -> Option<(u64, Option<u64>)> {
     match text.split_once(' ') {
-        Some((minimum, maximum)) => {
-            Some((
-                minimum.parse::<u64>().ok()?,
-                Some(maximum.parse::<u64>().ok()?),
-            ))
-        }
-        None => Some((text.parse::<u64>().ok()?, None)),
+        Some((minimum, maximum)) => Some((long(minimum)?, Some(long(maximum)?))),
+        None => Some((long(text)?, None)),
     }
 }
 
-fn table_of(text: &str) -> Option<TableType> {
+fn table_of(text: &str) -> Option<EntityType> {
     let (shared, text) = take_word(text, "shared ");
     let (table64, text) = take_word(text, "i64 ");
-    let start = text.find('(')?;
-    let (minimum, maximum) = limits_of(text.get(..start)?.trim())?;
-    Some(TableType {
-        element_type: ref_type_of(text.get(start..)?)?,
+    let (limits, element_type) = text.split_at_checked(text.find('(')?)?;
+    let (minimum, maximum) = limits_of(limits.trim())?;
+    Some(EntityType::Table(TableType {
+        element_type: ref_type_of(element_type)?,
         minimum,
         maximum,
         table64,
         shared,
-    })
+    }))
 }
 
-fn memory_of(text: &str) -> Option<MemoryType> {
+fn memory_of(text: &str) -> Option<EntityType> {
     let (shared, text) = take_word(text, "shared ");
     let (memory64, text) = take_word(text, "i64 ");
     let (page_size_log2, text) = page_size_of(text)?;
     let (minimum, maximum) = limits_of(text)?;
-    Some(MemoryType {
+    Some(EntityType::Memory(MemoryType {
         minimum,
         maximum,
         memory64,
         shared,
         page_size_log2,
-    })
+    }))
 }
 
 // Reads the binary logarithm of the size of a page, if `text` begins with one. Returns the text
@@ -316,17 +320,17 @@ fn page_size_of(text: &str) -> Option<(Option<u32>, &str)> {
         return Some((None, text));
     };
     let (log2, text) = split_word(text);
-    Some((Some(log2.parse::<u32>().ok()?), text))
+    Some((Some(number(log2)?), text))
 }
 
-fn global_of(text: &str) -> Option<GlobalType> {
+fn global_of(text: &str) -> Option<EntityType> {
     let (shared, text) = take_word(text, "shared ");
     let (mutable, text) = take_word(text, "mut ");
-    Some(GlobalType {
+    Some(EntityType::Global(GlobalType {
         val_type: val_type_of(text)?,
         mutable,
         shared,
-    })
+    }))
 }
 
 // Adds to `shape` the entity that `part` denotes.
@@ -343,19 +347,19 @@ fn add_definition(part: &str, shape: &mut Shape) -> Result<(), Fault> {
 
 fn export_of(alloc: Global, text: &str) -> Result<(Name, ExportKind, u32), Fault> {
     let (name, item) = split_word(text);
-    let (kind, index) = known(known_export(item))?;
+    let (kind, index) = split_word(item);
+    let kind = known(export_kind_of(kind))?;
+    let index = known(number(index))?;
     Ok((Name::from_text(alloc, name)?, kind, index))
 }
 
-fn known_export(text: &str) -> Option<(ExportKind, u32)> {
-    let (kind, index) = split_word(text);
-    let kind = match kind {
-        "func" => ExportKind::Func,
-        "table" => ExportKind::Table,
-        "memory" => ExportKind::Memory,
-        "global" => ExportKind::Global,
-        "tag" => ExportKind::Tag,
-        _ => return None,
-    };
-    Some((kind, index.parse::<u32>().ok()?))
+fn export_kind_of(word: &str) -> Option<ExportKind> {
+    match word {
+        "func" => Some(ExportKind::Func),
+        "table" => Some(ExportKind::Table),
+        "memory" => Some(ExportKind::Memory),
+        "global" => Some(ExportKind::Global),
+        "tag" => Some(ExportKind::Tag),
+        _ => None,
+    }
 }

@@ -27,10 +27,12 @@ fn abstract_of(shared: bool, text: &str) -> Option<HeapType> {
 
 // Finds the abstract heap type that `text` names among `types`.
 fn abstract_among(types: &[(&str, AbstractHeapType)], text: &str) -> Option<AbstractHeapType> {
-    types
-        .iter()
-        .find(|(name, _)| *name == text)
-        .map(|(_, ty)| *ty)
+    for (name, ty) in types {
+        if *name == text {
+            return Some(*ty);
+        }
+    }
+    None
 }
 
 // Returns the text in parentheses after `keyword` in `text`. `keyword` includes the opening one.
@@ -44,7 +46,7 @@ pub fn heap_type_of(text: &str) -> Option<HeapType> {
         return abstract_of(true, name);
     }
     if let Some(index) = inside(text, "(exact ") {
-        return index.parse::<u32>().ok().map(HeapType::Exact);
+        return Some(HeapType::Exact(index.parse::<u32>().ok()?));
     }
     match text.parse::<u32>() {
         Ok(index) => Some(HeapType::Concrete(index)),
@@ -73,7 +75,7 @@ pub fn val_type_of(text: &str) -> Option<ValType> {
         "f32" => Some(ValType::F32),
         "f64" => Some(ValType::F64),
         "v128" => Some(ValType::V128),
-        _ => ref_type_of(text).map(ValType::Ref),
+        _ => Some(ValType::Ref(ref_type_of(text)?)),
     }
 }
 
@@ -82,7 +84,7 @@ pub fn storage_type_of(text: &str) -> Option<StorageType> {
     match text {
         "i8" => Some(StorageType::I8),
         "i16" => Some(StorageType::I16),
-        _ => val_type_of(text).map(StorageType::Val),
+        _ => Some(StorageType::Val(val_type_of(text)?)),
     }
 }
 
