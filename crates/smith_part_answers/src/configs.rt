@@ -1,4 +1,4 @@
-use crate::told::{tell_bytes, tell_refusal};
+use crate::told::{tell_bytes, tell_line, tell_refusal};
 use smith_bytes::{Error, Unstructured, Which};
 use smith_case::arguments::{at_most, word};
 use smith_case::call::ConfigCall;
@@ -21,12 +21,6 @@ pub fn answer_config(
         ConfigCall::ShapeCheck => checked_shape(alloc, case, config, answer),
         ConfigCall::Spell => spelled(alloc, case, config, answer),
         ConfigCall::Clone => answer_copy(alloc, config, answer),
-        _ => told(call, config, answer),
-    }
-}
-
-fn told(call: ConfigCall, config: &mut Config, answer: &mut String) -> Result<(), Fault> {
-    match call {
         ConfigCall::Check => tell_check(config.check().map_err(Error::Config), answer),
         ConfigCall::Features => tell_features(config.features(), answer),
         _ => {
@@ -38,19 +32,7 @@ fn told(call: ConfigCall, config: &mut Config, answer: &mut String) -> Result<()
 
 /// Appends the configuration drawn from `input`, and its features.
 pub fn answer_drawn_config(input: &[u8], answer: &mut String) -> Result<(), Fault> {
-    tell_drawn_config(Config::arbitrary(&mut Unstructured::new(input)), answer)
-}
-
-fn tell_drawn_config(drawn: Result<Config, Error>, answer: &mut String) -> Result<(), Fault> {
-    match drawn {
-        Ok(config) => tell_config_and_features(&config, answer),
-        Err(refusal) => tell_refusal(refusal, answer),
-    }
-}
-
-fn tell_config_and_features(config: &Config, answer: &mut String) -> Result<(), Fault> {
-    tell_config(config, answer)?;
-    tell_features(config.features(), answer)
+    tell_made(Config::arbitrary(&mut Unstructured::new(input)), answer)
 }
 
 // Appends whether a copy of `config` is equal: whether the shapes are, and whether both print the
@@ -59,28 +41,48 @@ fn answer_copy(alloc: Global, config: &Config, answer: &mut String) -> Result<()
     tell_copy(alloc, config.clone(alloc), config, answer)
 }
 
-fn tell_copy(
-    alloc: Global,
-    copy: Result<Config, Error>,
-    config: &Config,
-    answer: &mut String,
-) -> Result<(), Fault> {
-    match copy {
-        Ok(copy) => tell_equal(alloc, &copy, config, answer),
+// What answers say of a value. A function that owns a configuration takes any such value, so that
+// what it drops is not proved field by field.
+trait Told: Drop {
+    // Appends the value.
+    fn tell(&self, answer: &mut String) -> Result<(), Fault>;
+
+    // Appends whether `copy` is equal to the value.
+    fn tell_equal(&self, alloc: Global, copy: &Self, answer: &mut String) -> Result<(), Fault>;
+}
+
+impl Told for Config {
+    fn tell(&self, answer: &mut String) -> Result<(), Fault> {
+        tell_config(self, answer)?;
+        tell_features(self.features(), answer)
+    }
+
+    fn tell_equal(&self, alloc: Global, copy: &Self, answer: &mut String) -> Result<(), Fault> {
+        let prints_the_same = printed(alloc, copy)? == printed(alloc, self)?;
+        let is_equal = prints_the_same && has_same_shapes(copy, self);
+        tell_line(if is_equal { "is equal" } else { "differs" }, answer)
+    }
+}
+
+// Appends the value that is made, or the refusal.
+fn tell_made<T: Told>(made: Result<T, Error>, answer: &mut String) -> Result<(), Fault> {
+    match made {
+        Ok(value) => value.tell(answer),
         Err(refusal) => tell_refusal(refusal, answer),
     }
 }
 
-fn tell_equal(
+// Appends whether a copy of `value` is equal, or the refusal.
+fn tell_copy<T: Told>(
     alloc: Global,
-    copy: &Config,
-    config: &Config,
+    copy: Result<T, Error>,
+    value: &T,
     answer: &mut String,
 ) -> Result<(), Fault> {
-    let prints_the_same = printed(alloc, copy)? == printed(alloc, config)?;
-    let is_equal = prints_the_same && has_same_shapes(copy, config);
-    writeln!(answer, "{}", if is_equal { "is equal" } else { "differs" })?;
-    Ok(())
+    match copy {
+        Ok(copy) => value.tell_equal(alloc, &copy, answer),
+        Err(refusal) => tell_refusal(refusal, answer),
+    }
 }
 
 fn printed(alloc: Global, config: &Config) -> Result<String, Fault> {
@@ -95,15 +97,14 @@ fn has_same_shapes(copy: &Config, config: &Config) -> bool {
 
 // Appends a line `FIELD: VALUE,` for each field.
 fn tell_config(config: &Config, answer: &mut String) -> Result<(), Fault> {
-    writeln!(answer, "{config:#?}")?;
-    Ok(())
+    Ok(writeln!(answer, "{config:#?}")?)
 }
 
 // Appends a line for each feature that is on.
 fn tell_features(features: WasmFeatures, answer: &mut String) -> Result<(), Fault> {
     for flag in WasmFeatures::FLAGS {
         if features.contains(*flag.value()) {
-            writeln!(answer, "{}", flag.name())?;
+            tell_line(flag.name(), answer)?;
         }
     }
     Ok(())
@@ -142,7 +143,7 @@ fn checked_shape(
 // Appends the result of a check.
 fn tell_check(checked: Result<(), Error>, answer: &mut String) -> Result<(), Fault> {
     match checked {
-        Ok(()) => Ok(writeln!(answer, "passes")?),
+        Ok(()) => tell_line("passes", answer),
         Err(refusal) => tell_refusal(refusal, answer),
     }
 }
@@ -166,7 +167,7 @@ fn tell_spelling(
 ) -> Result<(), Fault> {
     match spelling {
         Ok(Some(bytes)) => tell_bytes("spelled", bytes.as_slice(), answer),
-        Ok(None) => Ok(writeln!(answer, "none")?),
+        Ok(None) => tell_line("none", answer),
         Err(refusal) => tell_refusal(refusal, answer),
     }
 }

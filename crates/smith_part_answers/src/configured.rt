@@ -1,3 +1,4 @@
+use crate::told::tell_debug;
 use json::{Reader, Scratch};
 use smith_case::arguments::word;
 use smith_case::{Case, Fault, goes_to_config};
@@ -5,6 +6,7 @@ use smith_case_shapes::shape_named;
 use smith_config::{Config, Shape};
 use smith_json::{ConfigRefusal, Refusal, config, read_config};
 use std::alloc::Global;
+use std::fmt::Debug;
 use std::mem;
 
 /// Sets the fields and the shapes of `case` in `config`, which is the default. `line` holds the
@@ -28,15 +30,22 @@ pub fn answer_read_config(alloc: Global, case: &Case, answer: &mut String) -> Re
     Ok(())
 }
 
-fn tell_read(read: Result<Config, ConfigRefusal>, answer: &mut String) -> Result<(), Fault> {
+// Appends the value that is read, or the refusal of its text.
+fn tell_read<T: Debug + Drop>(
+    read: Result<T, ConfigRefusal>,
+    answer: &mut String,
+) -> Result<(), Fault> {
     match read {
-        Ok(config) => writeln!(answer, "{config:?}")?,
-        Err(refusal) if refusal.fault == smith_json::Fault::OutOfMemory => return Err(
-            Fault::Memory,
-        ),
-        Err(refusal) => writeln!(answer, "refused: {refusal}")?,
+        Ok(value) => tell_debug(&value, answer),
+        Err(refusal) => tell_read_refusal(&refusal, answer),
     }
-    Ok(())
+}
+
+fn tell_read_refusal(refusal: &ConfigRefusal, answer: &mut String) -> Result<(), Fault> {
+    if matches!(refusal.fault, smith_json::Fault::OutOfMemory) {
+        return Err(Fault::Memory);
+    }
+    Ok(writeln!(answer, "refused: {refusal}")?)
 }
 
 /// Returns the configuration `config`, and leaves the default in its place.
@@ -63,7 +72,6 @@ fn read_fields(
 ) -> Result<(), Fault> {
     match read_config(alloc, reader, config) {
         Ok(()) => Ok(()),
-        Err(refusal) if refusal.fault == smith_json::Fault::OutOfMemory => Err(Fault::Memory),
         Err(refusal) => Err(fault_of(refusal, line)),
     }
 }
@@ -76,6 +84,9 @@ fn fault_of(refusal: Refusal, line: &str) -> Fault {
         line,
         column,
     } = refusal.in_text(line);
+    if matches!(fault, smith_json::Fault::OutOfMemory) {
+        return Fault::Memory;
+    }
     Fault::Config {
         fault: name_of(fault),
         line,
@@ -97,25 +108,14 @@ fn name_of(fault: smith_json::Fault) -> &'static str {
 
 // Sets the shapes that `case` names.
 fn set_shapes(alloc: Global, case: &Case, config: &mut Config) -> Result<(), Fault> {
-    set_imports(alloc, &case.shapes.available_imports, config)?;
-    set_exports(alloc, &case.shapes.exports, config)?;
-    set_module_shape(alloc, &case.shapes.module_shape, config)
-}
-
-fn set_imports(alloc: Global, name: &Option<String>, config: &mut Config) -> Result<(), Fault> {
-    set_shape(alloc, name, &mut config.available_imports)
-}
-
-fn set_exports(alloc: Global, name: &Option<String>, config: &mut Config) -> Result<(), Fault> {
-    set_shape(alloc, name, &mut config.exports)
-}
-
-fn set_module_shape(
-    alloc: Global,
-    name: &Option<String>,
-    config: &mut Config,
-) -> Result<(), Fault> {
-    set_shape(alloc, name, &mut config.module_shape)
+    let names = &case.shapes;
+    set_shape(
+        alloc,
+        &names.available_imports,
+        &mut config.available_imports,
+    )?;
+    set_shape(alloc, &names.exports, &mut config.exports)?;
+    set_shape(alloc, &names.module_shape, &mut config.module_shape)
 }
 
 // Puts the shape named `name` into `slot`, if there is a name.

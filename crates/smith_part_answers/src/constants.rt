@@ -3,9 +3,9 @@ ghost use Rattle.smith_config.specs.Features.{features_of};
 ghost use Rattle.smith_types.specs.ValidTypes.{AreTypesValid, IsRefTypeValid, IsValTypeValid};
 
 use crate::spaces::{Over, number_global, spaces_of, with_globals};
-use crate::told::{tell_refusal, tell_values};
+use crate::told::{tell_drawn_values, tell_line, tell_refusal, tell_values};
 use smith_bytes::{Error, Unstructured};
-use smith_case::arguments::{at_most, flag, read, word};
+use smith_case::arguments::{at_most, flag, word};
 use smith_case::call::ConstantCall;
 use smith_case::{Case, Fault};
 use smith_case_shapes::{ref_type_of, val_type_of};
@@ -14,53 +14,75 @@ use smith_types::{
     ConstInstr, Items, RefType, ValType, are_types_valid, is_ref_type_valid, is_val_type_valid,
 };
 
-/// Appends the constant expression that `call` draws.
+/// Appends the constant expression that `call` draws, or the globals that it may read.
 pub(crate) fn answer_constant(
     over: &Over<'_>,
     call: ConstantCall,
     u: &mut Unstructured<'_>,
     answer: &mut String,
 ) -> Result<(), Fault> {
-    if !are_types_valid(over.config.features(), over.types) {
+    if !are_types_valid(over.config.features(), over.spaces.types) {
         return Err(Fault::NotCallable("the types aren't valid"));
     }
     match call {
-        ConstantCall::Expression => answer_expression(over, u, answer),
         ConstantCall::TableInit => answer_initialiser(over, u, answer),
-        ConstantCall::Globals => answer_globals(over, answer),
+        _ => answer_value(over, call, u, answer),
+    }
+}
+
+// Appends an expression of the value type of the first argument, or the globals from which such a
+// value may be read. The second argument says whether defined globals may be read. With a third
+// argument, `count`, only the number of instructions of the expression is appended.
+fn answer_value(
+    over: &Over<'_>,
+    call: ConstantCall,
+    u: &mut Unstructured<'_>,
+    answer: &mut String,
+) -> Result<(), Fault>
+    requires types { AreTypesValid (features_of over.now.config.now) over.now.spaces.now.types.now }
+{
+    let is_counted = is_counted(over.case, call)?;
+    let allow_defined = flag(over.case, 1)?;
+    let wanted = wanted_of(over)?;
+    if matches!(call, ConstantCall::Globals) {
+        return tell_drawn_values(readable_globals(over, wanted, allow_defined), answer);
+    }
+    let drawn = drawn_expression(over, wanted, allow_defined, u);
+    if is_counted {
+        return tell_count(drawn, answer);
+    }
+    tell_drawn_values(drawn, answer)
+}
+
+// Returns whether the third argument is `count`, which only an expression may have.
+fn is_counted(case: &Case, call: ConstantCall) -> Result<bool, Fault> {
+    if matches!(call, ConstantCall::Globals) {
+        at_most(case, 2)?;
+    }
+    at_most(case, 3)?;
+    match case.args().get(2) {
+        None => Ok(false),
+        Some(word) if word.as_str() == "count" => Ok(true),
+        Some(_) => Err(Fault::Argument(2)),
     }
 }
 
 // Returns the value type of the first argument, which is valid over the types.
 fn wanted_of(over: &Over<'_>) -> Result<ValType, Fault>
-    ensures { IfOk result
-        (IsValTypeValid (features_of over.now.config.now) (length over.now.types.now.types)) }
+    ensures { IfOk result (IsValTypeValid (features_of over.now.config.now)
+        (length over.now.spaces.now.types.now.types)) }
 {
-    let wanted = read(over.case, 0, val_type_of)?;
-    if !is_val_type_valid(over.config.features(), over.types.types().len(), wanted) {
+    let Some(wanted) = val_type_of(word(over.case, 0)?) else {
+        return Err(Fault::Argument(0));
+    };
+    if !is_val_type_valid(
+        over.config.features(),
+        over.spaces.types.types().len(),
+        wanted,
+    ) {
         return Err(Fault::NotCallable("the value type isn't valid"));
     }
     Ok(wanted)
-}
-
-// Appends an expression of the value type of the first argument. The second argument says whether
-// it may read defined globals. With a third argument, `count`, only the number of instructions is
-// appended.
-fn answer_expression(
-    over: &Over<'_>,
-    u: &mut Unstructured<'_>,
-    answer: &mut String,
-) -> Result<(), Fault>
-    requires types { AreTypesValid (features_of over.now.config.now) over.now.types.now }
-{
-    at_most(over.case, 3)?;
-    let allow_defined = flag(over.case, 1)?;
-    let wanted = wanted_of(over)?;
-    tell_expression(
-        over.case,
-        drawn_expression(over, wanted, allow_defined, u),
-        answer,
-    )
 }
 
 fn drawn_expression(
@@ -69,81 +91,59 @@ fn drawn_expression(
     allow_defined: bool,
     u: &mut Unstructured<'_>,
 ) -> Result<Items<ConstInstr>, Error>
-    requires types { AreTypesValid (features_of over.now.config.now) over.now.types.now }
+    requires types { AreTypesValid (features_of over.now.config.now) over.now.spaces.now.types.now }
     requires wanted { IsValTypeValid (features_of over.now.config.now)
-        (length over.now.types.now.types) wanted }
+        (length over.now.spaces.now.types.now.types) wanted }
 {
-    let spaces = spaces_of(over.types);
+    let spaces = spaces_of(over.spaces.types);
     arbitrary_const_expr(over.alloc, over.config, &spaces, wanted, allow_defined, u)
 }
 
-// Appends the instructions that are drawn, or their number.
-fn tell_expression(
-    case: &Case,
-    drawn: Result<Items<ConstInstr>, Error>,
-    answer: &mut String,
-) -> Result<(), Fault> {
+// Appends the number of instructions of the expression that is drawn, or the refusal.
+fn tell_count(drawn: Result<Items<ConstInstr>, Error>, answer: &mut String) -> Result<(), Fault> {
     match drawn {
-        Ok(drawn) => tell_instructions(case, drawn.as_slice(), answer),
+        Ok(drawn) => Ok(writeln!(answer, "{} instructions", drawn.as_slice().len())?),
         Err(refusal) => tell_refusal(refusal, answer),
     }
 }
 
-fn tell_instructions(case: &Case, drawn: &[ConstInstr], answer: &mut String) -> Result<(), Fault> {
-    if case.args().len() < 3 {
-        return tell_values(drawn, answer);
-    }
-    if word(case, 2)? != "count" {
-        return Err(Fault::Argument(2));
-    }
-    writeln!(answer, "{} instructions", drawn.len())?;
-    Ok(())
-}
-
-// Appends the globals from which a value of the type of the first argument may be read. The globals
-// are an imported variable, an imported constant and a defined constant, all of type `i32`. The
-// second argument says whether defined ones may be read.
-fn answer_globals(over: &Over<'_>, answer: &mut String) -> Result<(), Fault>
-    requires types { AreTypesValid (features_of over.now.config.now) over.now.types.now }
-{
-    at_most(over.case, 2)?;
-    let allow_defined = flag(over.case, 1)?;
-    let wanted = wanted_of(over)?;
-    match readable_globals(over, wanted, allow_defined) {
-        Ok(globals) => tell_values(globals.as_slice(), answer),
-        Err(refusal) => tell_refusal(refusal, answer),
-    }
-}
-
+// Returns the globals from which a value of the type `wanted` may be read. The globals are an
+// imported variable, an imported constant and a defined constant, all of type `i32`.
 fn readable_globals(
     over: &Over<'_>,
     wanted: ValType,
     allow_defined: bool,
 ) -> Result<Items<u32>, Error>
-    requires types { AreTypesValid (features_of over.now.config.now) over.now.types.now }
+    requires types { AreTypesValid (features_of over.now.config.now) over.now.spaces.now.types.now }
     requires wanted { IsValTypeValid (features_of over.now.config.now)
-        (length over.now.types.now.types) wanted }
+        (length over.now.spaces.now.types.now.types) wanted }
 {
     let globals = [
         number_global(true),
         number_global(false),
         number_global(false),
     ];
-    let spaces = with_globals(over.types, &globals);
+    let spaces = with_globals(over.spaces.types, &globals);
     globals_for_const_expr(over.alloc, over.config, &spaces, wanted, allow_defined)
 }
 
 // Returns the element type of the argument: valid over the types, and of a kind for which an
 // initialiser may be drawn.
 fn element_of(over: &Over<'_>) -> Result<RefType, Fault>
-    ensures valid { IfOk result
-        (IsRefTypeValid (features_of over.now.config.now) (length over.now.types.now.types)) }
+    ensures valid { IfOk result (IsRefTypeValid (features_of over.now.config.now)
+        (length over.now.spaces.now.types.now.types)) }
     ensures created { IfOk result (λ element.
         element.nullable ≡ false → IsTrue over.now.config.now.gc_enabled) }
 {
     at_most(over.case, 1)?;
-    let element = read(over.case, 0, ref_type_of)?;
-    if !is_ref_type_valid(over.config.features(), over.types.types().len(), element) {
+    let Some(element) = ref_type_of(word(over.case, 0)?) else {
+        return Err(Fault::Argument(0));
+    };
+    if !is_ref_type_valid(
+        over.config.features(),
+        over.spaces.types.types().len(),
+        element,
+    ) {
         return Err(Fault::NotCallable("the element type isn't valid"));
     }
     if !element.nullable && !over.config.gc_enabled {
@@ -158,38 +158,16 @@ fn answer_initialiser(
     u: &mut Unstructured<'_>,
     answer: &mut String,
 ) -> Result<(), Fault>
-    requires types { AreTypesValid (features_of over.now.config.now) over.now.types.now }
+    requires types { AreTypesValid (features_of over.now.config.now) over.now.spaces.now.types.now }
 {
     let element = element_of(over)?;
     if over.config.gc_enabled && !over.config.reference_types_enabled {
         return Err(Fault::NotCallable("references are off"));
     }
-    tell_initialiser(drawn_initialiser(over, element, u), answer)
-}
-
-fn drawn_initialiser(
-    over: &Over<'_>,
-    element: RefType,
-    u: &mut Unstructured<'_>,
-) -> Result<Option<Items<ConstInstr>>, Error>
-    requires types { AreTypesValid (features_of over.now.config.now) over.now.types.now }
-    requires element { IsRefTypeValid (features_of over.now.config.now)
-        (length over.now.types.now.types) element }
-    requires created { element.nullable ≡ false → IsTrue over.now.config.now.gc_enabled }
-    requires references { IsTrue over.now.config.now.gc_enabled
-        → IsTrue over.now.config.now.reference_types_enabled }
-{
-    let spaces = spaces_of(over.types);
-    arbitrary_table_init(over.alloc, over.config, &spaces, element, u)
-}
-
-fn tell_initialiser(
-    drawn: Result<Option<Items<ConstInstr>>, Error>,
-    answer: &mut String,
-) -> Result<(), Fault> {
-    match drawn {
+    let spaces = spaces_of(over.spaces.types);
+    match arbitrary_table_init(over.alloc, over.config, &spaces, element, u) {
         Ok(Some(drawn)) => tell_values(drawn.as_slice(), answer),
-        Ok(None) => Ok(writeln!(answer, "none")?),
+        Ok(None) => tell_line("none", answer),
         Err(refusal) => tell_refusal(refusal, answer),
     }
 }

@@ -1,4 +1,5 @@
 use crate::configs::shape_of;
+use crate::told::tell_debug;
 use smith_bytes::Error;
 use smith_case::{Case, Fault};
 use smith_types::{CompositeInnerType, CompositeType, ImportItem, Imports, Items, SubType};
@@ -21,8 +22,7 @@ fn tell_copy<T: PartialEq + Drop>(
 ) -> Result<(), Fault> {
     let is_equal = copy? == *value;
     let told = if is_equal { "is equal" } else { "differs" };
-    writeln!(answer, "{name} {told}")?;
-    Ok(())
+    Ok(writeln!(answer, "{name} {told}")?)
 }
 
 fn answer_groups(
@@ -64,7 +64,7 @@ fn answer_composite(alloc: Global, ty: &CompositeType, answer: &mut String) -> R
 
 fn answer_imports(alloc: Global, imports: &[Imports], answer: &mut String) -> Result<(), Fault> {
     for group in imports {
-        writeln!(answer, "{group:?}")?;
+        tell_debug(group, answer)?;
         tell_copy("Imports", group.clone(alloc), group, answer)?;
         answer_parts(alloc, group, answer)?;
     }

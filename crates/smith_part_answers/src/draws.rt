@@ -6,7 +6,7 @@ use crate::entities::answer_entity;
 use crate::free_types::answer_free_type;
 use crate::matching::answer_matching;
 use crate::numbers::answer_number;
-use crate::spaces::{Over, types_of};
+use crate::spaces::{Over, spaces_of, types_of};
 use crate::told::tell_rest;
 use smith_bytes::Unstructured;
 use smith_case::call::DrawCall;
@@ -45,11 +45,12 @@ fn answer_under(
     requires sanitized { IsSanitized config.now }
 {
     let types = types_of(alloc, case)?;
+    let spaces = spaces_of(&types);
     let over = Over {
         alloc,
         case,
         config,
-        types: &types,
+        spaces: &spaces,
     };
     match call {
         DrawCall::Free(call) => answer_free_type(&over, call, u, answer),

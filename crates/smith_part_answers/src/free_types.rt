@@ -1,8 +1,8 @@
-ghost use Rattle.std.specs.Prelude.{IsTrue};
+ghost use Rattle.std.specs.Prelude.{IsTrue, IfOk};
 ghost use Rattle.smith_config.specs.Faults.{Passes};
 ghost use Rattle.smith_config.specs.Sanitized.{IsSanitized};
 
-use crate::spaces::{Over, spaces_of, types_of};
+use crate::spaces::{Over, types_of};
 use crate::told::{tell_drawn, tell_refusal, tell_types};
 use smith_bytes::Unstructured;
 use smith_case::Fault;
@@ -25,16 +25,23 @@ struct Bounds {
 
 // Returns the bounds in the arguments: whether the type must be shared, and the index below which
 // it may refer to types. Without arguments it need not be shared, and may refer to each type.
-fn bounds_of(over: &Over<'_>) -> Result<Bounds, Fault> {
+fn bounds_of(over: &Over<'_>) -> Result<Bounds, Fault>
+    ensures { IfOk result (λ bounds. IsTrue bounds.must_share
+        → IsTrue over.now.config.now.shared_everything_threads_enabled) }
+{
     at_most(over.case, 2)?;
     if over.case.args().is_empty() {
         return Ok(Bounds {
             must_share: false,
-            limit: over.types.types().len() as u32,
+            limit: over.spaces.types.types().len() as u32,
         });
     }
+    let must_share = flag(over.case, 0)?;
+    if must_share && !over.config.shared_everything_threads_enabled {
+        return Err(Fault::NotCallable("no type may be shared"));
+    }
     Ok(Bounds {
-        must_share: flag(over.case, 0)?,
+        must_share,
         limit: number(over.case, 1)?,
     })
 }
@@ -53,16 +60,11 @@ pub(crate) fn answer_free_type(
         return answer_groups(over, u, answer);
     }
     let bounds = bounds_of(over)?;
-    if bounds.must_share && !over.config.shared_everything_threads_enabled {
-        return Err(Fault::NotCallable("no type may be shared"));
-    }
     match call {
         FreeCall::Types => answer_types(over, u, answer),
         FreeCall::CloneRecGroup => answer_clone(over, u, answer),
-        FreeCall::SubOfSuper => answer_subtype_of_one(over, bounds, u, answer),
-        FreeCall::Sub => answer_sub_type(over, bounds, u, answer),
-        FreeCall::Composite => answer_composite_type(over, bounds, u, answer),
-        _ => answer_part(over, call, bounds, u, answer),
+        FreeCall::SubOfSuper => answer_subtype_of_one(over, bounds.limit, u, answer),
+        _ => answer_type(over, call, bounds, u, answer),
     }
 }
 
@@ -139,56 +141,47 @@ fn answer_clone(over: &Over<'_>, u: &mut Unstructured<'_>, answer: &mut String) 
 // Appends a subtype of one of the types of the case, of which the first may have subtypes.
 fn answer_subtype_of_one(
     over: &Over<'_>,
-    bounds: Bounds,
+    limit: u32,
     u: &mut Unstructured<'_>,
     answer: &mut String,
 ) -> Result<(), Fault>
     requires { IsSanitized over.now.config.now }
 {
-    let Over { alloc, config, .. } = *over;
-    let types = over.types.types();
-    if !config.gc_enabled || types.is_empty() || types[0].is_final || over.types.depth(0) >= 60 {
+    let Over {
+        alloc,
+        config,
+        spaces,
+        ..
+    } = *over;
+    let types = spaces.types.types();
+    if !config.gc_enabled || types.is_empty() || types[0].is_final || spaces.types.depth(0) >= 60 {
         return Err(Fault::NotCallable("the first type has no subtypes"));
     }
-    let spaces = spaces_of(over.types);
     tell_drawn(
-        arbitrary_sub_type_of_super_type(alloc, config, &spaces, bounds.limit, u),
+        arbitrary_sub_type_of_super_type(alloc, config, spaces, limit, u),
         answer,
     )
 }
 
-fn answer_sub_type(
-    over: &Over<'_>,
-    bounds: Bounds,
-    u: &mut Unstructured<'_>,
-    answer: &mut String,
-) -> Result<(), Fault>
-    requires { IsSanitized over.now.config.now }
-{
-    let spaces = spaces_of(over.types);
-    tell_drawn(
-        arbitrary_sub_type(over.alloc, over.config, &spaces, bounds.limit, u),
-        answer,
-    )
+// Appends the type, or the part of a type, that `$draw` draws within `$bounds`.
+macro_rules! tell_part {
+    ($draw:ident, $over:expr, $bounds:expr, $u:expr, $answer:expr) => {
+        tell_drawn(
+            $draw(
+                $over.alloc,
+                $over.config,
+                $over.spaces,
+                $bounds.must_share,
+                $bounds.limit,
+                $u,
+            ),
+            $answer,
+        )
+    };
 }
 
-fn answer_composite_type(
-    over: &Over<'_>,
-    bounds: Bounds,
-    u: &mut Unstructured<'_>,
-    answer: &mut String,
-) -> Result<(), Fault>
-    requires { IsSanitized over.now.config.now }
-{
-    let spaces = spaces_of(over.types);
-    tell_drawn(
-        arbitrary_composite_type(over.alloc, over.config, &spaces, bounds.limit, u),
-        answer,
-    )
-}
-
-// Appends a part of a type.
-fn answer_part(
+// Appends a type, or a part of one.
+fn answer_type(
     over: &Over<'_>,
     call: FreeCall,
     bounds: Bounds,
@@ -199,37 +192,25 @@ fn answer_part(
     requires may_share { IsTrue bounds.must_share
         → IsTrue over.now.config.now.shared_everything_threads_enabled }
 {
-    let Over { alloc, config, .. } = *over;
-    let spaces = spaces_of(over.types);
-    let Bounds { must_share, limit } = bounds;
+    let Over {
+        alloc,
+        config,
+        spaces,
+        ..
+    } = *over;
+    let Bounds { limit, .. } = bounds;
     match call {
-        FreeCall::Struct => tell_drawn(
-            arbitrary_struct_type(alloc, config, &spaces, must_share, limit, u),
+        FreeCall::Sub => tell_drawn(arbitrary_sub_type(alloc, config, spaces, limit, u), answer),
+        FreeCall::Composite => tell_drawn(
+            arbitrary_composite_type(alloc, config, spaces, limit, u),
             answer,
         ),
-        FreeCall::Func => tell_drawn(
-            arbitrary_func_type(alloc, config, &spaces, must_share, limit, u),
-            answer,
-        ),
-        FreeCall::Field => tell_drawn(
-            arbitrary_field_type(alloc, config, &spaces, must_share, limit, u),
-            answer,
-        ),
-        FreeCall::Storage => tell_drawn(
-            arbitrary_storage_type(alloc, config, &spaces, must_share, limit, u),
-            answer,
-        ),
-        FreeCall::Val => tell_drawn(
-            arbitrary_valtype(alloc, config, &spaces, must_share, limit, u),
-            answer,
-        ),
-        FreeCall::Ref => tell_drawn(
-            arbitrary_ref_type(alloc, config, &spaces, must_share, limit, u),
-            answer,
-        ),
-        _ => tell_drawn(
-            arbitrary_heap_type(alloc, config, &spaces, must_share, limit, u),
-            answer,
-        ),
+        FreeCall::Struct => tell_part!(arbitrary_struct_type, over, bounds, u, answer),
+        FreeCall::Func => tell_part!(arbitrary_func_type, over, bounds, u, answer),
+        FreeCall::Field => tell_part!(arbitrary_field_type, over, bounds, u, answer),
+        FreeCall::Storage => tell_part!(arbitrary_storage_type, over, bounds, u, answer),
+        FreeCall::Val => tell_part!(arbitrary_valtype, over, bounds, u, answer),
+        FreeCall::Ref => tell_part!(arbitrary_ref_type, over, bounds, u, answer),
+        _ => tell_part!(arbitrary_heap_type, over, bounds, u, answer),
     }
 }

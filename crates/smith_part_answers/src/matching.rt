@@ -1,10 +1,10 @@
 ghost use Rattle.smith_config.specs.Sanitized.{IsSanitized};
 
-use crate::spaces::{Over, spaces_of};
+use crate::spaces::Over;
 use crate::told::tell_drawn;
 use smith_bytes::Unstructured;
 use smith_case::Fault;
-use smith_case::arguments::{at_most, number, read, word};
+use smith_case::arguments::{at_most, number, word};
 use smith_case::call::MatchingCall;
 use smith_case_shapes::{
     field_type_of, function_of, heap_type_of, ref_type_of, storage_type_of, val_type_of,
@@ -17,6 +17,20 @@ use smith_draw::{
 };
 use smith_types::CompositeInnerType;
 
+// Appends the subtype or supertype that `$draw` draws for the type that `$text` denotes, which
+// `$read` reads.
+macro_rules! tell_matching {
+    ($draw:ident, $read:ident, $text:expr, $over:expr, $u:expr, $answer:expr) => {
+        match $read($text) {
+            Some(wanted) => tell_drawn(
+                $draw($over.alloc, $over.config, $over.spaces, wanted, $u),
+                $answer,
+            ),
+            None => Err(Fault::Argument(0)),
+        }
+    };
+}
+
 /// Appends the subtype or supertype of the argument that `call` draws.
 pub(crate) fn answer_matching(
     over: &Over<'_>,
@@ -27,41 +41,14 @@ pub(crate) fn answer_matching(
     requires { IsSanitized over.now.config.now }
 {
     at_most(over.case, 1)?;
+    let text = word(over.case, 0)?;
     match call {
-        MatchingCall::Func => answer_function(over, u, answer),
+        MatchingCall::Func => answer_function(over, text, u, answer),
         MatchingCall::Struct => answer_structure(over, u, answer),
-        MatchingCall::AboveVal | MatchingCall::AboveRef | MatchingCall::AboveHeap => {
-            answer_above(over, call, u, answer)
-        }
-        _ => answer_below(over, call, u, answer),
-    }
-}
-
-// Appends the subtype or supertype that `$draw` draws for the argument, which `$read` reads.
-macro_rules! tell_matching {
-    ($draw:ident, $read:expr, $over:expr, $u:expr, $answer:expr) => {{
-        let wanted = read($over.case, 0, $read)?;
-        let spaces = spaces_of($over.types);
-        tell_drawn(
-            $draw($over.alloc, $over.config, &spaces, wanted, $u),
-            $answer,
-        )
-    }};
-}
-
-// Appends a subtype of the argument.
-fn answer_below(
-    over: &Over<'_>,
-    call: MatchingCall,
-    u: &mut Unstructured<'_>,
-    answer: &mut String,
-) -> Result<(), Fault>
-    requires { IsSanitized over.now.config.now }
-{
-    match call {
         MatchingCall::Field => tell_matching!(
             arbitrary_matching_field_type,
             field_type_of,
+            text,
             over,
             u,
             answer
@@ -69,13 +56,28 @@ fn answer_below(
         MatchingCall::Storage => tell_matching!(
             arbitrary_matching_storage_type,
             storage_type_of,
+            text,
             over,
             u,
             answer
         ),
+        _ => answer_reference(over, call, text, u, answer),
+    }
+}
+
+// Appends a subtype or supertype of the value type, the reference type or the heap type of `text`.
+fn answer_reference(
+    over: &Over<'_>,
+    call: MatchingCall,
+    text: &str,
+    u: &mut Unstructured<'_>,
+    answer: &mut String,
+) -> Result<(), Fault> {
+    match call {
         MatchingCall::Val => tell_matching!(
             arbitrary_matching_val_type,
             val_type_of,
+            text,
             over,
             u,
             answer
@@ -83,25 +85,15 @@ fn answer_below(
         MatchingCall::Ref => tell_matching!(
             arbitrary_matching_ref_type,
             ref_type_of,
+            text,
             over,
             u,
             answer
         ),
-        _ => tell_matching!(arbitrary_matching_heap_type, heap_type_of, over, u, answer),
-    }
-}
-
-// Appends a supertype of the argument.
-fn answer_above(
-    over: &Over<'_>,
-    call: MatchingCall,
-    u: &mut Unstructured<'_>,
-    answer: &mut String,
-) -> Result<(), Fault> {
-    match call {
         MatchingCall::AboveVal => tell_matching!(
             arbitrary_super_type_of_val_type,
             val_type_of,
+            text,
             over,
             u,
             answer
@@ -109,13 +101,23 @@ fn answer_above(
         MatchingCall::AboveRef => tell_matching!(
             arbitrary_super_type_of_ref_type,
             ref_type_of,
+            text,
+            over,
+            u,
+            answer
+        ),
+        MatchingCall::AboveHeap => tell_matching!(
+            arbitrary_super_type_of_heap_type,
+            heap_type_of,
+            text,
             over,
             u,
             answer
         ),
         _ => tell_matching!(
-            arbitrary_super_type_of_heap_type,
+            arbitrary_matching_heap_type,
             heap_type_of,
+            text,
             over,
             u,
             answer
@@ -131,40 +133,40 @@ fn answer_structure(
 ) -> Result<(), Fault>
     requires { IsSanitized over.now.config.now }
 {
-    let CompositeInnerType::Struct(structure) = type_of(over)? else {
+    let Over {
+        alloc,
+        config,
+        spaces,
+        ..
+    } = *over;
+    let types = spaces.types.types();
+    let Some(ty) = types.get(number::<usize>(over.case, 0)?) else {
         return Err(Fault::Argument(0));
     };
-    let Over { alloc, config, .. } = *over;
-    let limit = over.types.types().len() as u32;
-    let spaces = spaces_of(over.types);
+    let CompositeInnerType::Struct(structure) = &ty.composite_type.inner else {
+        return Err(Fault::Argument(0));
+    };
+    let limit = types.len() as u32;
     tell_drawn(
-        arbitrary_matching_struct_type(alloc, config, &spaces, structure, false, limit, u),
+        arbitrary_matching_struct_type(alloc, config, spaces, structure, false, limit, u),
         answer,
     )
 }
 
-// Returns the type at the index of the argument.
-fn type_of<'a>(over: &Over<'a>) -> Result<&'a CompositeInnerType, Fault> {
-    match over.types.types().get(number::<usize>(over.case, 0)?) {
-        Some(ty) => Ok(&ty.composite_type.inner),
-        None => Err(Fault::Argument(0)),
-    }
-}
-
-// Appends a function type that matches the argument, which is written as in shapes: `func i32 ->
-// i64`.
+// Appends a function type that matches the argument `text`, which is written as in shapes: `func
+// i32 -> i64`.
 fn answer_function(
     over: &Over<'_>,
+    text: &str,
     u: &mut Unstructured<'_>,
     answer: &mut String,
 ) -> Result<(), Fault> {
-    let Some(written) = word(over.case, 0)?.strip_prefix("func ") else {
+    let Some(written) = text.strip_prefix("func ") else {
         return Err(Fault::Argument(0));
     };
     let function = function_of(over.alloc, written)?;
-    let spaces = spaces_of(over.types);
     tell_drawn(
-        arbitrary_matching_func_type(over.alloc, over.config, &spaces, &function, u),
+        arbitrary_matching_func_type(over.alloc, over.config, over.spaces, &function, u),
         answer,
     )
 }

@@ -1,4 +1,4 @@
-use crate::told::{tell_refusal, tell_rest};
+use crate::told::{tell_debug, tell_refusal, tell_rest};
 use smith_bytes::{
     Error, Unstructured, limited_str, limited_string, unique_kebab_string, unique_string,
     unique_url,
@@ -19,11 +19,12 @@ pub fn answer_name(
     input: &[u8],
     answer: &mut String,
 ) -> Result<(), Fault> {
+    let most = number(case, 0)?;
     let mut u = Unstructured::new(input);
     if call == NameCall::LimitedStr {
-        writeln!(answer, "{:?}", limited_str(number(case, 0)?, &mut u))?;
+        tell_debug(&limited_str(most, &mut u), answer)?;
     } else {
-        answer_made_name(alloc, case, call, &mut u, answer)?;
+        answer_made_name(alloc, case, call, most, &mut u, answer)?;
     }
     tell_rest(&u, answer)
 }
@@ -32,18 +33,18 @@ fn answer_made_name(
     alloc: Global,
     case: &Case,
     call: NameCall,
+    most: usize,
     u: &mut Unstructured<'_>,
     answer: &mut String,
 ) -> Result<(), Fault> {
     let mut names = names_of(alloc, case)?;
-    let drawn = drawn(alloc, call, number(case, 0)?, &mut names, u);
-    tell_name(drawn, answer)?;
+    tell_name(drawn(alloc, call, most, &mut names, u), answer)?;
     tell_names(alloc, &names, answer)
 }
 
 fn tell_name(drawn: Result<String, Error>, answer: &mut String) -> Result<(), Fault> {
     match drawn {
-        Ok(name) => Ok(writeln!(answer, "{:?}", name.as_str())?),
+        Ok(name) => tell_debug(&name, answer),
         Err(refusal) => tell_refusal(refusal, answer),
     }
 }
@@ -78,6 +79,5 @@ fn tell_names(alloc: Global, names: &HashSet<String>, answer: &mut String) -> Re
         sorted.push(name.as_str())?;
     }
     sorted.sort()?;
-    writeln!(answer, "names {sorted:?}")?;
-    Ok(())
+    Ok(writeln!(answer, "names {sorted:?}")?)
 }

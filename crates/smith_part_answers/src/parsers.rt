@@ -1,3 +1,4 @@
+use crate::told::{tell_debug, tell_line};
 use smith_case::arguments::{at_most, word};
 use smith_case::call::ParserCall;
 use smith_case::{Case, Fault};
@@ -8,26 +9,12 @@ use std::str::FromStr;
 /// Appends the result of parsing the argument with `call`, or a set of kinds.
 pub fn answer_parser(case: &Case, call: ParserCall, answer: &mut String) -> Result<(), Fault> {
     match call {
-        ParserCall::OffsetChoices => answer_choices(case, answer),
         ParserCall::Kind => answer_each_kind(case, answer),
-        ParserCall::Kinds => answer_kinds(case, answer),
-        ParserCall::WithoutFloats => answer_without_floats(case, answer),
-        ParserCall::Contains => answer_contains(case, answer),
         ParserCall::NoKinds => tell_set(case, InstructionKinds::none(), answer),
         ParserCall::AllKinds => tell_set(case, InstructionKinds::all(), answer),
         ParserCall::DefaultKinds => tell_set(case, InstructionKinds::default(), answer),
+        _ => answer_text(case, call, answer),
     }
-}
-
-fn answer_choices(case: &Case, answer: &mut String) -> Result<(), Fault> {
-    at_most(case, 1)?;
-    match MemoryOffsetChoices::from_str(word(case, 0)?) {
-        Ok(MemoryOffsetChoices(first, second, third)) => {
-            writeln!(answer, "{first} {second} {third}")?;
-        }
-        Err(fault) => writeln!(answer, "refused: {fault:?}")?,
-    }
-    Ok(())
 }
 
 // Appends the kind of each argument.
@@ -41,24 +28,45 @@ fn answer_each_kind(case: &Case, answer: &mut String) -> Result<(), Fault> {
 
 fn answer_kind(text: &str, answer: &mut String) -> Result<(), Fault> {
     match InstructionKind::from_str(text) {
-        Ok(kind) => writeln!(answer, "{kind:?}")?,
-        Err(fault) => writeln!(answer, "refused: part {}", fault.part)?,
-    }
-    Ok(())
-}
-
-fn answer_kinds(case: &Case, answer: &mut String) -> Result<(), Fault> {
-    at_most(case, 1)?;
-    match InstructionKinds::from_str(word(case, 0)?) {
-        Ok(kinds) => tell_kinds(kinds, answer),
+        Ok(kind) => tell_debug(&kind, answer),
         Err(fault) => Ok(writeln!(answer, "refused: part {}", fault.part)?),
     }
 }
 
-fn answer_without_floats(case: &Case, answer: &mut String) -> Result<(), Fault> {
+fn tell_set(case: &Case, kinds: InstructionKinds, answer: &mut String) -> Result<(), Fault> {
+    at_most(case, 0)?;
+    tell_kinds(kinds, answer)
+}
+
+// Appends what `call` makes of the first argument.
+fn answer_text(case: &Case, call: ParserCall, answer: &mut String) -> Result<(), Fault> {
+    if matches!(call, ParserCall::Contains) {
+        return answer_contains(case, answer);
+    }
     at_most(case, 1)?;
-    match InstructionKinds::from_str(word(case, 0)?) {
+    let text = word(case, 0)?;
+    match call {
+        ParserCall::OffsetChoices => answer_choices(text, answer),
+        _ => answer_kinds(text, call, answer),
+    }
+}
+
+fn answer_choices(text: &str, answer: &mut String) -> Result<(), Fault> {
+    match MemoryOffsetChoices::from_str(text) {
+        Ok(MemoryOffsetChoices(first, second, third)) => {
+            Ok(writeln!(answer, "{first} {second} {third}")?)
+        }
+        Err(fault) => Ok(writeln!(answer, "refused: {fault:?}")?),
+    }
+}
+
+// Appends the kinds that `text` names, without those of floats if `call` removes them.
+fn answer_kinds(text: &str, call: ParserCall, answer: &mut String) -> Result<(), Fault> {
+    let is_whole = matches!(call, ParserCall::Kinds);
+    match InstructionKinds::from_str(text) {
+        Ok(kinds) if is_whole => tell_kinds(kinds, answer),
         Ok(kinds) => tell_kinds(kinds.without_floats(), answer),
+        Err(fault) if is_whole => Ok(writeln!(answer, "refused: part {}", fault.part)?),
         Err(_) => Err(Fault::Argument(0)),
     }
 }
@@ -72,8 +80,7 @@ fn answer_contains(case: &Case, answer: &mut String) -> Result<(), Fault> {
     let Ok(kind) = InstructionKind::from_str(word(case, 1)?) else {
         return Err(Fault::Argument(1));
     };
-    writeln!(answer, "{}", kinds.contains(kind))?;
-    Ok(())
+    tell_line(kinds.contains(kind), answer)
 }
 
 // The kinds in the order of their bits.
@@ -92,32 +99,18 @@ static KINDS: [InstructionKind; 12] = [
     InstructionKind::Aggregate,
 ];
 
-fn tell_set(case: &Case, kinds: InstructionKinds, answer: &mut String) -> Result<(), Fault> {
-    at_most(case, 0)?;
-    tell_kinds(kinds, answer)
+fn every_kind() -> &'static [InstructionKind] {
+    &KINDS
 }
 
 // Appends a line for each kind that `kinds` contains, or the line `no kinds`.
 fn tell_kinds(kinds: InstructionKinds, answer: &mut String) -> Result<(), Fault> {
     if kinds == InstructionKinds::none() {
-        writeln!(answer, "no kinds")?;
+        return tell_line("no kinds", answer);
     }
-    tell_contained(every_kind(), kinds, answer)
-}
-
-fn every_kind() -> &'static [InstructionKind] {
-    &KINDS
-}
-
-// Appends a line for each of `listed` that `kinds` contains.
-fn tell_contained(
-    listed: &[InstructionKind],
-    kinds: InstructionKinds,
-    answer: &mut String,
-) -> Result<(), Fault> {
-    for kind in listed {
+    for kind in every_kind() {
         if kinds.contains(*kind) {
-            writeln!(answer, "{kind:?}")?;
+            tell_debug(kind, answer)?;
         }
     }
     Ok(())

@@ -1,28 +1,36 @@
-use crate::told::{tell_bytes, tell_refusal, tell_rest};
+use crate::told::{tell_bytes, tell_debug, tell_line, tell_refusal, tell_rest};
 use smith_bytes::{Arbitrary, Error, Int, Unstructured, arbitrary_loop};
 use smith_case::arguments::{at_most, number, word};
 use smith_case::call::SourceCall;
 use smith_case::{Case, Fault};
-use std::alloc::Global;
 use std::fmt::Display;
 use std::str::FromStr;
 
 /// Appends the result of the draw `call` from `input`, and the bytes left.
 pub fn answer_source(
-    alloc: Global,
     case: &Case,
     call: SourceCall,
     input: &[u8],
     answer: &mut String,
 ) -> Result<(), Fault> {
+    at_most(case, most_arguments(call))?;
     let mut u = Unstructured::new(input);
-    answer_from(alloc, case, call, &mut u, answer)?;
+    answer_from(case, call, &mut u, answer)?;
     tell_rest(&u, answer)
+}
+
+// Returns the greatest number of arguments of `call`.
+fn most_arguments(call: SourceCall) -> usize {
+    match call {
+        SourceCall::Arbitrary | SourceCall::Bytes | SourceCall::PeekBytes => 1,
+        SourceCall::Ratio => 2,
+        SourceCall::IntInRange => 3,
+        SourceCall::Choose | SourceCall::ArbitraryLen | SourceCall::ArbitraryLoop => usize::MAX,
+    }
 }
 
 // Appends the result of the draw `call` from `u`.
 fn answer_from(
-    alloc: Global,
     case: &Case,
     call: SourceCall,
     u: &mut Unstructured<'_>,
@@ -35,29 +43,20 @@ fn answer_from(
         SourceCall::Choose => answer_choice(case, u, answer),
         SourceCall::Bytes => answer_bytes(case, u, answer),
         SourceCall::PeekBytes => answer_peeked(case, u, answer),
-        SourceCall::ArbitraryLen => answer_length(u, answer),
-        SourceCall::ArbitraryLoop => answer_loop(alloc, case, u, answer),
+        SourceCall::ArbitraryLen => tell_line(u.arbitrary_len(), answer),
+        SourceCall::ArbitraryLoop => answer_loop(case, u, answer),
     }
 }
 
-// Appends a drawn length.
-fn answer_length(u: &mut Unstructured<'_>, answer: &mut String) -> Result<(), Fault> {
-    writeln!(answer, "{}", u.arbitrary_len())?;
-    Ok(())
-}
-
-fn tell<T: Arbitrary + Display + Drop>(
+fn tell<T: Arbitrary + Display + Copy>(
     u: &mut Unstructured<'_>,
     answer: &mut String,
 ) -> Result<(), Fault> {
-    let value: T = u.arbitrary();
-    writeln!(answer, "{value}")?;
-    Ok(())
+    tell_line(u.arbitrary::<T>(), answer)
 }
 
 // Appends a value of the type that the argument names.
 fn answer_value(case: &Case, u: &mut Unstructured<'_>, answer: &mut String) -> Result<(), Fault> {
-    at_most(case, 1)?;
     match word(case, 0)? {
         "bool" => tell::<bool>(u, answer),
         "u8" => tell::<u8>(u, answer),
@@ -73,7 +72,7 @@ fn answer_value(case: &Case, u: &mut Unstructured<'_>, answer: &mut String) -> R
 }
 
 // Appends the number of the type `T` that is drawn between the second and the third argument.
-fn tell_in_range<T: Int + FromStr + Display + Drop>(
+fn tell_in_range<T: Int + FromStr + Display>(
     case: &Case,
     u: &mut Unstructured<'_>,
     answer: &mut String,
@@ -86,8 +85,7 @@ where
     if most.widen() < least.widen() {
         return Err(Fault::Argument(2));
     }
-    writeln!(answer, "{}", u.int_in_range(least..=most))?;
-    Ok(())
+    tell_line(u.int_in_range(least..=most), answer)
 }
 
 // Appends a number of the type that the first argument names.
@@ -96,7 +94,6 @@ fn answer_in_range(
     u: &mut Unstructured<'_>,
     answer: &mut String,
 ) -> Result<(), Fault> {
-    at_most(case, 3)?;
     match word(case, 0)? {
         "u8" => tell_in_range::<u8>(case, u, answer),
         "u16" => tell_in_range::<u16>(case, u, answer),
@@ -110,26 +107,23 @@ fn answer_in_range(
 
 // Appends whether a chance of the first argument in the second occurs.
 fn answer_ratio(case: &Case, u: &mut Unstructured<'_>, answer: &mut String) -> Result<(), Fault> {
-    at_most(case, 2)?;
     let (n, m): (u8, u8) = (number(case, 0)?, number(case, 1)?);
     if n == 0 || m < n {
         return Err(Fault::Argument(1));
     }
-    writeln!(answer, "{}", u.ratio(n, m))?;
-    Ok(())
+    tell_line(u.ratio(n, m), answer)
 }
 
 // Appends one of the arguments.
 fn answer_choice(case: &Case, u: &mut Unstructured<'_>, answer: &mut String) -> Result<(), Fault> {
     match u.choose(case.args()) {
-        Ok(chosen) => Ok(writeln!(answer, "{:?}", chosen.as_str())?),
+        Ok(chosen) => tell_debug(chosen, answer),
         Err(refusal) => tell_refusal(refusal, answer),
     }
 }
 
 // Takes as many bytes as the argument says, and appends them.
 fn answer_bytes(case: &Case, u: &mut Unstructured<'_>, answer: &mut String) -> Result<(), Fault> {
-    at_most(case, 1)?;
     match u.bytes(number(case, 0)?) {
         Ok(bytes) => tell_bytes("bytes", bytes, answer),
         Err(refusal) => tell_refusal(refusal, answer),
@@ -138,31 +132,25 @@ fn answer_bytes(case: &Case, u: &mut Unstructured<'_>, answer: &mut String) -> R
 
 // Appends as many bytes as the argument says, and leaves them in the source.
 fn answer_peeked(case: &Case, u: &Unstructured<'_>, answer: &mut String) -> Result<(), Fault> {
-    at_most(case, 1)?;
     match u.peek_bytes(number(case, 0)?) {
         Some(bytes) => tell_bytes("bytes", bytes, answer),
-        None => Ok(writeln!(answer, "none")?),
+        None => tell_line("none", answer),
     }
 }
 
 // Returns the result of one call of a loop's closure: `false` or a refusal if the argument at
 // `place` names it, else `true`.
 fn turn_of(case: &Case, place: usize) -> Result<bool, Error> {
-    match case.args().get(place).map(|word| word.as_str()) {
-        Some("false") => Ok(false),
-        Some("refused") => Err(Error::EmptyChoose),
+    match word(case, place) {
+        Ok("false") => Ok(false),
+        Ok("refused") => Err(Error::EmptyChoose),
         _ => Ok(true),
     }
 }
 
 // Runs a loop of at least the first argument and at most the second, whose calls return the results
 // that the other arguments name. Appends the number of calls.
-fn answer_loop(
-    _alloc: Global,
-    case: &Case,
-    u: &mut Unstructured<'_>,
-    answer: &mut String,
-) -> Result<(), Fault> {
+fn answer_loop(case: &Case, u: &mut Unstructured<'_>, answer: &mut String) -> Result<(), Fault> {
     let (min, max): (usize, usize) = (number(case, 0)?, number(case, 1)?);
     if max < min {
         return Err(Fault::Argument(1));
@@ -176,6 +164,5 @@ fn answer_loop(
     if let Err(refusal) = ended {
         tell_refusal(refusal, answer)?;
     }
-    writeln!(answer, "calls {calls}")?;
-    Ok(())
+    Ok(writeln!(answer, "calls {calls}")?)
 }

@@ -17,8 +17,8 @@ pub(crate) struct Over<'a> {
     pub(crate) case: &'a Case,
     /// The configuration.
     pub(crate) config: &'a Config,
-    /// The types.
-    pub(crate) types: &'a TypeSpace,
+    /// The types, without entities.
+    pub(crate) spaces: &'a Spaces<'a>,
 }
 
 /// Returns the types `types`, without entities.

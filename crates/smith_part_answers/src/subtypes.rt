@@ -2,7 +2,8 @@ ghost use Rattle.std.specs.Prelude.{◌↔◌, IsTrue};
 ghost use Rattle.smith_types.specs.Subtyping.{IsInRange, IsValInRange};
 
 use crate::spaces::types_of;
-use smith_case::arguments::{at_most, read};
+use crate::told::tell_line;
+use smith_case::arguments::{at_most, word};
 use smith_case::call::SubtypeCall;
 use smith_case::{Case, Fault};
 use smith_case_shapes::{heap_type_of, ref_type_of, val_type_of};
@@ -26,18 +27,13 @@ fn answer_over(
     call: SubtypeCall,
     answer: &mut String,
 ) -> Result<(), Fault> {
-    let is_below = is_below(types, case, call)?;
-    writeln!(answer, "{}", if is_below { "yes" } else { "no" })?;
-    Ok(())
-}
-
-// Returns whether the first argument is a subtype of the second.
-fn is_below(types: &TypeSpace, case: &Case, call: SubtypeCall) -> Result<bool, Fault> {
-    match call {
-        SubtypeCall::HeapType => is_heap_below(types, case),
-        SubtypeCall::RefType => is_ref_below(types, case),
-        SubtypeCall::ValType => is_val_below(types, case),
-    }
+    let (a, b) = (word(case, 0)?, word(case, 1)?);
+    let is_below = match call {
+        SubtypeCall::HeapType => is_heap_below(types, a, b),
+        SubtypeCall::RefType => is_ref_below(types, a, b),
+        SubtypeCall::ValType => is_val_below(types, a, b),
+    };
+    tell_line(if is_below? { "yes" } else { "no" }, answer)
 }
 
 // Returns whether the type that `heap_type` names exists.
@@ -64,26 +60,37 @@ fn is_value_standing(types: &TypeSpace, value: ValType) -> bool
 // The fault of a name of a type that does not exist.
 const MISSING: Fault = Fault::NotCallable("a type is not defined");
 
-fn is_heap_below(types: &TypeSpace, case: &Case) -> Result<bool, Fault> {
-    let (a, b) = (read(case, 0, heap_type_of)?, read(case, 1, heap_type_of)?);
-    if !is_standing(types, a) || !is_standing(types, b) {
-        return Err(MISSING);
+// Returns whether the heap type that `a` denotes is a subtype of the one that `b` denotes.
+fn is_heap_below(types: &TypeSpace, a: &str, b: &str) -> Result<bool, Fault> {
+    match (heap_type_of(a), heap_type_of(b)) {
+        (None, _) => Err(Fault::Argument(0)),
+        (_, None) => Err(Fault::Argument(1)),
+        (Some(a), Some(b)) if is_standing(types, a) && is_standing(types, b) => {
+            Ok(types.heap_type_is_sub_type(a, b))
+        }
+        _ => Err(MISSING),
     }
-    Ok(types.heap_type_is_sub_type(a, b))
 }
 
-fn is_ref_below(types: &TypeSpace, case: &Case) -> Result<bool, Fault> {
-    let (a, b) = (read(case, 0, ref_type_of)?, read(case, 1, ref_type_of)?);
-    if !is_standing(types, a.heap_type) || !is_standing(types, b.heap_type) {
-        return Err(MISSING);
+// Returns whether the reference type that `a` denotes is a subtype of the one that `b` denotes.
+fn is_ref_below(types: &TypeSpace, a: &str, b: &str) -> Result<bool, Fault> {
+    match (ref_type_of(a), ref_type_of(b)) {
+        (None, _) => Err(Fault::Argument(0)),
+        (_, None) => Err(Fault::Argument(1)),
+        (Some(a), Some(b)) if is_standing(types, a.heap_type) && is_standing(types, b.heap_type) =>
+            { Ok(types.ref_type_is_sub_type(a, b)) }
+        _ => Err(MISSING),
     }
-    Ok(types.ref_type_is_sub_type(a, b))
 }
 
-fn is_val_below(types: &TypeSpace, case: &Case) -> Result<bool, Fault> {
-    let (a, b) = (read(case, 0, val_type_of)?, read(case, 1, val_type_of)?);
-    if !is_value_standing(types, a) || !is_value_standing(types, b) {
-        return Err(MISSING);
+// Returns whether the value type that `a` denotes is a subtype of the one that `b` denotes.
+fn is_val_below(types: &TypeSpace, a: &str, b: &str) -> Result<bool, Fault> {
+    match (val_type_of(a), val_type_of(b)) {
+        (None, _) => Err(Fault::Argument(0)),
+        (_, None) => Err(Fault::Argument(1)),
+        (Some(a), Some(b)) if is_value_standing(types, a) && is_value_standing(types, b) => {
+            Ok(types.val_type_is_sub_type(a, b))
+        }
+        _ => Err(MISSING),
     }
-    Ok(types.val_type_is_sub_type(a, b))
 }

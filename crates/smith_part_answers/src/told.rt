@@ -1,15 +1,25 @@
 use smith_bytes::{Error, Unstructured};
 use smith_case::Fault;
 use smith_text::{FromFmt, TextForm};
-use smith_types::TypeSpace;
+use smith_types::{Items, TypeSpace};
+use std::fmt::{Debug, Display};
 
 /// Appends a line of `value` in the text format.
 pub(crate) fn tell<T: TextForm>(value: &T, answer: &mut String) -> Result<(), Fault> {
-    if value.write_text(&mut FromFmt::new(&mut *answer)).is_err() {
-        return Err(Fault::Memory);
+    match (value, "\n").write_text(&mut FromFmt::new(&mut *answer)) {
+        Ok(()) => Ok(()),
+        Err(_) => Err(Fault::Memory),
     }
-    answer.push_str("\n")?;
-    Ok(())
+}
+
+/// Appends a line of `value`.
+pub(crate) fn tell_line<T: Display + Copy>(value: T, answer: &mut String) -> Result<(), Fault> {
+    Ok(writeln!(answer, "{value}")?)
+}
+
+/// Appends a line of `value` as it prints for debugging.
+pub(crate) fn tell_debug<T: Debug>(value: &T, answer: &mut String) -> Result<(), Fault> {
+    Ok(writeln!(answer, "{value:?}")?)
 }
 
 /// Appends a line of the drawn value, or the refusal.
@@ -19,6 +29,17 @@ pub(crate) fn tell_drawn<T: TextForm + Drop>(
 ) -> Result<(), Fault> {
     match drawn {
         Ok(value) => tell(&value, answer),
+        Err(refusal) => tell_refusal(refusal, answer),
+    }
+}
+
+/// Appends a line for each of the drawn values, or the refusal.
+pub(crate) fn tell_drawn_values<T: TextForm + Drop>(
+    drawn: Result<Items<T>, Error>,
+    answer: &mut String,
+) -> Result<(), Fault> {
+    match drawn {
+        Ok(values) => tell_values(values.as_slice(), answer),
         Err(refusal) => tell_refusal(refusal, answer),
     }
 }
@@ -46,18 +67,17 @@ pub(crate) fn tell_types(types: &TypeSpace, answer: &mut String) -> Result<(), F
 
 /// Appends the line of the refusal `refusal`.
 pub fn tell_refusal(refusal: Error, answer: &mut String) -> Result<(), Fault> {
-    writeln!(answer, "refused: {refusal:?}")?;
-    Ok(())
+    Ok(writeln!(answer, "refused: {refusal:?}")?)
 }
 
 /// Appends the number of bytes that `u` has left, and the next of these.
 pub fn tell_rest(u: &Unstructured<'_>, answer: &mut String) -> Result<(), Fault> {
     let count = u.len();
     writeln!(answer, "left {count}")?;
-    if let Some(next) = u.peek_bytes(count.min(MOST_BYTES)) {
-        tell_bytes("next", next, answer)?;
+    match u.peek_bytes(count.min(MOST_BYTES)) {
+        Some(next) => tell_bytes("next", next, answer),
+        None => Ok(()),
     }
-    Ok(())
 }
 
 // The greatest number of bytes left that are written.

@@ -4,9 +4,9 @@ ghost use Rattle.smith_types.specs.Sizes.{IsTyped, size_in};
 ghost use Rattle.smith_types.specs.GroupedTypes.{MayFollow};
 
 use crate::spaces::types_of;
-use crate::told::{tell_refusal, tell_types, tell_values};
+use crate::told::{tell_drawn_values, tell_line, tell_types};
 use smith_bytes::Error;
-use smith_case::arguments::{at_most, number, read, word};
+use smith_case::arguments::{at_most, number, word};
 use smith_case::call::SpaceCall;
 use smith_case::{Case, Fault};
 use smith_case_shapes::{entity_of, shape_named};
@@ -55,19 +55,17 @@ fn answer_depth(types: &TypeSpace, case: &Case, answer: &mut String) -> Result<(
     if index as usize >= types.types().len() {
         return Err(MISSING);
     }
-    writeln!(answer, "{}", types.depth(index))?;
-    Ok(())
+    tell_line(types.depth(index), answer)
 }
 
 // Appends the size of the entity of the argument, which is written as in shapes.
 fn answer_size(types: &TypeSpace, case: &Case, answer: &mut String) -> Result<(), Fault> {
     at_most(case, 1)?;
-    let entity = read(case, 0, entity_of)?;
-    if !is_small(types, &entity) {
-        return Err(MISSING);
+    match entity_of(word(case, 0)?) {
+        None => Err(Fault::Argument(0)),
+        Some(entity) if is_small(types, &entity) => tell_line(types.size_of(&entity), answer),
+        Some(_) => Err(MISSING),
     }
-    writeln!(answer, "{}", types.size_of(&entity))?;
-    Ok(())
 }
 
 // The greatest number of parameters, and of results, of a function whose size is written.
@@ -101,8 +99,7 @@ fn answer_match(types: &TypeSpace, case: &Case, answer: &mut String) -> Result<(
     } else {
         "no"
     };
-    writeln!(answer, "{told}")?;
-    Ok(())
+    tell_line(told, answer)
 }
 
 // Returns the composite type at the index of the argument at `place`. It refers only to types that
@@ -195,8 +192,5 @@ fn answer_listed(
         "DefinedFunc" => TypeUse::DefinedFunc,
         _ => return Err(Fault::Argument(0)),
     };
-    match list_types(alloc, for_use, types.types()) {
-        Ok(indices) => tell_values(indices.as_slice(), answer),
-        Err(refusal) => tell_refusal(refusal, answer),
-    }
+    tell_drawn_values(list_types(alloc, for_use, types.types()), answer)
 }

@@ -42,7 +42,7 @@ fn append_answer(
     answer: &mut String,
 ) -> Result<(), Fault> {
     match call {
-        Call::Source(call) => answer_source(alloc, case, call, input, answer),
+        Call::Source(call) => answer_source(case, call, input, answer),
         Call::Name(call) => answer_name(alloc, case, call, input, answer),
         Call::Parser(call) => answer_parser(case, call, answer),
         Call::ReadConfig => answer_read_config(alloc, case, answer),
