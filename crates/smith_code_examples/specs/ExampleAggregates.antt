@@ -92,6 +92,8 @@ paired = record (function_of [] []) {
       ∷ final_type (struct (constant (Val (some 0)) ∷ constant (Val (some 0)) ∷ []))
       ∷ final_type (struct (constant (Val (some 1)) ∷ constant (Val (some 1)) ∷ []))
       ∷ [];
+  funcs = [];
+  references = [];
 }
 
 -- a function over a struct of a reference to a function, a struct of a reference to any struct, and

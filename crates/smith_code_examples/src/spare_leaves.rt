@@ -56,9 +56,13 @@ fn pairs()
     ensures external_i31 { first_leaf trapless untyped [] (some_of heap.Extern)
         ≡ number 0 ∷ instr.Aggregate aggregate.RefI31
         ∷ instr.Aggregate aggregate.ExternConvertAny ∷ [] }
+    ensures i31_of_a_global { first_leaf
+        (record trapless { allowed_instructions = record { 0 = 2 ^ 11 + 2 ^ 6 } }) untyped []
+        (some_of heap.I31) ≡ instr.GlobalGet 0 ∷ instr.Aggregate aggregate.RefI31 ∷ [] }
     ensures internal_local { first_leaf
         (record trapless { allowed_instructions = record { 0 = 2 ^ 11 + 2 ^ 6 } })
-        (record untyped { locals = some_of heap.Extern ∷ []; params = 1 }) [] (some_of heap.Any)
+        (record untyped { globals = []; locals = some_of heap.Extern ∷ []; params = 1 }) []
+        (some_of heap.Any)
         ≡ instr.LocalGet 0 ∷ instr.Aggregate aggregate.AnyConvertExtern ∷ [] }
     ensures conversion_that_is_not_allowed { first_leaf
         (record trapless { allowed_instructions = kinds_of Variable })

@@ -25,7 +25,7 @@ ghost use Rattle.smith_instr_examples.specs.ExampleBodies.{aligned, function_of,
 ghost use Rattle.smith_instr_examples.specs.ExampleBodies.{some_func};
 ghost use Rattle.smith_code.specs.Bodies.{body_at};
 ghost use Rattle.smith_code_nodes.specs.Traps.{IsTrapless, may_trap};
-ghost use Rattle.smith_code_examples.specs.ExampleAggregates.{nested, some};
+ghost use Rattle.smith_code_examples.specs.ExampleAggregates.{nested, paired, some};
 ghost use Rattle.smith_code_examples.specs.ExampleBytes.{narrow, trapless};
 
 fn numbers()
@@ -172,7 +172,14 @@ fn in_place_of_a_stop()
         ) }
     ensures struct_of_a_struct_of_a_struct { body_at trapless
         (record nested { results = some 3 ∷ [] }) 1 (0 ∷ 0 ∷ 4 ∷ [])
-        ≡ (instr.Unreachable ∷ [], []) }
+        ≡ (
+          instr.Aggregate (aggregate.StructNewDefault 0)
+              ∷ instr.Aggregate (aggregate.StructNew 1)
+              ∷ instr.Aggregate (aggregate.StructNew 3) ∷ [],
+          [],
+        ) }
+    ensures pair_of_pairs { body_at trapless (record paired { results = some 2 ∷ [] }) 1
+        (0 ∷ 0 ∷ 4 ∷ []) ≡ (instr.Unreachable ∷ [], []) }
     ensures zero { body_at (record trapless { allowed_instructions = kinds_of NumericInt })
         (function_of [] (I32 ∷ [])) 1 (0 ∷ 0 ∷ 2 ∷ 1 ∷ [])
         ≡ (number 0 ∷ [], []) }

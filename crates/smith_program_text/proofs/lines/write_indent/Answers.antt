@@ -1,5 +1,5 @@
 use Rattle.std.proofs.Common.{◌+◌, ◌*◌, arith, rules}
-use Rattle.smith_program_text.proofs.LineLemmas.{none_written, written_in_turn}
+use Rattle.smith_program_text.proofs.LineLemmas.{written_in_turn}
 use Rattle.smith_program_text.proofs.lines.write_indent.Goals as goal
 
 pub loop-preserved : goal.loop-preserved

@@ -1,4 +1,4 @@
-use Rattle.std.proofs.Common.{rules, ◌≡◌, ℕ, ◌+◌, ◌-◌, length, drop, arith}
+use Rattle.std.proofs.Common.{rules, ◌≡◌, ◌+◌, ◌-◌, drop, arith}
 use Rattle.smith_program_text.specs.Lines.{checks_after, line_size, lines_size}
 use Rattle.smith_program_text.proofs.LineLemmas.{lines_from, no_checks, no_lines, written_in_turn}
 use Rattle.smith_program_text.proofs.lines.write_instrs.Goals as goal

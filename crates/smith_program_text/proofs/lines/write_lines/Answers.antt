@@ -1,4 +1,4 @@
-use Rattle.std.proofs.Common.{rules, ◌≡◌, ℕ, ◌+◌, ◌-◌, length, drop, arith}
+use Rattle.std.proofs.Common.{rules, ◌≡◌, ◌+◌, ◌-◌, length, drop, arith}
 use Rattle.smith_program_text.specs.Lines.{checks_after, checks_size, line_size, lines_size}
 use Rattle.smith_program_text.proofs.LineLemmas.{lines_from, no_lines, written_in_turn}
 use Rattle.smith_program_text.proofs.lines.write_lines.Goals as goal
