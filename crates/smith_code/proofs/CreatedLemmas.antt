@@ -4,7 +4,7 @@ use Rattle.std.specs.Prelude.{All, IfSome, is_some, option_map, option_to_list, 
 use Rattle.std.proofs.lemmas.Bool.{false≢true}
 use Rattle.std.proofs.lemmas.List.{append-nil, length-map}
 use Rattle.std.proofs.lemmas.List.Elements.{All-nil, All-append}
-use Rattle.std.proofs.lemmas.Option.{same_Some, slice_get_within}
+use Rattle.std.proofs.lemmas.Option.{same_Some}
 use Rattle.smith_config.specs.declared.config.Config.{Config}
 use Rattle.smith_types.specs.Expressions.{IsStructAt, field_values, unpacked}
 use Rattle.smith_types.specs.Types.{IsOrderly}
@@ -39,10 +39,7 @@ use Rattle.smith_code.proofs.MadeLemmas.{HasValidFields, Makes, single_leaf, sin
 use Rattle.smith_code.proofs.SearchLemmas.{tried_each}
 use Rattle.smith_code.proofs.StopLemmas.{at_end, in_turn}
 
--- a struct type that exists has an index, and its fields are valid
-pub struct_inside : (types : List SubType) (ty : ℕ) (structure : StructType) → struct_in (slice_get types ty) ≡ Some structure → ty < length types
-struct_inside types ty structure at = let (t, there, is) = struct_there types ty structure at in slice_get_within types ty t there
-
+-- the fields of a struct type are valid
 fields_valid_in : (context : BodyContext) (ty : ℕ) (o : Option StructType) → IsScope context → struct_in (slice_get context.types ty) ≡ o → AreValid context (field_values (fields_in o))
 fields_valid_in context ty (Some structure) scope at = struct_fields context ty structure.fields scope (struct_there context.types ty structure at)
 fields_valid_in context ty None scope at = no_valid context

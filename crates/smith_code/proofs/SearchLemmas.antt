@@ -1,20 +1,16 @@
 -- The search for a value.
-use Rattle.std.proofs.Common.{◌≡◌, inl, inr, ℕ, zero, suc, ◌-◌, ◌<◌, Bool, true, false, List, ◌∷◌, Option, Some, None, length, refl, subst, arith}
-use Rattle.std.specs.Prelude.{IfSome, is_some, slice_get}
+use Rattle.std.proofs.Common.{◌≡◌, inl, inr, ℕ, zero, suc, ◌-◌, ◌<◌, Bool, true, false, List, Option, Some, None, length, refl, subst, arith}
+use Rattle.std.specs.Prelude.{IfSome, is_some}
 use Rattle.std.specs.Option.{option_or}
 use Rattle.std.proofs.lemmas.Bool.{cases_lt, false≢true}
-use Rattle.std.proofs.lemmas.Option.{slice_get_within}
 use Rattle.smith_config.specs.declared.config.Config.{Config}
-use Rattle.smith_types.specs.declared.composite_type.FieldType.{FieldType}
-use Rattle.smith_types.specs.declared.composite_type.SubType.{SubType}
 use Rattle.smith_types.specs.declared.value_type.ValType.{ValType}
 use Rattle.smith_instr.specs.Contexts.{BodyContext}
 use Rattle.smith_instr.specs.declared.instr.Instr.{Instr}
 use Rattle.smith_code.specs.Laws.{IsTriedBy}
-use Rattle.smith_code.specs.Leaves.{created_leaf, created_over, default_struct, empty_array, fields_at, fields_in, first_below, first_constant, first_of, first_single, first_tried, leaf_within, named_type, only, searches_on, unary_leaf}
+use Rattle.smith_code.specs.Leaves.{created_leaf, created_over, default_struct, empty_array, first_below, first_constant, first_of, first_single, first_tried, leaf_within, named_type, only, searches_on, unary_leaf}
 use Rattle.smith_code.specs.declared.families.LeafFamily.TheVariants as leaf
 use Rattle.smith_code.specs.declared.leaf.Leaf.{Leaf}
-use Rattle.smith_code_aggregates.specs.Fields.{struct_in}
 use Rattle.smith_code_nodes.specs.Scopes.{indexed}
 
 -- the first of two
@@ -101,14 +97,6 @@ pub none_tried : {A : Type 0} (context : BodyContext) (search : Bool) (named : O
 none_tried context search (Some other) found ty none tried inside = subst (λ (i : ℕ). found i ≡ None) tried none
 none_tried context true None found ty none (on, few) inside = never_first found (indexed (length context.types)) ty (omega (arith, few, inside)) none
 none_tried context false None found ty none (on, few) inside = absurd (false≢true on)
-
--- a type with fields exists
-fields_in_types : (types : List SubType) (ty : ℕ) (field : FieldType) (more : List FieldType) (o : Option SubType) → slice_get types ty ≡ o → fields_in (struct_in o) ≡ field ∷ more → ty < length types
-fields_in_types types ty field more (Some t) at is = slice_get_within types ty t at
-fields_in_types types ty field more None at is = cc
-
-pub fields_inside : (types : List SubType) (ty : ℕ) (field : FieldType) (more : List FieldType) → fields_at types ty ≡ field ∷ more → ty < length types
-fields_inside types ty field more is = fields_in_types types ty field more (slice_get types ty) refl is
 
 -- what a type has that is found by a search
 pub tried_found : {A : Type 0} (context : BodyContext) (search : Bool) (named : Option ℕ) (found : Bool → ℕ → Option A) (k : ℕ) (x : A) → None ≡ named → search ≡ true → k < indexed (length context.types) → None ≡ first_below (found false) k → Some x ≡ found false k
