@@ -36,8 +36,8 @@ fn tell_judged(
     }
 }
 
-// Returns the text `text`, or an empty one if there is none.
-fn text_or_empty(text: &Option<String>) -> &str {
+/// Returns the text `text`, or an empty one if there is none.
+pub(crate) fn text_or_empty(text: &Option<String>) -> &str {
     match text {
         Some(text) => text.as_str(),
         None => "",
@@ -137,9 +137,7 @@ fn lacks_memory(answer: &str) -> bool {
 
 // Returns whether the answer to `case` is a checksum of many answers, which is made once.
 fn is_recorded(case: &Case) -> bool {
-    case.call
-        .as_ref()
-        .is_some_and(|call| call.as_str() == RECORDED)
+    text_or_empty(&case.call) == RECORDED
 }
 
 // Bytes that are inputs.

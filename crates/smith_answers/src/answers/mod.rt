@@ -1,11 +1,12 @@
 //! The answers to calls, each as text.
 
-mod binaries;
 mod modules;
 mod programs;
+mod told;
 
 use crate::answers::modules::answer_module;
 use crate::answers::programs::answer_program;
+use crate::judged::text_or_empty;
 use crate::recorded::answer_recorded;
 use smith_case::call::{Call, ConfigCall, call_named};
 use smith_case::{Case, Fault, check_keys};
@@ -23,8 +24,7 @@ pub(crate) fn answer(
     case: &Case,
     input: &[u8],
 ) -> Result<String, Fault> {
-    let name = case.call.as_ref().map_or("", |call| call.as_str());
-    let Some(call) = call_named(name) else {
+    let Some(call) = call_named(text_or_empty(&case.call)) else {
         return Err(Fault::UnknownCall);
     };
     check_keys(case, call)?;
@@ -63,26 +63,54 @@ fn answer_configured(
     input: &[u8],
     answer: &mut String,
 ) -> Result<(), Fault> {
-    let mut config = Config::default();
-    answer_over(alloc, line, case, call, &mut config, input, answer)
+    answer_under(Config::default(), alloc, line, case, call, input, answer)
 }
 
-// Appends the answer to a call that has a configuration. Sets `config` to it.
-fn answer_over(
+// A configuration under which calls are answered. The function that owns it takes any such value,
+// so that what it drops is not proved field by field.
+trait Answers: Drop {
+    // Appends the answer to the call of `case`, after the configuration is set as `line` says.
+    fn answer(
+        &mut self,
+        alloc: Global,
+        line: &str,
+        case: &Case,
+        call: Call,
+        input: &[u8],
+        answer: &mut String,
+    ) -> Result<(), Fault>;
+}
+
+impl Answers for Config {
+    fn answer(
+        &mut self,
+        alloc: Global,
+        line: &str,
+        case: &Case,
+        call: Call,
+        input: &[u8],
+        answer: &mut String,
+    ) -> Result<(), Fault> {
+        set_config(alloc, line, case, self)?;
+        match call {
+            Call::Module(call) => answer_module(alloc, case, call, self, input, answer),
+            Call::Program(call) => answer_program(alloc, case, call, self, input, answer),
+            Call::Draw(call) => answer_draw(alloc, case, call, self, input, answer),
+            Call::Config(call) => answer_config(alloc, case, call, self, answer),
+            _ => answer_recorded(alloc, case, self, answer),
+        }
+    }
+}
+
+// Appends the answer to a call under `config`.
+fn answer_under<C: Answers>(
+    mut config: C,
     alloc: Global,
     line: &str,
     case: &Case,
     call: Call,
-    config: &mut Config,
     input: &[u8],
     answer: &mut String,
 ) -> Result<(), Fault> {
-    set_config(alloc, line, case, config)?;
-    match call {
-        Call::Module(call) => answer_module(alloc, case, call, config, input, answer),
-        Call::Program(call) => answer_program(alloc, case, call, config, input, answer),
-        Call::Draw(call) => answer_draw(alloc, case, call, config, input, answer),
-        Call::Config(call) => answer_config(alloc, case, call, config, answer),
-        _ => answer_recorded(alloc, case, config, answer),
-    }
+    config.answer(alloc, line, case, call, input, answer)
 }

@@ -1,9 +1,10 @@
-use crate::answers::binaries::tell_binary;
+use crate::answers::told::{tell_binary, tell_fuel, tell_text};
 use smith_bytes::{Error, Unstructured};
 use smith_case::arguments::{number, word};
 use smith_case::call::ModuleCall;
 use smith_case::{Case, Fault};
 use smith_config::Config;
+use smith_encode::encode;
 use smith_part_answers::{taken, tell_refusal, tell_rest};
 use smith_text::text;
 use std::alloc::Global;
@@ -26,7 +27,10 @@ pub(crate) fn answer_module(
     let mut u = Unstructured::new(input);
     let made = made(alloc, call, behavior, config, &mut u);
     tell_made(alloc, case, call, details, made, answer)?;
-    tell_left(details, &u, answer)
+    if details.left {
+        return tell_rest(&u, answer);
+    }
+    Ok(())
 }
 
 // Details that are appended to the text of a module.
@@ -55,13 +59,6 @@ fn details_of(case: &Case, call: ModuleCall) -> Result<Details, Fault> {
         }
     }
     Ok(details)
-}
-
-fn tell_left(details: Details, u: &Unstructured<'_>, answer: &mut String) -> Result<(), Fault> {
-    if details.left {
-        return tell_rest(u, answer);
-    }
-    Ok(())
 }
 
 // Makes the module of `call`, before it is made to terminate.
@@ -129,9 +126,9 @@ fn tell_whole(
         terminate(alloc, case, module, answer)?;
     }
     if call == ModuleCall::Encode {
-        return tell_binary(alloc, module, answer);
+        return tell_binary(alloc, encode(alloc, module), answer);
     }
-    tell_module(alloc, module, answer)?;
+    tell_text(text(alloc, module), answer)?;
     if details.debug {
         writeln!(answer, "{module:?}")?;
     }
@@ -141,13 +138,6 @@ fn tell_whole(
 // Returns whether the arguments of `call` are fuel that is added to the module.
 fn takes_fuel(call: ModuleCall) -> bool {
     matches!(call, ModuleCall::EnsureTermination | ModuleCall::Encode)
-}
-
-fn tell_module(alloc: Global, module: &Module, answer: &mut String) -> Result<(), Fault> {
-    match text(alloc, module) {
-        Ok(text) => Ok(answer.push_str(text.as_str())?),
-        Err(refusal) => tell_refusal(refusal, answer),
-    }
 }
 
 // Adds fuel to `module` for each argument in turn, and appends each answer.
@@ -172,8 +162,5 @@ fn add_fuel(
     if module.globals().len() >= u32::MAX as usize {
         return Err(Fault::NotCallable("there are too many globals"));
     }
-    match module.ensure_termination(alloc, fuel) {
-        Ok(index) => Ok(writeln!(answer, "fuel global {index}")?),
-        Err(refusal) => tell_refusal(refusal, answer),
-    }
+    tell_fuel(module.ensure_termination(alloc, fuel), answer)
 }

@@ -1,4 +1,4 @@
-use crate::answers::binaries::tell_bytes_whole;
+use crate::answers::told::{tell_binary, tell_fuel, tell_text};
 use smith_bytes::{Error, Unstructured};
 use smith_case::arguments::number;
 use smith_case::call::ProgramCall;
@@ -51,8 +51,8 @@ fn tell_program(
 ) -> Result<(), Fault> {
     terminate(alloc, case, program, answer)?;
     match call {
-        ProgramCall::New => tell_text(alloc, program, answer),
-        ProgramCall::Encode => tell_binary(alloc, program, answer),
+        ProgramCall::New => tell_text(text(alloc, program), answer),
+        ProgramCall::Encode => tell_binary(alloc, encode(alloc, program), answer),
     }
 }
 
@@ -78,22 +78,5 @@ fn add_fuel(
     if program.module.globals().len() >= u32::MAX as usize {
         return Err(Fault::NotCallable("there are too many globals"));
     }
-    match program.ensure_termination(alloc, fuel) {
-        Ok(index) => Ok(writeln!(answer, "fuel global {index}")?),
-        Err(refusal) => tell_refusal(refusal, answer),
-    }
-}
-
-fn tell_text(alloc: Global, program: &Program, answer: &mut String) -> Result<(), Fault> {
-    match text(alloc, program) {
-        Ok(text) => Ok(answer.push_str(text.as_str())?),
-        Err(refusal) => tell_refusal(refusal, answer),
-    }
-}
-
-fn tell_binary(alloc: Global, program: &Program, answer: &mut String) -> Result<(), Fault> {
-    match encode(alloc, program) {
-        Ok(bytes) => tell_bytes_whole(alloc, bytes.as_slice(), answer),
-        Err(refusal) => Ok(writeln!(answer, "refused: {refusal:?}")?),
-    }
+    tell_fuel(program.ensure_termination(alloc, fuel), answer)
 }

@@ -32,9 +32,11 @@ impl Formula {
 
 fn plain_input(alloc: Global, number: u32) -> Result<Vec<u8>, AllocError> {
     let start = number.wrapping_mul(17);
-    (0..number)
-        .map(|i| low_byte(i.wrapping_mul(31).wrapping_add(start)))
-        .collect(alloc)
+    let mut input = Vec::with_capacity(alloc, number as usize)?;
+    for i in 0..number {
+        input.push(low_byte(i.wrapping_mul(31).wrapping_add(start)))?;
+    }
+    Ok(input)
 }
 
 fn rich_input(alloc: Global, number: u32) -> Result<Vec<u8>, AllocError> {
