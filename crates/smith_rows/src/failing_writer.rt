@@ -37,7 +37,7 @@ fn written<T: TextForm>(value: &T, fails_at: usize) -> (usize, bool) {
 fn failed_writes_are_last<T: TextForm>(value: &T) -> Result<(), Fail> {
     let (all, ended) = written(value, usize::MAX);
     if ended {
-        return Err(Fail::new(format_args!("a write fails by itself")));
+        return Err(Fail::new("a write fails by itself"));
     }
     for fails_at in 0..all {
         if written(value, fails_at) != (fails_at.saturating_add(1), true) {

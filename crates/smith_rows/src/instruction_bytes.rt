@@ -55,30 +55,38 @@ fn encode(sink: &mut Sink, labels: Items<u32>) -> Result<(), EncodeError> {
     encode_body(sink, &locals, &body)
 }
 
+// Fails unless `sink` has the bytes `wanted`.
+fn has_bytes(sink: &Sink, wanted: &[u8]) -> Result<(), Fail> {
+    if sink.as_slice() == wanted {
+        Ok(())
+    } else {
+        Err(Fail::new("the bytes are others"))
+    }
+}
+
 #[test]
 fn bodies_are_those_of_another_encoder(rt: HostRuntime) -> Result<(), Fail> {
     let mut sink = Sink::new(rt.alloc());
     encode(&mut sink, Items::from_slice(rt.alloc(), &[0, 0])?)?;
-    assert_eq!(rt; sink.as_slice(), BYTES.as_slice());
-    Ok(())
+    has_bytes(&sink, &BYTES)
 }
 
 #[test]
 fn expressions_have_their_end(rt: HostRuntime) -> Result<(), Fail> {
     let mut sink = Sink::new(rt.alloc());
     encode_expr(&mut sink, &[Instr::Nop])?;
-    assert_eq!(rt; sink.as_slice(), [0x01, 0x0B].as_slice());
-    Ok(())
+    has_bytes(&sink, &[0x01, 0x0B])
 }
 
 #[test]
 fn lanes_of_a_shuffle_are_bytes(rt: HostRuntime) -> Result<(), Fail> {
     let lanes = [0, 1, 2, 3, 4, 5, 6, 7, 8, 9, 10, 11, 12, 13, 14, 31];
+    let bytes = [
+        0xFD, 0x0D, 0, 1, 2, 3, 4, 5, 6, 7, 8, 9, 10, 11, 12, 13, 14, 31,
+    ];
     let mut sink = Sink::new(rt.alloc());
     encode_instr(&mut sink, &Instr::Vector(VectorInstr::Shuffle(lanes)))?;
-    assert_eq!(rt; sink.as_slice().len(), 18);
-    assert_eq!(rt; sink.as_slice().last(), Some(&31));
-    Ok(())
+    has_bytes(&sink, &bytes)
 }
 
 #[test]
@@ -89,7 +97,8 @@ fn alignments_of_seven_bits_are_refused(rt: HostRuntime) -> Result<(), Fail> {
         memory: 0,
     };
     let mut sink = Sink::new(rt.alloc());
-    let answer = encode_instr(&mut sink, &Instr::Load(Load::I32, at));
-    assert_eq!(rt; answer, Err(EncodeError::TooLong));
-    Ok(())
+    match encode_instr(&mut sink, &Instr::Load(Load::I32, at)) {
+        Err(EncodeError::TooLong) => Ok(()),
+        _ => Err(Fail::new("the alignment is not refused")),
+    }
 }

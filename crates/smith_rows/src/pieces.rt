@@ -56,7 +56,7 @@ const VALUE_TYPES: [(&str, &str); 22] = [
 
 #[test]
 fn value_types_are_written(rt: HostRuntime) -> Result<(), Fail> {
-    for (text, wanted) in VALUE_TYPES {
+    for (text, wanted) in &VALUE_TYPES {
         is_read(rt.alloc(), val_type_of(text), wanted)?;
     }
     Ok(())
@@ -86,7 +86,7 @@ const ENTITIES: [(&str, &str); 12] = [
 
 #[test]
 fn entities_are_written(rt: HostRuntime) -> Result<(), Fail> {
-    for (text, wanted) in ENTITIES {
+    for (text, wanted) in &ENTITIES {
         is_read(rt.alloc(), entity_of(text), wanted)?;
     }
     Ok(())
@@ -172,8 +172,8 @@ const CONSTANTS: [(ConstInstr, &str); 38] = [
 
 #[test]
 fn constant_instructions_are_written(rt: HostRuntime) -> Result<(), Fail> {
-    for (instruction, wanted) in CONSTANTS {
-        is_written(rt.alloc(), &instruction, wanted)?;
+    for (instruction, wanted) in &CONSTANTS {
+        is_written(rt.alloc(), instruction, wanted)?;
     }
     Ok(())
 }
@@ -201,7 +201,7 @@ const FUNCTION_TYPES: [(&str, &str); 2] = [
 #[test]
 fn types_of_functions_are_written(rt: HostRuntime) -> Result<(), Fail> {
     let alloc = rt.alloc();
-    for (text, wanted) in FUNCTION_TYPES {
+    for (text, wanted) in &FUNCTION_TYPES {
         let function = CompositeInnerType::Func(function_of(alloc, text)?);
         is_written(alloc, &sub_type(true, None, false, function), wanted)?;
     }
@@ -302,9 +302,9 @@ const FUNCTIONS: [(ElementKind, HeapType, &[u32], &str); 3] = [
 #[test]
 fn segments_of_functions_are_written(rt: HostRuntime) -> Result<(), Fail> {
     let alloc = rt.alloc();
-    for (kind, heap_type, indices, wanted) in FUNCTIONS {
+    for (kind, heap_type, indices, wanted) in &FUNCTIONS {
         let functions = Elements::Functions(Items::from_slice(alloc, indices)?);
-        is_segment_written(alloc, kind, heap_type, functions, wanted)?;
+        is_segment_written(alloc, *kind, *heap_type, functions, wanted)?;
     }
     Ok(())
 }

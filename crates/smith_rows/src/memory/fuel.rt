@@ -1,9 +1,9 @@
 use crate::memory::parts::module_of_parts;
-use crate::memory::tries::refused;
+use crate::memory::tries::{is_refused_first, refused};
 use crate::memory::whole::{is_whole, whole};
 use smith_bytes::{Error, Unstructured};
 use smith_config::Config;
-use smith_memory::{Ended, Tried, refusals};
+use smith_memory::{Ended, Tried};
 use std::alloc::Global;
 use std::test::Fail;
 use wasm_smith::Module;
@@ -54,26 +54,21 @@ fn function(alloc: Global) -> Result<Module, Error> {
     Module::new(alloc, config_of_a_function(), &mut Unstructured::new(INPUT))
 }
 
-fn refusals_of(alloc: Global, module: &mut Module, text: &str) -> Result<usize, Fail> {
-    refusals(alloc, &mut Counting { module, text })
+fn try_beside(alloc: Global, module: &mut Module, text: &str) -> Result<(), Fail> {
+    is_refused_first(alloc, &mut Counting { module, text })
 }
 
-fn refusals_beside_a_text(alloc: Global, module: &mut Module) -> Result<usize, Fail> {
+fn try_module(alloc: Global, module: &mut Module) -> Result<(), Fail> {
     let text = whole(alloc, module)?;
-    refusals_of(alloc, module, text.as_str())
-}
-
-fn refusals_of_a_function(alloc: Global) -> Result<usize, Fail> {
-    refusals_beside_a_text(alloc, &mut function(alloc)?)
-}
-
-fn refusals_of_parts(alloc: Global) -> Result<usize, Fail> {
-    refusals_beside_a_text(alloc, &mut module_of_parts(alloc)?)
+    try_beside(alloc, module, text.as_str())
 }
 
 #[test]
-fn counters(rt: HostRuntime) -> Result<(), Fail> {
-    assert!(rt; refusals_of_a_function(rt.alloc())? > 0);
-    assert!(rt; refusals_of_parts(rt.alloc())? > 0);
-    Ok(())
+fn a_counter_of_a_function(rt: HostRuntime) -> Result<(), Fail> {
+    try_module(rt.alloc(), &mut function(rt.alloc())?)
+}
+
+#[test]
+fn a_counter_of_a_module_of_parts(rt: HostRuntime) -> Result<(), Fail> {
+    try_module(rt.alloc(), &mut module_of_parts(rt.alloc())?)
 }

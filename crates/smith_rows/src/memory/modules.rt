@@ -1,10 +1,10 @@
 use crate::memory::parts::set_minimums;
 use crate::memory::shapes::set_shape;
-use crate::memory::tries::{is_left, refused};
+use crate::memory::tries::{is_left, is_refused_first, refused};
 use smith_bytes::{Error, Unstructured, Which};
 use smith_case::Fault;
 use smith_config::Config;
-use smith_memory::{Ended, Tried, refusals};
+use smith_memory::{Ended, Tried};
 use std::alloc::Global;
 use std::test::Fail;
 use wasm_smith::Module;
@@ -48,7 +48,7 @@ fn made(answer: Result<Module, Error>) -> Ended {
 }
 
 // Settings of a configuration.
-#[derive(Clone, Copy, Debug)]
+#[derive(Clone, Copy)]
 enum Asked {
     Nothing,
     /// At most two imports, and at least one global.
@@ -74,20 +74,18 @@ fn set_imports(config: &mut Config) {
     config.min_globals = 1;
 }
 
-// Returns the number of refusals before there is enough memory.
-fn refusals_of(alloc: Global, asked: Asked, input: &'static [u8]) -> Result<usize, Fail> {
-    let mut config = Config::default();
-    refusals_under(alloc, asked, input, &mut config)
+fn try_asked(alloc: Global, asked: Asked, input: &'static [u8]) -> Result<(), Fail> {
+    try_under(alloc, asked, input, &mut Config::default())
 }
 
-fn refusals_under(
+fn try_under(
     alloc: Global,
     asked: Asked,
     input: &'static [u8],
     config: &mut Config,
-) -> Result<usize, Fail> {
+) -> Result<(), Fail> {
     set_asked(alloc, config, asked)?;
-    refusals(alloc, &mut Drawing { config, input })
+    is_refused_first(alloc, &mut Drawing { config, input })
 }
 
 // A group that is cloned past the end of the input.
@@ -111,29 +109,19 @@ const ZEROS: &[u8] = &[0; 512];
 
 #[test]
 fn modules_without_shapes(rt: HostRuntime) -> Result<(), Fail> {
-    for (asked, input) in [
-        (Asked::Nothing, [].as_slice()),
-        (Asked::Nothing, CLONE),
-        (Asked::Nothing, SEGMENT),
-        (Asked::Nothing, SPELLED),
-        (Asked::Imports, GROUP),
-        (Asked::EachPart, EACH),
-    ] {
-        let refusals = refusals_of(rt.alloc(), asked, input)?;
-        assert!(rt; refusals > 0, "at {asked:?}");
-    }
-    Ok(())
+    let alloc = rt.alloc();
+    try_asked(alloc, Asked::Nothing, &[])?;
+    try_asked(alloc, Asked::Nothing, CLONE)?;
+    try_asked(alloc, Asked::Nothing, SEGMENT)?;
+    try_asked(alloc, Asked::Nothing, SPELLED)?;
+    try_asked(alloc, Asked::Imports, GROUP)?;
+    try_asked(alloc, Asked::EachPart, EACH)
 }
 
 #[test]
 fn modules_with_shapes(rt: HostRuntime) -> Result<(), Fail> {
-    for (asked, input) in [
-        (Asked::Shape(Which::AvailableImports), [1, 1].as_slice()),
-        (Asked::Shape(Which::Exports), &[]),
-        (Asked::Shape(Which::ModuleShape), ZEROS),
-    ] {
-        let refusals = refusals_of(rt.alloc(), asked, input)?;
-        assert!(rt; refusals > 0, "at {asked:?}");
-    }
-    Ok(())
+    let alloc = rt.alloc();
+    try_asked(alloc, Asked::Shape(Which::AvailableImports), &[1, 1])?;
+    try_asked(alloc, Asked::Shape(Which::Exports), &[])?;
+    try_asked(alloc, Asked::Shape(Which::ModuleShape), ZEROS)
 }

@@ -1,7 +1,9 @@
 //! Functions that tries share.
 
 use smith_bytes::{Error, Unstructured};
-use smith_memory::{Ended, is_piece};
+use smith_memory::{Ended, Tried, is_piece, refusals};
+use std::alloc::Global;
+use std::test::Fail;
 
 /// Returns the outcome of a try that was refused for the reason `refusal`.
 pub(crate) fn refused(refusal: Error) -> Ended {
@@ -13,6 +15,16 @@ pub(crate) fn refused(refusal: Error) -> Ended {
 
 /// Returns whether the rest of `u` is a piece of `input`.
 pub(crate) fn is_left(u: &Unstructured<'_>, input: &[u8]) -> bool {
-    u.peek_bytes(u.len())
-        .is_some_and(|left| is_piece(left, input))
+    match u.peek_bytes(u.len()) {
+        Some(left) => is_piece(left, input),
+        None => false,
+    }
+}
+
+/// Fails unless `call` is refused before there is enough memory for it.
+pub(crate) fn is_refused_first<T: Tried>(alloc: Global, call: &mut T) -> Result<(), Fail> {
+    if refusals(alloc, call)? == 0 {
+        return Err(Fail::new("the call takes no memory"));
+    }
+    Ok(())
 }

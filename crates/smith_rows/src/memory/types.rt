@@ -1,7 +1,8 @@
+use crate::memory::tries::is_refused_first;
 use smith_bytes::Error;
 use smith_case_shapes::shape_named;
 use smith_config::Shape;
-use smith_memory::{Ended, Tried, refusals};
+use smith_memory::{Ended, Tried};
 use smith_types::{CompositeInnerType, CompositeType, Items, StructType, SubType, TypeSpace};
 use std::alloc::Global;
 use std::ops::Range;
@@ -30,10 +31,10 @@ const GROUPS: [Range<usize>; 2] = [0..2, 2..5];
 impl Tried for Pushes<'_> {
     fn ended(&mut self, alloc: Global) -> Ended {
         let mut types = TypeSpace::new(alloc);
-        for (is_group, standing, groups) in PUSHES {
-            match push(alloc, &mut types, is_group, standing) {
+        for (is_group, standing, groups) in &PUSHES {
+            match push(alloc, &mut types, *is_group, *standing) {
                 Ok(()) => {}
-                Err(Error::Memory) if is_start(self.chain, &types, standing, groups) => {
+                Err(Error::Memory) if is_start(self.chain, &types, *standing, *groups) => {
                     return Ended::Refused;
                 }
                 Err(_) => return Ended::Wrong("the types are others"),
@@ -87,25 +88,18 @@ fn is_start(chain: &[SubType], types: &TypeSpace, standing: u32, groups: usize) 
         && chain.starts_with(types.types())
 }
 
-fn refusals_of(alloc: Global, shape: &Shape) -> Result<usize, Fail> {
+fn try_pushes(alloc: Global, shape: &Shape) -> Result<(), Fail> {
     let Some(group) = shape.groups.first() else {
-        return Err(Fail::new(format_args!("the shape has no group")));
+        return Err(Fail::new("the shape has no group"));
     };
-    refusals(
-        alloc,
-        &mut Pushes {
-            chain: group.as_slice(),
-        },
-    )
-}
-
-fn refusals_of_a_chain(alloc: Global) -> Result<usize, Fail> {
-    let shape = shape_named(alloc, "63 structs, each below the one before")?;
-    refusals_of(alloc, &shape)
+    let mut pushes = Pushes {
+        chain: group.as_slice(),
+    };
+    is_refused_first(alloc, &mut pushes)
 }
 
 #[test]
 fn types(rt: HostRuntime) -> Result<(), Fail> {
-    assert!(rt; refusals_of_a_chain(rt.alloc())? > 0);
-    Ok(())
+    let shape = shape_named(rt.alloc(), "63 structs, each below the one before")?;
+    try_pushes(rt.alloc(), &shape)
 }
