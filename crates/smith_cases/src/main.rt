@@ -15,9 +15,6 @@
 //! The documentation of `smith_case` explains the keys of a case.
 #![tactic(auto)]
 
-#[cfg(test)]
-mod tests;
-
 use smith_answers::judge;
 use std::io;
 use std::process::ExitCode;

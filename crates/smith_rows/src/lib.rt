@@ -17,3 +17,5 @@ mod loans;
 mod memory;
 #[cfg(test)]
 mod pieces;
+#[cfg(test)]
+mod wrong_cases;

@@ -1,126 +1,142 @@
+//! Cases that are not ok: each is reported so, with the reason.
+
 use smith_answers::judge;
+use std::alloc::Global;
 use std::test::Fail;
 
 const RIGHT: &str =
     r#"{"name": "a", "call": "Module::new", "lines": ["(module", ")"], "absent": ["start"]}"#;
 
-// Each line, and the report after `not ok`.
+// Each line, and the start of its report.
 static WRONG: [(&str, &str); 28] = [
-    ("", " : not a JSON object of a case"),
-    ("[]", " : not a JSON object of a case"),
-    ("{}", " : no name"),
+    ("", "not ok : not a JSON object of a case"),
+    ("[]", "not ok : not a JSON object of a case"),
+    ("{}", "not ok : no name"),
     (
         r#"{"name": "", "call": "Module::new", "may": ["Ok"]}"#,
-        " : no name",
+        "not ok : no name",
     ),
     (
         r#"{"name": "a", "call": "Module::new"}"#,
-        " a: nothing is wanted",
+        "not ok a: nothing is wanted",
     ),
     (
         r#"{"name": "a", "call": "Module::new", "absent": ["start"]}"#,
-        " a: nothing is wanted",
+        "not ok a: nothing is wanted",
     ),
     (
         r#"{"name": "a", "call": "Module::new", "lines": []}"#,
-        " a: nothing is wanted",
+        "not ok a: nothing is wanted",
     ),
     (
         r#"{"name": "a", "call": "Module::new", "answer": ["..."]}"#,
-        " a: nothing is wanted",
+        "not ok a: nothing is wanted",
     ),
     (
         r#"{"name": "a", "call": "Module::new", "pieces": [""]}"#,
-        " a: an empty piece is wanted",
+        "not ok a: an empty piece is wanted",
     ),
     (
         r#"{"name": "a", "call": "Module::new", "lines": [" "]}"#,
-        " a: an empty piece is wanted",
+        "not ok a: an empty piece is wanted",
     ),
     (
         r#"{"name": "a", "call": "Module::new", "wants": ["Ok"]}"#,
-        " a: an unknown key",
+        "not ok a: an unknown key",
     ),
     (
         r#"{"name": "a", "call": "Module::old", "may": ["Ok"]}"#,
-        " a: an unknown call",
+        "not ok a: an unknown call",
     ),
-    (r#"{"name": "a", "may": ["Ok"]}"#, " a: an unknown call"),
+    (
+        r#"{"name": "a", "may": ["Ok"]}"#,
+        "not ok a: an unknown call",
+    ),
     (
         r#"{"name": "a", "name": "b", "may": ["Ok"]}"#,
-        " a: the key before byte",
+        "not ok a: the key before byte",
     ),
     (
         r#"{"name": "a", "config": {}, "config": {}}"#,
-        " a: the key before byte",
+        "not ok a: the key before byte",
     ),
     (
         r#"{"name": "a", "call": "Module::new", "may": ["Ok"]} {}"#,
-        " a: not a JSON object of a case",
+        "not ok a: not a JSON object of a case",
     ),
     (
         r#"{"name": "a", "call": "Module::new", "input": "0", "may": ["Ok"]}"#,
-        " a: the input is not hexadecimal",
+        "not ok a: the input is not hexadecimal",
     ),
     (
         r#"{"name": "a", "call": "Module::new", "input": "00*x", "may": ["Ok"]}"#,
-        " a: the input is not hexadecimal",
+        "not ok a: the input is not hexadecimal",
     ),
     (
         r#"{"name": "a", "call": "Module::new", "inputs": "each bit", "may": ["Ok"]}"#,
-        " a: unknown inputs",
+        "not ok a: unknown inputs",
     ),
     (
         r#"{"name": "a", "call": "Module::new", "config": {"max-typos": 1}, "may": ["Ok"]}"#,
-        " a: the configuration, line 1",
+        "not ok a: the configuration, line 1",
     ),
     (
         r#"{"name": "a", "call": "Module::new", "exports": "typos", "may": ["Ok"]}"#,
-        " a: an unknown shape",
+        "not ok a: an unknown shape",
     ),
     (
         r#"{"name": "a", "call": "Module::arbitrary", "args": ["1"], "may": ["Ok"]}"#,
-        " a: a key that the call does not read",
+        "not ok a: a key that the call does not read",
     ),
     (
         r#"{"name": "a", "call": "Module::new", "args": ["left", "1"], "may": ["Ok"]}"#,
-        " a: argument 1 is missing or not valid",
+        "not ok a: argument 1 is missing or not valid",
     ),
     (
         r#"{"name": "a", "call": "Unstructured::arbitrary", "args": ["u7"], "may": ["Ok"]}"#,
-        " a: argument 0 is missing or not valid",
+        "not ok a: argument 0 is missing or not valid",
     ),
     (
         r#"{"name": "a", "call": "Module::new", "may": ["EmptyChoose"]}"#,
-        " a: the answer is Ok",
+        "not ok a: the answer is Ok",
     ),
     (
         r#"{"name": "a", "call": "Module::new", "answer": ["(module", "(start 0)"]}"#,
-        " a: line 2 is \")\", and \"(start 0)\" is wanted",
+        "not ok a: line 2 is \")\", and \"(start 0)\" is wanted",
     ),
     (
         r#"{"name": "a", "call": "Module::new", "lines": [")", "(module"]}"#,
-        " a: no line \"(module\"",
+        "not ok a: no line \"(module\"",
     ),
     (
         r#"{"name": "a", "call": "Module::new", "pieces": ["(start"]}"#,
-        " a: no piece \"(start\"",
+        "not ok a: no piece \"(start\"",
     ),
 ];
 
-#[test]
-fn a_right_case_is_ok_and_wrong_ones_are_not(rt: HostRuntime) -> Result<(), Fail> {
-    for (line, wanted) in &WRONG {
-        let mut report = String::new(rt.alloc());
-        assert!(rt; !judge(rt.alloc(), line, &mut report)?, "of {line}");
-        let told = report.as_str().strip_prefix("not ok").unwrap_or("");
-        assert!(rt; told.starts_with(wanted), "{report} of {line}");
+// Fails unless the case of `line` is not ok, and its report starts with `wanted`.
+fn is_wrong(alloc: Global, line: &str, wanted: &str) -> Result<(), Fail> {
+    let mut report = String::new(alloc);
+    let is_right = judge(alloc, line, &mut report)?;
+    if is_right || !report.as_str().starts_with(wanted) {
+        return Err(Fail::new(format_args!("{report} of {line}")));
     }
+    Ok(())
+}
+
+#[test]
+fn wrong_cases_are_not_ok(rt: HostRuntime) -> Result<(), Fail> {
+    for (line, wanted) in &WRONG {
+        is_wrong(rt.alloc(), line, wanted)?;
+    }
+    Ok(())
+}
+
+#[test]
+fn a_right_case_is_ok(rt: HostRuntime) -> Result<(), Fail> {
     let mut report = String::new(rt.alloc());
-    assert!(rt;
-        judge(rt.alloc(), RIGHT, &mut report)?,
-        "{report} of {RIGHT}"
-    );
+    let is_right = judge(rt.alloc(), RIGHT, &mut report)?;
     assert_eq!(rt; report.as_str(), "ok a\n");
+    assert!(rt; is_right);
     Ok(())
 }
