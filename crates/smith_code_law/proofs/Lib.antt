@@ -1,0 +1,2 @@
+mod BarrenLemmas
+mod ExampleLemmas

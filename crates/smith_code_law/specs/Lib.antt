@@ -1,0 +1,2 @@
+pub mod Barren
+pub mod ExampleContexts

@@ -1,0 +1,15 @@
+//! A law of values that need no budget: for which types there are none, where all kinds of
+//! instructions are allowed.
+#![tactic(auto)]
+
+mod examples;
+
+ghost use Rattle.smith_code_law.specs.Barren.{OnlyBarrenTypesHaveNoOther};
+
+/// States that, with garbage collection and all kinds of instructions, only barren types have no value
+/// that needs no budget. These are non-nullable references to heap types below which there is nothing
+/// that can be created or named. With `disallow_traps`, a body has `unreachable` in place of values of
+/// such types alone.
+pub fn only_barren_types_have_no_other()
+    ensures { OnlyBarrenTypesHaveNoOther }
+{}
