@@ -111,7 +111,12 @@ fn read_members<'a>(
 fn is_given(given: &[&str], name: &str) -> bool
     ensures { result ≡ list_any (λ other. bytes_eq other.now name.now) given.now }
 {
-    given.iter().any(|other| *other == name)
+    for other in given {
+        if *other == name {
+            return true;
+        }
+    }
+    false
 }
 
 /// Reads the value of the member `name`, which is at `start`, into the field of that name.

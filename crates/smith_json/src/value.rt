@@ -63,7 +63,12 @@ fn are_digits(text: &str) -> bool
 fn all_digits(text: &[u8]) -> bool
     ensures { result ≡ list_all is_ascii_digit text.now }
 {
-    text.iter().all(|byte| byte.is_ascii_digit())
+    for byte in text {
+        if !byte.is_ascii_digit() {
+            return false;
+        }
+    }
+    true
 }
 
 /// Returns the number, at most `most`, that the text of a JSON number writes in digits only.
