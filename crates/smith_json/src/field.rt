@@ -246,6 +246,7 @@ pub static FIELDS: [Field; 71] = fields!(field);
 static PLACES: [(&str, Place); 71] = fields!(place);
 
 /// Finds the place of the field named `name`.
+#[tactic(auto, unfolding(crate::specs::Fields::fields))]
 pub(crate) fn place_named(name: &str) -> Option<Place>
     ensures { option_map field_of result ≡ field_named name.now }
 {

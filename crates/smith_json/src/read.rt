@@ -24,10 +24,11 @@ pub fn config(alloc: Global, text: &str) -> Result<Config, ConfigRefusal>
         → ReadsText text.now (Err (refusal.fault, string_bytes refusal.field))) }
 {
     let mut config = Config::default();
-    match read_text(alloc, text, &mut config) {
-        Ok(()) => Ok(config),
+    let read = match read_text(alloc, text, &mut config) {
+        Ok(()) => Ok(()),
         Err(refusal) => Err(refusal.in_text(text)),
-    }
+    };
+    read.and(Ok(config))
 }
 
 /// Reads an object from `text`, which holds nothing else, and sets the fields of `config` that its
