@@ -48,7 +48,7 @@ abbrev pub wide : Setter ℕ → Field
 wide set = whole (2 ^ 128 - 1) set
 
 -- every field, in the order of `Config`
-abbrev pub fields : Table Field
+unfoldable pub fields : Table Field
 fields =
     (codes "min-types", size (λ config n. record config { min_types = n }))
     ∷ (codes "max-types", size (λ config n. record config { max_types = n }))

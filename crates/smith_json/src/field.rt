@@ -23,15 +23,16 @@ pub enum FieldKind {
 
 impl fmt::Display for FieldKind {
     fn fmt<W: fmt::Write>(&self, f: &mut fmt::Formatter<W>) -> fmt::Result {
-        match self {
-            FieldKind::Whole(bits) => write!(f, "a whole number below 2^{bits}"),
-            FieldKind::Flag => f.write_str("true or false"),
-            FieldKind::InstructionKinds => f.write_str(
-                "a whole number below 2^12 or names of kinds of instructions between commas",
-            ),
-            FieldKind::OffsetChoices => f.write_str("a list of three whole numbers below 2^32"),
-            FieldKind::File => f.write_str("only null, since no file is read"),
-        }
+        let text = match self {
+            FieldKind::Whole(bits) => return write!(f, "a whole number below 2^{bits}"),
+            FieldKind::Flag => "true or false",
+            FieldKind::InstructionKinds => {
+                "a whole number below 2^12 or names of kinds of instructions between commas"
+            }
+            FieldKind::OffsetChoices => "a list of three whole numbers below 2^32",
+            FieldKind::File => "only null, since no file is read",
+        };
+        f.write_str(text)
     }
 }
 
@@ -245,6 +246,7 @@ pub static FIELDS: [Field; 71] = fields!(field);
 static PLACES: [(&str, Place); 71] = fields!(place);
 
 /// Finds the place of the field named `name`.
+#[tactic(auto, unfolding(crate::specs::Fields::fields))]
 pub(crate) fn place_named(name: &str) -> Option<Place>
     ensures { option_map field_of result ≡ field_named name.now }
 {

@@ -24,10 +24,11 @@ pub fn config(alloc: Global, text: &str) -> Result<Config, ConfigRefusal>
         → ReadsText text.now (Err (refusal.fault, string_bytes refusal.field))) }
 {
     let mut config = Config::default();
-    match read_text(alloc, text, &mut config) {
-        Ok(()) => Ok(config),
+    let read = match read_text(alloc, text, &mut config) {
+        Ok(()) => Ok(()),
         Err(refusal) => Err(refusal.in_text(text)),
-    }
+    };
+    read.and(Ok(config))
 }
 
 /// Reads an object from `text`, which holds nothing else, and sets the fields of `config` that its
@@ -111,7 +112,12 @@ fn read_members<'a>(
 fn is_given(given: &[&str], name: &str) -> bool
     ensures { result ≡ list_any (λ other. bytes_eq other.now name.now) given.now }
 {
-    given.iter().any(|other| *other == name)
+    for other in given {
+        if *other == name {
+            return true;
+        }
+    }
+    false
 }
 
 /// Reads the value of the member `name`, which is at `start`, into the field of that name.

@@ -86,16 +86,20 @@ fn place(text: &[u8], offset: usize) -> (usize, usize) {
 impl fmt::Display for ConfigRefusal {
     fn fmt<W: fmt::Write>(&self, f: &mut fmt::Formatter<W>) -> fmt::Result {
         let field = self.field.as_str();
-        write!(f, "line {}, column {}: ", self.line, self.column)?;
-        match self.fault {
-            Fault::NotAnObject => f.write_str("not a JSON object")?,
-            Fault::UnknownField => write!(f, "there is no field `{field}`")?,
-            Fault::RepeatedField => write!(f, "the field `{field}` occurs twice")?,
-            Fault::WrongType => write!(f, "the value of `{field}` has the wrong type")?,
-            Fault::OutOfRange => write!(f, "the value of `{field}` is out of range")?,
-            Fault::TextAfter => f.write_str("text follows the object")?,
-            Fault::OutOfMemory => f.write_str("out of memory")?,
-        }
+        let (before, name, after) = match self.fault {
+            Fault::NotAnObject => ("not a JSON object", "", ""),
+            Fault::UnknownField => ("there is no field `", field, "`"),
+            Fault::RepeatedField => ("the field `", field, "` occurs twice"),
+            Fault::WrongType => ("the value of `", field, "` has the wrong type"),
+            Fault::OutOfRange => ("the value of `", field, "` is out of range"),
+            Fault::TextAfter => ("text follows the object", "", ""),
+            Fault::OutOfMemory => ("out of memory", "", ""),
+        };
+        write!(
+            f,
+            "line {}, column {}: {before}{name}{after}",
+            self.line, self.column
+        )?;
         match (self.fault, Field::named(field)) {
             (Fault::WrongType | Fault::OutOfRange, Some(named)) => {
                 write!(f, "; it takes {}", named.kind)

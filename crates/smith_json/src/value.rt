@@ -63,7 +63,12 @@ fn are_digits(text: &str) -> bool
 fn all_digits(text: &[u8]) -> bool
     ensures { result ≡ list_all is_ascii_digit text.now }
 {
-    text.iter().all(|byte| byte.is_ascii_digit())
+    for byte in text {
+        if !byte.is_ascii_digit() {
+            return false;
+        }
+    }
+    true
 }
 
 /// Returns the number, at most `most`, that the text of a JSON number writes in digits only.
@@ -80,44 +85,48 @@ fn number(text: &str, most: u128) -> Result<u128, Fault>
     }
 }
 
-/// Returns the whole number, at most `most`, that a token denotes, or `None` for `null`.
-fn whole(token: Token<'_>, most: u128) -> Result<Option<u128>, Fault>
-    ensures exact { result ≡ whole_value most (token_of token.entry) }
+/// Reads a whole number, at most `most`, or `None` for `null`.
+fn whole(reader: &mut Reader<'_>, most: u128) -> Result<Option<u128>, Fault>
+    ensures exact { result ≡ whole_value most (first reader.old) }
     ensures bounded { IfOk result (λ value. IfSome value (λ n. n ≤ most)) }
+    ensures rest { reader.new ≡ drop 1 reader.old }
 {
-    match token {
+    match next(reader) {
         Token::Null => Ok(None),
         Token::Number(text) => Ok(Some(number(text, most)?)),
         token => Err(unwanted(token)),
     }
 }
 
-/// Returns the truth value that a token denotes, or `None` for `null`.
-fn truth(token: Token<'_>) -> Result<Option<bool>, Fault>
-    ensures { result ≡ truth_value (token_of token.entry) }
+/// Reads a truth value, or `None` for `null`.
+fn truth(reader: &mut Reader<'_>) -> Result<Option<bool>, Fault>
+    ensures value { result ≡ truth_value (first reader.old) }
+    ensures rest { reader.new ≡ drop 1 reader.old }
 {
-    match token {
+    match next(reader) {
         Token::Null => Ok(None),
         Token::Bool(value) => Ok(Some(value)),
         token => Err(unwanted(token)),
     }
 }
 
-/// Takes only `null`, in place of a path.
-fn no_file(token: Token<'_>) -> Result<(), Fault>
-    ensures { result ≡ file_value (token_of token.entry) }
+/// Reads only `null`, in place of a path.
+fn no_file(reader: &mut Reader<'_>) -> Result<(), Fault>
+    ensures value { result ≡ file_value (first reader.old) }
+    ensures rest { reader.new ≡ drop 1 reader.old }
 {
-    match token {
+    match next(reader) {
         Token::Null => Ok(()),
         token => Err(unwanted(token)),
     }
 }
 
-/// Returns the set of kinds of instructions that a token denotes, or `None` for `null`.
-fn kinds(token: Token<'_>) -> Result<Option<InstructionKinds>, Fault>
-    ensures { AreKinds (token_of token.entry) result }
+/// Reads a set of kinds of instructions, or `None` for `null`.
+fn kinds(reader: &mut Reader<'_>) -> Result<Option<InstructionKinds>, Fault>
+    ensures value { AreKinds (first reader.old) result }
+    ensures rest { reader.new ≡ drop 1 reader.old }
 {
-    match token {
+    match next(reader) {
         Token::Null => Ok(None),
         Token::Number(text) => {
             let bits = number(text, 0xFFF)?;
@@ -131,22 +140,24 @@ fn kinds(token: Token<'_>) -> Result<Option<InstructionKinds>, Fault>
     }
 }
 
-/// Returns one of the three weights.
-fn weight(token: Token<'_>) -> Result<u32, Fault>
-    ensures { result ≡ weight (token_of token.entry) }
+/// Reads one of the three weights.
+fn weight(reader: &mut Reader<'_>) -> Result<u32, Fault>
+    ensures value { result ≡ weight (first reader.old) }
+    ensures rest { reader.new ≡ drop 1 reader.old }
 {
-    match token {
+    match next(reader) {
         Token::Number(text) => Ok(number(text, u32::MAX as u128)? as u32),
         Token::EndArray => Err(Fault::WrongType),
         token => Err(unwanted(token)),
     }
 }
 
-/// Checks the end of the list of weights.
-fn list_end(token: Token<'_>) -> Result<(), Fault>
-    ensures { result ≡ list_end (token_of token.entry) }
+/// Reads the end of the list of weights.
+fn list_end(reader: &mut Reader<'_>) -> Result<(), Fault>
+    ensures value { result ≡ list_end (first reader.old) }
+    ensures rest { reader.new ≡ drop 1 reader.old }
 {
-    match token {
+    match next(reader) {
         Token::EndArray => Ok(()),
         token => Err(unwanted(token)),
     }
@@ -158,10 +169,10 @@ fn weights(reader: &mut Reader<'_>) -> Result<MemoryOffsetChoices, Fault>
     ensures rest { OnOk result (reader.new ≡ drop 4 reader.old) }
     ensures shorter { length reader.new ≤ length reader.old }
 {
-    let inside = weight(next(reader))?;
-    let between = weight(next(reader))?;
-    let past = weight(next(reader))?;
-    list_end(next(reader))?;
+    let inside = weight(reader)?;
+    let between = weight(reader)?;
+    let past = weight(reader)?;
+    list_end(reader)?;
     Ok(MemoryOffsetChoices(inside, between, past))
 }
 
@@ -184,7 +195,7 @@ pub(crate) fn set_field(
         Some(Place::Flag(flag)) => read_flag(config, flag, reader),
         Some(Place::AllowedInstructions) => read_instructions(config, reader),
         Some(Place::MemoryOffsetChoices) => read_choices(config, reader),
-        Some(Place::File) => no_file(next(reader)),
+        Some(Place::File) => no_file(reader),
         None => Err(Fault::UnknownField),
     }
 }
@@ -195,7 +206,7 @@ fn read_size(config: &mut Config, size: Size, reader: &mut Reader<'_>) -> Result
         (outcome result config.new reader.new) }
     ensures shorter { length reader.new ≤ length reader.old }
 {
-    if let Some(value) = whole(next(reader), usize::MAX as u128)? {
+    if let Some(value) = whole(reader, usize::MAX as u128)? {
         *size_at(config, size) = value as usize;
     }
     Ok(())
@@ -207,7 +218,7 @@ fn read_word(config: &mut Config, word: Word, reader: &mut Reader<'_>) -> Result
         (outcome result config.new reader.new) }
     ensures shorter { length reader.new ≤ length reader.old }
 {
-    if let Some(value) = whole(next(reader), u32::MAX as u128)? {
+    if let Some(value) = whole(reader, u32::MAX as u128)? {
         *word_at(config, word) = value as u32;
     }
     Ok(())
@@ -219,7 +230,7 @@ fn read_long(config: &mut Config, long: Long, reader: &mut Reader<'_>) -> Result
         (outcome result config.new reader.new) }
     ensures shorter { length reader.new ≤ length reader.old }
 {
-    if let Some(value) = whole(next(reader), u64::MAX as u128)? {
+    if let Some(value) = whole(reader, u64::MAX as u128)? {
         *long_at(config, long) = value as u64;
     }
     Ok(())
@@ -231,7 +242,7 @@ fn read_uleb_size(config: &mut Config, reader: &mut Reader<'_>) -> Result<(), Fa
         (outcome result config.new reader.new) }
     ensures shorter { length reader.new ≤ length reader.old }
 {
-    if let Some(value) = whole(next(reader), u8::MAX as u128)? {
+    if let Some(value) = whole(reader, u8::MAX as u128)? {
         config.min_uleb_size = value as u8;
     }
     Ok(())
@@ -243,7 +254,7 @@ fn read_memory64_bytes(config: &mut Config, reader: &mut Reader<'_>) -> Result<(
         (outcome result config.new reader.new) }
     ensures shorter { length reader.new ≤ length reader.old }
 {
-    if let Some(value) = whole(next(reader), u128::MAX)? {
+    if let Some(value) = whole(reader, u128::MAX)? {
         config.max_memory64_bytes = value;
     }
     Ok(())
@@ -255,7 +266,7 @@ fn read_flag(config: &mut Config, flag: Flag, reader: &mut Reader<'_>) -> Result
         (outcome result config.new reader.new) }
     ensures shorter { length reader.new ≤ length reader.old }
 {
-    if let Some(value) = truth(next(reader))? {
+    if let Some(value) = truth(reader)? {
         *flag_at(config, flag) = value;
     }
     Ok(())
@@ -267,7 +278,7 @@ fn read_instructions(config: &mut Config, reader: &mut Reader<'_>) -> Result<(),
         (outcome result config.new reader.new) }
     ensures shorter { length reader.new ≤ length reader.old }
 {
-    if let Some(kinds) = kinds(next(reader))? {
+    if let Some(kinds) = kinds(reader)? {
         config.allowed_instructions = kinds;
     }
     Ok(())
