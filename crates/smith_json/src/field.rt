@@ -1,4 +1,4 @@
-ghost use Rattle.std.specs.Prelude.{◌≡◌, option_map};
+ghost use Rattle.std.specs.Prelude.{◌≡◌, length, option_map};
 ghost use Rattle.smith_json.specs.Fields.{named, field_named};
 ghost use Rattle.smith_json.specs.Places.{field_of, fields_in};
 
@@ -50,8 +50,15 @@ pub struct Field {
 impl Field {
     /// Finds the field named `name`.
     pub fn named(name: &str) -> Option<&'static Field> {
-        row(&FIELDS, name)
+        row(fields(), name)
     }
+}
+
+/// Returns every field, in the order of `Config`.
+pub fn fields() -> &'static [Field]
+    ensures { length result.now ≡ 71 }
+{
+    &FIELDS
 }
 
 /// Finds the first row with the name `name`.
@@ -239,8 +246,8 @@ macro_rules! kind {
     };
 }
 
-/// Every field, in the order of `Config`.
-pub static FIELDS: [Field; 71] = fields!(field);
+/// The fields for readers.
+static FIELDS: [Field; 71] = fields!(field);
 
 /// The name and the place of every field, in the order of `Config`.
 static PLACES: [(&str, Place); 71] = fields!(place);

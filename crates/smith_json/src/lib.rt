@@ -11,6 +11,6 @@ mod read;
 mod refusal;
 mod value;
 
-pub use field::{FIELDS, Field, FieldKind};
+pub use field::{Field, FieldKind, fields};
 pub use read::{config, read_config, read_text};
 pub use refusal::{ConfigRefusal, Fault, Refusal};

@@ -3,7 +3,7 @@ use crate::failure::Failure;
 use crate::words::{ARBITRARY, CONFIG};
 use smith_bytes::{Error, Unstructured};
 use smith_config::{Config, MemoryOffsetChoices};
-use smith_json::{FIELDS, Field, FieldKind, read_text};
+use smith_json::{Field, FieldKind, fields, read_text};
 use smith_output::OutputFault;
 use smith_types::InstructionKinds;
 use std::alloc::Global;
@@ -56,7 +56,7 @@ fn set_from_words(
     asked: &Asked<'_, '_>,
     config: &mut Config,
 ) -> Result<(), Failure> {
-    for field in &FIELDS {
+    for field in fields() {
         if let Some(value) = asked.matches.get_str(field.name) {
             set_from_word(alloc, field, value, config)?;
         }

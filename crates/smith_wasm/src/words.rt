@@ -1,7 +1,7 @@
 use crate::failure::Failure;
 use crate::warnings::has_no_effect;
 use clap::{Arg, ArgAction, Command, value_parser};
-use smith_json::{FIELDS, Field, FieldKind};
+use smith_json::{Field, FieldKind, fields};
 use std::alloc::Global;
 
 /// The word of the input.
@@ -182,7 +182,7 @@ fn taking<'a>(arg: Arg<'a>, takes: Takes) -> Arg<'a> {
 /// Adds a word for each field of the configuration.
 fn with_fields<'a>(alloc: Global, command: Command<'a>) -> Result<Command<'a>, Failure> {
     let mut command = command;
-    for field in &FIELDS {
+    for field in fields() {
         if !matches!(field.kind, FieldKind::File) {
             command = command.arg(field_arg(alloc, field))?;
         }
