@@ -2,25 +2,43 @@ use crate::answers::answer;
 use smith_case::call::RECORDED;
 use smith_case::{Case, Fault, bytes_of, check_wanted, first_difference, read_case};
 use std::alloc::{AllocError, Global};
+use std::fmt::Display;
 
 /// Answers the case of `line` twice, or once if the answer is a checksum, and appends to `report`
 /// the line `ok NAME`, or `not ok NAME: ` and the first difference. Returns whether the answers are
 /// as the case wants.
 pub fn judge(alloc: Global, line: &str, report: &mut String) -> Result<bool, AllocError> {
-    let mut case = Case::default();
-    judge_into(alloc, line, &mut case, report)
+    judge_into(Case::default(), alloc, line, report)
+}
+
+// A case, which is judged. The function that owns it takes any such value, so that what it drops is
+// not proved field by field.
+trait Judges: Drop {
+    // Judges the case of `line`, which is read into the value.
+    fn judge(&mut self, alloc: Global, line: &str, report: &mut String) -> Result<bool, AllocError>;
+}
+
+impl Judges for Case {
+    fn judge(
+        &mut self,
+        alloc: Global,
+        line: &str,
+        report: &mut String,
+    ) -> Result<bool, AllocError> {
+        let judged = judged(alloc, line, self);
+        tell_judged(text_or_empty(&self.name), &judged, report)?;
+        Ok(matches!(judged, Ok(None)))
+    }
 }
 
 // Judges the case of `line`, which is read into `case`.
-fn judge_into(
+fn judge_into<C: Judges>(
+    mut case: C,
     alloc: Global,
     line: &str,
-    case: &mut Case,
     report: &mut String,
 ) -> Result<bool, AllocError> {
-    let judged = judged(alloc, line, case);
-    tell_judged(text_or_empty(&case.name), &judged, report)?;
-    Ok(matches!(judged, Ok(None)))
+    case.judge(alloc, line, report)
 }
 
 // Appends the line of the case `name`.
@@ -31,9 +49,14 @@ fn tell_judged(
 ) -> Result<(), AllocError> {
     match judged {
         Ok(None) => writeln!(report, "ok {name}"),
-        Ok(Some(difference)) => writeln!(report, "not ok {name}: {difference}"),
-        Err(fault) => writeln!(report, "not ok {name}: {fault}"),
+        Ok(Some(difference)) => tell_wrong(name, difference, report),
+        Err(fault) => tell_wrong(name, fault, report),
     }
+}
+
+// Appends the line of the case `name`, which is not ok for the reason `reason`.
+fn tell_wrong<T: Display>(name: &str, reason: &T, report: &mut String) -> Result<(), AllocError> {
+    writeln!(report, "not ok {name}: {reason}")
 }
 
 /// Returns the text `text`, or an empty one if there is none.

@@ -30,7 +30,7 @@ pub enum Call {
 }
 
 /// Calls that make a module.
-#[derive(Clone, Copy, PartialEq)]
+#[derive(Clone, Copy)]
 pub enum ModuleCall {
     /// `Module::new`.
     New,
@@ -204,7 +204,7 @@ pub enum SourceCall {
 }
 
 /// Draws of a name.
-#[derive(Clone, Copy, PartialEq)]
+#[derive(Clone, Copy)]
 pub enum NameCall {
     /// `limited_str`.
     LimitedStr,
@@ -270,260 +270,338 @@ pub enum SpaceCall {
 /// The name of the call that makes recorded answers.
 pub const RECORDED: &str = "recorded";
 
-// Each call by its name.
-static CALLS: [(&str, Call); 82] = [
-    ("Module::new", Call::Module(ModuleCall::New)),
+// The greatest number of arguments of a call that has any number.
+const ANY: usize = usize::MAX;
+
+// Each call by its name, with the greatest number of its arguments.
+static CALLS: [(&str, Call, usize); 82] = [
+    ("Module::new", Call::Module(ModuleCall::New), ANY),
     (
         "Module::new_internal",
         Call::Module(ModuleCall::NewInternal),
+        ANY,
     ),
-    ("Module::arbitrary", Call::Module(ModuleCall::Arbitrary)),
+    ("Module::arbitrary", Call::Module(ModuleCall::Arbitrary), 0),
     (
         "Module::new of Config::arbitrary",
         Call::Module(ModuleCall::NewOfDrawn),
+        0,
     ),
     (
         "Module::ensure_termination",
         Call::Module(ModuleCall::EnsureTermination),
+        ANY,
     ),
-    ("encode", Call::Module(ModuleCall::Encode)),
-    ("Program::new", Call::Program(ProgramCall::New)),
-    ("encode of Program::new", Call::Program(ProgramCall::Encode)),
-    ("Config::arbitrary", Call::Config(ConfigCall::Arbitrary)),
-    ("Config::clone", Call::Config(ConfigCall::Clone)),
-    ("Config::sanitize", Call::Config(ConfigCall::Sanitize)),
-    ("Config::check", Call::Config(ConfigCall::Check)),
-    ("Config::features", Call::Config(ConfigCall::Features)),
-    ("Shape::check", Call::Config(ConfigCall::ShapeCheck)),
-    ("spell", Call::Config(ConfigCall::Spell)),
+    ("encode", Call::Module(ModuleCall::Encode), ANY),
+    ("Program::new", Call::Program(ProgramCall::New), ANY),
+    (
+        "encode of Program::new",
+        Call::Program(ProgramCall::Encode),
+        ANY,
+    ),
+    ("Config::arbitrary", Call::Config(ConfigCall::Arbitrary), 0),
+    ("Config::clone", Call::Config(ConfigCall::Clone), 0),
+    ("Config::sanitize", Call::Config(ConfigCall::Sanitize), 0),
+    ("Config::check", Call::Config(ConfigCall::Check), 0),
+    ("Config::features", Call::Config(ConfigCall::Features), 0),
+    ("Shape::check", Call::Config(ConfigCall::ShapeCheck), 1),
+    ("spell", Call::Config(ConfigCall::Spell), 0),
     (
         "arbitrary_types",
         Call::Draw(DrawCall::Free(FreeCall::Types)),
+        2,
     ),
     (
         "arbitrary_rec_group",
         Call::Draw(DrawCall::Free(FreeCall::RecGroup)),
+        ANY,
     ),
     (
         "clone_rec_group",
         Call::Draw(DrawCall::Free(FreeCall::CloneRecGroup)),
+        2,
     ),
     (
         "arbitrary_sub_type_of_super_type",
         Call::Draw(DrawCall::Free(FreeCall::SubOfSuper)),
+        2,
     ),
     (
         "arbitrary_matching_struct_type",
         Call::Draw(DrawCall::Matching(MatchingCall::Struct)),
+        1,
     ),
     (
         "globals_for_const_expr",
         Call::Draw(DrawCall::Constant(ConstantCall::Globals)),
+        2,
     ),
     (
         "arbitrary_sub_type",
         Call::Draw(DrawCall::Free(FreeCall::Sub)),
+        2,
     ),
     (
         "arbitrary_composite_type",
         Call::Draw(DrawCall::Free(FreeCall::Composite)),
+        2,
     ),
     (
         "arbitrary_struct_type",
         Call::Draw(DrawCall::Free(FreeCall::Struct)),
+        2,
     ),
     (
         "arbitrary_func_type",
         Call::Draw(DrawCall::Free(FreeCall::Func)),
+        2,
     ),
     (
         "arbitrary_field_type",
         Call::Draw(DrawCall::Free(FreeCall::Field)),
+        2,
     ),
     (
         "arbitrary_storage_type",
         Call::Draw(DrawCall::Free(FreeCall::Storage)),
+        2,
     ),
     (
         "arbitrary_valtype",
         Call::Draw(DrawCall::Free(FreeCall::Val)),
+        2,
     ),
     (
         "arbitrary_ref_type",
         Call::Draw(DrawCall::Free(FreeCall::Ref)),
+        2,
     ),
     (
         "arbitrary_heap_type",
         Call::Draw(DrawCall::Free(FreeCall::Heap)),
+        2,
     ),
     (
         "arbitrary_matching_func_type",
         Call::Draw(DrawCall::Matching(MatchingCall::Func)),
+        1,
     ),
     (
         "arbitrary_matching_field_type",
         Call::Draw(DrawCall::Matching(MatchingCall::Field)),
+        1,
     ),
     (
         "arbitrary_matching_storage_type",
         Call::Draw(DrawCall::Matching(MatchingCall::Storage)),
+        1,
     ),
     (
         "arbitrary_matching_val_type",
         Call::Draw(DrawCall::Matching(MatchingCall::Val)),
+        1,
     ),
     (
         "arbitrary_matching_ref_type",
         Call::Draw(DrawCall::Matching(MatchingCall::Ref)),
+        1,
     ),
     (
         "arbitrary_matching_heap_type",
         Call::Draw(DrawCall::Matching(MatchingCall::Heap)),
+        1,
     ),
     (
         "arbitrary_super_type_of_val_type",
         Call::Draw(DrawCall::Matching(MatchingCall::AboveVal)),
+        1,
     ),
     (
         "arbitrary_super_type_of_ref_type",
         Call::Draw(DrawCall::Matching(MatchingCall::AboveRef)),
+        1,
     ),
     (
         "arbitrary_super_type_of_heap_type",
         Call::Draw(DrawCall::Matching(MatchingCall::AboveHeap)),
+        1,
     ),
     (
         "arbitrary_global_type",
         Call::Draw(DrawCall::Entity(EntityCall::Global)),
+        0,
     ),
     (
         "arbitrary_tag_type",
         Call::Draw(DrawCall::Entity(EntityCall::Tag)),
+        0,
     ),
     (
         "arbitrary_table_type",
         Call::Draw(DrawCall::Entity(EntityCall::Table)),
+        0,
     ),
     (
         "arbitrary_memtype",
         Call::Draw(DrawCall::Entity(EntityCall::Mem)),
+        0,
     ),
     (
         "arbitrary_const_expr",
         Call::Draw(DrawCall::Constant(ConstantCall::Expression)),
+        3,
     ),
     (
         "arbitrary_table_init",
         Call::Draw(DrawCall::Constant(ConstantCall::TableInit)),
+        1,
     ),
     (
         "arbitrary_locals",
         Call::Draw(DrawCall::Entity(EntityCall::Locals)),
+        0,
     ),
     (
         "gradually_grow",
         Call::Draw(DrawCall::Number(NumberCall::GraduallyGrow)),
+        3,
     ),
     (
         "arbitrary_limits64",
         Call::Draw(DrawCall::Number(NumberCall::Limits64)),
+        4,
     ),
     (
         "arbitrary_offset",
         Call::Draw(DrawCall::Number(NumberCall::Offset)),
+        3,
     ),
     (
         "Unstructured::arbitrary",
         Call::Source(SourceCall::Arbitrary),
+        1,
     ),
     (
         "Unstructured::int_in_range",
         Call::Source(SourceCall::IntInRange),
+        3,
     ),
-    ("Unstructured::ratio", Call::Source(SourceCall::Ratio)),
-    ("Unstructured::choose", Call::Source(SourceCall::Choose)),
-    ("Unstructured::bytes", Call::Source(SourceCall::Bytes)),
+    ("Unstructured::ratio", Call::Source(SourceCall::Ratio), 2),
+    (
+        "Unstructured::choose",
+        Call::Source(SourceCall::Choose),
+        ANY,
+    ),
+    ("Unstructured::bytes", Call::Source(SourceCall::Bytes), 1),
     (
         "Unstructured::peek_bytes",
         Call::Source(SourceCall::PeekBytes),
+        1,
     ),
     (
         "Unstructured::arbitrary_len",
         Call::Source(SourceCall::ArbitraryLen),
+        ANY,
     ),
-    ("arbitrary_loop", Call::Source(SourceCall::ArbitraryLoop)),
-    ("limited_str", Call::Name(NameCall::LimitedStr)),
-    ("limited_string", Call::Name(NameCall::LimitedString)),
-    ("unique_string", Call::Name(NameCall::UniqueString)),
+    (
+        "arbitrary_loop",
+        Call::Source(SourceCall::ArbitraryLoop),
+        ANY,
+    ),
+    ("limited_str", Call::Name(NameCall::LimitedStr), ANY),
+    ("limited_string", Call::Name(NameCall::LimitedString), ANY),
+    ("unique_string", Call::Name(NameCall::UniqueString), ANY),
     (
         "unique_kebab_string",
         Call::Name(NameCall::UniqueKebabString),
+        ANY,
     ),
-    ("unique_url", Call::Name(NameCall::UniqueUrl)),
+    ("unique_url", Call::Name(NameCall::UniqueUrl), ANY),
     (
         "MemoryOffsetChoices::from_str",
         Call::Parser(ParserCall::OffsetChoices),
+        1,
     ),
-    ("InstructionKind::from_str", Call::Parser(ParserCall::Kind)),
+    (
+        "InstructionKind::from_str",
+        Call::Parser(ParserCall::Kind),
+        ANY,
+    ),
     (
         "InstructionKinds::from_str",
         Call::Parser(ParserCall::Kinds),
+        1,
     ),
     (
         "InstructionKinds::without_floats",
         Call::Parser(ParserCall::WithoutFloats),
+        1,
     ),
     (
         "InstructionKinds::contains",
         Call::Parser(ParserCall::Contains),
+        2,
     ),
-    ("InstructionKinds::none", Call::Parser(ParserCall::NoKinds)),
-    ("InstructionKinds::all", Call::Parser(ParserCall::AllKinds)),
+    (
+        "InstructionKinds::none",
+        Call::Parser(ParserCall::NoKinds),
+        0,
+    ),
+    (
+        "InstructionKinds::all",
+        Call::Parser(ParserCall::AllKinds),
+        0,
+    ),
     (
         "InstructionKinds::default",
         Call::Parser(ParserCall::DefaultKinds),
+        0,
     ),
-    ("config", Call::ReadConfig),
+    ("config", Call::ReadConfig, ANY),
     (
         "TypeSpace::heap_type_is_sub_type",
         Call::Subtype(SubtypeCall::HeapType),
+        2,
     ),
     (
         "TypeSpace::ref_type_is_sub_type",
         Call::Subtype(SubtypeCall::RefType),
+        2,
     ),
     (
         "TypeSpace::val_type_is_sub_type",
         Call::Subtype(SubtypeCall::ValType),
+        2,
     ),
     (
         "TypeSpace::composite_type_matches",
         Call::Space(SpaceCall::Matches),
+        2,
     ),
-    ("TypeSpace::depth", Call::Space(SpaceCall::Depth)),
-    ("TypeSpace::size_of", Call::Space(SpaceCall::Size)),
-    ("TypeSpace::push_type", Call::Space(SpaceCall::Pushed)),
-    ("add_type", Call::Space(SpaceCall::Added)),
-    ("list_types", Call::Space(SpaceCall::Listed)),
-    ("clone", Call::Copies),
-    (RECORDED, Call::Recorded),
+    ("TypeSpace::depth", Call::Space(SpaceCall::Depth), 1),
+    ("TypeSpace::size_of", Call::Space(SpaceCall::Size), 1),
+    ("TypeSpace::push_type", Call::Space(SpaceCall::Pushed), 0),
+    ("add_type", Call::Space(SpaceCall::Added), 0),
+    ("list_types", Call::Space(SpaceCall::Listed), 1),
+    ("clone", Call::Copies, 0),
+    (RECORDED, Call::Recorded, 3),
 ];
 
-// Returns each call by its name.
-fn calls() -> &'static [(&'static str, Call)] {
+// Returns each call by its name, with the greatest number of its arguments.
+fn calls() -> &'static [(&'static str, Call, usize)] {
     &CALLS
 }
 
-/// Finds the call named `name`, if there is one.
-pub fn call_named(name: &str) -> Option<Call> {
+/// Finds the call named `name` and the greatest number of its arguments, if there is such a call.
+pub fn call_named(name: &str) -> Option<(Call, usize)> {
     call_among(calls(), name)
 }
 
 // Finds the call named `name` among `calls`.
-fn call_among(calls: &[(&str, Call)], name: &str) -> Option<Call> {
-    for (other, call) in calls {
+fn call_among(calls: &[(&str, Call, usize)], name: &str) -> Option<(Call, usize)> {
+    for (other, call, most) in calls {
         if *other == name {
-            return Some(*call);
+            return Some((*call, *most));
         }
     }
     None

@@ -130,16 +130,13 @@ fn read_members(
     reader: &mut Reader<'_>,
     case: &mut Case,
 ) -> Result<(), Fault> {
-    if !matches!(reader.next(), Some(Token::BeginObject)) {
-        return Err(Fault::Syntax(reader.offset()));
-    }
-    for _ in 0..most {
-        let Ok(found) = reader.next_key() else {
-            return Err(Fault::Syntax(reader.offset()));
-        };
-        match found {
-            Some(key) => read_member(alloc, key, reader, case)?,
-            None => return ended(reader),
+    if matches!(reader.next(), Some(Token::BeginObject)) {
+        for _ in 0..most {
+            match reader.next_key() {
+                Ok(Some(key)) => read_member(alloc, key, reader, case)?,
+                Ok(None) => return ended(reader),
+                Err(_) => break,
+            }
         }
     }
     Err(Fault::Syntax(reader.offset()))
@@ -212,14 +209,13 @@ fn read_texts(
     reader: &mut Reader<'_>,
     texts: &mut Vec<String>,
 ) -> Result<(), Fault> {
-    if !matches!(reader.next(), Some(Token::BeginArray)) {
-        return Err(Fault::Syntax(reader.offset()));
-    }
-    for _ in 0..MOST_TEXTS {
-        if reader.take_end_array() {
-            return Ok(());
+    if matches!(reader.next(), Some(Token::BeginArray)) {
+        for _ in 0..MOST_TEXTS {
+            if reader.take_end_array() {
+                return Ok(());
+            }
+            texts.push(read_text(alloc, reader)?)?;
         }
-        texts.push(read_text(alloc, reader)?)?;
     }
     Err(Fault::Syntax(reader.offset()))
 }

@@ -1,6 +1,6 @@
 use smith_bytes::Error;
 use std::alloc::{AllocError, AllocFailed};
-use std::fmt;
+use std::fmt::{self, Display};
 
 /// A reason why a case cannot be answered.
 #[derive(Clone, Copy)]
@@ -51,51 +51,59 @@ pub enum Fault {
     Memory,
 }
 
-// Returns the text of a fault that has no contents.
-fn plain_text(fault: Fault) -> &'static str {
-    match fault {
-        Fault::NoName => "no name",
-        Fault::UnknownCall => "an unknown call",
-        Fault::UnknownShape => "an unknown shape",
-        Fault::UnknownTypes => "an unknown type space",
-        Fault::Input => "the input is not hexadecimal",
-        Fault::UnknownInputs => "unknown inputs",
-        Fault::TooManyArguments => "more arguments than the call has",
-        Fault::UselessKey => "a key that the call does not read",
-        Fault::WantsNothing => "nothing is wanted",
-        Fault::EmptyPiece => "an empty piece is wanted",
-        Fault::Unsteady => "the second run returned a different answer",
-        _ => "refused: Memory",
+impl Fault {
+    // Returns the text of a fault up to its contents.
+    fn text(self) -> &'static str {
+        match self {
+            Fault::Syntax(_) => "not a JSON object of a case, from byte ",
+            Fault::UnknownKey(_) => "an unknown key before byte ",
+            Fault::RepeatedKey(_) => "the key before byte ",
+            Fault::NoName => "no name",
+            Fault::UnknownCall => "an unknown call",
+            Fault::UnknownShape => "an unknown shape",
+            Fault::UnknownTypes => "an unknown type space",
+            Fault::Input => "the input is not hexadecimal",
+            Fault::UnknownInputs => "unknown inputs",
+            Fault::Argument(_) => "argument ",
+            Fault::TooManyArguments => "more arguments than the call has",
+            Fault::UselessKey => "a key that the call does not read",
+            Fault::WantsNothing => "nothing is wanted",
+            Fault::EmptyPiece => "an empty piece is wanted",
+            Fault::Unsteady => "the second run returned a different answer",
+            Fault::NotCallable(_) => "the call may not be made: ",
+            Fault::Config { .. } => "the configuration, line ",
+            Fault::Memory => "refused: Memory",
+        }
+    }
+
+    // Returns the text of a fault after its numbers.
+    fn end(self) -> &'static str {
+        match self {
+            Fault::RepeatedKey(_) => " occurs twice",
+            Fault::Argument(_) => " is missing or not valid for the call",
+            Fault::NotCallable(why) => why,
+            Fault::Config { fault, .. } => fault,
+            _ => "",
+        }
     }
 }
 
 impl fmt::Display for Fault {
     fn fmt<W: fmt::Write>(&self, f: &mut fmt::Formatter<W>) -> fmt::Result {
-        let (before, place, after) = match *self {
-            Fault::Syntax(byte) => ("not a JSON object of a case, from byte ", Some(byte), ""),
-            Fault::UnknownKey(byte) => ("an unknown key before byte ", Some(byte), ""),
-            Fault::RepeatedKey(byte) => ("the key before byte ", Some(byte), " occurs twice"),
-            Fault::Argument(place) => (
-                "argument ",
-                Some(place),
-                " is missing or not valid for the call",
-            ),
-            Fault::NotCallable(why) => ("the call may not be made: ", None, why),
-            Fault::Config {
-                fault,
-                line,
-                column,
-            } => return write!(
-                f,
-                "the configuration, line {line}, column {column}: {fault}"
-            ),
-            plain => (plain_text(plain), None, ""),
-        };
-        f.write_str(before)?;
-        if let Some(place) = place {
-            place.fmt(f)?;
+        f.write_str(self.text())?;
+        match *self {
+            Fault::Syntax(number)
+            | Fault::UnknownKey(number)
+            | Fault::RepeatedKey(number)
+            | Fault::Argument(number) => number.fmt(f)?,
+            Fault::Config { line, column, .. } => {
+                line.fmt(f)?;
+                f.write_str(", column ")?;
+                column.fmt(f)?;
+            }
+            _ => {}
         }
-        f.write_str(after)
+        f.write_str(self.end())
     }
 }
 

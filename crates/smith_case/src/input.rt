@@ -15,13 +15,20 @@ pub fn bytes_of(alloc: Global, text: &str) -> Result<Vec<u8>, Fault> {
 const MOST_COPIES: usize = 100_000;
 
 fn append_word(alloc: Global, word: &str, bytes: &mut Vec<u8>) -> Result<(), Fault> {
-    let (digits, copies) = match word.split_once('*') {
-        Some((digits, count)) => (digits, count.parse::<usize>().ok().ok_or(Fault::Input)?),
-        None => (word, 1),
-    };
-    if copies > MOST_COPIES {
-        return Err(Fault::Input);
+    let (digits, count) = word.split_once('*').unwrap_or((word, "1"));
+    match count.parse::<usize>() {
+        Ok(copies) if copies <= MOST_COPIES => append_copies(alloc, digits, copies, bytes),
+        _ => Err(Fault::Input),
     }
+}
+
+// Appends the bytes of `digits` to `bytes`, `copies` times.
+fn append_copies(
+    alloc: Global,
+    digits: &str,
+    copies: usize,
+    bytes: &mut Vec<u8>,
+) -> Result<(), Fault> {
     let part = match hex::decode(alloc, digits) {
         Ok(part) => part,
         Err(hex::FromHexError::OutOfMemory) => return Err(Fault::Memory),

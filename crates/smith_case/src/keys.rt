@@ -22,8 +22,8 @@ const NONE: Keys = Keys {
     input: false,
 };
 
-/// Checks that `call` reads each key that `case` has.
-pub fn check_keys(case: &Case, call: Call) -> Result<(), Fault> {
+/// Checks that `call` reads each key that `case` has, and that there are at most `most` arguments.
+pub fn check_keys(case: &Case, call: Call, most: usize) -> Result<(), Fault> {
     let keys = keys_of(call);
     let has_shapes = case.shapes.available_imports.is_some()
         || case.shapes.exports.is_some()
@@ -38,6 +38,9 @@ pub fn check_keys(case: &Case, call: Call) -> Result<(), Fault> {
     ];
     if useless.contains(&true) {
         return Err(Fault::UselessKey);
+    }
+    if case.args().len() > most {
+        return Err(Fault::TooManyArguments);
     }
     Ok(())
 }

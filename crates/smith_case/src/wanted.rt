@@ -54,11 +54,16 @@ pub fn check_wanted(case: &Case) -> Result<(), Fault> {
     if begins_with_anything(list(&wanted.answer)) {
         return Err(Fault::WantsNothing);
     }
-    check_texts(&wanted.answer)?;
-    check_texts(&wanted.lines)?;
-    check_texts(&wanted.pieces)?;
-    check_texts(&wanted.absent)?;
-    check_texts(&wanted.may)
+    for texts in &[
+        &wanted.answer,
+        &wanted.lines,
+        &wanted.pieces,
+        &wanted.absent,
+        &wanted.may,
+    ] {
+        check_texts(texts)?;
+    }
+    Ok(())
 }
 
 // Checks that `texts` is no empty list, and has no blank text.

@@ -1,5 +1,5 @@
 use crate::large_parts::{add_chain, add_cycle, add_fan, add_wide, export_many};
-use crate::type_names::{field_type_of, ref_type_of, val_type_of};
+use crate::type_names::{field_type_of, ref_type_of, take_word, val_type_of};
 use smith_case::Fault;
 use smith_config::Shape;
 use smith_types::{
@@ -33,7 +33,9 @@ pub(crate) fn add_part(alloc: Global, part: &str, shape: &mut Shape) -> Result<(
         "group" | "chain" | "cycle" | "wide" | "fan" => {
             add_group(alloc, word, rest, &mut shape.groups)
         }
-        "import" | "items" | "names" => push(&mut shape.imports, imports_of(alloc, word, rest)),
+        "import" => push(&mut shape.imports, import_of(alloc, rest)),
+        "items" => push(&mut shape.imports, items_of(alloc, rest)),
+        "names" => push(&mut shape.imports, names_of(alloc, rest)),
         "export" => push(&mut shape.exports, export_of(alloc, rest)),
         "exports" => export_many(alloc, known(number(rest))?, &mut shape.exports),
         _ => add_definition(part, shape),
@@ -53,8 +55,8 @@ fn add_group(
     groups: &mut Items<Items<SubType>>,
 ) -> Result<(), Fault> {
     let mut types = Items::new(alloc);
-    add_types(alloc, word, rest, &mut types)?;
-    Ok(groups.push(types)?)
+    let added = add_types(alloc, word, rest, &mut types);
+    push(groups, added.and(Ok(types)))
 }
 
 // Adds the types of a part that begins with `word` to `types`.
@@ -73,15 +75,6 @@ fn add_types(
         "cycle" => add_cycle(alloc, count, types),
         "wide" => add_wide(alloc, count, types),
         _ => add_fan(alloc, count, types),
-    }
-}
-
-// Returns the imports of a part that begins with `word`.
-fn imports_of(alloc: Global, word: &str, rest: &str) -> Result<Imports, Fault> {
-    match word {
-        "import" => import_of(alloc, rest),
-        "items" => items_of(alloc, rest),
-        _ => names_of(alloc, rest),
     }
 }
 
@@ -117,7 +110,7 @@ fn add_written(alloc: Global, text: &str, types: &mut Items<SubType>) -> Result<
 
 fn sub_type_of(alloc: Global, text: &str) -> Result<SubType, Fault> {
     let (is_open, text) = take_word(text, "open ");
-    let (supertype, text) = known(supertype_of(text))?;
+    let (supertype, text) = known(number_after("below ", text))?;
     Ok(SubType {
         is_final: !is_open,
         supertype,
@@ -128,13 +121,13 @@ fn sub_type_of(alloc: Global, text: &str) -> Result<SubType, Fault> {
     })
 }
 
-// Reads the index of the supertype, if `text` begins with one. Returns the text after it.
-fn supertype_of(text: &str) -> Option<(Option<u32>, &str)> {
-    let Some(text) = text.strip_prefix("below ") else {
+// Reads the number after `keyword`, if `text` begins with it. Returns the text after the number.
+fn number_after<'a>(keyword: &str, text: &'a str) -> Option<(Option<u32>, &'a str)> {
+    let Some(text) = text.strip_prefix(keyword) else {
         return Some((None, text));
     };
-    let (index, text) = split_word(text);
-    Some((Some(number(index)?), text))
+    let (word, text) = split_word(text);
+    Some((Some(number(word)?), text))
 }
 
 fn inner_of(alloc: Global, text: &str) -> Result<CompositeInnerType, Fault> {
@@ -181,8 +174,7 @@ impl Listed for ValType {
 // Reads the types between commas in `text`.
 fn list_of<T: Listed + Drop>(alloc: Global, text: &str) -> Result<Items<T>, Fault> {
     let mut types = Items::new(alloc);
-    add_listed(text, &mut types)?;
-    Ok(types)
+    add_listed(text, &mut types).and(Ok(types))
 }
 
 // Adds the types between commas in `text` to `types`.
@@ -216,12 +208,10 @@ fn item_of(alloc: Global, text: &str) -> Result<ImportItem, Fault> {
 
 fn items_of(alloc: Global, text: &str) -> Result<Imports, Fault> {
     let (module, rest) = split_word(text);
+    let module = Name::from_text(alloc, module)?;
     let mut items = Items::new(alloc);
-    add_items(alloc, rest, &mut items)?;
-    Ok(Imports::Compact1 {
-        module: Name::from_text(alloc, module)?,
-        items,
-    })
+    let added = add_items(alloc, rest, &mut items);
+    added.and(Ok(Imports::Compact1 { module, items }))
 }
 
 // Adds the imports between semicolons in `text` to `items`.
@@ -238,13 +228,14 @@ fn names_of(alloc: Global, text: &str) -> Result<Imports, Fault> {
     let (module, rest) = split_word(text);
     let (texts, entity) = split_word(rest);
     let entity_type = known(entity_of(entity))?;
+    let module = Name::from_text(alloc, module)?;
     let mut names = Items::new(alloc);
-    add_names(alloc, texts, &mut names)?;
-    Ok(Imports::Compact2 {
-        module: Name::from_text(alloc, module)?,
+    let added = add_names(alloc, texts, &mut names);
+    added.and(Ok(Imports::Compact2 {
+        module,
         entity_type,
         names,
-    })
+    }))
 }
 
 // Adds the names between commas in `text` to `names`.
@@ -267,14 +258,6 @@ pub fn entity_of(text: &str) -> Option<EntityType> {
         "memory" => memory_of(rest),
         "global" => global_of(rest),
         _ => None,
-    }
-}
-
-// Returns whether `text` begins with `word`, and the text after it.
-fn take_word<'a>(text: &'a str, word: &str) -> (bool, &'a str) {
-    match text.strip_prefix(word) {
-        Some(rest) => (true, rest),
-        None => (false, text),
     }
 }
 
@@ -302,7 +285,7 @@ fn table_of(text: &str) -> Option<EntityType> {
 fn memory_of(text: &str) -> Option<EntityType> {
     let (shared, text) = take_word(text, "shared ");
     let (memory64, text) = take_word(text, "i64 ");
-    let (page_size_log2, text) = page_size_of(text)?;
+    let (page_size_log2, text) = number_after("pagesize 2^", text)?;
     let (minimum, maximum) = limits_of(text)?;
     Some(EntityType::Memory(MemoryType {
         minimum,
@@ -311,16 +294,6 @@ fn memory_of(text: &str) -> Option<EntityType> {
         shared,
         page_size_log2,
     }))
-}
-
-// Reads the binary logarithm of the size of a page, if `text` begins with one. Returns the text
-// after it.
-fn page_size_of(text: &str) -> Option<(Option<u32>, &str)> {
-    let Some(text) = text.strip_prefix("pagesize 2^") else {
-        return Some((None, text));
-    };
-    let (log2, text) = split_word(text);
-    Some((Some(number(log2)?), text))
 }
 
 fn global_of(text: &str) -> Option<EntityType> {
@@ -348,8 +321,7 @@ fn add_definition(part: &str, shape: &mut Shape) -> Result<(), Fault> {
 fn export_of(alloc: Global, text: &str) -> Result<(Name, ExportKind, u32), Fault> {
     let (name, item) = split_word(text);
     let (kind, index) = split_word(item);
-    let kind = known(export_kind_of(kind))?;
-    let index = known(number(index))?;
+    let (kind, index) = known(export_kind_of(kind).zip(number(index)))?;
     Ok((Name::from_text(alloc, name)?, kind, index))
 }
 

@@ -109,10 +109,7 @@ fn parts_among(shapes: &'static str, name: &str) -> Option<&'static str> {
 
 // Finds the parts of the shape named `name`.
 fn parts_of(name: &str) -> Option<&'static str> {
-    match parts_among(SHAPES, name) {
-        Some(parts) => Some(parts),
-        None => parts_among(CHECKED_SHAPES, name),
-    }
+    parts_among(SHAPES, name).or(parts_among(CHECKED_SHAPES, name))
 }
 
 /// Creates the shape named `name`.
@@ -121,8 +118,7 @@ pub fn shape_named(alloc: Global, name: &str) -> Result<Shape, Fault> {
         return Err(Fault::UnknownShape);
     };
     let mut shape = nothing(alloc);
-    add_parts(alloc, parts, &mut shape)?;
-    Ok(shape)
+    add_parts(alloc, parts, &mut shape).and(Ok(shape))
 }
 
 // Adds the parts between bars in `parts` to `shape`.

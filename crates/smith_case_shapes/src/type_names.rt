@@ -40,6 +40,14 @@ fn inside<'a>(text: &'a str, keyword: &str) -> Option<&'a str> {
     text.strip_prefix(keyword)?.strip_suffix(")")
 }
 
+/// Returns whether `text` begins with `word`, and the text after it.
+pub(crate) fn take_word<'a>(text: &'a str, word: &str) -> (bool, &'a str) {
+    match text.strip_prefix(word) {
+        Some(rest) => (true, rest),
+        None => (false, text),
+    }
+}
+
 /// Reads the heap type that `text` denotes: `any`, `(shared any)`, `0`, `(exact 0)`.
 pub fn heap_type_of(text: &str) -> Option<HeapType> {
     if let Some(name) = inside(text, "(shared ") {
@@ -56,11 +64,7 @@ pub fn heap_type_of(text: &str) -> Option<HeapType> {
 
 /// Reads the reference type that `text` denotes: `(ref any)`, `(ref null 0)`.
 pub fn ref_type_of(text: &str) -> Option<RefType> {
-    let referred = inside(text, "(ref ")?;
-    let (nullable, heap_type) = match referred.strip_prefix("null ") {
-        Some(heap_type) => (true, heap_type),
-        None => (false, referred),
-    };
+    let (nullable, heap_type) = take_word(inside(text, "(ref ")?, "null ");
     Some(RefType {
         nullable,
         heap_type: heap_type_of(heap_type)?,

@@ -1,6 +1,6 @@
 use crate::told::{tell_bytes, tell_line, tell_refusal};
 use smith_bytes::{Error, Unstructured, Which};
-use smith_case::arguments::{at_most, word};
+use smith_case::arguments::word;
 use smith_case::call::ConfigCall;
 use smith_case::{Case, Fault};
 use smith_case_shapes::shape_named;
@@ -21,7 +21,7 @@ pub fn answer_config(
         ConfigCall::ShapeCheck => checked_shape(alloc, case, config, answer),
         ConfigCall::Spell => spelled(alloc, case, config, answer),
         ConfigCall::Clone => answer_copy(alloc, config, answer),
-        ConfigCall::Check => tell_check(config.check().map_err(Error::Config), answer),
+        ConfigCall::Check => tell_check(checked(config), answer),
         ConfigCall::Features => tell_features(config.features(), answer),
         _ => {
             config.sanitize();
@@ -120,12 +120,19 @@ pub(crate) fn shape_of(alloc: Global, case: &Case) -> Result<Shape, Fault> {
 
 // Returns the use of a shape that the first argument names.
 fn which_of(case: &Case) -> Result<Which, Fault> {
-    at_most(case, 1)?;
     match word(case, 0)? {
         "AvailableImports" => Ok(Which::AvailableImports),
         "Exports" => Ok(Which::Exports),
         "ModuleShape" => Ok(Which::ModuleShape),
         _ => Err(Fault::Argument(0)),
+    }
+}
+
+// Checks `config`.
+fn checked(config: &Config) -> Result<(), Error> {
+    match config.check() {
+        Ok(()) => Ok(()),
+        Err(fault) => Err(Error::Config(fault)),
     }
 }
 

@@ -3,9 +3,9 @@ ghost use Rattle.smith_config.specs.Features.{features_of};
 ghost use Rattle.smith_types.specs.ValidTypes.{AreTypesValid, IsRefTypeValid, IsValTypeValid};
 
 use crate::spaces::{Over, number_global, spaces_of, with_globals};
-use crate::told::{tell_drawn_values, tell_line, tell_refusal, tell_values};
+use crate::told::{tell_drawn_values, tell_line, tell_pair, tell_refusal, tell_values};
 use smith_bytes::{Error, Unstructured};
-use smith_case::arguments::{at_most, flag, word};
+use smith_case::arguments::{value, word};
 use smith_case::call::ConstantCall;
 use smith_case::{Case, Fault};
 use smith_case_shapes::{ref_type_of, val_type_of};
@@ -41,8 +41,8 @@ fn answer_value(
 ) -> Result<(), Fault>
     requires types { AreTypesValid (features_of over.now.config.now) over.now.spaces.now.types.now }
 {
-    let is_counted = is_counted(over.case, call)?;
-    let allow_defined = flag(over.case, 1)?;
+    let is_counted = is_counted(over.case)?;
+    let allow_defined = value(over.case, 1)?;
     let wanted = wanted_of(over)?;
     if matches!(call, ConstantCall::Globals) {
         return tell_drawn_values(readable_globals(over, wanted, allow_defined), answer);
@@ -54,12 +54,8 @@ fn answer_value(
     tell_drawn_values(drawn, answer)
 }
 
-// Returns whether the third argument is `count`, which only an expression may have.
-fn is_counted(case: &Case, call: ConstantCall) -> Result<bool, Fault> {
-    if matches!(call, ConstantCall::Globals) {
-        at_most(case, 2)?;
-    }
-    at_most(case, 3)?;
+// Returns whether the third argument is `count`.
+fn is_counted(case: &Case) -> Result<bool, Fault> {
     match case.args().get(2) {
         None => Ok(false),
         Some(word) if word.as_str() == "count" => Ok(true),
@@ -102,7 +98,7 @@ fn drawn_expression(
 // Appends the number of instructions of the expression that is drawn, or the refusal.
 fn tell_count(drawn: Result<Items<ConstInstr>, Error>, answer: &mut String) -> Result<(), Fault> {
     match drawn {
-        Ok(drawn) => Ok(writeln!(answer, "{} instructions", drawn.as_slice().len())?),
+        Ok(drawn) => tell_pair(drawn.as_slice().len(), "instructions", answer),
         Err(refusal) => tell_refusal(refusal, answer),
     }
 }
@@ -135,7 +131,6 @@ fn element_of(over: &Over<'_>) -> Result<RefType, Fault>
     ensures created { IfOk result (λ element.
         element.nullable ≡ false → IsTrue over.now.config.now.gc_enabled) }
 {
-    at_most(over.case, 1)?;
     let Some(element) = ref_type_of(word(over.case, 0)?) else {
         return Err(Fault::Argument(0));
     };

@@ -1,5 +1,5 @@
 use crate::configs::shape_of;
-use crate::told::tell_debug;
+use crate::told::{tell_debug, tell_pair};
 use smith_bytes::Error;
 use smith_case::{Case, Fault};
 use smith_types::{CompositeInnerType, CompositeType, ImportItem, Imports, Items, SubType};
@@ -22,7 +22,7 @@ fn tell_copy<T: PartialEq + Drop>(
 ) -> Result<(), Fault> {
     let is_equal = copy? == *value;
     let told = if is_equal { "is equal" } else { "differs" };
-    Ok(writeln!(answer, "{name} {told}")?)
+    tell_pair(name, told, answer)
 }
 
 fn answer_groups(

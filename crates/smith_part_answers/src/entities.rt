@@ -4,7 +4,6 @@ use crate::spaces::Over;
 use crate::told::{tell_drawn, tell_drawn_values};
 use smith_bytes::Unstructured;
 use smith_case::Fault;
-use smith_case::arguments::at_most;
 use smith_case::call::EntityCall;
 use smith_draw::{
     TypeUse, arbitrary_global_type, arbitrary_locals, arbitrary_memtype, arbitrary_table_type,
@@ -20,7 +19,6 @@ pub(crate) fn answer_entity(
 ) -> Result<(), Fault>
     requires { IsSanitized over.now.config.now }
 {
-    at_most(over.case, 0)?;
     let Over {
         alloc,
         config,

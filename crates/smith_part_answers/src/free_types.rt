@@ -3,10 +3,10 @@ ghost use Rattle.smith_config.specs.Faults.{Passes};
 ghost use Rattle.smith_config.specs.Sanitized.{IsSanitized};
 
 use crate::spaces::{Over, types_of};
-use crate::told::{tell_drawn, tell_refusal, tell_types};
+use crate::told::{tell_drawn, tell_line, tell_refusal, tell_types};
 use smith_bytes::Unstructured;
 use smith_case::Fault;
-use smith_case::arguments::{at_most, flag, number};
+use smith_case::arguments::value;
 use smith_case::call::FreeCall;
 use smith_draw::{
     Entities, arbitrary_composite_type, arbitrary_field_type, arbitrary_func_type,
@@ -29,20 +29,19 @@ fn bounds_of(over: &Over<'_>) -> Result<Bounds, Fault>
     ensures { IfOk result (λ bounds. IsTrue bounds.must_share
         → IsTrue over.now.config.now.shared_everything_threads_enabled) }
 {
-    at_most(over.case, 2)?;
     if over.case.args().is_empty() {
         return Ok(Bounds {
             must_share: false,
             limit: over.spaces.types.types().len() as u32,
         });
     }
-    let must_share = flag(over.case, 0)?;
+    let must_share = value(over.case, 0)?;
     if must_share && !over.config.shared_everything_threads_enabled {
         return Err(Fault::NotCallable("no type may be shared"));
     }
     Ok(Bounds {
         must_share,
-        limit: number(over.case, 1)?,
+        limit: value(over.case, 1)?,
     })
 }
 
@@ -92,13 +91,22 @@ fn answer_groups(
     requires sanitized { IsSanitized over.now.config.now }
 {
     let mut types = TypeSpace::new(over.alloc);
+    add_groups(over, &mut types, u)?;
+    tell_types(&types, answer)
+}
+
+// Adds a group to `types` for each argument, or one that may be empty.
+fn add_groups(over: &Over<'_>, types: &mut TypeSpace, u: &mut Unstructured<'_>) -> Result<(), Fault>
+    requires passes { Passes over.now.config.now }
+    requires sanitized { IsSanitized over.now.config.now }
+{
     if over.case.args().is_empty() {
-        add_group(over, true, &mut types, u)?;
+        return add_group(over, true, types, u);
     }
     for place in 0..over.case.args().len() {
-        add_group(over, flag(over.case, place)?, &mut types, u)?;
+        add_group(over, value(over.case, place)?, types, u)?;
     }
-    tell_types(&types, answer)
+    Ok(())
 }
 
 // Adds a group to `types`.
@@ -131,7 +139,7 @@ fn answer_clone(over: &Over<'_>, u: &mut Unstructured<'_>, answer: &mut String) 
     }
     match clone_rec_group(alloc, config, &mut types, &Entities::none(), true, u) {
         Ok(is_cloned) => {
-            writeln!(answer, "{is_cloned}")?;
+            tell_line(is_cloned, answer)?;
             tell_types(&types, answer)
         }
         Err(refusal) => tell_refusal(refusal, answer),

@@ -27,5 +27,5 @@ pub use names::answer_name;
 pub use parsers::answer_parser;
 pub use sources::answer_source;
 pub use subtypes::answer_subtype;
-pub use told::{tell_bytes, tell_refusal, tell_rest};
+pub use told::{tell_bytes, tell_pair, tell_refusal, tell_rest};
 pub use type_spaces::answer_space;

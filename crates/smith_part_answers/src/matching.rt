@@ -4,7 +4,7 @@ use crate::spaces::Over;
 use crate::told::tell_drawn;
 use smith_bytes::Unstructured;
 use smith_case::Fault;
-use smith_case::arguments::{at_most, number, word};
+use smith_case::arguments::{value, word};
 use smith_case::call::MatchingCall;
 use smith_case_shapes::{
     field_type_of, function_of, heap_type_of, ref_type_of, storage_type_of, val_type_of,
@@ -15,21 +15,7 @@ use smith_draw::{
     arbitrary_matching_val_type, arbitrary_super_type_of_heap_type,
     arbitrary_super_type_of_ref_type, arbitrary_super_type_of_val_type,
 };
-use smith_types::CompositeInnerType;
-
-// Appends the subtype or supertype that `$draw` draws for the type that `$text` denotes, which
-// `$read` reads.
-macro_rules! tell_matching {
-    ($draw:ident, $read:ident, $text:expr, $over:expr, $u:expr, $answer:expr) => {
-        match $read($text) {
-            Some(wanted) => tell_drawn(
-                $draw($over.alloc, $over.config, $over.spaces, wanted, $u),
-                $answer,
-            ),
-            None => Err(Fault::Argument(0)),
-        }
-    };
-}
+use smith_types::{CompositeInnerType, FieldType, HeapType, RefType, StorageType, ValType};
 
 /// Appends the subtype or supertype of the argument that `call` draws.
 pub(crate) fn answer_matching(
@@ -40,89 +26,120 @@ pub(crate) fn answer_matching(
 ) -> Result<(), Fault>
     requires { IsSanitized over.now.config.now }
 {
-    at_most(over.case, 1)?;
     let text = word(over.case, 0)?;
     match call {
         MatchingCall::Func => answer_function(over, text, u, answer),
         MatchingCall::Struct => answer_structure(over, u, answer),
-        MatchingCall::Field => tell_matching!(
-            arbitrary_matching_field_type,
-            field_type_of,
-            text,
-            over,
-            u,
-            answer
-        ),
-        MatchingCall::Storage => tell_matching!(
-            arbitrary_matching_storage_type,
-            storage_type_of,
-            text,
-            over,
-            u,
-            answer
-        ),
-        _ => answer_reference(over, call, text, u, answer),
+        MatchingCall::Field => answer_field(over, known(field_type_of(text))?, u, answer),
+        MatchingCall::Storage => answer_storage(over, known(storage_type_of(text))?, u, answer),
+        MatchingCall::Val | MatchingCall::AboveVal => {
+            answer_value(over, call, known(val_type_of(text))?, u, answer)
+        }
+        MatchingCall::Ref | MatchingCall::AboveRef => {
+            answer_reference(over, call, known(ref_type_of(text))?, u, answer)
+        }
+        MatchingCall::Heap | MatchingCall::AboveHeap => {
+            answer_heap_type(over, call, known(heap_type_of(text))?, u, answer)
+        }
     }
 }
 
-// Appends a subtype or supertype of the value type, the reference type or the heap type of `text`.
-fn answer_reference(
+// Returns the type that was read from the argument.
+fn known<T: Drop>(read: Option<T>) -> Result<T, Fault> {
+    read.ok_or(Fault::Argument(0))
+}
+
+fn answer_field(
     over: &Over<'_>,
-    call: MatchingCall,
-    text: &str,
+    wanted: FieldType,
     u: &mut Unstructured<'_>,
     answer: &mut String,
 ) -> Result<(), Fault> {
-    match call {
-        MatchingCall::Val => tell_matching!(
-            arbitrary_matching_val_type,
-            val_type_of,
-            text,
-            over,
-            u,
-            answer
+    tell_drawn(
+        arbitrary_matching_field_type(over.alloc, over.config, over.spaces, wanted, u),
+        answer,
+    )
+}
+
+fn answer_storage(
+    over: &Over<'_>,
+    wanted: StorageType,
+    u: &mut Unstructured<'_>,
+    answer: &mut String,
+) -> Result<(), Fault> {
+    tell_drawn(
+        arbitrary_matching_storage_type(over.alloc, over.config, over.spaces, wanted, u),
+        answer,
+    )
+}
+
+// Appends a subtype or supertype of the value type `wanted`.
+fn answer_value(
+    over: &Over<'_>,
+    call: MatchingCall,
+    wanted: ValType,
+    u: &mut Unstructured<'_>,
+    answer: &mut String,
+) -> Result<(), Fault> {
+    let Over {
+        alloc,
+        config,
+        spaces,
+        ..
+    } = *over;
+    let drawn = match call {
+        MatchingCall::AboveVal => arbitrary_super_type_of_val_type(
+            alloc, config, spaces, wanted, u,
         ),
-        MatchingCall::Ref => tell_matching!(
-            arbitrary_matching_ref_type,
-            ref_type_of,
-            text,
-            over,
-            u,
-            answer
+        _ => arbitrary_matching_val_type(alloc, config, spaces, wanted, u),
+    };
+    tell_drawn(drawn, answer)
+}
+
+// Appends a subtype or supertype of the reference type `wanted`.
+fn answer_reference(
+    over: &Over<'_>,
+    call: MatchingCall,
+    wanted: RefType,
+    u: &mut Unstructured<'_>,
+    answer: &mut String,
+) -> Result<(), Fault> {
+    let Over {
+        alloc,
+        config,
+        spaces,
+        ..
+    } = *over;
+    let drawn = match call {
+        MatchingCall::AboveRef => arbitrary_super_type_of_ref_type(
+            alloc, config, spaces, wanted, u,
         ),
-        MatchingCall::AboveVal => tell_matching!(
-            arbitrary_super_type_of_val_type,
-            val_type_of,
-            text,
-            over,
-            u,
-            answer
+        _ => arbitrary_matching_ref_type(alloc, config, spaces, wanted, u),
+    };
+    tell_drawn(drawn, answer)
+}
+
+// Appends a subtype or supertype of the heap type `wanted`.
+fn answer_heap_type(
+    over: &Over<'_>,
+    call: MatchingCall,
+    wanted: HeapType,
+    u: &mut Unstructured<'_>,
+    answer: &mut String,
+) -> Result<(), Fault> {
+    let Over {
+        alloc,
+        config,
+        spaces,
+        ..
+    } = *over;
+    let drawn = match call {
+        MatchingCall::AboveHeap => arbitrary_super_type_of_heap_type(
+            alloc, config, spaces, wanted, u,
         ),
-        MatchingCall::AboveRef => tell_matching!(
-            arbitrary_super_type_of_ref_type,
-            ref_type_of,
-            text,
-            over,
-            u,
-            answer
-        ),
-        MatchingCall::AboveHeap => tell_matching!(
-            arbitrary_super_type_of_heap_type,
-            heap_type_of,
-            text,
-            over,
-            u,
-            answer
-        ),
-        _ => tell_matching!(
-            arbitrary_matching_heap_type,
-            heap_type_of,
-            text,
-            over,
-            u,
-            answer
-        ),
-    }
+        _ => arbitrary_matching_heap_type(alloc, config, spaces, wanted, u),
+    };
+    tell_drawn(drawn, answer)
 }
 
 // Appends a struct type that matches the type of the case at the index of the argument.
@@ -140,7 +157,7 @@ fn answer_structure(
         ..
     } = *over;
     let types = spaces.types.types();
-    let Some(ty) = types.get(number::<usize>(over.case, 0)?) else {
+    let Some(ty) = types.get(value::<usize>(over.case, 0)?) else {
         return Err(Fault::Argument(0));
     };
     let CompositeInnerType::Struct(structure) = &ty.composite_type.inner else {

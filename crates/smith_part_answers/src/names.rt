@@ -3,7 +3,7 @@ use smith_bytes::{
     Error, Unstructured, limited_str, limited_string, unique_kebab_string, unique_string,
     unique_url,
 };
-use smith_case::arguments::number;
+use smith_case::arguments::value;
 use smith_case::call::NameCall;
 use smith_case::{Case, Fault};
 use std::alloc::Global;
@@ -19,9 +19,9 @@ pub fn answer_name(
     input: &[u8],
     answer: &mut String,
 ) -> Result<(), Fault> {
-    let most = number(case, 0)?;
+    let most = value(case, 0)?;
     let mut u = Unstructured::new(input);
-    if call == NameCall::LimitedStr {
+    if matches!(call, NameCall::LimitedStr) {
         tell_debug(&limited_str(most, &mut u), answer)?;
     } else {
         answer_made_name(alloc, case, call, most, &mut u, answer)?;
@@ -51,10 +51,15 @@ fn tell_name(drawn: Result<String, Error>, answer: &mut String) -> Result<(), Fa
 
 fn names_of(alloc: Global, case: &Case) -> Result<HashSet<String>, Fault> {
     let mut names = HashSet::new(alloc);
+    add_names(case, &mut names).and(Ok(names))
+}
+
+// Adds the arguments after the first to `names`.
+fn add_names(case: &Case, names: &mut HashSet<String>) -> Result<(), Fault> {
     for name in case.args().iter().skip(1) {
         names.insert(name.clone()?)?;
     }
-    Ok(names)
+    Ok(())
 }
 
 fn drawn(
@@ -75,9 +80,14 @@ fn drawn(
 // Appends a line of the names in order.
 fn tell_names(alloc: Global, names: &HashSet<String>, answer: &mut String) -> Result<(), Fault> {
     let mut sorted: Vec<&str> = Vec::with_capacity(alloc, names.len())?;
+    add_sorted(names, &mut sorted)?;
+    Ok(writeln!(answer, "names {sorted:?}")?)
+}
+
+// Adds `names` to `sorted` in order.
+fn add_sorted<'a>(names: &'a HashSet<String>, sorted: &mut Vec<&'a str>) -> Result<(), Fault> {
     for name in names.iter() {
         sorted.push(name.as_str())?;
     }
-    sorted.sort()?;
-    Ok(writeln!(answer, "names {sorted:?}")?)
+    Ok(sorted.sort()?)
 }

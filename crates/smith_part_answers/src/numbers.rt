@@ -1,5 +1,6 @@
+use crate::told::{tell_line, tell_pair};
 use smith_bytes::Unstructured;
-use smith_case::arguments::{at_most, flag, number};
+use smith_case::arguments::value;
 use smith_case::call::NumberCall;
 use smith_case::{Case, Fault};
 use smith_draw::{arbitrary_limits64, arbitrary_offset, gradually_grow};
@@ -15,7 +16,7 @@ pub(crate) fn answer_number(
     answer: &mut String,
 ) -> Result<(), Fault> {
     let is_required = is_required(case, call)?;
-    let (first, second, third) = (number(case, 0)?, number(case, 1)?, number(case, 2)?);
+    let (first, second, third) = (value(case, 0)?, value(case, 1)?, value(case, 2)?);
     let drawn = match call {
         NumberCall::GraduallyGrow if first <= second && second <= third => {
             (gradually_grow(first, second, third, u), None)
@@ -29,18 +30,15 @@ pub(crate) fn answer_number(
         _ => return Err(Fault::NotCallable("the numbers aren't in order")),
     };
     match drawn {
-        (least, Some(most)) => Ok(writeln!(answer, "{least} {most}")?),
-        (least, None) => Ok(writeln!(answer, "{least}")?),
+        (least, Some(most)) => tell_pair(least, most, answer),
+        (least, None) => tell_line(least, answer),
     }
 }
 
-// Returns whether the limits of `call` require a maximum, which the fourth argument says. Other
-// calls have three arguments.
+// Returns whether the limits of `call` require a maximum, which the fourth argument says.
 fn is_required(case: &Case, call: NumberCall) -> Result<bool, Fault> {
-    if matches!(call, NumberCall::Limits64) {
-        at_most(case, 4)?;
-        return flag(case, 3);
+    match call {
+        NumberCall::Limits64 => value(case, 3),
+        _ => Ok(false),
     }
-    at_most(case, 3)?;
-    Ok(false)
 }

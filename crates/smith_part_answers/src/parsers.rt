@@ -1,18 +1,18 @@
-use crate::told::{tell_debug, tell_line};
-use smith_case::arguments::{at_most, word};
+use crate::told::{tell_debug, tell_line, tell_pair, tell_refusal};
+use smith_case::arguments::word;
 use smith_case::call::ParserCall;
 use smith_case::{Case, Fault};
 use smith_config::MemoryOffsetChoices;
-use smith_types::{InstructionKind, InstructionKinds};
+use smith_types::{InstructionKind, InstructionKinds, UnknownKind};
 use std::str::FromStr;
 
 /// Appends the result of parsing the argument with `call`, or a set of kinds.
 pub fn answer_parser(case: &Case, call: ParserCall, answer: &mut String) -> Result<(), Fault> {
     match call {
         ParserCall::Kind => answer_each_kind(case, answer),
-        ParserCall::NoKinds => tell_set(case, InstructionKinds::none(), answer),
-        ParserCall::AllKinds => tell_set(case, InstructionKinds::all(), answer),
-        ParserCall::DefaultKinds => tell_set(case, InstructionKinds::default(), answer),
+        ParserCall::NoKinds => tell_kinds(InstructionKinds::none(), answer),
+        ParserCall::AllKinds => tell_kinds(InstructionKinds::all(), answer),
+        ParserCall::DefaultKinds => tell_kinds(InstructionKinds::default(), answer),
         _ => answer_text(case, call, answer),
     }
 }
@@ -29,13 +29,13 @@ fn answer_each_kind(case: &Case, answer: &mut String) -> Result<(), Fault> {
 fn answer_kind(text: &str, answer: &mut String) -> Result<(), Fault> {
     match InstructionKind::from_str(text) {
         Ok(kind) => tell_debug(&kind, answer),
-        Err(fault) => Ok(writeln!(answer, "refused: part {}", fault.part)?),
+        Err(fault) => tell_unknown(fault, answer),
     }
 }
 
-fn tell_set(case: &Case, kinds: InstructionKinds, answer: &mut String) -> Result<(), Fault> {
-    at_most(case, 0)?;
-    tell_kinds(kinds, answer)
+// Appends the refusal of a text that names no kind.
+fn tell_unknown(fault: UnknownKind, answer: &mut String) -> Result<(), Fault> {
+    tell_pair("refused: part", fault.part, answer)
 }
 
 // Appends what `call` makes of the first argument.
@@ -43,7 +43,6 @@ fn answer_text(case: &Case, call: ParserCall, answer: &mut String) -> Result<(),
     if matches!(call, ParserCall::Contains) {
         return answer_contains(case, answer);
     }
-    at_most(case, 1)?;
     let text = word(case, 0)?;
     match call {
         ParserCall::OffsetChoices => answer_choices(text, answer),
@@ -56,7 +55,7 @@ fn answer_choices(text: &str, answer: &mut String) -> Result<(), Fault> {
         Ok(MemoryOffsetChoices(first, second, third)) => {
             Ok(writeln!(answer, "{first} {second} {third}")?)
         }
-        Err(fault) => Ok(writeln!(answer, "refused: {fault:?}")?),
+        Err(fault) => tell_refusal(fault, answer),
     }
 }
 
@@ -66,14 +65,13 @@ fn answer_kinds(text: &str, call: ParserCall, answer: &mut String) -> Result<(),
     match InstructionKinds::from_str(text) {
         Ok(kinds) if is_whole => tell_kinds(kinds, answer),
         Ok(kinds) => tell_kinds(kinds.without_floats(), answer),
-        Err(fault) if is_whole => Ok(writeln!(answer, "refused: part {}", fault.part)?),
+        Err(fault) if is_whole => tell_unknown(fault, answer),
         Err(_) => Err(Fault::Argument(0)),
     }
 }
 
 // Appends whether the kinds that the first argument names contain the kind that the second names.
 fn answer_contains(case: &Case, answer: &mut String) -> Result<(), Fault> {
-    at_most(case, 2)?;
     let Ok(kinds) = InstructionKinds::from_str(word(case, 0)?) else {
         return Err(Fault::Argument(0));
     };

@@ -1,6 +1,6 @@
-use crate::told::{tell_bytes, tell_debug, tell_line, tell_refusal, tell_rest};
+use crate::told::{tell_bytes, tell_debug, tell_line, tell_pair, tell_refusal, tell_rest};
 use smith_bytes::{Arbitrary, Error, Int, Unstructured, arbitrary_loop};
-use smith_case::arguments::{at_most, number, word};
+use smith_case::arguments::{value, word};
 use smith_case::call::SourceCall;
 use smith_case::{Case, Fault};
 use std::fmt::Display;
@@ -13,20 +13,9 @@ pub fn answer_source(
     input: &[u8],
     answer: &mut String,
 ) -> Result<(), Fault> {
-    at_most(case, most_arguments(call))?;
     let mut u = Unstructured::new(input);
     answer_from(case, call, &mut u, answer)?;
     tell_rest(&u, answer)
-}
-
-// Returns the greatest number of arguments of `call`.
-fn most_arguments(call: SourceCall) -> usize {
-    match call {
-        SourceCall::Arbitrary | SourceCall::Bytes | SourceCall::PeekBytes => 1,
-        SourceCall::Ratio => 2,
-        SourceCall::IntInRange => 3,
-        SourceCall::Choose | SourceCall::ArbitraryLen | SourceCall::ArbitraryLoop => usize::MAX,
-    }
 }
 
 // Appends the result of the draw `call` from `u`.
@@ -80,8 +69,8 @@ fn tell_in_range<T: Int + FromStr + Display>(
 where
     T::Err: Drop,
 {
-    let least: T = number(case, 1)?;
-    let most: T = number(case, 2)?;
+    let least: T = value(case, 1)?;
+    let most: T = value(case, 2)?;
     if most.widen() < least.widen() {
         return Err(Fault::Argument(2));
     }
@@ -107,7 +96,7 @@ fn answer_in_range(
 
 // Appends whether a chance of the first argument in the second occurs.
 fn answer_ratio(case: &Case, u: &mut Unstructured<'_>, answer: &mut String) -> Result<(), Fault> {
-    let (n, m): (u8, u8) = (number(case, 0)?, number(case, 1)?);
+    let (n, m): (u8, u8) = (value(case, 0)?, value(case, 1)?);
     if n == 0 || m < n {
         return Err(Fault::Argument(1));
     }
@@ -124,7 +113,7 @@ fn answer_choice(case: &Case, u: &mut Unstructured<'_>, answer: &mut String) -> 
 
 // Takes as many bytes as the argument says, and appends them.
 fn answer_bytes(case: &Case, u: &mut Unstructured<'_>, answer: &mut String) -> Result<(), Fault> {
-    match u.bytes(number(case, 0)?) {
+    match u.bytes(value(case, 0)?) {
         Ok(bytes) => tell_bytes("bytes", bytes, answer),
         Err(refusal) => tell_refusal(refusal, answer),
     }
@@ -132,7 +121,7 @@ fn answer_bytes(case: &Case, u: &mut Unstructured<'_>, answer: &mut String) -> R
 
 // Appends as many bytes as the argument says, and leaves them in the source.
 fn answer_peeked(case: &Case, u: &Unstructured<'_>, answer: &mut String) -> Result<(), Fault> {
-    match u.peek_bytes(number(case, 0)?) {
+    match u.peek_bytes(value(case, 0)?) {
         Some(bytes) => tell_bytes("bytes", bytes, answer),
         None => tell_line("none", answer),
     }
@@ -151,7 +140,7 @@ fn turn_of(case: &Case, place: usize) -> Result<bool, Error> {
 // Runs a loop of at least the first argument and at most the second, whose calls return the results
 // that the other arguments name. Appends the number of calls.
 fn answer_loop(case: &Case, u: &mut Unstructured<'_>, answer: &mut String) -> Result<(), Fault> {
-    let (min, max): (usize, usize) = (number(case, 0)?, number(case, 1)?);
+    let (min, max): (usize, usize) = (value(case, 0)?, value(case, 1)?);
     if max < min {
         return Err(Fault::Argument(1));
     }
@@ -164,5 +153,5 @@ fn answer_loop(case: &Case, u: &mut Unstructured<'_>, answer: &mut String) -> Re
     if let Err(refusal) = ended {
         tell_refusal(refusal, answer)?;
     }
-    Ok(writeln!(answer, "calls {calls}")?)
+    tell_pair("calls", calls, answer)
 }

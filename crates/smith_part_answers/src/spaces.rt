@@ -75,10 +75,19 @@ pub(crate) fn types_of(alloc: Global, case: &Case) -> Result<TypeSpace, Fault> {
 // Returns the types of `groups`.
 fn types_in(alloc: Global, groups: &[Items<SubType>]) -> Result<TypeSpace, Fault> {
     let mut types = TypeSpace::new(alloc);
+    add_groups(alloc, groups, &mut types).and(Ok(types))
+}
+
+// Adds the groups `groups` to `types`.
+fn add_groups(
+    alloc: Global,
+    groups: &[Items<SubType>],
+    types: &mut TypeSpace,
+) -> Result<(), Fault> {
     for group in groups {
-        add_group(alloc, group.as_slice(), &mut types)?;
+        add_group(alloc, group.as_slice(), types)?;
     }
-    Ok(types)
+    Ok(())
 }
 
 // Adds a group of the types `members` to `types`.

@@ -3,7 +3,7 @@ ghost use Rattle.smith_types.specs.Subtyping.{IsInRange, IsValInRange};
 
 use crate::spaces::types_of;
 use crate::told::tell_line;
-use smith_case::arguments::{at_most, word};
+use smith_case::arguments::word;
 use smith_case::call::SubtypeCall;
 use smith_case::{Case, Fault};
 use smith_case_shapes::{heap_type_of, ref_type_of, val_type_of};
@@ -17,7 +17,6 @@ pub fn answer_subtype(
     call: SubtypeCall,
     answer: &mut String,
 ) -> Result<(), Fault> {
-    at_most(case, 2)?;
     answer_over(&types_of(alloc, case)?, case, call, answer)
 }
 

@@ -17,6 +17,15 @@ pub(crate) fn tell_line<T: Display + Copy>(value: T, answer: &mut String) -> Res
     Ok(writeln!(answer, "{value}")?)
 }
 
+/// Appends a line of `first` and `second`.
+pub fn tell_pair<A: Display + Copy, B: Display + Copy>(
+    first: A,
+    second: B,
+    answer: &mut String,
+) -> Result<(), Fault> {
+    Ok(writeln!(answer, "{first} {second}")?)
+}
+
 /// Appends a line of `value` as it prints for debugging.
 pub(crate) fn tell_debug<T: Debug>(value: &T, answer: &mut String) -> Result<(), Fault> {
     Ok(writeln!(answer, "{value:?}")?)
@@ -66,14 +75,14 @@ pub(crate) fn tell_types(types: &TypeSpace, answer: &mut String) -> Result<(), F
 }
 
 /// Appends the line of the refusal `refusal`.
-pub fn tell_refusal(refusal: Error, answer: &mut String) -> Result<(), Fault> {
+pub fn tell_refusal<T: Debug + Drop>(refusal: T, answer: &mut String) -> Result<(), Fault> {
     Ok(writeln!(answer, "refused: {refusal:?}")?)
 }
 
 /// Appends the number of bytes that `u` has left, and the next of these.
 pub fn tell_rest(u: &Unstructured<'_>, answer: &mut String) -> Result<(), Fault> {
     let count = u.len();
-    writeln!(answer, "left {count}")?;
+    tell_pair("left", count, answer)?;
     match u.peek_bytes(count.min(MOST_BYTES)) {
         Some(next) => tell_bytes("next", next, answer),
         None => Ok(()),
@@ -92,6 +101,5 @@ pub fn tell_bytes(word: &str, bytes: &[u8], answer: &mut String) -> Result<(), F
     for byte in bytes {
         write!(answer, "{byte:02x}")?;
     }
-    answer.push_str("\n")?;
-    Ok(())
+    Ok(answer.push_str("\n")?)
 }

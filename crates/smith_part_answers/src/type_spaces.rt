@@ -4,9 +4,9 @@ ghost use Rattle.smith_types.specs.Sizes.{IsTyped, size_in};
 ghost use Rattle.smith_types.specs.GroupedTypes.{MayFollow};
 
 use crate::spaces::types_of;
-use crate::told::{tell_drawn_values, tell_line, tell_types};
+use crate::told::{tell_drawn_values, tell_line, tell_pair, tell_types};
 use smith_bytes::Error;
-use smith_case::arguments::{at_most, number, word};
+use smith_case::arguments::{value, word};
 use smith_case::call::SpaceCall;
 use smith_case::{Case, Fault};
 use smith_case_shapes::{entity_of, shape_named};
@@ -50,8 +50,7 @@ const MISSING: Fault = Fault::NotCallable("a type is not defined");
 
 // Appends the depth of the type at the index of the argument.
 fn answer_depth(types: &TypeSpace, case: &Case, answer: &mut String) -> Result<(), Fault> {
-    at_most(case, 1)?;
-    let index: u32 = number(case, 0)?;
+    let index: u32 = value(case, 0)?;
     if index as usize >= types.types().len() {
         return Err(MISSING);
     }
@@ -60,7 +59,6 @@ fn answer_depth(types: &TypeSpace, case: &Case, answer: &mut String) -> Result<(
 
 // Appends the size of the entity of the argument, which is written as in shapes.
 fn answer_size(types: &TypeSpace, case: &Case, answer: &mut String) -> Result<(), Fault> {
-    at_most(case, 1)?;
     match entity_of(word(case, 0)?) {
         None => Err(Fault::Argument(0)),
         Some(entity) if is_small(types, &entity) => tell_line(types.size_of(&entity), answer),
@@ -92,7 +90,6 @@ fn is_small(types: &TypeSpace, entity: &EntityType) -> bool
 
 // Appends whether the type at the index of the first argument matches that of the second.
 fn answer_match(types: &TypeSpace, case: &Case, answer: &mut String) -> Result<(), Fault> {
-    at_most(case, 2)?;
     let (a, b) = (composite_at(types, case, 0)?, composite_at(types, case, 1)?);
     let told = if types.composite_type_matches(a, b) {
         "yes"
@@ -113,7 +110,7 @@ fn composite_at<'a>(
     ensures { IfOk result (λ composite. IsInnerInRange types.now.types composite.now.inner) }
 {
     let listed = types.types();
-    let Some(ty) = listed.get(number::<usize>(case, place)?) else {
+    let Some(ty) = listed.get(value::<usize>(case, place)?) else {
         return Err(Fault::Argument(place));
     };
     if !all_values_hold(&StandingValue { types: listed }, &ty.composite_type.inner) {
@@ -129,7 +126,6 @@ fn answer_pushed(
     call: SpaceCall,
     answer: &mut String,
 ) -> Result<(), Fault> {
-    at_most(case, 0)?;
     let Some(name) = &case.shapes.types else {
         return Err(Fault::UnknownTypes);
     };
@@ -172,8 +168,7 @@ fn push_group(
         if !types.may_follow(&added) {
             return Err(Fault::NotCallable("a type cannot be added"));
         }
-        let index = push(call, types, added)?;
-        writeln!(answer, "index {index}")?;
+        tell_pair("index", push(call, types, added)?, answer)?;
     }
     Ok(types.push_group()?)
 }
@@ -185,7 +180,6 @@ fn answer_listed(
     case: &Case,
     answer: &mut String,
 ) -> Result<(), Fault> {
-    at_most(case, 1)?;
     let for_use = match word(case, 0)? {
         "Tag" => TypeUse::Tag,
         "ImportedFunc" => TypeUse::ImportedFunc,

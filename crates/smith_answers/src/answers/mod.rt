@@ -24,10 +24,10 @@ pub(crate) fn answer(
     case: &Case,
     input: &[u8],
 ) -> Result<String, Fault> {
-    let Some(call) = call_named(text_or_empty(&case.call)) else {
+    let Some((call, most)) = call_named(text_or_empty(&case.call)) else {
         return Err(Fault::UnknownCall);
     };
-    check_keys(case, call)?;
+    check_keys(case, call, most)?;
     let mut answer = String::new(alloc);
     append_answer(alloc, line, case, call, input, &mut answer)?;
     Ok(answer)

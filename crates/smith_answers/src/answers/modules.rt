@@ -1,11 +1,13 @@
-use crate::answers::told::{tell_binary, tell_fuel, tell_text};
+use crate::answers::told::{
+    Fuelled, Told, tell_binary, tell_fuel, tell_made, tell_text, terminate,
+};
 use smith_bytes::{Error, Unstructured};
-use smith_case::arguments::{number, word};
+use smith_case::arguments::word;
 use smith_case::call::ModuleCall;
 use smith_case::{Case, Fault};
 use smith_config::Config;
 use smith_encode::encode;
-use smith_part_answers::{taken, tell_refusal, tell_rest};
+use smith_part_answers::{taken, tell_rest};
 use smith_text::text;
 use std::alloc::Global;
 use wasm_smith::{DuplicateImportsBehavior, Module};
@@ -23,42 +25,44 @@ pub(crate) fn answer_module(
     answer: &mut String,
 ) -> Result<(), Fault> {
     let behavior = behavior_of(case, call)?;
-    let details = details_of(case, call)?;
+    let form = form_of(case, call)?;
     let mut u = Unstructured::new(input);
     let made = made(alloc, call, behavior, config, &mut u);
-    tell_made(alloc, case, call, details, made, answer)?;
-    if details.left {
+    tell_made(alloc, case, form, made, answer)?;
+    if form.left {
         return tell_rest(&u, answer);
     }
     Ok(())
 }
 
-// Details that are appended to the text of a module.
+// The form of a module in an answer: that of a call, and the details that are appended to its text.
 #[derive(Clone, Copy)]
-struct Details {
+struct Form {
+    call: ModuleCall,
     debug: bool,
     left: bool,
 }
 
-// Returns the details that the arguments of `case` name.
-fn details_of(case: &Case, call: ModuleCall) -> Result<Details, Fault> {
-    let mut details = Details {
+// Returns the form that `call` and the arguments of `case` name.
+fn form_of(case: &Case, call: ModuleCall) -> Result<Form, Fault> {
+    let mut form = Form {
+        call,
         debug: false,
         left: false,
     };
     let first = match call {
         ModuleCall::New => 0,
         ModuleCall::NewInternal => 1,
-        _ => return Ok(details),
+        _ => return Ok(form),
     };
     for (place, detail) in case.args().iter().enumerate().skip(first) {
         match detail.as_str() {
-            "debug" => details.debug = true,
-            "left" => details.left = true,
+            "debug" => form.debug = true,
+            "left" => form.left = true,
             _ => return Err(Fault::Argument(place)),
         }
     }
-    Ok(details)
+    Ok(form)
 }
 
 // Makes the module of `call`, before it is made to terminate.
@@ -80,7 +84,7 @@ fn made(
 // Returns the rule of duplicate imports: that of the first argument for the internal call, else
 // that of `Module::new`.
 fn behavior_of(case: &Case, call: ModuleCall) -> Result<DuplicateImportsBehavior, Fault> {
-    if call != ModuleCall::NewInternal {
+    if !matches!(call, ModuleCall::NewInternal) {
         return Ok(DuplicateImportsBehavior::Allowed);
     }
     match word(case, 0)? {
@@ -98,41 +102,27 @@ fn of_drawn(alloc: Global, u: &mut Unstructured<'_>) -> Result<Module, Error> {
     }
 }
 
-// Appends the text of the module that is made, or the refusal.
-fn tell_made(
-    alloc: Global,
-    case: &Case,
-    call: ModuleCall,
-    details: Details,
-    made: Result<Module, Error>,
-    answer: &mut String,
-) -> Result<(), Fault> {
-    match made {
-        Ok(mut module) => tell_whole(alloc, case, call, details, &mut module, answer),
-        Err(refusal) => tell_refusal(refusal, answer),
+impl Told<Form> for Module {
+    // Appends the text of the module, or its binary, after fuel is added and before its details.
+    fn tell(
+        &mut self,
+        alloc: Global,
+        case: &Case,
+        form: Form,
+        answer: &mut String,
+    ) -> Result<(), Fault> {
+        if takes_fuel(form.call) {
+            terminate(alloc, case, self, answer)?;
+        }
+        if matches!(form.call, ModuleCall::Encode) {
+            return tell_binary(alloc, encode(alloc, self), answer);
+        }
+        tell_text(text(alloc, self), answer)?;
+        if form.debug {
+            writeln!(answer, "{self:?}")?;
+        }
+        Ok(())
     }
-}
-
-// Appends the text of `module`, after the changes of `call` and before its details.
-fn tell_whole(
-    alloc: Global,
-    case: &Case,
-    call: ModuleCall,
-    details: Details,
-    module: &mut Module,
-    answer: &mut String,
-) -> Result<(), Fault> {
-    if takes_fuel(call) {
-        terminate(alloc, case, module, answer)?;
-    }
-    if call == ModuleCall::Encode {
-        return tell_binary(alloc, encode(alloc, module), answer);
-    }
-    tell_text(text(alloc, module), answer)?;
-    if details.debug {
-        writeln!(answer, "{module:?}")?;
-    }
-    Ok(())
 }
 
 // Returns whether the arguments of `call` are fuel that is added to the module.
@@ -140,27 +130,11 @@ fn takes_fuel(call: ModuleCall) -> bool {
     matches!(call, ModuleCall::EnsureTermination | ModuleCall::Encode)
 }
 
-// Adds fuel to `module` for each argument in turn, and appends each answer.
-fn terminate(
-    alloc: Global,
-    case: &Case,
-    module: &mut Module,
-    answer: &mut String,
-) -> Result<(), Fault> {
-    for place in 0..case.args().len() {
-        add_fuel(alloc, module, number(case, place)?, answer)?;
+impl Fuelled for Module {
+    fn add_fuel(&mut self, alloc: Global, fuel: u32, answer: &mut String) -> Result<(), Fault> {
+        if self.globals().len() >= u32::MAX as usize {
+            return Err(Fault::NotCallable("there are too many globals"));
+        }
+        tell_fuel(self.ensure_termination(alloc, fuel), answer)
     }
-    Ok(())
-}
-
-fn add_fuel(
-    alloc: Global,
-    module: &mut Module,
-    fuel: u32,
-    answer: &mut String,
-) -> Result<(), Fault> {
-    if module.globals().len() >= u32::MAX as usize {
-        return Err(Fault::NotCallable("there are too many globals"));
-    }
-    tell_fuel(module.ensure_termination(alloc, fuel), answer)
 }

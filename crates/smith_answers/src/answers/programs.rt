@@ -1,10 +1,11 @@
-use crate::answers::told::{tell_binary, tell_fuel, tell_text};
-use smith_bytes::{Error, Unstructured};
-use smith_case::arguments::number;
+use crate::answers::told::{
+    Fuelled, Told, tell_binary, tell_fuel, tell_made, tell_text, terminate,
+};
+use smith_bytes::Unstructured;
 use smith_case::call::ProgramCall;
 use smith_case::{Case, Fault};
 use smith_config::Config;
-use smith_part_answers::{taken, tell_refusal, tell_rest};
+use smith_part_answers::{taken, tell_rest};
 use smith_program::Program;
 use smith_program_binary::encode;
 use smith_program_text::text;
@@ -27,56 +28,28 @@ pub(crate) fn answer_program(
     tell_rest(&u, answer)
 }
 
-// Appends the form of the program that `call` names, or the refusal.
-fn tell_made(
-    alloc: Global,
-    case: &Case,
-    call: ProgramCall,
-    made: Result<Program, Error>,
-    answer: &mut String,
-) -> Result<(), Fault> {
-    match made {
-        Ok(mut program) => tell_program(alloc, case, call, &mut program, answer),
-        Err(refusal) => tell_refusal(refusal, answer),
+impl Told<ProgramCall> for Program {
+    // Appends the form of the program that `call` names, after fuel is added for each argument.
+    fn tell(
+        &mut self,
+        alloc: Global,
+        case: &Case,
+        call: ProgramCall,
+        answer: &mut String,
+    ) -> Result<(), Fault> {
+        terminate(alloc, case, self, answer)?;
+        match call {
+            ProgramCall::New => tell_text(text(alloc, self), answer),
+            ProgramCall::Encode => tell_binary(alloc, encode(alloc, self), answer),
+        }
     }
 }
 
-// Appends the form of `program` that `call` names, after fuel is added for each argument.
-fn tell_program(
-    alloc: Global,
-    case: &Case,
-    call: ProgramCall,
-    program: &mut Program,
-    answer: &mut String,
-) -> Result<(), Fault> {
-    terminate(alloc, case, program, answer)?;
-    match call {
-        ProgramCall::New => tell_text(text(alloc, program), answer),
-        ProgramCall::Encode => tell_binary(alloc, encode(alloc, program), answer),
+impl Fuelled for Program {
+    fn add_fuel(&mut self, alloc: Global, fuel: u32, answer: &mut String) -> Result<(), Fault> {
+        if self.module.globals().len() >= u32::MAX as usize {
+            return Err(Fault::NotCallable("there are too many globals"));
+        }
+        tell_fuel(self.ensure_termination(alloc, fuel), answer)
     }
-}
-
-// Adds fuel to `program` for each argument in turn, and appends each answer.
-fn terminate(
-    alloc: Global,
-    case: &Case,
-    program: &mut Program,
-    answer: &mut String,
-) -> Result<(), Fault> {
-    for place in 0..case.args().len() {
-        add_fuel(alloc, program, number(case, place)?, answer)?;
-    }
-    Ok(())
-}
-
-fn add_fuel(
-    alloc: Global,
-    program: &mut Program,
-    fuel: u32,
-    answer: &mut String,
-) -> Result<(), Fault> {
-    if program.module.globals().len() >= u32::MAX as usize {
-        return Err(Fault::NotCallable("there are too many globals"));
-    }
-    tell_fuel(program.ensure_termination(alloc, fuel), answer)
 }

@@ -1,8 +1,9 @@
 use sha2::{Digest, Sha256};
 use smith_bytes::Error;
-use smith_case::Fault;
+use smith_case::arguments::value;
+use smith_case::{Case, Fault};
 use smith_encode::EncodeError;
-use smith_part_answers::{tell_bytes, tell_refusal};
+use smith_part_answers::{tell_bytes, tell_pair, tell_refusal};
 use std::alloc::Global;
 
 /// Appends the text of a module or a program, or the refusal.
@@ -13,10 +14,56 @@ pub(crate) fn tell_text(text: Result<String, Error>, answer: &mut String) -> Res
     }
 }
 
+/// A module or a program that an answer tells, in a form of the type `F`. The function that owns one
+/// takes any such value, so that what it drops is not proved part by part.
+pub(crate) trait Told<F>: Drop {
+    /// Appends the value in the form `form`.
+    fn tell(
+        &mut self,
+        alloc: Global,
+        case: &Case,
+        form: F,
+        answer: &mut String,
+    ) -> Result<(), Fault>;
+}
+
+/// Appends the value that is made in the form `form`, or the refusal.
+pub(crate) fn tell_made<F: Copy, T: Told<F>>(
+    alloc: Global,
+    case: &Case,
+    form: F,
+    made: Result<T, Error>,
+    answer: &mut String,
+) -> Result<(), Fault> {
+    match made {
+        Ok(mut value) => value.tell(alloc, case, form, answer),
+        Err(refusal) => tell_refusal(refusal, answer),
+    }
+}
+
+/// A module or a program to which fuel is added.
+pub(crate) trait Fuelled {
+    /// Adds the fuel `fuel`, and appends the answer.
+    fn add_fuel(&mut self, alloc: Global, fuel: u32, answer: &mut String) -> Result<(), Fault>;
+}
+
+/// Adds fuel to `made` for each argument in turn, and appends each answer.
+pub(crate) fn terminate<M: Fuelled>(
+    alloc: Global,
+    case: &Case,
+    made: &mut M,
+    answer: &mut String,
+) -> Result<(), Fault> {
+    for place in 0..case.args().len() {
+        made.add_fuel(alloc, value(case, place)?, answer)?;
+    }
+    Ok(())
+}
+
 /// Appends the index of the global that counts the fuel that is added, or the refusal.
 pub(crate) fn tell_fuel(added: Result<u32, Error>, answer: &mut String) -> Result<(), Fault> {
     match added {
-        Ok(index) => Ok(writeln!(answer, "fuel global {index}")?),
+        Ok(index) => tell_pair("fuel global", index, answer),
         Err(refusal) => tell_refusal(refusal, answer),
     }
 }
@@ -33,7 +80,7 @@ pub(crate) fn tell_binary(
 ) -> Result<(), Fault> {
     match encoded {
         Ok(bytes) => tell_encoded(alloc, bytes.as_slice(), answer),
-        Err(refusal) => Ok(writeln!(answer, "refused: {refusal:?}")?),
+        Err(refusal) => tell_refusal(refusal, answer),
     }
 }
 

@@ -8,7 +8,7 @@ use crate::recorded::answer_kinds::AnswerKinds;
 use crate::recorded::formula::{Formula, formula_named};
 use sha2::{Digest, Sha256};
 use smith_bytes::{Error, Unstructured};
-use smith_case::arguments::{at_most, number, read};
+use smith_case::arguments::{value, word};
 use smith_case::{Case, Fault};
 use smith_config::Config;
 use smith_text::text;
@@ -28,10 +28,11 @@ pub(crate) fn answer_recorded(
     config: &Config,
     answer: &mut String,
 ) -> Result<(), Fault> {
-    at_most(case, 3)?;
-    let formula = read(case, 0, formula_named)?;
-    let mut first = u32::from(number::<u16>(case, 1)?);
-    let count = u32::from(number::<u16>(case, 2)?);
+    let Some(formula) = formula_named(word(case, 0)?) else {
+        return Err(Fault::Argument(0));
+    };
+    let mut first = u32::from(value::<u16>(case, 1)?);
+    let count = u32::from(value::<u16>(case, 2)?);
     let end = first.saturating_add(count);
     for _ in 0..count.div_ceil(INPUTS_A_LINE) {
         let next = first.saturating_add(INPUTS_A_LINE).min(end);
@@ -81,27 +82,42 @@ fn feed(
     Ok(kind)
 }
 
+// A module that is drawn. The function that owns it takes any such value, so that what it drops is
+// not proved part by part.
+trait Feeds: Drop {
+    // Feeds `hasher` with the text of the module.
+    fn feed(&self, alloc: Global, hasher: &mut Sha256) -> Result<(), Error>;
+}
+
+impl Feeds for Module {
+    fn feed(&self, alloc: Global, hasher: &mut Sha256) -> Result<(), Error> {
+        hasher.update(text(alloc, self)?.as_str());
+        Ok(())
+    }
+}
+
 // Feeds `hasher` with the text of the module that is drawn, or a line of the refusal. Returns the
 // kind of the answer.
-fn feed_drawn(
+fn feed_drawn<M: Feeds>(
     alloc: Global,
-    drawn: Result<Module, Error>,
+    drawn: Result<M, Error>,
     hasher: &mut Sha256,
 ) -> Result<String, Error> {
     match drawn {
-        Ok(module) => feed_module(alloc, &module, hasher),
+        Ok(module) => {
+            module.feed(alloc, hasher)?;
+            Ok(String::from_str(alloc, "Ok")?)
+        }
         Err(refusal) => feed_refusal(alloc, refusal, hasher),
     }
 }
 
-fn feed_module(alloc: Global, module: &Module, hasher: &mut Sha256) -> Result<String, Error> {
-    hasher.update(text(alloc, module)?.as_str());
-    Ok(String::from_str(alloc, "Ok")?)
-}
-
 fn feed_refusal(alloc: Global, refusal: Error, hasher: &mut Sha256) -> Result<String, Error> {
-    hasher.update(format!(in alloc; "refused: {refusal:?}\n")?.as_str());
-    Ok(format!(in alloc; "{refusal:?}")?)
+    let kind = format!(in alloc; "{refusal:?}")?;
+    hasher.update("refused: ");
+    hasher.update(kind.as_str());
+    hasher.update("\n");
+    Ok(kind)
 }
 
 // Feeds `hasher` with a line of the number of bytes that `u` has left, and with these bytes.
