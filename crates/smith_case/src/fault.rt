@@ -100,6 +100,7 @@ impl fmt::Display for Fault {
                 line.fmt(f)?;
                 f.write_str(", column ")?;
                 column.fmt(f)?;
+                f.write_str(": ")?;
             }
             _ => {}
         }

@@ -42,7 +42,7 @@ static WRONG: [(&str, &str); 28] = [
     ),
     (
         r#"{"name": "a", "call": "Module::new", "wants": ["Ok"]}"#,
-        "not ok a: an unknown key",
+        "not ok a: an unknown key before byte 46",
     ),
     (
         r#"{"name": "a", "call": "Module::old", "may": ["Ok"]}"#,
@@ -54,11 +54,11 @@ static WRONG: [(&str, &str); 28] = [
     ),
     (
         r#"{"name": "a", "name": "b", "may": ["Ok"]}"#,
-        "not ok a: the key before byte",
+        "not ok a: the key before byte 22 occurs twice",
     ),
     (
         r#"{"name": "a", "config": {}, "config": {}}"#,
-        "not ok a: the key before byte",
+        "not ok a: the key before byte 38 occurs twice",
     ),
     (
         r#"{"name": "a", "call": "Module::new", "may": ["Ok"]} {}"#,
@@ -78,7 +78,7 @@ static WRONG: [(&str, &str); 28] = [
     ),
     (
         r#"{"name": "a", "call": "Module::new", "config": {"max-typos": 1}, "may": ["Ok"]}"#,
-        "not ok a: the configuration, line 1",
+        "not ok a: the configuration, line 1, column 49: UnknownField",
     ),
     (
         r#"{"name": "a", "call": "Module::new", "exports": "typos", "may": ["Ok"]}"#,
@@ -90,11 +90,11 @@ static WRONG: [(&str, &str); 28] = [
     ),
     (
         r#"{"name": "a", "call": "Module::new", "args": ["left", "1"], "may": ["Ok"]}"#,
-        "not ok a: argument 1 is missing or not valid",
+        "not ok a: argument 1 is missing or not valid for the call",
     ),
     (
         r#"{"name": "a", "call": "Unstructured::arbitrary", "args": ["u7"], "may": ["Ok"]}"#,
-        "not ok a: argument 0 is missing or not valid",
+        "not ok a: argument 0 is missing or not valid for the call",
     ),
     (
         r#"{"name": "a", "call": "Module::new", "may": ["EmptyChoose"]}"#,
