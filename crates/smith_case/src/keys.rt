@@ -22,6 +22,14 @@ const NONE: Keys = Keys {
     input: false,
 };
 
+// The keys that each draw reads.
+const DRAWN: Keys = Keys {
+    config: true,
+    args: true,
+    input: true,
+    ..NONE
+};
+
 /// Checks that `call` reads each key that `case` has, and that there are at most `most` arguments.
 pub fn check_keys(case: &Case, call: Call, most: usize) -> Result<(), Fault> {
     let keys = keys_of(call);
@@ -49,19 +57,13 @@ fn keys_of(call: Call) -> Keys {
     match call {
         Call::Module(call) => keys_of_module(call),
         Call::Program(_) => Keys {
-            config: true,
             shapes: true,
-            args: true,
-            input: true,
-            ..NONE
+            ..DRAWN
         },
         Call::Config(call) => keys_of_config(call),
         Call::Draw(_) => Keys {
-            config: true,
             types: true,
-            args: true,
-            input: true,
-            ..NONE
+            ..DRAWN
         },
         Call::Source(_) | Call::Name(_) => Keys {
             args: true,
