@@ -4,9 +4,9 @@ use Rattle.std.specs.Prelude.{IsTrue, All, slice_get}
 use Rattle.std.proofs.lemmas.Option.{same_Some}
 use Rattle.std.proofs.lemmas.Bool.{false≢true}
 use Rattle.std.specs.List.{Contains}
-use Rattle.smith_types.specs.ExampleTypes.{constant, final_type, struct}
-use Rattle.smith_types.specs.Expressions.{IsArrayAt, IsDefaultable, IsStructAt, field_values, reference_to}
-use Rattle.smith_types.specs.Grounded.{IsGroundedByStructs}
+use Rattle.smith_types.specs.ExampleTypes.{constant, final_type, plain_func, struct}
+use Rattle.smith_types.specs.Expressions.{IsArrayAt, function_reference, IsDefaultable, IsStructAt, field_values, reference_to}
+use Rattle.smith_types.specs.Grounded.{IsGroundedByFuncs, IsGroundedByStructs}
 use Rattle.smith_types.specs.Subtyping.{IsBelow, IsValBelow}
 use Rattle.smith_types.specs.Types.{IsOrderly}
 use Rattle.smith_types.specs.declared.composite_type.CompositeInnerType.{CompositeInnerType}
@@ -24,6 +24,7 @@ use Rattle.smith_instr.specs.Contexts.{BodyContext, created_reference}
 use Rattle.smith_draw.specs.Below.{is_heap_below}
 use Rattle.smith_draw.proofs.BelowLemmas.{heap_decides}
 use Rattle.smith_code_law.specs.Barren.{IsBarren}
+use Rattle.smith_code_law.specs.ExampleContexts.{outside}
 
 alone : (inner : CompositeInnerType) (index supertype : ℕ) (t : SubType) → slice_get (final_type inner ∷ []) index ≡ Some t → t.supertype ≡ Some supertype → ⊥
 alone inner zero supertype t at named = let same : final_type inner ≡ t = same_Some (final_type inner) t at in let none : None ≡ Some supertype = subst (λ (t : SubType). t.supertype ≡ Some supertype) (sym same) named in cc
@@ -35,7 +36,7 @@ orderly inner = record { under = λ index supertype t at named. absurd (alone in
 pub apart : (inner : CompositeInnerType) (a b : HeapType) → is_heap_below (final_type inner ∷ []) a b ≡ false → ¬ IsBelow (final_type inner ∷ []) a b
 apart inner a b not_below below = false≢true (sym not_below ∙ (heap_decides (final_type inner ∷ []) (orderly inner) a b).1 below)
 
-never_named : (function : ℕ) → Contains [] function → ⊥
+pub never_named : (function : ℕ) → Contains [] function → ⊥
 never_named function (place, inside, is) = absurd (omega (arith, inside))
 
 -- each abstract value that needs no type is apart from a heap type
@@ -98,3 +99,13 @@ not_defaults reference needed (suc index) fields (t, at, is) defaults = cc
 -- no struct type has default values if its field has none
 pub no_defaults : (reference : RefType) (heap_type : HeapType) → reference.nullable ≡ false → ¬ IsGroundedByStructs (final_type (holding reference) ∷ []) false heap_type
 no_defaults reference heap_type needed (index, by) = not_defaults reference needed index by.fields by.struct by.defaults
+
+-- the only function, of a function type, is apart from a heap type
+no_first_below : (heap_type : HeapType) → is_heap_below (final_type plain_func ∷ []) (Concrete 0) heap_type ≡ false → (function index : ℕ) → slice_get (0 ∷ []) function ≡ Some index → ¬ IsValBelow outside.types (function_reference outside function index) (reference_to heap_type)
+no_first_below heap_type not_below zero index at below =
+    let first : 0 ≡ index = same_Some 0 index at in
+    apart plain_func (Concrete 0) heap_type not_below (subst (λ (i : ℕ). IsBelow (final_type plain_func ∷ []) (Concrete i) heap_type) (sym first) below.heap)
+no_first_below heap_type not_below (suc function) index at below = cc
+
+pub no_function_below : (heap_type : HeapType) → is_heap_below (final_type plain_func ∷ []) (Concrete 0) heap_type ≡ false → ¬ IsGroundedByFuncs outside heap_type
+no_function_below heap_type not_below (function, index, at, below) = no_first_below heap_type not_below function index at below

@@ -1,2 +1,3 @@
 mod BarrenLemmas
+mod UnnamedLemmas
 mod ExampleLemmas

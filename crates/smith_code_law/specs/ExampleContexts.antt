@@ -3,6 +3,7 @@ use Rattle.std.specs.Prelude.{ℕ, List, [], ◌∷◌}
 use Rattle.smith_types.specs.ExampleFeatures.{usual_features}
 use Rattle.smith_types.specs.ExampleTypes.{final_type, plain_func}
 use Rattle.smith_types.specs.declared.composite_type.CompositeInnerType.{CompositeInnerType}
+use Rattle.smith_types.specs.Expressions.{Context}
 use Rattle.smith_instr.specs.Contexts.{BodyContext}
 
 -- a context with one type, and nothing else
@@ -28,3 +29,15 @@ with_type inner = record {
 -- a context with a function, and a list of those that may be named
 abbrev pub naming : List ℕ → BodyContext
 naming references = record (with_type plain_func) { funcs = 0 ∷ []; references = references }
+
+-- the context of constant expressions of the same module
+abbrev pub outside : Context
+outside = record {
+  features = usual_features;
+  types = final_type plain_func ∷ [];
+  funcs = 0 ∷ [];
+  globals = [];
+  imported_funcs = 0;
+  imported_globals = 0;
+  visible = 0;
+}

@@ -1,2 +1,3 @@
 pub mod Barren
+pub mod Unnamed
 pub mod ExampleContexts

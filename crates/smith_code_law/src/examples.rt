@@ -5,8 +5,9 @@ ghost use Rattle.smith_types.specs.declared.composite_type.StorageType.TheVarian
 ghost use Rattle.smith_types.specs.declared.value_type.AbstractHeapType.TheVariants as heap;
 ghost use Rattle.smith_types.specs.declared.value_type.HeapType.TheVariants.{Concrete};
 ghost use Rattle.smith_types.specs.declared.value_type.ValType.TheVariants.{I32, Ref};
-ghost use Rattle.smith_code_law.specs.ExampleContexts.{naming, with_type};
+ghost use Rattle.smith_code_law.specs.ExampleContexts.{naming, outside, with_type};
 ghost use Rattle.smith_code_law.specs.Barren.{IsBarrenReference};
+ghost use Rattle.smith_code_law.specs.Unnamed.{AreOfOneModule, IsGroundedByUnnamed};
 
 // Barren types, and others. The clauses are proved, and nothing calls these functions.
 fn abstract_types()
@@ -32,4 +33,12 @@ fn structs()
 fn functions()
     ensures named { ¬ IsBarrenReference (naming (0 ∷ [])) (Ref (not_null (Concrete 0))) }
     ensures not_named { IsBarrenReference (naming []) (Ref (not_null (Concrete 0))) }
+{}
+
+fn unnamed_functions()
+    ensures one { IsGroundedByUnnamed outside [] (Concrete 0) }
+    ensures named { ¬ IsGroundedByUnnamed outside (0 ∷ []) (Concrete 0) }
+    ensures none { ¬ IsGroundedByUnnamed outside [] (plain heap.Exn) }
+    ensures one_module { AreOfOneModule outside (naming []) }
+    ensures other_types { ¬ AreOfOneModule outside (with_type empty_struct) }
 {}

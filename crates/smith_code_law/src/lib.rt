@@ -1,10 +1,11 @@
-//! A law of values that need no budget: for which types there are none, where all kinds of
-//! instructions are allowed.
+//! Laws of values that need no budget: for which types there are none, where all kinds of
+//! instructions are allowed, and what grounds these types.
 #![tactic(auto)]
 
 mod examples;
 
 ghost use Rattle.smith_code_law.specs.Barren.{OnlyBarrenTypesHaveNoOther};
+ghost use Rattle.smith_code_law.specs.Unnamed.{BarrenTypesAreGroundedByUnnamedFunctions};
 
 /// States that, with garbage collection and all kinds of instructions, only barren types have no value
 /// that needs no budget. These are non-nullable references to heap types below which there is nothing
@@ -12,4 +13,10 @@ ghost use Rattle.smith_code_law.specs.Barren.{OnlyBarrenTypesHaveNoOther};
 /// such types alone.
 pub fn only_barren_types_have_no_other()
     ensures { OnlyBarrenTypesHaveNoOther }
+{}
+
+/// States that a barren heap type that is grounded is grounded by functions alone, none of which may
+/// be named in a body.
+pub fn barren_types_are_grounded_by_unnamed_functions()
+    ensures { BarrenTypesAreGroundedByUnnamedFunctions }
 {}
