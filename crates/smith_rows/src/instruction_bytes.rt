@@ -60,7 +60,8 @@ fn has_bytes(sink: &Sink, wanted: &[u8]) -> Result<(), Fail> {
     if sink.as_slice() == wanted {
         Ok(())
     } else {
-        Err(Fail::new("the bytes are others"))
+        let written = sink.as_slice();
+        Err(Fail::new(format_args!("{written:?} in place of {wanted:?}")))
     }
 }
 
