@@ -4,13 +4,12 @@ use Rattle.std.specs.Prelude.{IsTrue, All, slice_get}
 use Rattle.std.proofs.lemmas.Option.{same_Some}
 use Rattle.std.proofs.lemmas.Bool.{false≢true}
 use Rattle.std.specs.List.{Contains}
-use Rattle.smith_types.specs.ExampleTypes.{constant, final_type, plain_func, struct}
+use Rattle.smith_types.specs.ExampleTypes.{array, constant, final_type, plain_func, struct}
 use Rattle.smith_types.specs.Expressions.{IsArrayAt, function_reference, IsDefaultable, IsStructAt, field_values, reference_to}
 use Rattle.smith_types.specs.Grounded.{IsGroundedByFuncs, IsGroundedByStructs}
 use Rattle.smith_types.specs.Subtyping.{IsBelow, IsValBelow}
 use Rattle.smith_types.specs.Types.{IsOrderly}
 use Rattle.smith_types.specs.declared.composite_type.CompositeInnerType.{CompositeInnerType}
-use Rattle.smith_types.specs.declared.composite_type.CompositeInnerType.TheVariants.{Array}
 use Rattle.smith_types.specs.declared.composite_type.SubType.{SubType}
 use Rattle.smith_types.specs.declared.composite_type.FieldType.{FieldType}
 use Rattle.smith_types.specs.declared.value_type.AbstractHeapType.TheVariants as abstract
@@ -73,15 +72,18 @@ no_struct_below inner heap_type not_below (index, by) =
     let first : index ≡ 0 = only_first inner index by.struct.0 by.struct.1 in
     apart inner (Concrete 0) heap_type not_below (subst (λ (i : ℕ). IsBelow (final_type inner ∷ []) (Concrete i) heap_type) first by.below)
 
+-- the only type is no other
+no_other_there : (inner other : CompositeInnerType) → ¬ (inner ≡ other) → (index : ℕ) (t : SubType) → slice_get (final_type inner ∷ []) index ≡ Some t → ¬ (t.composite_type.inner ≡ other)
+no_other_there inner other differs zero t at is = let same : final_type inner ≡ t = same_Some (final_type inner) t at in differs (ap (λ (t : SubType). t.composite_type.inner) same ∙ is)
+no_other_there inner other differs (suc index) t at is = cc
+
 -- a type that is a struct or a function type is no array type
-pub no_array_there : (inner : CompositeInnerType) → ((element : FieldType) → ¬ (inner ≡ Array (record { 0 = element }))) → (index : ℕ) (element : FieldType) → ¬ IsArrayAt (final_type inner ∷ []) index element
-no_array_there inner other zero element (t, at, is) = let same : final_type inner ≡ t = same_Some (final_type inner) t at in other element (ap (λ (t : SubType). t.composite_type.inner) same ∙ is)
-no_array_there inner other (suc index) element (t, at, is) = cc
+pub no_array_there : (inner : CompositeInnerType) → ((element : FieldType) → ¬ (inner ≡ array element)) → (index : ℕ) (element : FieldType) → ¬ IsArrayAt (final_type inner ∷ []) index element
+no_array_there inner other index element (t, at, is) = no_other_there inner (array element) (other element) index t at is
 
 -- a function type is no struct type
 pub no_struct_there : (inner : CompositeInnerType) → ((fields : List FieldType) → ¬ (inner ≡ struct fields)) → (index : ℕ) (fields : List FieldType) → ¬ IsStructAt (final_type inner ∷ []) index fields
-no_struct_there inner other zero fields (t, at, is) = let same : final_type inner ≡ t = same_Some (final_type inner) t at in other fields (ap (λ (t : SubType). t.composite_type.inner) same ∙ is)
-no_struct_there inner other (suc index) fields (t, at, is) = cc
+no_struct_there inner other index fields (t, at, is) = no_other_there inner (struct fields) (other fields) index t at is
 
 -- a struct type with one field, a constant reference
 abbrev pub holding : RefType → CompositeInnerType
