@@ -2,6 +2,63 @@ use smith_bytes::Error;
 use std::alloc::{AllocError, AllocFailed};
 use std::fmt::{self, Display};
 
+/// A reason why a call may not be made: a condition of the call that does not hold.
+#[derive(Clone, Copy)]
+pub enum Obstacle {
+    /// The configuration does not pass its check.
+    InvalidConfig,
+    /// The types aren't valid.
+    InvalidTypes,
+    /// The value type isn't valid over the types.
+    InvalidValueType,
+    /// The element type isn't valid over the types.
+    InvalidElementType,
+    /// No value of the element type can be drawn.
+    NoElement,
+    /// The configuration has no references.
+    NoReferences,
+    /// A type is named that does not exist.
+    MissingType,
+    /// A type may not follow the types before it.
+    MisplacedType,
+    /// Shared types are off.
+    NoSharedTypes,
+    /// The greatest number of types is reached.
+    NoFurtherType,
+    /// No group of types may be cloned.
+    NothingToClone,
+    /// The first type is final.
+    FinalType,
+    /// No type can be that of a tag.
+    NoTagType,
+    /// The numbers aren't in order.
+    Disorder,
+    /// No index is left for a global.
+    TooManyGlobals,
+}
+
+impl Obstacle {
+    fn text(self) -> &'static str {
+        match self {
+            Obstacle::InvalidConfig => "the configuration doesn't pass",
+            Obstacle::InvalidTypes => "the types aren't valid",
+            Obstacle::InvalidValueType => "the value type isn't valid",
+            Obstacle::InvalidElementType => "the element type isn't valid",
+            Obstacle::NoElement => "no element can be drawn",
+            Obstacle::NoReferences => "references are off",
+            Obstacle::MissingType => "a type is not defined",
+            Obstacle::MisplacedType => "a type cannot be added",
+            Obstacle::NoSharedTypes => "no type may be shared",
+            Obstacle::NoFurtherType => "no further type is allowed",
+            Obstacle::NothingToClone => "nothing may be cloned",
+            Obstacle::FinalType => "the first type has no subtypes",
+            Obstacle::NoTagType => "no type can be the type of a tag",
+            Obstacle::Disorder => "the numbers aren't in order",
+            Obstacle::TooManyGlobals => "there are too many globals",
+        }
+    }
+}
+
 /// A reason why a case cannot be answered.
 #[derive(Clone, Copy)]
 pub enum Fault {
@@ -35,13 +92,12 @@ pub enum Fault {
     EmptyPiece,
     /// The second run returns a different answer.
     Unsteady,
-    /// The call may not be made: the configuration, or its context, does not meet the conditions of
-    /// the call.
-    NotCallable(&'static str),
+    /// The call may not be made.
+    NotCallable(Obstacle),
     /// The configuration cannot be read.
     Config {
-        /// The name of the fault.
-        fault: &'static str,
+        /// The fault of its text.
+        fault: smith_json::Fault,
         /// The line of the fault, from 1.
         line: usize,
         /// The column in that line, from 1.
@@ -81,8 +137,7 @@ impl Fault {
         match self {
             Fault::RepeatedKey(_) => " occurs twice",
             Fault::Argument(_) => " is missing or not valid for the call",
-            Fault::NotCallable(why) => why,
-            Fault::Config { fault, .. } => fault,
+            Fault::NotCallable(obstacle) => obstacle.text(),
             _ => "",
         }
     }
@@ -96,12 +151,11 @@ impl fmt::Display for Fault {
             | Fault::UnknownKey(number)
             | Fault::RepeatedKey(number)
             | Fault::Argument(number) => number.fmt(f)?,
-            Fault::Config { line, column, .. } => {
-                line.fmt(f)?;
-                f.write_str(", column ")?;
-                column.fmt(f)?;
-                f.write_str(": ")?;
-            }
+            Fault::Config {
+                fault,
+                line,
+                column,
+            } => return write!(f, "{line}, column {column}: {fault:?}"),
             _ => {}
         }
         f.write_str(self.end())

@@ -49,7 +49,7 @@ mod keys;
 mod wanted;
 
 pub use case::{Case, ShapeNames, Wanted, goes_to_config, read_case};
-pub use fault::Fault;
+pub use fault::{Fault, Obstacle};
 pub use input::bytes_of;
 pub use keys::check_keys;
 pub use wanted::{Difference, check_wanted, first_difference};

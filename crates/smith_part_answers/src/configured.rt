@@ -88,21 +88,9 @@ fn fault_of(refusal: Refusal, line: &str) -> Fault {
         return Fault::Memory;
     }
     Fault::Config {
-        fault: name_of(fault),
+        fault,
         line,
         column,
-    }
-}
-
-fn name_of(fault: smith_json::Fault) -> &'static str {
-    match fault {
-        smith_json::Fault::NotAnObject => "NotAnObject",
-        smith_json::Fault::UnknownField => "UnknownField",
-        smith_json::Fault::RepeatedField => "RepeatedField",
-        smith_json::Fault::WrongType => "WrongType",
-        smith_json::Fault::OutOfRange => "OutOfRange",
-        smith_json::Fault::TextAfter => "TextAfter",
-        smith_json::Fault::OutOfMemory => "OutOfMemory",
     }
 }
 

@@ -7,7 +7,7 @@ use crate::told::{tell_drawn_values, tell_line, tell_pair, tell_refusal, tell_va
 use smith_bytes::{Error, Unstructured};
 use smith_case::arguments::{value, word};
 use smith_case::call::ConstantCall;
-use smith_case::{Case, Fault};
+use smith_case::{Case, Fault, Obstacle};
 use smith_case_shapes::{ref_type_of, val_type_of};
 use smith_draw::{arbitrary_const_expr, arbitrary_table_init, globals_for_const_expr};
 use smith_types::{
@@ -22,7 +22,7 @@ pub(crate) fn answer_constant(
     answer: &mut String,
 ) -> Result<(), Fault> {
     if !are_types_valid(over.config.features(), over.spaces.types) {
-        return Err(Fault::NotCallable("the types aren't valid"));
+        return Err(Fault::NotCallable(Obstacle::InvalidTypes));
     }
     match call {
         ConstantCall::TableInit => answer_initialiser(over, u, answer),
@@ -76,7 +76,7 @@ fn wanted_of(over: &Over<'_>) -> Result<ValType, Fault>
         over.spaces.types.types().len(),
         wanted,
     ) {
-        return Err(Fault::NotCallable("the value type isn't valid"));
+        return Err(Fault::NotCallable(Obstacle::InvalidValueType));
     }
     Ok(wanted)
 }
@@ -139,10 +139,10 @@ fn element_of(over: &Over<'_>) -> Result<RefType, Fault>
         over.spaces.types.types().len(),
         element,
     ) {
-        return Err(Fault::NotCallable("the element type isn't valid"));
+        return Err(Fault::NotCallable(Obstacle::InvalidElementType));
     }
     if !element.nullable && !over.config.gc_enabled {
-        return Err(Fault::NotCallable("no element can be drawn"));
+        return Err(Fault::NotCallable(Obstacle::NoElement));
     }
     Ok(element)
 }
@@ -157,7 +157,7 @@ fn answer_initialiser(
 {
     let element = element_of(over)?;
     if over.config.gc_enabled && !over.config.reference_types_enabled {
-        return Err(Fault::NotCallable("references are off"));
+        return Err(Fault::NotCallable(Obstacle::NoReferences));
     }
     let spaces = spaces_of(over.spaces.types);
     match arbitrary_table_init(over.alloc, over.config, &spaces, element, u) {

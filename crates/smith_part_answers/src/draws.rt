@@ -10,7 +10,7 @@ use crate::spaces::{Over, spaces_of, types_of};
 use crate::told::tell_rest;
 use smith_bytes::Unstructured;
 use smith_case::call::DrawCall;
-use smith_case::{Case, Fault};
+use smith_case::{Case, Fault, Obstacle};
 use smith_config::Config;
 use std::alloc::Global;
 
@@ -26,7 +26,7 @@ pub fn answer_draw(
 ) -> Result<(), Fault> {
     config.sanitize();
     if config.check().is_err() {
-        return Err(Fault::NotCallable("the configuration doesn't pass"));
+        return Err(Fault::NotCallable(Obstacle::InvalidConfig));
     }
     let mut u = Unstructured::new(input);
     answer_under(alloc, case, call, config, &mut u, answer)?;

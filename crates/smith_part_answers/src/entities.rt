@@ -3,7 +3,7 @@ ghost use Rattle.smith_config.specs.Sanitized.{IsSanitized};
 use crate::spaces::Over;
 use crate::told::{tell_drawn, tell_drawn_values};
 use smith_bytes::Unstructured;
-use smith_case::Fault;
+use smith_case::{Fault, Obstacle};
 use smith_case::call::EntityCall;
 use smith_draw::{
     TypeUse, arbitrary_global_type, arbitrary_locals, arbitrary_memtype, arbitrary_table_type,
@@ -32,7 +32,7 @@ pub(crate) fn answer_entity(
         EntityCall::Locals => tell_drawn_values(arbitrary_locals(alloc, config, spaces, u), answer),
         EntityCall::Tag => {
             if count_types(TypeUse::Tag, spaces.types.types()) == 0 {
-                return Err(Fault::NotCallable("no type can be the type of a tag"));
+                return Err(Fault::NotCallable(Obstacle::NoTagType));
             }
             tell_drawn(arbitrary_tag_type(alloc, config, spaces, u), answer)
         }

@@ -5,7 +5,7 @@ ghost use Rattle.smith_config.specs.Sanitized.{IsSanitized};
 use crate::spaces::{Over, types_of};
 use crate::told::{tell_drawn, tell_line, tell_refusal, tell_types};
 use smith_bytes::Unstructured;
-use smith_case::Fault;
+use smith_case::{Fault, Obstacle};
 use smith_case::arguments::value;
 use smith_case::call::FreeCall;
 use smith_draw::{
@@ -37,7 +37,7 @@ fn bounds_of(over: &Over<'_>) -> Result<Bounds, Fault>
     }
     let must_share = value(over.case, 0)?;
     if must_share && !over.config.shared_everything_threads_enabled {
-        return Err(Fault::NotCallable("no type may be shared"));
+        return Err(Fault::NotCallable(Obstacle::NoSharedTypes));
     }
     Ok(Bounds {
         must_share,
@@ -122,7 +122,7 @@ fn add_group(
 {
     let Over { alloc, config, .. } = *over;
     if types.types().len() >= config.max_types {
-        return Err(Fault::NotCallable("no further type is allowed"));
+        return Err(Fault::NotCallable(Obstacle::NoFurtherType));
     }
     Ok(arbitrary_rec_group(alloc, config, types, &Entities::none(), allow_empty, u)?)
 }
@@ -135,7 +135,7 @@ fn answer_clone(over: &Over<'_>, u: &mut Unstructured<'_>, answer: &mut String) 
     let Over { alloc, config, .. } = *over;
     let mut types = types_of(alloc, over.case)?;
     if types.types().len() >= config.max_types || types.rec_groups().is_empty() {
-        return Err(Fault::NotCallable("nothing may be cloned"));
+        return Err(Fault::NotCallable(Obstacle::NothingToClone));
     }
     match clone_rec_group(alloc, config, &mut types, &Entities::none(), true, u) {
         Ok(is_cloned) => {
@@ -163,7 +163,7 @@ fn answer_subtype_of_one(
     } = *over;
     let types = spaces.types.types();
     if !config.gc_enabled || types.is_empty() || types[0].is_final || spaces.types.depth(0) >= 60 {
-        return Err(Fault::NotCallable("the first type has no subtypes"));
+        return Err(Fault::NotCallable(Obstacle::FinalType));
     }
     tell_drawn(
         arbitrary_sub_type_of_super_type(alloc, config, spaces, limit, u),

@@ -2,7 +2,7 @@ use crate::told::{tell_line, tell_pair};
 use smith_bytes::Unstructured;
 use smith_case::arguments::value;
 use smith_case::call::NumberCall;
-use smith_case::{Case, Fault};
+use smith_case::{Case, Fault, Obstacle};
 use smith_draw::{arbitrary_limits64, arbitrary_offset, gradually_grow};
 
 /// Appends the numbers that `call` draws: a number from the first argument to the third, mostly up
@@ -27,7 +27,7 @@ pub(crate) fn answer_number(
         NumberCall::Offset if first <= second => {
             (arbitrary_offset(first, second, third as usize, u), None)
         }
-        _ => return Err(Fault::NotCallable("the numbers aren't in order")),
+        _ => return Err(Fault::NotCallable(Obstacle::Disorder)),
     };
     match drawn {
         (least, Some(most)) => tell_pair(least, most, answer),

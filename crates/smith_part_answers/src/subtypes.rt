@@ -5,7 +5,7 @@ use crate::spaces::types_of;
 use crate::told::tell_line;
 use smith_case::arguments::word;
 use smith_case::call::SubtypeCall;
-use smith_case::{Case, Fault};
+use smith_case::{Case, Fault, Obstacle};
 use smith_case_shapes::{heap_type_of, ref_type_of, val_type_of};
 use smith_types::{HeapType, TypeSpace, ValType};
 use std::alloc::Global;
@@ -57,7 +57,7 @@ fn is_value_standing(types: &TypeSpace, value: ValType) -> bool
 }
 
 // The fault of a name of a type that does not exist.
-const MISSING: Fault = Fault::NotCallable("a type is not defined");
+const MISSING: Fault = Fault::NotCallable(Obstacle::MissingType);
 
 // Returns whether the heap type that `a` denotes is a subtype of the one that `b` denotes.
 fn is_heap_below(types: &TypeSpace, a: &str, b: &str) -> Result<bool, Fault> {

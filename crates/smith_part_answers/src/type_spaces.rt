@@ -8,7 +8,7 @@ use crate::told::{tell_drawn_values, tell_line, tell_pair, tell_types};
 use smith_bytes::Error;
 use smith_case::arguments::{value, word};
 use smith_case::call::SpaceCall;
-use smith_case::{Case, Fault};
+use smith_case::{Case, Fault, Obstacle};
 use smith_case_shapes::{entity_of, shape_named};
 use smith_draw::{TypeUse, add_type, list_types};
 use smith_types::{
@@ -46,7 +46,7 @@ fn answer_over(
 }
 
 // The fault of a name of a type that does not exist.
-const MISSING: Fault = Fault::NotCallable("a type is not defined");
+const MISSING: Fault = Fault::NotCallable(Obstacle::MissingType);
 
 // Appends the depth of the type at the index of the argument.
 fn answer_depth(types: &TypeSpace, case: &Case, answer: &mut String) -> Result<(), Fault> {
@@ -166,7 +166,7 @@ fn push_group(
     for ty in group {
         let added = ty.clone(alloc)?;
         if !types.may_follow(&added) {
-            return Err(Fault::NotCallable("a type cannot be added"));
+            return Err(Fault::NotCallable(Obstacle::MisplacedType));
         }
         tell_pair("index", push(call, types, added)?, answer)?;
     }

@@ -4,7 +4,7 @@ use crate::answers::told::{
 use smith_bytes::{Error, Unstructured};
 use smith_case::arguments::word;
 use smith_case::call::ModuleCall;
-use smith_case::{Case, Fault};
+use smith_case::{Case, Fault, Obstacle};
 use smith_config::Config;
 use smith_encode::encode;
 use smith_part_answers::{taken, tell_rest};
@@ -133,7 +133,7 @@ fn takes_fuel(call: ModuleCall) -> bool {
 impl Fuelled for Module {
     fn add_fuel(&mut self, alloc: Global, fuel: u32, answer: &mut String) -> Result<(), Fault> {
         if self.globals().len() >= u32::MAX as usize {
-            return Err(Fault::NotCallable("there are too many globals"));
+            return Err(Fault::NotCallable(Obstacle::TooManyGlobals));
         }
         tell_fuel(self.ensure_termination(alloc, fuel), answer)
     }

@@ -3,7 +3,7 @@ use crate::answers::told::{
 };
 use smith_bytes::Unstructured;
 use smith_case::call::ProgramCall;
-use smith_case::{Case, Fault};
+use smith_case::{Case, Fault, Obstacle};
 use smith_config::Config;
 use smith_part_answers::{taken, tell_rest};
 use smith_program::Program;
@@ -48,7 +48,7 @@ impl Told<ProgramCall> for Program {
 impl Fuelled for Program {
     fn add_fuel(&mut self, alloc: Global, fuel: u32, answer: &mut String) -> Result<(), Fault> {
         if self.module.globals().len() >= u32::MAX as usize {
-            return Err(Fault::NotCallable("there are too many globals"));
+            return Err(Fault::NotCallable(Obstacle::TooManyGlobals));
         }
         tell_fuel(self.ensure_termination(alloc, fuel), answer)
     }
