@@ -13,12 +13,11 @@ pub fn word(case: &Case, place: usize) -> Result<&str, Fault> {
 }
 
 /// Returns the argument of `case` at `place`, from 0, as a number, or as `true` or `false`.
-pub fn value<T: FromStr>(case: &Case, place: usize) -> Result<T, Fault>
+pub fn value<T: FromStr + Drop>(case: &Case, place: usize) -> Result<T, Fault>
 where
     T::Err: Drop,
 {
-    match word(case, place)?.parse::<T>() {
-        Ok(value) => Ok(value),
-        Err(_) => Err(Fault::Argument(place)),
-    }
+    word(case, place)?
+        .parse::<T>()
+        .or(Err(Fault::Argument(place)))
 }

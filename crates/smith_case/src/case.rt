@@ -80,6 +80,11 @@ impl Case {
 }
 
 impl ShapeNames {
+    /// Returns whether a shape of the configuration is named.
+    pub(crate) fn has_configured(&self) -> bool {
+        self.available_imports.is_some() || self.exports.is_some() || self.module_shape.is_some()
+    }
+
     // Returns the name of the key `key`, if that key names a shape.
     fn text_under<'c>(&'c mut self, key: &str) -> Option<&'c mut Option<String>> {
         match key {
@@ -160,9 +165,20 @@ fn read_member(
     if key == "config" {
         return put(&mut case.config, pass(reader), place);
     }
-    if let Some(slot) = case.text_under(key) {
-        return put(slot, read_text(alloc, reader), place);
+    match case.text_under(key) {
+        Some(slot) => put(slot, read_text(alloc, reader), place),
+        None => read_list_member(alloc, key, reader, case),
     }
+}
+
+// Reads the value of the key `key`, which is no text.
+fn read_list_member(
+    alloc: Global,
+    key: &str,
+    reader: &mut Reader<'_>,
+    case: &mut Case,
+) -> Result<(), Fault> {
+    let place = reader.offset();
     match case.list_under(key) {
         Some(slot) => put(slot, read_list(alloc, reader), place),
         None => Err(Fault::UnknownKey(place)),

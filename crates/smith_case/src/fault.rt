@@ -1,6 +1,6 @@
 use smith_bytes::Error;
 use std::alloc::{AllocError, AllocFailed};
-use std::fmt::{self, Display};
+use std::fmt;
 
 /// A reason why a call may not be made: a condition of the call that does not hold.
 #[derive(Clone, Copy)]
@@ -132,7 +132,18 @@ impl Fault {
         }
     }
 
-    // Returns the text of a fault after its numbers.
+    // Returns the number in the text of a fault, if there is a single one.
+    fn number(self) -> Option<usize> {
+        match self {
+            Fault::Syntax(number)
+            | Fault::UnknownKey(number)
+            | Fault::RepeatedKey(number)
+            | Fault::Argument(number) => Some(number),
+            _ => None,
+        }
+    }
+
+    // Returns the text of a fault after its number.
     fn end(self) -> &'static str {
         match self {
             Fault::RepeatedKey(_) => " occurs twice",
@@ -145,20 +156,27 @@ impl Fault {
 
 impl fmt::Display for Fault {
     fn fmt<W: fmt::Write>(&self, f: &mut fmt::Formatter<W>) -> fmt::Result {
-        f.write_str(self.text())?;
         match *self {
-            Fault::Syntax(number)
-            | Fault::UnknownKey(number)
-            | Fault::RepeatedKey(number)
-            | Fault::Argument(number) => number.fmt(f)?,
             Fault::Config {
                 fault,
                 line,
                 column,
-            } => return write!(f, "{line}, column {column}: {fault:?}"),
-            _ => {}
+            } => write!(f, "{}{line}, column {column}: {fault:?}", self.text()),
+            _ => write_around(self.text(), self.number(), self.end(), f),
         }
-        f.write_str(self.end())
+    }
+}
+
+// Writes `before`, the number if there is one, and `after`.
+fn write_around<W: fmt::Write>(
+    before: &str,
+    number: Option<usize>,
+    after: &str,
+    f: &mut fmt::Formatter<W>,
+) -> fmt::Result {
+    match number {
+        Some(number) => write!(f, "{before}{number}{after}"),
+        None => write!(f, "{before}{after}"),
     }
 }
 

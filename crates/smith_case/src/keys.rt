@@ -32,25 +32,23 @@ const DRAWN: Keys = Keys {
 
 /// Checks that `call` reads each key that `case` has, and that there are at most `most` arguments.
 pub fn check_keys(case: &Case, call: Call, most: usize) -> Result<(), Fault> {
-    let keys = keys_of(call);
-    let has_shapes = case.shapes.available_imports.is_some()
-        || case.shapes.exports.is_some()
-        || case.shapes.module_shape.is_some();
-    let useless = [
-        case.config.is_some() && !keys.config,
-        has_shapes && !keys.shapes,
-        case.shapes.shape.is_some() && !keys.shape,
-        case.shapes.types.is_some() && !keys.types,
-        case.args.is_some() && !keys.args,
-        (case.input.is_some() || case.inputs.is_some()) && !keys.input,
-    ];
-    if useless.contains(&true) {
+    if has_useless_key(case, keys_of(call)) {
         return Err(Fault::UselessKey);
     }
     if case.args().len() > most {
         return Err(Fault::TooManyArguments);
     }
     Ok(())
+}
+
+// Returns whether `case` has a key that is none of `keys`.
+fn has_useless_key(case: &Case, keys: Keys) -> bool {
+    (case.config.is_some() && !keys.config)
+        || (case.shapes.has_configured() && !keys.shapes)
+        || (case.shapes.shape.is_some() && !keys.shape)
+        || (case.shapes.types.is_some() && !keys.types)
+        || (case.args.is_some() && !keys.args)
+        || ((case.input.is_some() || case.inputs.is_some()) && !keys.input)
 }
 
 fn keys_of(call: Call) -> Keys {

@@ -1,4 +1,4 @@
-use crate::case::{Case, list};
+use crate::case::{Case, Wanted, list};
 use crate::fault::Fault;
 use std::fmt;
 
@@ -16,54 +16,47 @@ pub enum Difference<'a> {
         /// The line of the answer, empty past the last.
         given: &'a str,
     },
-    /// No such line after those that are wanted before it.
-    NoLine(&'a str),
-    /// No such piece.
-    NoPiece(&'a str),
-    /// A piece that must be absent.
-    Piece(&'a str),
+    /// A text that is missing, or that must not be there.
+    Text {
+        /// The text before it: what is missing, or what is there.
+        what: &'static str,
+        /// The line or the piece.
+        text: &'a str,
+    },
 }
 
 impl fmt::Display for Difference<'_> {
     fn fmt<W: fmt::Write>(&self, f: &mut fmt::Formatter<W>) -> fmt::Result {
-        let (before, text) = match *self {
-            Difference::Kind(given) => return write!(f, "the answer is {given}"),
+        match *self {
+            Difference::Kind(given) => write!(f, "the answer is {given}"),
             Difference::Line {
                 place,
                 wanted,
                 given,
-            } => return write!(f, "line {place} is {given:?}, and {wanted:?} is wanted"),
-            Difference::NoLine(wanted) => ("no line", wanted),
-            Difference::NoPiece(wanted) => ("no piece", wanted),
-            Difference::Piece(given) => ("a piece", given),
-        };
-        write!(f, "{before} {text:?}")
+            } => write!(f, "line {place} is {given:?}, and {wanted:?} is wanted"),
+            Difference::Text { what, text } => write!(f, "{what} {text:?}"),
+        }
     }
 }
 
 /// Checks that `case` wants something that not every answer has, and no list that is empty.
 pub fn check_wanted(case: &Case) -> Result<(), Fault> {
     let wanted = &case.wanted;
-    if wanted.answer.is_none()
+    if wants_nothing(wanted) || begins_with_anything(list(&wanted.answer)) {
+        return Err(Fault::WantsNothing);
+    }
+    check_texts(&wanted.answer)
+        .and(check_texts(&wanted.lines))
+        .and(check_texts(&wanted.pieces))
+        .and(check_texts(&wanted.absent))
+        .and(check_texts(&wanted.may))
+}
+
+fn wants_nothing(wanted: &Wanted) -> bool {
+    wanted.answer.is_none()
         && wanted.lines.is_none()
         && wanted.pieces.is_none()
         && wanted.may.is_none()
-    {
-        return Err(Fault::WantsNothing);
-    }
-    if begins_with_anything(list(&wanted.answer)) {
-        return Err(Fault::WantsNothing);
-    }
-    for texts in &[
-        &wanted.answer,
-        &wanted.lines,
-        &wanted.pieces,
-        &wanted.absent,
-        &wanted.may,
-    ] {
-        check_texts(texts)?;
-    }
-    Ok(())
 }
 
 // Checks that `texts` is no empty list, and has no blank text.
@@ -96,8 +89,8 @@ pub fn first_difference<'a>(answer: &'a str, case: &'a Case) -> Option<Differenc
     other_kind(answer, &wanted.may)
         .or(other_line(answer, &wanted.answer))
         .or(missing_line(answer, list(&wanted.lines)))
-        .or(missing_piece(answer, list(&wanted.pieces)))
-        .or(stray_piece(answer, list(&wanted.absent)))
+        .or(other_piece(answer, list(&wanted.pieces), true))
+        .or(other_piece(answer, list(&wanted.absent), false))
 }
 
 // Returns the kind of `answer` if it is none of those that `may` lists.
@@ -127,31 +120,39 @@ const ANYTHING: &str = "...";
 
 // Returns the first line of `answer` that is not the line at its place in `wanted`.
 fn other_line<'a>(answer: &'a str, wanted: &'a Option<Vec<String>>) -> Option<Difference<'a>> {
-    let Some(wanted) = wanted else {
-        return None;
-    };
-    let mut left = wanted.as_slice();
-    let mut place: usize = 0;
+    match wanted {
+        Some(wanted) => other_line_among(answer, wanted.as_slice()),
+        None => None,
+    }
+}
+
+fn other_line_among<'a>(answer: &'a str, wanted: &'a [String]) -> Option<Difference<'a>> {
+    let mut left = wanted;
+    let mut place: usize = 1;
     for line in answer.lines() {
-        place = place.saturating_add(1);
         let (wanted, others) = next_line(left);
         if wanted == ANYTHING {
             return None;
         }
-        if line.trim() != wanted {
-            return Some(Difference::Line {
-                place,
-                wanted,
-                given: line.trim(),
-            });
+        let difference = compared(place, line.trim(), wanted);
+        if difference.is_some() {
+            return difference;
         }
         left = others;
+        place = place.saturating_add(1);
     }
-    let line = left.first()?;
+    compared(place, "", next_line(left).0)
+}
+
+// Returns the difference of the line `given`, at `place`, from the line `wanted`.
+fn compared<'a>(place: usize, given: &'a str, wanted: &'a str) -> Option<Difference<'a>> {
+    if given == wanted {
+        return None;
+    }
     Some(Difference::Line {
-        place: place.saturating_add(1),
-        wanted: line.as_str(),
-        given: "",
+        place,
+        wanted,
+        given,
     })
 }
 
@@ -167,32 +168,26 @@ fn next_line(lines: &[String]) -> (&str, &[String]) {
 fn missing_line<'a>(answer: &str, wanted: &'a [String]) -> Option<Difference<'a>> {
     let mut left = wanted;
     for line in answer.lines() {
-        let Some((first, others)) = left.split_first() else {
-            return None;
-        };
-        if first.as_str().trim() == line.trim() {
+        let (first, others) = next_line(left);
+        if first == line.trim() {
             left = others;
         }
     }
-    match left.first() {
-        Some(line) => Some(Difference::NoLine(line.as_str())),
-        None => None,
-    }
+    let line = left.first()?;
+    Some(Difference::Text {
+        what: "no line",
+        text: line.as_str(),
+    })
 }
 
-fn missing_piece<'a>(answer: &str, wanted: &'a [String]) -> Option<Difference<'a>> {
-    for piece in wanted {
-        if !answer.contains(piece.as_str()) {
-            return Some(Difference::NoPiece(piece.as_str()));
-        }
-    }
-    None
-}
-
-fn stray_piece<'a>(answer: &str, absent: &'a [String]) -> Option<Difference<'a>> {
-    for piece in absent {
-        if answer.contains(piece.as_str()) {
-            return Some(Difference::Piece(piece.as_str()));
+// Returns the first of `pieces` that `answer` lacks, or if none of them is wanted, that it has.
+fn other_piece<'a>(answer: &str, pieces: &'a [String], are_wanted: bool) -> Option<Difference<'a>> {
+    for piece in pieces {
+        if answer.contains(piece.as_str()) != are_wanted {
+            return Some(Difference::Text {
+                what: if are_wanted { "no piece" } else { "a piece" },
+                text: piece.as_str(),
+            });
         }
     }
     None
