@@ -3,6 +3,7 @@
 
 mod checked_shapes;
 mod large_parts;
+mod parts;
 mod shape_parts;
 mod shapes;
 mod type_names;

@@ -1,4 +1,5 @@
 use crate::large_parts::{add_chain, add_cycle, add_fan, add_wide, export_many};
+use crate::parts::{known, name_of, push, with_parts};
 use crate::type_names::{field_type_of, ref_type_of, take_word, val_type_of};
 use smith_case::Fault;
 use smith_config::Shape;
@@ -30,57 +31,38 @@ use std::alloc::Global;
 pub(crate) fn add_part(alloc: Global, part: &str, shape: &mut Shape) -> Result<(), Fault> {
     let (word, rest) = split_word(part);
     match word {
-        "group" | "chain" | "cycle" | "wide" | "fan" => {
-            add_group(alloc, word, rest, &mut shape.groups)
-        }
         "import" => push(&mut shape.imports, import_of(alloc, rest)),
         "items" => push(&mut shape.imports, items_of(alloc, rest)),
         "names" => push(&mut shape.imports, names_of(alloc, rest)),
         "export" => push(&mut shape.exports, export_of(alloc, rest)),
-        "exports" => export_many(alloc, known(number(rest))?, &mut shape.exports),
-        _ => add_definition(part, shape),
+        _ => add_definition(alloc, part, shape),
     }
 }
 
-// Adds `item` to `items`, if it could be read.
-fn push<T: Drop>(items: &mut Items<T>, item: Result<T, Fault>) -> Result<(), Fault> {
-    Ok(items.push(item?)?)
-}
-
-// Adds the group of a part that begins with `word` to `groups`.
-fn add_group(
-    alloc: Global,
-    word: &str,
-    rest: &str,
-    groups: &mut Items<Items<SubType>>,
-) -> Result<(), Fault> {
-    let mut types = Items::new(alloc);
-    let added = add_types(alloc, word, rest, &mut types);
-    push(groups, added.and(Ok(types)))
-}
-
-// Adds the types of a part that begins with `word` to `types`.
-fn add_types(
-    alloc: Global,
-    word: &str,
-    rest: &str,
-    types: &mut Items<SubType>,
-) -> Result<(), Fault> {
+// Reads the group of types of a part that begins with `word`.
+fn group_of(alloc: Global, word: &str, rest: &str) -> Result<Items<SubType>, Fault> {
     if word == "group" {
-        return add_written(alloc, rest, types);
+        return with_parts(alloc, rest, ';', Items::new(alloc));
     }
     let count = known(number(rest))?;
+    let mut types = Items::new(alloc);
+    add_counted(alloc, word, count, &mut types).and(Ok(types))
+}
+
+// Adds `count` types of the sort that `word` names to `types`.
+fn add_counted(
+    alloc: Global,
+    word: &str,
+    count: u32,
+    types: &mut Items<SubType>,
+) -> Result<(), Fault> {
     match word {
         "chain" => add_chain(alloc, count, types),
         "cycle" => add_cycle(alloc, count, types),
         "wide" => add_wide(alloc, count, types),
-        _ => add_fan(alloc, count, types),
+        "fan" => add_fan(alloc, count, types),
+        _ => Err(Fault::UnknownShape),
     }
-}
-
-// Returns the value that was read, or the fault if there is none.
-fn known<T: Drop>(value: Option<T>) -> Result<T, Fault> {
-    value.ok_or(Fault::UnknownShape)
 }
 
 // Returns the first word of `text`, and the text after the blank that follows it.
@@ -98,17 +80,8 @@ fn long(text: &str) -> Option<u64> {
     text.parse::<u64>().ok()
 }
 
-// Adds the types between semicolons in `text` to `types`.
-fn add_written(alloc: Global, text: &str, types: &mut Items<SubType>) -> Result<(), Fault> {
-    for part in text.split(';') {
-        if !part.trim().is_empty() {
-            push(types, sub_type_of(alloc, part.trim()))?;
-        }
-    }
-    Ok(())
-}
-
-fn sub_type_of(alloc: Global, text: &str) -> Result<SubType, Fault> {
+/// Reads the type that `text` denotes, as `group` lists it.
+pub(crate) fn sub_type_of(alloc: Global, text: &str) -> Result<SubType, Fault> {
     let (is_open, text) = take_word(text, "open ");
     let (supertype, text) = known(number_after("below ", text))?;
     Ok(SubType {
@@ -134,7 +107,7 @@ fn inner_of(alloc: Global, text: &str) -> Result<CompositeInnerType, Fault> {
     let (word, rest) = split_word(text);
     match word {
         "struct" => Ok(CompositeInnerType::Struct(StructType {
-            fields: list_of(alloc, rest)?,
+            fields: with_parts(alloc, rest, ',', Items::new(alloc))?,
         })),
         "array" => Ok(CompositeInnerType::Array(ArrayType(known(field_type_of(rest))?))),
         "func" => Ok(CompositeInnerType::Func(function_of(alloc, rest)?)),
@@ -148,104 +121,48 @@ pub fn function_of(alloc: Global, text: &str) -> Result<FuncType, Fault> {
         return Err(Fault::UnknownShape);
     };
     Ok(FuncType {
-        params: list_of(alloc, params)?,
-        results: list_of(alloc, results)?,
+        params: with_parts(alloc, params, ',', Items::new(alloc))?,
+        results: with_parts(alloc, results, ',', Items::new(alloc))?,
     })
-}
-
-// A type that is written in lists, between commas.
-trait Listed: Sized {
-    // Reads the type that `text` denotes.
-    fn of(text: &str) -> Option<Self>;
-}
-
-impl Listed for FieldType {
-    fn of(text: &str) -> Option<FieldType> {
-        field_type_of(text)
-    }
-}
-
-impl Listed for ValType {
-    fn of(text: &str) -> Option<ValType> {
-        val_type_of(text)
-    }
-}
-
-// Reads the types between commas in `text`.
-fn list_of<T: Listed + Drop>(alloc: Global, text: &str) -> Result<Items<T>, Fault> {
-    let mut types = Items::new(alloc);
-    add_listed(text, &mut types).and(Ok(types))
-}
-
-// Adds the types between commas in `text` to `types`.
-fn add_listed<T: Listed + Drop>(text: &str, types: &mut Items<T>) -> Result<(), Fault> {
-    for part in text.split(',') {
-        if !part.trim().is_empty() {
-            push(types, known(T::of(part.trim())))?;
-        }
-    }
-    Ok(())
 }
 
 fn import_of(alloc: Global, text: &str) -> Result<Imports, Fault> {
     let (module, item) = split_word(text);
     let ImportItem { name, entity_type } = item_of(alloc, item)?;
     Ok(Imports::Single(Import {
-        module: Name::from_text(alloc, module)?,
+        module: name_of(alloc, module)?,
         name,
         entity_type,
     }))
 }
 
-fn item_of(alloc: Global, text: &str) -> Result<ImportItem, Fault> {
+/// Reads the import that `text` denotes: `NAME ENTITY`.
+pub(crate) fn item_of(alloc: Global, text: &str) -> Result<ImportItem, Fault> {
     let (name, entity) = split_word(text);
     let entity_type = known(entity_of(entity))?;
     Ok(ImportItem {
-        name: Name::from_text(alloc, name)?,
+        name: name_of(alloc, name)?,
         entity_type,
     })
 }
 
 fn items_of(alloc: Global, text: &str) -> Result<Imports, Fault> {
-    let (module, rest) = split_word(text);
-    let module = Name::from_text(alloc, module)?;
-    let mut items = Items::new(alloc);
-    let added = add_items(alloc, rest, &mut items);
-    added.and(Ok(Imports::Compact1 { module, items }))
-}
-
-// Adds the imports between semicolons in `text` to `items`.
-fn add_items(alloc: Global, text: &str, items: &mut Items<ImportItem>) -> Result<(), Fault> {
-    for part in text.split(';') {
-        if !part.trim().is_empty() {
-            push(items, item_of(alloc, part))?;
-        }
-    }
-    Ok(())
+    let (module, items) = split_word(text);
+    Ok(Imports::Compact1 {
+        module: name_of(alloc, module)?,
+        items: with_parts(alloc, items, ';', Items::new(alloc))?,
+    })
 }
 
 fn names_of(alloc: Global, text: &str) -> Result<Imports, Fault> {
     let (module, rest) = split_word(text);
-    let (texts, entity) = split_word(rest);
+    let (names, entity) = split_word(rest);
     let entity_type = known(entity_of(entity))?;
-    let module = Name::from_text(alloc, module)?;
-    let mut names = Items::new(alloc);
-    let added = add_names(alloc, texts, &mut names);
-    added.and(Ok(Imports::Compact2 {
-        module,
+    Ok(Imports::Compact2 {
+        module: name_of(alloc, module)?,
         entity_type,
-        names,
-    }))
-}
-
-// Adds the names between commas in `text` to `names`.
-fn add_names(alloc: Global, text: &str, names: &mut Items<Name>) -> Result<(), Fault> {
-    for name in text.split(',') {
-        if name != "-" {
-            names.push(Name::from_text(alloc, name)?)?;
-        }
-    }
-    Ok(())
+        names: with_parts(alloc, names, ',', Items::new(alloc))?,
+    })
 }
 
 /// Reads the entity that `text` denotes.
@@ -306,23 +223,32 @@ fn global_of(text: &str) -> Option<EntityType> {
     }))
 }
 
-// Adds to `shape` the entity that `part` denotes.
-fn add_definition(part: &str, shape: &mut Shape) -> Result<(), Fault> {
+// Adds to `shape` the entity that `part` denotes, or else the parts that it counts or lists.
+fn add_definition(alloc: Global, part: &str, shape: &mut Shape) -> Result<(), Fault> {
     match entity_of(part) {
         Some(EntityType::Func(index)) => push(&mut shape.funcs, Ok(index)),
         Some(EntityType::Tag(index)) => push(&mut shape.tags, Ok(index)),
         Some(EntityType::Table(table)) => push(&mut shape.tables, Ok(table)),
         Some(EntityType::Memory(memory)) => push(&mut shape.memories, Ok(memory)),
         Some(EntityType::Global(global)) => push(&mut shape.globals, Ok(global)),
-        None => Err(Fault::UnknownShape),
+        None => add_many(alloc, part, shape),
     }
+}
+
+// Adds to `shape` the exports or the group that `part` denotes.
+fn add_many(alloc: Global, part: &str, shape: &mut Shape) -> Result<(), Fault> {
+    let (word, rest) = split_word(part);
+    if word == "exports" {
+        return export_many(alloc, known(number(rest))?, &mut shape.exports);
+    }
+    push(&mut shape.groups, group_of(alloc, word, rest))
 }
 
 fn export_of(alloc: Global, text: &str) -> Result<(Name, ExportKind, u32), Fault> {
     let (name, item) = split_word(text);
     let (kind, index) = split_word(item);
     let (kind, index) = known(export_kind_of(kind).zip(number(index)))?;
-    Ok((Name::from_text(alloc, name)?, kind, index))
+    Ok((name_of(alloc, name)?, kind, index))
 }
 
 fn export_kind_of(word: &str) -> Option<ExportKind> {

@@ -1,5 +1,5 @@
 use crate::checked_shapes::CHECKED_SHAPES;
-use crate::shape_parts::add_part;
+use crate::parts::{known, with_parts};
 use smith_case::Fault;
 use smith_config::Shape;
 use smith_types::Items;
@@ -98,10 +98,9 @@ a function of an external reference, over a struct of a function: group struct (
 // Finds the parts of the shape named `name` among `shapes`.
 fn parts_among(shapes: &'static str, name: &str) -> Option<&'static str> {
     for line in shapes.lines() {
-        if let Some((other, parts)) = line.split_once(':') {
-            if other == name {
-                return Some(parts);
-            }
+        let (other, parts) = line.split_once(':').unwrap_or((line, ""));
+        if other == name {
+            return Some(parts);
         }
     }
     None
@@ -114,21 +113,7 @@ fn parts_of(name: &str) -> Option<&'static str> {
 
 /// Creates the shape named `name`.
 pub fn shape_named(alloc: Global, name: &str) -> Result<Shape, Fault> {
-    let Some(parts) = parts_of(name) else {
-        return Err(Fault::UnknownShape);
-    };
-    let mut shape = nothing(alloc);
-    add_parts(alloc, parts, &mut shape).and(Ok(shape))
-}
-
-// Adds the parts between bars in `parts` to `shape`.
-fn add_parts(alloc: Global, parts: &str, shape: &mut Shape) -> Result<(), Fault> {
-    for part in parts.split('|') {
-        if !part.trim().is_empty() {
-            add_part(alloc, part.trim(), shape)?;
-        }
-    }
-    Ok(())
+    with_parts(alloc, known(parts_of(name))?, '|', nothing(alloc))
 }
 
 fn nothing(alloc: Global) -> Shape {
