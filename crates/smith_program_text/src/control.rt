@@ -91,3 +91,17 @@ pub(crate) fn write_branch_cast<S: Sink>(
     sink.write_str(" ")?;
     cast.to.write_text(sink)
 }
+
+/// Writes a call through a table.
+pub(crate) fn write_indirect<S: Sink>(
+    keyword: &str,
+    table: u32,
+    ty: u32,
+    sink: &mut S,
+) -> fmt::Result
+    requires open { S.failed sink.old ≡ false }
+    ensures fault { S.failed sink.new ≡ is_err result }
+    ensures writes { OnOk result (Writes S.has sink.old 1 sink.new) }
+{
+    write!(sink, "{keyword} {table} (type {ty})")
+}

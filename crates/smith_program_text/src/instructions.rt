@@ -2,7 +2,10 @@ ghost use Rattle.std.specs.Prelude.{◌≡◌, false, is_err, OnOk};
 ghost use Rattle.smith_text.specs.Written.{Writes};
 
 use crate::atomic::write_atomic;
-use crate::control::{write_block, write_branch_cast, write_branch_table, write_try_table};
+use crate::control::{
+    write_block, write_branch_cast, write_branch_table, write_indirect, write_try_table,
+};
+use crate::keywords::write_indexed;
 use crate::memory::{
     load_keyword, store_keyword, vector_load_keyword, write_access, write_lane_access, write_memory,
 };
@@ -32,32 +35,32 @@ pub fn write_instr<S: Sink>(instruction: &Instr, sink: &mut S) -> fmt::Result
         Instr::Else => sink.write_str("else"),
         Instr::End => sink.write_str("end"),
         Instr::TryTable(ty, clauses) => write_try_table(*ty, clauses.as_slice(), sink),
-        Instr::Throw(tag) => write!(sink, "throw {tag}"),
+        Instr::Throw(tag) => write_indexed("throw", *tag, sink),
         Instr::ThrowRef => sink.write_str("throw_ref"),
-        Instr::Br(label) => write!(sink, "br {label}"),
-        Instr::BrIf(label) => write!(sink, "br_if {label}"),
+        Instr::Br(label) => write_indexed("br", *label, sink),
+        Instr::BrIf(label) => write_indexed("br_if", *label, sink),
         Instr::BrTable(labels, last) => write_branch_table(labels.as_slice(), *last, sink),
-        Instr::BrOnNull(label) => write!(sink, "br_on_null {label}"),
-        Instr::BrOnNonNull(label) => write!(sink, "br_on_non_null {label}"),
+        Instr::BrOnNull(label) => write_indexed("br_on_null", *label, sink),
+        Instr::BrOnNonNull(label) => write_indexed("br_on_non_null", *label, sink),
         Instr::BrOnCast(cast) => write_branch_cast("br_on_cast", *cast, sink),
         Instr::BrOnCastFail(cast) => write_branch_cast("br_on_cast_fail", *cast, sink),
         Instr::Return => sink.write_str("return"),
-        Instr::Call(function) => write!(sink, "call {function}"),
-        Instr::CallIndirect { table, ty } => { write!(sink, "call_indirect {table} (type {ty})") }
-        Instr::CallRef(ty) => write!(sink, "call_ref {ty}"),
-        Instr::ReturnCall(function) => write!(sink, "return_call {function}"),
+        Instr::Call(function) => write_indexed("call", *function, sink),
+        Instr::CallIndirect { table, ty } => write_indirect("call_indirect", *table, *ty, sink),
+        Instr::CallRef(ty) => write_indexed("call_ref", *ty, sink),
+        Instr::ReturnCall(function) => write_indexed("return_call", *function, sink),
         Instr::ReturnCallIndirect { table, ty } => {
-            write!(sink, "return_call_indirect {table} (type {ty})")
+            write_indirect("return_call_indirect", *table, *ty, sink)
         }
-        Instr::ReturnCallRef(ty) => write!(sink, "return_call_ref {ty}"),
+        Instr::ReturnCallRef(ty) => write_indexed("return_call_ref", *ty, sink),
         Instr::Drop => sink.write_str("drop"),
         Instr::Select => sink.write_str("select"),
         Instr::SelectTyped(ty) => write_block("select", BlockType::Value(*ty), sink),
-        Instr::LocalGet(local) => write!(sink, "local.get {local}"),
-        Instr::LocalSet(local) => write!(sink, "local.set {local}"),
-        Instr::LocalTee(local) => write!(sink, "local.tee {local}"),
-        Instr::GlobalGet(global) => write!(sink, "global.get {global}"),
-        Instr::GlobalSet(global) => write!(sink, "global.set {global}"),
+        Instr::LocalGet(local) => write_indexed("local.get", *local, sink),
+        Instr::LocalSet(local) => write_indexed("local.set", *local, sink),
+        Instr::LocalTee(local) => write_indexed("local.tee", *local, sink),
+        Instr::GlobalGet(global) => write_indexed("global.get", *global, sink),
+        Instr::GlobalSet(global) => write_indexed("global.set", *global, sink),
         Instr::I32Const(value) => write_const_instr(&ConstInstr::I32Const(*value), sink),
         Instr::I64Const(value) => write_const_instr(&ConstInstr::I64Const(*value), sink),
         Instr::F32Const(bits) => write_const_instr(&ConstInstr::F32Const(*bits), sink),

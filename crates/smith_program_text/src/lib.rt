@@ -7,6 +7,7 @@ mod atomic;
 mod control;
 mod examples;
 mod instructions;
+mod keywords;
 mod lines;
 mod memory;
 mod numeric;

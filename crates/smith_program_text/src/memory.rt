@@ -1,6 +1,7 @@
 ghost use Rattle.std.specs.Prelude.{◌≡◌, ◌≤◌, false, is_err, length, OnOk};
 ghost use Rattle.smith_text.specs.Written.{Keeps, Writes};
 
+use crate::keywords::{write_indexed, write_indexed_twice};
 use smith_instr::{Load, MemArg, MemoryInstr, Store, VectorLoad};
 use smith_text::Sink;
 use std::fmt;
@@ -117,6 +118,26 @@ pub(crate) fn write_lane_access<S: Sink>(
     write!(sink, " {lane}")
 }
 
+// Writes an instruction on a whole memory.
+fn write_on_memory<S: Sink>(keyword: &str, memory: u32, sink: &mut S) -> fmt::Result
+    requires open { S.failed sink.old ≡ false }
+    ensures fault { S.failed sink.new ≡ is_err result }
+    ensures writes { OnOk result (Writes S.has sink.old (length keyword.now) sink.new) }
+{
+    sink.write_str(keyword)?;
+    write_memory_index(memory, sink)
+}
+
+// Writes `memory.init`.
+fn write_init<S: Sink>(memory: u32, segment: u32, sink: &mut S) -> fmt::Result
+    requires open { S.failed sink.old ≡ false }
+    ensures fault { S.failed sink.new ≡ is_err result }
+    ensures writes { OnOk result (Writes S.has sink.old 1 sink.new) }
+{
+    write_on_memory("memory.init", memory, sink)?;
+    write!(sink, " {segment}")
+}
+
 /// Writes an instruction on a whole memory or a data segment.
 pub(crate) fn write_memory<S: Sink>(instruction: MemoryInstr, sink: &mut S) -> fmt::Result
     requires open { S.failed sink.old ≡ false }
@@ -124,25 +145,12 @@ pub(crate) fn write_memory<S: Sink>(instruction: MemoryInstr, sink: &mut S) -> f
     ensures writes { OnOk result (Writes S.has sink.old 1 sink.new) }
 {
     match instruction {
-        MemoryInstr::Size(memory) => {
-            sink.write_str("memory.size")?;
-            write_memory_index(memory, sink)
-        }
-        MemoryInstr::Grow(memory) => {
-            sink.write_str("memory.grow")?;
-            write_memory_index(memory, sink)
-        }
-        MemoryInstr::Fill(memory) => {
-            sink.write_str("memory.fill")?;
-            write_memory_index(memory, sink)
-        }
+        MemoryInstr::Size(memory) => write_on_memory("memory.size", memory, sink),
+        MemoryInstr::Grow(memory) => write_on_memory("memory.grow", memory, sink),
+        MemoryInstr::Fill(memory) => write_on_memory("memory.fill", memory, sink),
         MemoryInstr::Copy { to: 0, from: 0 } => sink.write_str("memory.copy"),
-        MemoryInstr::Copy { to, from } => write!(sink, "memory.copy {to} {from}"),
-        MemoryInstr::Init { memory, segment } => {
-            sink.write_str("memory.init")?;
-            write_memory_index(memory, sink)?;
-            write!(sink, " {segment}")
-        }
-        MemoryInstr::DataDrop(segment) => write!(sink, "data.drop {segment}"),
+        MemoryInstr::Copy { to, from } => write_indexed_twice("memory.copy", to, from, sink),
+        MemoryInstr::Init { memory, segment } => write_init(memory, segment, sink),
+        MemoryInstr::DataDrop(segment) => write_indexed("data.drop", segment, sink),
     }
 }

@@ -1,6 +1,7 @@
 ghost use Rattle.std.specs.Prelude.{◌≡◌, ◌≤◌, false, is_err, length, OnOk};
 ghost use Rattle.smith_text.specs.Written.{Writes};
 
+use crate::keywords::write_operator;
 use smith_instr::{
     Conversion, FloatBinary, FloatCompare, FloatUnary, IntBinary, IntCompare, IntUnary,
     NumericInstr, SaturatingConversion, SignExtension, WideArithmetic,
@@ -168,18 +169,18 @@ pub(crate) fn write_numeric<S: Sink>(instruction: NumericInstr, sink: &mut S) ->
     ensures writes { OnOk result (Writes S.has sink.old 1 sink.new) }
 {
     match instruction {
-        NumericInstr::I32Unary(op) => write!(sink, "i32.{}", int_unary(op)),
-        NumericInstr::I64Unary(op) => write!(sink, "i64.{}", int_unary(op)),
-        NumericInstr::F32Unary(op) => write!(sink, "f32.{}", float_unary(op)),
-        NumericInstr::F64Unary(op) => write!(sink, "f64.{}", float_unary(op)),
-        NumericInstr::I32Binary(op) => write!(sink, "i32.{}", int_binary(op)),
-        NumericInstr::I64Binary(op) => write!(sink, "i64.{}", int_binary(op)),
-        NumericInstr::F32Binary(op) => write!(sink, "f32.{}", float_binary(op)),
-        NumericInstr::F64Binary(op) => write!(sink, "f64.{}", float_binary(op)),
-        NumericInstr::I32Compare(op) => write!(sink, "i32.{}", int_compare(op)),
-        NumericInstr::I64Compare(op) => write!(sink, "i64.{}", int_compare(op)),
-        NumericInstr::F32Compare(op) => write!(sink, "f32.{}", float_compare(op)),
-        NumericInstr::F64Compare(op) => write!(sink, "f64.{}", float_compare(op)),
+        NumericInstr::I32Unary(op) => write_operator("i32", int_unary(op), sink),
+        NumericInstr::I64Unary(op) => write_operator("i64", int_unary(op), sink),
+        NumericInstr::F32Unary(op) => write_operator("f32", float_unary(op), sink),
+        NumericInstr::F64Unary(op) => write_operator("f64", float_unary(op), sink),
+        NumericInstr::I32Binary(op) => write_operator("i32", int_binary(op), sink),
+        NumericInstr::I64Binary(op) => write_operator("i64", int_binary(op), sink),
+        NumericInstr::F32Binary(op) => write_operator("f32", float_binary(op), sink),
+        NumericInstr::F64Binary(op) => write_operator("f64", float_binary(op), sink),
+        NumericInstr::I32Compare(op) => write_operator("i32", int_compare(op), sink),
+        NumericInstr::I64Compare(op) => write_operator("i64", int_compare(op), sink),
+        NumericInstr::F32Compare(op) => write_operator("f32", float_compare(op), sink),
+        NumericInstr::F64Compare(op) => write_operator("f64", float_compare(op), sink),
         NumericInstr::I32Eqz => sink.write_str("i32.eqz"),
         NumericInstr::I64Eqz => sink.write_str("i64.eqz"),
         NumericInstr::Convert(op) => sink.write_str(conversion(op)),

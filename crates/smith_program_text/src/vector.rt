@@ -1,6 +1,7 @@
 ghost use Rattle.std.specs.Prelude.{◌≡◌, ◌≤◌, false, is_err, length, OnOk};
 ghost use Rattle.smith_text.specs.Written.{Writes};
 
+use crate::keywords::{write_indexed, write_operator};
 use smith_instr::{
     IntShape, LaneExtract, LaneShape, RelaxedBinary, RelaxedFloatBinary, RelaxedFloatTernary,
     RelaxedFloatUnary, RelaxedTernary, VectorBinary, VectorFloatBinary, VectorFloatUnary,
@@ -331,6 +332,15 @@ fn write_shuffle<S: Sink>(lanes: &[u8], sink: &mut S) -> fmt::Result
     Ok(())
 }
 
+// Writes the replacement of a lane.
+fn write_replacement<S: Sink>(shape: LaneShape, lane: u8, sink: &mut S) -> fmt::Result
+    requires open { S.failed sink.old ≡ false }
+    ensures fault { S.failed sink.new ≡ is_err result }
+    ensures writes { OnOk result (Writes S.has sink.old 1 sink.new) }
+{
+    write!(sink, "{}.replace_lane {lane}", lane_shape(shape))
+}
+
 /// Writes a vector instruction that accesses no memory.
 pub(crate) fn write_vector<S: Sink>(instruction: VectorInstr, sink: &mut S) -> fmt::Result
     requires open { S.failed sink.old ≡ false }
@@ -344,14 +354,12 @@ pub(crate) fn write_vector<S: Sink>(instruction: VectorInstr, sink: &mut S) -> f
         VectorInstr::FloatBinary(op) => sink.write_str(float_binary(op)),
         VectorInstr::Bitselect => sink.write_str("v128.bitselect"),
         VectorInstr::AnyTrue => sink.write_str("v128.any_true"),
-        VectorInstr::AllTrue(shape) => write!(sink, "{}.all_true", int_shape(shape)),
-        VectorInstr::Bitmask(shape) => write!(sink, "{}.bitmask", int_shape(shape)),
-        VectorInstr::Shift(op, shape) => write!(sink, "{}.{}", int_shape(shape), shift(op)),
-        VectorInstr::Splat(shape) => write!(sink, "{}.splat", lane_shape(shape)),
-        VectorInstr::ExtractLane(op, lane) => write!(sink, "{} {lane}", extract(op)),
-        VectorInstr::ReplaceLane(shape, lane) => {
-            write!(sink, "{}.replace_lane {lane}", lane_shape(shape))
-        }
+        VectorInstr::AllTrue(shape) => write_operator(int_shape(shape), "all_true", sink),
+        VectorInstr::Bitmask(shape) => write_operator(int_shape(shape), "bitmask", sink),
+        VectorInstr::Shift(op, shape) => write_operator(int_shape(shape), shift(op), sink),
+        VectorInstr::Splat(shape) => write_operator(lane_shape(shape), "splat", sink),
+        VectorInstr::ExtractLane(op, lane) => write_indexed(extract(op), u32::from(lane), sink),
+        VectorInstr::ReplaceLane(shape, lane) => write_replacement(shape, lane, sink),
         VectorInstr::Shuffle(lanes) => write_shuffle(&lanes, sink),
         VectorInstr::RelaxedFloatUnary(op) => sink.write_str(relaxed_float_unary(op)),
         VectorInstr::RelaxedBinary(op) => sink.write_str(relaxed_binary(op)),
