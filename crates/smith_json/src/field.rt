@@ -1,4 +1,4 @@
-ghost use Rattle.std.specs.Prelude.{◌≡◌, length, option_map};
+ghost use Rattle.std.specs.Prelude.{◌≡◌, option_map};
 ghost use Rattle.smith_json.specs.Fields.{named, field_named};
 ghost use Rattle.smith_json.specs.Places.{field_of, fields_in};
 
@@ -6,7 +6,7 @@ use crate::place::{Flag, Long, Place, Size, Word};
 use std::fmt;
 
 /// The kind of value that a field takes. Each field also takes `null`, which leaves it unchanged.
-#[derive(Clone, Copy, Debug, PartialEq, Eq)]
+#[derive(Clone, Copy)]
 pub enum FieldKind {
     /// A whole number below `2^bits`, written in digits alone.
     Whole(u32),
@@ -36,43 +36,9 @@ impl fmt::Display for FieldKind {
     }
 }
 
-/// A field of a configuration, by its name in a text.
-#[derive(Clone, Copy, Debug)]
-pub struct Field {
-    /// The name, in lower case and with hyphens.
-    pub name: &'static str,
-    /// The kind of its value.
-    pub kind: FieldKind,
-    /// A sentence on the meaning of the field.
-    pub about: &'static str,
-}
-
-impl Field {
-    /// Finds the field named `name`.
-    pub fn named(name: &str) -> Option<&'static Field> {
-        row(fields(), name)
-    }
-}
-
-/// Returns every field, in the order of `Config`.
-pub fn fields() -> &'static [Field]
-    ensures { length result.now ≡ 71 }
-{
-    &FIELDS
-}
-
-/// Finds the first row with the name `name`.
-fn row<'a>(table: &'a [Field], name: &str) -> Option<&'a Field> {
-    for field in table {
-        if field.name == name {
-            return Some(field);
-        }
-    }
-    None
-}
-
-/// The list of the fields, in the order of `Config`: the name, the place and one sentence of each,
-/// as `$row` writes them.
+/// Makes an array of the fields, in the order of `Config`: of what the macro `$row` writes for the
+/// name, the place and one sentence of each.
+#[macro_export]
 macro_rules! fields {
     ($row:ident) => {
         [
@@ -197,57 +163,12 @@ macro_rules! fields {
     };
 }
 
-/// The row of a field for readers.
-macro_rules! field {
-    ($name:literal, $place:ident $(($part:ident))?, $about:literal) => {
-        Field {
-            name: $name,
-            kind: kind!($place),
-            about: $about,
-        }
-    };
-}
-
-/// The row of a field for finding its place.
+/// The row of a field for its place.
 macro_rules! place {
     ($name:literal, $place:ident $(($part:ident))?, $about:literal) => {
         ($name, Place::$place $(($place::$part))?)
     };
 }
-
-/// The kind of the values at a place.
-macro_rules! kind {
-    (Size) => {
-        FieldKind::Whole(64)
-    };
-    (Word) => {
-        FieldKind::Whole(32)
-    };
-    (Long) => {
-        FieldKind::Whole(64)
-    };
-    (MinUlebSize) => {
-        FieldKind::Whole(8)
-    };
-    (MaxMemory64Bytes) => {
-        FieldKind::Whole(128)
-    };
-    (Flag) => {
-        FieldKind::Flag
-    };
-    (AllowedInstructions) => {
-        FieldKind::InstructionKinds
-    };
-    (MemoryOffsetChoices) => {
-        FieldKind::OffsetChoices
-    };
-    (File) => {
-        FieldKind::File
-    };
-}
-
-/// The fields for readers.
-static FIELDS: [Field; 71] = fields!(field);
 
 /// The name and the place of every field, in the order of `Config`.
 static PLACES: [(&str, Place); 71] = fields!(place);
@@ -270,4 +191,23 @@ fn found(table: &[(&str, Place)], name: &str) -> Option<Place>
         }
     }
     None
+}
+
+/// Finds the kind of the values of the field named `name`.
+pub fn kind_of(name: &str) -> Option<FieldKind> {
+    place_named(name).map(kind_at)
+}
+
+/// Returns the kind of the values at a place.
+fn kind_at(place: Place) -> FieldKind {
+    match place {
+        Place::Size(_) | Place::Long(_) => FieldKind::Whole(64),
+        Place::Word(_) => FieldKind::Whole(32),
+        Place::MinUlebSize => FieldKind::Whole(8),
+        Place::MaxMemory64Bytes => FieldKind::Whole(128),
+        Place::Flag(_) => FieldKind::Flag,
+        Place::AllowedInstructions => FieldKind::InstructionKinds,
+        Place::MemoryOffsetChoices => FieldKind::OffsetChoices,
+        Place::File => FieldKind::File,
+    }
 }

@@ -1,7 +1,8 @@
 //! Reads a configuration from a JSON object whose members are named after the fields of `Config`.
 //!
 //! A name has hyphens in place of the field's underscores, as in `max-types`. A field that no
-//! member names keeps its default, and so does a field whose member is `null`.
+//! member names keeps its default, and so does a field whose member is `null`. The macro [`fields`]
+//! lists the names, with a sentence on each field.
 #![tactic(auto)]
 
 mod field;
@@ -11,6 +12,6 @@ mod read;
 mod refusal;
 mod value;
 
-pub use field::{Field, FieldKind, fields};
+pub use field::{FieldKind, kind_of};
 pub use read::{config, read_config, read_text};
 pub use refusal::{ConfigRefusal, Fault, Refusal};

@@ -1,7 +1,7 @@
 ghost use Rattle.std.specs.Prelude.{◌≡◌};
 ghost use Rattle.std.specs.String.{string_bytes};
 
-use crate::field::Field;
+use crate::field::kind_of;
 use std::error::Error;
 use std::fmt;
 
@@ -100,10 +100,8 @@ impl fmt::Display for ConfigRefusal {
             "line {}, column {}: {before}{name}{after}",
             self.line, self.column
         )?;
-        match (self.fault, Field::named(field)) {
-            (Fault::WrongType | Fault::OutOfRange, Some(named)) => {
-                write!(f, "; it takes {}", named.kind)
-            }
+        match (self.fault, kind_of(field)) {
+            (Fault::WrongType | Fault::OutOfRange, Some(kind)) => write!(f, "; it takes {kind}"),
             _ => Ok(()),
         }
     }

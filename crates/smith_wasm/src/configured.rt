@@ -1,9 +1,10 @@
 use crate::asked::Asked;
 use crate::failure::Failure;
+use crate::fields::fields;
 use crate::words::{ARBITRARY, CONFIG};
 use smith_bytes::{Error, Unstructured};
 use smith_config::{Config, MemoryOffsetChoices};
-use smith_json::{Field, FieldKind, fields, read_text};
+use smith_json::{FieldKind, kind_of, read_text};
 use smith_output::OutputFault;
 use smith_types::InstructionKinds;
 use std::alloc::Global;
@@ -58,38 +59,33 @@ fn set_from_words(
 ) -> Result<(), Failure> {
     for field in fields() {
         if let Some(value) = asked.matches.get_str(field.name) {
-            set_from_word(alloc, field, value, config)?;
+            set_from_word(alloc, field.name, value, config)?;
         }
     }
     Ok(())
 }
 
-/// Sets `field` to the value that the word `value` denotes.
+/// Sets the field `name` to the value that the word `value` denotes.
 fn set_from_word(
     alloc: Global,
-    field: &'static Field,
+    name: &'static str,
     value: &str,
     config: &mut Config,
 ) -> Result<(), Failure> {
-    if is_set(alloc, field, value, config)? {
+    if is_set(alloc, name, value, config)? {
         return Ok(());
     }
-    Err(Failure::Word(field.name, String::from_str(alloc, value)?))
+    Err(Failure::Word(name, String::from_str(alloc, value)?))
 }
 
-/// Sets `field` to the value that the word `value` denotes. Returns whether it denotes a value of
-/// the field.
-fn is_set(
-    alloc: Global,
-    field: &'static Field,
-    value: &str,
-    config: &mut Config,
-) -> Result<bool, Failure> {
-    match field.kind {
-        FieldKind::InstructionKinds => Ok(is_kinds_set(value, config)),
-        FieldKind::OffsetChoices => Ok(is_choices_set(value, config)),
+/// Sets the field `name` to the value that the word `value` denotes. Returns whether it denotes a
+/// value of the field.
+fn is_set(alloc: Global, name: &str, value: &str, config: &mut Config) -> Result<bool, Failure> {
+    match kind_of(name) {
+        Some(FieldKind::InstructionKinds) => Ok(is_kinds_set(value, config)),
+        Some(FieldKind::OffsetChoices) => Ok(is_choices_set(value, config)),
         _ => {
-            let text = format!(in alloc; "{{\"{}\":{value}}}", field.name)?;
+            let text = format!(in alloc; "{{\"{name}\":{value}}}")?;
             Ok(is_plain(value) && read_text(alloc, text.as_str(), config).is_ok())
         }
     }

@@ -9,6 +9,7 @@ mod asked;
 mod configured;
 mod corpus;
 mod failure;
+mod fields;
 mod files;
 mod warnings;
 mod words;

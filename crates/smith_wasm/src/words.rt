@@ -1,7 +1,8 @@
 use crate::failure::Failure;
+use crate::fields::{Field, fields};
 use crate::warnings::has_no_effect;
 use clap::{Arg, ArgAction, Command, value_parser};
-use smith_json::{Field, FieldKind, fields};
+use smith_json::{FieldKind, kind_of};
 use std::alloc::Global;
 
 /// The word of the input.
@@ -183,17 +184,18 @@ fn taking<'a>(arg: Arg<'a>, takes: Takes) -> Arg<'a> {
 fn with_fields<'a>(alloc: Global, command: Command<'a>) -> Result<Command<'a>, Failure> {
     let mut command = command;
     for field in fields() {
-        if !matches!(field.kind, FieldKind::File) {
-            command = command.arg(field_arg(alloc, field))?;
+        match kind_of(field.name) {
+            None | Some(FieldKind::File) => {}
+            Some(kind) => command = command.arg(field_arg(alloc, field, kind))?,
         }
     }
     Ok(command)
 }
 
-fn field_arg<'a>(alloc: Global, field: &'static Field) -> Arg<'a> {
+fn field_arg<'a>(alloc: Global, field: &'static Field, kind: FieldKind) -> Arg<'a> {
     Arg::new(alloc, field.name)
         .long(field.name)
-        .value_name(kind_name(field.kind))
+        .value_name(kind_name(kind))
         .help(field.about)
         .help_heading(heading_of(field.name))
         .action(ArgAction::Set)
