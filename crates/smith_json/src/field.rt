@@ -6,7 +6,7 @@ use crate::place::{Flag, Long, Place, Size, Word};
 use std::fmt;
 
 /// The kind of value that a field takes. Each field also takes `null`, which leaves it unchanged.
-#[derive(Clone, Copy)]
+#[derive(Clone, Copy, Debug, PartialEq, Eq)]
 pub enum FieldKind {
     /// A whole number below `2^bits`, written in digits alone.
     Whole(u32),
