@@ -190,14 +190,22 @@ fn of_each_byte(
         return Err(Fault::UselessKey);
     }
     for byte in 0..=u8::MAX {
-        if !is_among(byte, bytes) {
-            continue;
-        }
-        if let Some(difference) = of_input(alloc, line, case, &[byte])? {
-            return Ok(Some(format!(in alloc; "of the byte {byte:02x}: {difference}")?));
+        if is_among(byte, bytes) {
+            let difference = of_byte(alloc, line, case, byte)?;
+            if difference.is_some() {
+                return Ok(difference);
+            }
         }
     }
     Ok(None)
+}
+
+// Returns the first difference over the input `byte`, after a text that names it.
+fn of_byte(alloc: Global, line: &str, case: &Case, byte: u8) -> Result<Option<String>, Fault> {
+    match of_input(alloc, line, case, &[byte])? {
+        Some(difference) => Ok(Some(format!(in alloc; "of the byte {byte:02x}: {difference}")?)),
+        None => Ok(None),
+    }
 }
 
 // Returns the first difference over `input` cut at each length, and over the whole of it.
@@ -208,9 +216,19 @@ fn of_each_cut(
     input: &[u8],
 ) -> Result<Option<String>, Fault> {
     for length in 0..=input.len() {
-        if let Some(difference) = of_input(alloc, line, case, &input[..length])? {
-            return Ok(Some(format!(in alloc; "cut at {length}: {difference}")?));
+        let difference = of_cut(alloc, line, case, &input[..length])?;
+        if difference.is_some() {
+            return Ok(difference);
         }
     }
     Ok(None)
+}
+
+// Returns the first difference over the cut input `cut`, after a text that names its length.
+fn of_cut(alloc: Global, line: &str, case: &Case, cut: &[u8]) -> Result<Option<String>, Fault> {
+    let length = cut.len();
+    match of_input(alloc, line, case, cut)? {
+        Some(difference) => Ok(Some(format!(in alloc; "cut at {length}: {difference}")?)),
+        None => Ok(None),
+    }
 }

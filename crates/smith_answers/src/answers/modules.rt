@@ -55,8 +55,8 @@ fn form_of(case: &Case, call: ModuleCall) -> Result<Form, Fault> {
         ModuleCall::NewInternal => 1,
         _ => return Ok(form),
     };
-    for (place, detail) in case.args().iter().enumerate().skip(first) {
-        match detail.as_str() {
+    for place in first..case.args().len() {
+        match word(case, place)? {
             "debug" => form.debug = true,
             "left" => form.left = true,
             _ => return Err(Fault::Argument(place)),

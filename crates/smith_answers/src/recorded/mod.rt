@@ -31,13 +31,26 @@ pub(crate) fn answer_recorded(
     let Some(formula) = formula_named(word(case, 0)?) else {
         return Err(Fault::Argument(0));
     };
-    let mut first = u32::from(value::<u16>(case, 1)?);
+    let first = u32::from(value::<u16>(case, 1)?);
     let count = u32::from(value::<u16>(case, 2)?);
+    Ok(append_lines(alloc, config, formula, first, count, answer)?)
+}
+
+// Appends the lines of `count` inputs from the number `first` on.
+fn append_lines(
+    alloc: Global,
+    config: &Config,
+    formula: Formula,
+    first: u32,
+    count: u32,
+    answer: &mut String,
+) -> Result<(), Error> {
     let end = first.saturating_add(count);
+    let mut start = first;
     for _ in 0..count.div_ceil(INPUTS_A_LINE) {
-        let next = first.saturating_add(INPUTS_A_LINE).min(end);
-        append_line(alloc, config, formula, first..next, answer)?;
-        first = next;
+        let next = start.saturating_add(INPUTS_A_LINE).min(end);
+        append_line(alloc, config, formula, start..next, answer)?;
+        start = next;
     }
     Ok(())
 }
@@ -53,13 +66,25 @@ fn append_line(
     let (first, last) = (numbers.start, numbers.end.saturating_sub(1));
     let mut hasher = Sha256::new();
     let mut kinds = AnswerKinds::new(alloc);
-    for index in numbers {
-        let input = formula.input(alloc, index)?;
-        kinds.count(feed(alloc, config, &input, &mut hasher)?)?;
+    for number in numbers {
+        feed_input(alloc, config, formula, number, &mut hasher, &mut kinds)?;
     }
     let checksum = hex::encode(alloc, hasher.finalize())?;
     writeln!(answer, "{first} to {last}: {kinds}SHA-256 {checksum}")?;
     Ok(())
+}
+
+// Feeds `hasher` with the answer to the input with the number `number`, and counts its kind.
+fn feed_input(
+    alloc: Global,
+    config: &Config,
+    formula: Formula,
+    number: u32,
+    hasher: &mut Sha256,
+    kinds: &mut AnswerKinds,
+) -> Result<(), Error> {
+    let input = formula.input(alloc, number)?;
+    kinds.count(feed(alloc, config, &input, hasher)?)
 }
 
 // Draws a module from `u` for a copy of `config`.
