@@ -1,13 +1,13 @@
-use crate::told::{tell_bytes, tell_line, tell_refusal};
+use crate::shapes::{Shaped, shape_of};
+use crate::told::{equality, or_memory, tell_bytes, tell_line, tell_refusal};
 use smith_bytes::{Error, Unstructured, Which};
 use smith_case::arguments::word;
 use smith_case::call::ConfigCall;
 use smith_case::{Case, Fault};
-use smith_case_shapes::shape_named;
 use smith_config::{Config, Shape};
 use smith_spell::spell;
 use smith_types::{Items, WasmFeatures};
-use std::alloc::Global;
+use std::alloc::{AllocError, Global};
 
 /// Appends the result of `call` on `config`, or under it.
 pub fn answer_config(
@@ -58,9 +58,10 @@ impl Told for Config {
     }
 
     fn tell_equal(&self, alloc: Global, copy: &Self, answer: &mut String) -> Result<(), Fault> {
-        let prints_the_same = printed(alloc, copy)? == printed(alloc, self)?;
-        let is_equal = prints_the_same && has_same_shapes(copy, self);
-        tell_line(if is_equal { "is equal" } else { "differs" }, answer)
+        match prints_the_same(alloc, copy, self) {
+            Ok(is_same) => tell_line(equality(is_same && has_same_shapes(copy, self)), answer),
+            Err(_) => Err(Fault::Memory),
+        }
     }
 }
 
@@ -85,8 +86,12 @@ fn tell_copy<T: Told>(
     }
 }
 
-fn printed(alloc: Global, config: &Config) -> Result<String, Fault> {
-    Ok(format!(in alloc; "{config:?}")?)
+fn prints_the_same(alloc: Global, copy: &Config, config: &Config) -> Result<bool, AllocError> {
+    Ok(printed(alloc, copy)? == printed(alloc, config)?)
+}
+
+fn printed(alloc: Global, config: &Config) -> Result<String, AllocError> {
+    format!(in alloc; "{config:?}")
 }
 
 fn has_same_shapes(copy: &Config, config: &Config) -> bool {
@@ -97,7 +102,7 @@ fn has_same_shapes(copy: &Config, config: &Config) -> bool {
 
 // Appends a line `FIELD: VALUE,` for each field.
 fn tell_config(config: &Config, answer: &mut String) -> Result<(), Fault> {
-    Ok(writeln!(answer, "{config:#?}")?)
+    or_memory(writeln!(answer, "{config:#?}"))
 }
 
 // Appends a line for each feature that is on.
@@ -108,14 +113,6 @@ fn tell_features(features: WasmFeatures, answer: &mut String) -> Result<(), Faul
         }
     }
     Ok(())
-}
-
-/// Returns the shape under the key `shape` of `case`.
-pub(crate) fn shape_of(alloc: Global, case: &Case) -> Result<Shape, Fault> {
-    match &case.shapes.shape {
-        Some(name) => shape_named(alloc, name.as_str()),
-        None => Err(Fault::UnknownShape),
-    }
 }
 
 // Returns the use of a shape that the first argument names.
@@ -143,8 +140,20 @@ fn checked_shape(
     answer: &mut String,
 ) -> Result<(), Fault> {
     let which = which_of(case)?;
-    let shape = shape_of(alloc, case)?;
-    tell_check(shape.check(alloc, which, config), answer)
+    answer_shape_check(alloc, which, shape_of(alloc, case), config, answer)
+}
+
+fn answer_shape_check<S: Shaped>(
+    alloc: Global,
+    which: Which,
+    found: Result<S, Fault>,
+    config: &Config,
+    answer: &mut String,
+) -> Result<(), Fault> {
+    match found {
+        Ok(shape) => tell_check(shape.shape().check(alloc, which, config), answer),
+        Err(fault) => Err(fault),
+    }
 }
 
 // Appends the result of a check.
@@ -157,14 +166,28 @@ fn tell_check(checked: Result<(), Error>, answer: &mut String) -> Result<(), Fau
 
 // Appends the bytes that spell the groups and the functions of a shape.
 fn spelled(alloc: Global, case: &Case, config: &Config, answer: &mut String) -> Result<(), Fault> {
-    let shape = shape_of(alloc, case)?;
-    let spelling = spell(
+    answer_spelling(alloc, shape_of(alloc, case), config, answer)
+}
+
+fn answer_spelling<S: Shaped>(
+    alloc: Global,
+    found: Result<S, Fault>,
+    config: &Config,
+    answer: &mut String,
+) -> Result<(), Fault> {
+    match found {
+        Ok(shape) => tell_spelling(spelling(alloc, config, shape.shape()), answer),
+        Err(fault) => Err(fault),
+    }
+}
+
+fn spelling(alloc: Global, config: &Config, shape: &Shape) -> Result<Option<Items<u8>>, Error> {
+    spell(
         alloc,
         config,
         shape.groups.as_slice(),
         shape.funcs.as_slice(),
-    );
-    tell_spelling(spelling, answer)
+    )
 }
 
 // Appends the bytes of a spelling, or `none`.

@@ -1,4 +1,4 @@
-use crate::told::tell_debug;
+use crate::told::{or_memory, tell_debug};
 use json::{Reader, Scratch};
 use smith_case::arguments::word;
 use smith_case::{Case, Fault, goes_to_config};
@@ -45,7 +45,7 @@ fn tell_read_refusal(refusal: &ConfigRefusal, answer: &mut String) -> Result<(),
     if matches!(refusal.fault, smith_json::Fault::OutOfMemory) {
         return Err(Fault::Memory);
     }
-    Ok(writeln!(answer, "refused: {refusal}")?)
+    or_memory(writeln!(answer, "refused: {refusal}"))
 }
 
 /// Returns the configuration `config`, and leaves the default in its place.
@@ -108,8 +108,14 @@ fn set_shapes(alloc: Global, case: &Case, config: &mut Config) -> Result<(), Fau
 
 // Puts the shape named `name` into `slot`, if there is a name.
 fn set_shape(alloc: Global, name: &Option<String>, slot: &mut Option<Shape>) -> Result<(), Fault> {
-    if let Some(name) = name {
-        *slot = Some(shape_named(alloc, name.as_str())?);
+    match name {
+        Some(name) => put(shape_named(alloc, name.as_str()), slot),
+        None => Ok(()),
     }
+}
+
+// Puts the value that is made into `slot`.
+fn put<T: Drop>(made: Result<T, Fault>, slot: &mut Option<T>) -> Result<(), Fault> {
+    *slot = Some(made?);
     Ok(())
 }

@@ -1,14 +1,29 @@
-use crate::configs::shape_of;
-use crate::told::{tell_debug, tell_pair};
+use crate::shapes::{Shaped, shape_of};
+use crate::told::{equality, tell_debug, tell_pair};
 use smith_bytes::Error;
 use smith_case::{Case, Fault};
+use smith_config::Shape;
 use smith_types::{CompositeInnerType, CompositeType, ImportItem, Imports, Items, SubType};
 use std::alloc::Global;
 
 /// Appends a line for each group, type and import of the shape of `case`, and for each of their
 /// parts, that says whether a copy is equal. A group of imports is printed before its lines.
 pub fn answer_copies(alloc: Global, case: &Case, answer: &mut String) -> Result<(), Fault> {
-    let shape = shape_of(alloc, case)?;
+    answer_of(alloc, shape_of(alloc, case), answer)
+}
+
+fn answer_of<S: Shaped>(
+    alloc: Global,
+    found: Result<S, Fault>,
+    answer: &mut String,
+) -> Result<(), Fault> {
+    match found {
+        Ok(shape) => answer_shape(alloc, shape.shape(), answer),
+        Err(fault) => Err(fault),
+    }
+}
+
+fn answer_shape(alloc: Global, shape: &Shape, answer: &mut String) -> Result<(), Fault> {
     answer_groups(alloc, shape.groups.as_slice(), answer)?;
     answer_imports(alloc, shape.imports.as_slice(), answer)
 }
@@ -20,9 +35,10 @@ fn tell_copy<T: PartialEq + Drop>(
     value: &T,
     answer: &mut String,
 ) -> Result<(), Fault> {
-    let is_equal = copy? == *value;
-    let told = if is_equal { "is equal" } else { "differs" };
-    tell_pair(name, told, answer)
+    match copy {
+        Ok(copy) => tell_pair(name, equality(copy == *value), answer),
+        Err(_) => Err(Fault::Memory),
+    }
 }
 
 fn answer_groups(

@@ -52,11 +52,23 @@ fn answer_under(
         config,
         spaces: &spaces,
     };
+    answer_over(&over, call, u, answer)
+}
+
+fn answer_over(
+    over: &Over<'_>,
+    call: DrawCall,
+    u: &mut Unstructured<'_>,
+    answer: &mut String,
+) -> Result<(), Fault>
+    requires passes { Passes over.now.config.now }
+    requires sanitized { IsSanitized over.now.config.now }
+{
     match call {
-        DrawCall::Free(call) => answer_free_type(&over, call, u, answer),
-        DrawCall::Matching(call) => answer_matching(&over, call, u, answer),
-        DrawCall::Entity(call) => answer_entity(&over, call, u, answer),
-        DrawCall::Constant(call) => answer_constant(&over, call, u, answer),
-        DrawCall::Number(call) => answer_number(case, call, u, answer),
+        DrawCall::Free(call) => answer_free_type(over, call, u, answer),
+        DrawCall::Matching(call) => answer_matching(over, call, u, answer),
+        DrawCall::Entity(call) => answer_entity(over, call, u, answer),
+        DrawCall::Constant(call) => answer_constant(over, call, u, answer),
+        DrawCall::Number(call) => answer_number(over.case, call, u, answer),
     }
 }

@@ -3,8 +3,8 @@ ghost use Rattle.smith_config.specs.Sanitized.{IsSanitized};
 use crate::spaces::Over;
 use crate::told::{tell_drawn, tell_drawn_values};
 use smith_bytes::Unstructured;
-use smith_case::{Fault, Obstacle};
 use smith_case::call::EntityCall;
+use smith_case::{Fault, Obstacle};
 use smith_draw::{
     TypeUse, arbitrary_global_type, arbitrary_locals, arbitrary_memtype, arbitrary_table_type,
     arbitrary_tag_type, count_types,

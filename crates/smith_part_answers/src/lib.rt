@@ -13,6 +13,7 @@ mod matching;
 mod names;
 mod numbers;
 mod parsers;
+mod shapes;
 mod sources;
 mod spaces;
 mod subtypes;

@@ -15,7 +15,7 @@ use smith_draw::{
     arbitrary_matching_val_type, arbitrary_super_type_of_heap_type,
     arbitrary_super_type_of_ref_type, arbitrary_super_type_of_val_type,
 };
-use smith_types::{CompositeInnerType, FieldType, HeapType, RefType, StorageType, ValType};
+use smith_types::CompositeInnerType;
 
 /// Appends the subtype or supertype of the argument that `call` draws.
 pub(crate) fn answer_matching(
@@ -30,31 +30,25 @@ pub(crate) fn answer_matching(
     match call {
         MatchingCall::Func => answer_function(over, text, u, answer),
         MatchingCall::Struct => answer_structure(over, u, answer),
-        MatchingCall::Field => answer_field(over, known(field_type_of(text))?, u, answer),
-        MatchingCall::Storage => answer_storage(over, known(storage_type_of(text))?, u, answer),
-        MatchingCall::Val | MatchingCall::AboveVal => {
-            answer_value(over, call, known(val_type_of(text))?, u, answer)
-        }
-        MatchingCall::Ref | MatchingCall::AboveRef => {
-            answer_reference(over, call, known(ref_type_of(text))?, u, answer)
-        }
+        MatchingCall::Field => answer_field(over, text, u, answer),
+        MatchingCall::Storage => answer_storage(over, text, u, answer),
+        MatchingCall::Val | MatchingCall::AboveVal => answer_value(over, call, text, u, answer),
+        MatchingCall::Ref | MatchingCall::AboveRef => answer_reference(over, call, text, u, answer),
         MatchingCall::Heap | MatchingCall::AboveHeap => {
-            answer_heap_type(over, call, known(heap_type_of(text))?, u, answer)
+            answer_heap_type(over, call, text, u, answer)
         }
     }
 }
 
-// Returns the type that was read from the argument.
-fn known<T: Drop>(read: Option<T>) -> Result<T, Fault> {
-    read.ok_or(Fault::Argument(0))
-}
-
 fn answer_field(
     over: &Over<'_>,
-    wanted: FieldType,
+    text: &str,
     u: &mut Unstructured<'_>,
     answer: &mut String,
 ) -> Result<(), Fault> {
+    let Some(wanted) = field_type_of(text) else {
+        return Err(Fault::Argument(0));
+    };
     tell_drawn(
         arbitrary_matching_field_type(over.alloc, over.config, over.spaces, wanted, u),
         answer,
@@ -63,24 +57,30 @@ fn answer_field(
 
 fn answer_storage(
     over: &Over<'_>,
-    wanted: StorageType,
+    text: &str,
     u: &mut Unstructured<'_>,
     answer: &mut String,
 ) -> Result<(), Fault> {
+    let Some(wanted) = storage_type_of(text) else {
+        return Err(Fault::Argument(0));
+    };
     tell_drawn(
         arbitrary_matching_storage_type(over.alloc, over.config, over.spaces, wanted, u),
         answer,
     )
 }
 
-// Appends a subtype or supertype of the value type `wanted`.
+// Appends a subtype or supertype of the value type that `text` denotes.
 fn answer_value(
     over: &Over<'_>,
     call: MatchingCall,
-    wanted: ValType,
+    text: &str,
     u: &mut Unstructured<'_>,
     answer: &mut String,
 ) -> Result<(), Fault> {
+    let Some(wanted) = val_type_of(text) else {
+        return Err(Fault::Argument(0));
+    };
     let Over {
         alloc,
         config,
@@ -96,14 +96,17 @@ fn answer_value(
     tell_drawn(drawn, answer)
 }
 
-// Appends a subtype or supertype of the reference type `wanted`.
+// Appends a subtype or supertype of the reference type that `text` denotes.
 fn answer_reference(
     over: &Over<'_>,
     call: MatchingCall,
-    wanted: RefType,
+    text: &str,
     u: &mut Unstructured<'_>,
     answer: &mut String,
 ) -> Result<(), Fault> {
+    let Some(wanted) = ref_type_of(text) else {
+        return Err(Fault::Argument(0));
+    };
     let Over {
         alloc,
         config,
@@ -119,14 +122,17 @@ fn answer_reference(
     tell_drawn(drawn, answer)
 }
 
-// Appends a subtype or supertype of the heap type `wanted`.
+// Appends a subtype or supertype of the heap type that `text` denotes.
 fn answer_heap_type(
     over: &Over<'_>,
     call: MatchingCall,
-    wanted: HeapType,
+    text: &str,
     u: &mut Unstructured<'_>,
     answer: &mut String,
 ) -> Result<(), Fault> {
+    let Some(wanted) = heap_type_of(text) else {
+        return Err(Fault::Argument(0));
+    };
     let Over {
         alloc,
         config,

@@ -1,4 +1,4 @@
-use crate::told::{tell_debug, tell_refusal, tell_rest};
+use crate::told::{or_memory, tell_debug, tell_refusal, tell_rest};
 use smith_bytes::{
     Error, Unstructured, limited_str, limited_string, unique_kebab_string, unique_string,
     unique_url,
@@ -19,14 +19,24 @@ pub fn answer_name(
     input: &[u8],
     answer: &mut String,
 ) -> Result<(), Fault> {
-    let most = value(case, 0)?;
     let mut u = Unstructured::new(input);
-    if matches!(call, NameCall::LimitedStr) {
-        tell_debug(&limited_str(most, &mut u), answer)?;
-    } else {
-        answer_made_name(alloc, case, call, most, &mut u, answer)?;
-    }
+    answer_from(alloc, case, call, &mut u, answer)?;
     tell_rest(&u, answer)
+}
+
+// Appends the name that `call` draws from `u`, and the names that are taken afterwards.
+fn answer_from(
+    alloc: Global,
+    case: &Case,
+    call: NameCall,
+    u: &mut Unstructured<'_>,
+    answer: &mut String,
+) -> Result<(), Fault> {
+    let most = value(case, 0)?;
+    match call {
+        NameCall::LimitedStr => tell_debug(&limited_str(most, u), answer),
+        _ => answer_made_name(alloc, case, call, most, u, answer),
+    }
 }
 
 fn answer_made_name(
@@ -37,9 +47,23 @@ fn answer_made_name(
     u: &mut Unstructured<'_>,
     answer: &mut String,
 ) -> Result<(), Fault> {
-    let mut names = names_of(alloc, case)?;
-    tell_name(drawn(alloc, call, most, &mut names, u), answer)?;
-    tell_names(alloc, &names, answer)
+    let mut names = HashSet::new(alloc);
+    add_names(case.args().get(1..).unwrap_or(&[]), &mut names)?;
+    answer_among(alloc, call, most, &mut names, u, answer)
+}
+
+// Appends the name that `call` draws where `names` are taken, and the names that are taken
+// afterwards.
+fn answer_among(
+    alloc: Global,
+    call: NameCall,
+    most: usize,
+    names: &mut HashSet<String>,
+    u: &mut Unstructured<'_>,
+    answer: &mut String,
+) -> Result<(), Fault> {
+    tell_name(drawn(alloc, call, most, names, u), answer)?;
+    tell_names(alloc, names, answer)
 }
 
 fn tell_name(drawn: Result<String, Error>, answer: &mut String) -> Result<(), Fault> {
@@ -49,14 +73,9 @@ fn tell_name(drawn: Result<String, Error>, answer: &mut String) -> Result<(), Fa
     }
 }
 
-fn names_of(alloc: Global, case: &Case) -> Result<HashSet<String>, Fault> {
-    let mut names = HashSet::new(alloc);
-    add_names(case, &mut names).and(Ok(names))
-}
-
-// Adds the arguments after the first to `names`.
-fn add_names(case: &Case, names: &mut HashSet<String>) -> Result<(), Fault> {
-    for name in case.args().iter().skip(1) {
+// Adds the names `taken` to `names`.
+fn add_names(taken: &[String], names: &mut HashSet<String>) -> Result<(), Fault> {
+    for name in taken {
         names.insert(name.clone()?)?;
     }
     Ok(())
@@ -80,14 +99,23 @@ fn drawn(
 // Appends a line of the names in order.
 fn tell_names(alloc: Global, names: &HashSet<String>, answer: &mut String) -> Result<(), Fault> {
     let mut sorted: Vec<&str> = Vec::with_capacity(alloc, names.len())?;
-    add_sorted(names, &mut sorted)?;
-    Ok(writeln!(answer, "names {sorted:?}")?)
+    tell_sorted(names, &mut sorted, answer)
+}
+
+// Appends a line of `names`, which are listed in `sorted`.
+fn tell_sorted<'a>(
+    names: &'a HashSet<String>,
+    sorted: &mut Vec<&'a str>,
+    answer: &mut String,
+) -> Result<(), Fault> {
+    add_sorted(names, sorted)?;
+    or_memory(writeln!(answer, "names {sorted:?}"))
 }
 
 // Adds `names` to `sorted` in order.
 fn add_sorted<'a>(names: &'a HashSet<String>, sorted: &mut Vec<&'a str>) -> Result<(), Fault> {
     for name in names.iter() {
-        sorted.push(name.as_str())?;
+        or_memory(sorted.push(name.as_str()))?;
     }
-    Ok(sorted.sort()?)
+    or_memory(sorted.sort())
 }

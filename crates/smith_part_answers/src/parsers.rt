@@ -1,5 +1,5 @@
-use crate::told::{tell_debug, tell_line, tell_pair, tell_refusal};
-use smith_case::arguments::word;
+use crate::told::{or_memory, tell_debug, tell_line, tell_pair, tell_refusal};
+use smith_case::arguments::{value, word};
 use smith_case::call::ParserCall;
 use smith_case::{Case, Fault};
 use smith_config::MemoryOffsetChoices;
@@ -53,7 +53,7 @@ fn answer_text(case: &Case, call: ParserCall, answer: &mut String) -> Result<(),
 fn answer_choices(text: &str, answer: &mut String) -> Result<(), Fault> {
     match MemoryOffsetChoices::from_str(text) {
         Ok(MemoryOffsetChoices(first, second, third)) => {
-            Ok(writeln!(answer, "{first} {second} {third}")?)
+            or_memory(writeln!(answer, "{first} {second} {third}"))
         }
         Err(fault) => tell_refusal(fault, answer),
     }
@@ -72,12 +72,8 @@ fn answer_kinds(text: &str, call: ParserCall, answer: &mut String) -> Result<(),
 
 // Appends whether the kinds that the first argument names contain the kind that the second names.
 fn answer_contains(case: &Case, answer: &mut String) -> Result<(), Fault> {
-    let Ok(kinds) = InstructionKinds::from_str(word(case, 0)?) else {
-        return Err(Fault::Argument(0));
-    };
-    let Ok(kind) = InstructionKind::from_str(word(case, 1)?) else {
-        return Err(Fault::Argument(1));
-    };
+    let kinds: InstructionKinds = value(case, 0)?;
+    let kind: InstructionKind = value(case, 1)?;
     tell_line(kinds.contains(kind), answer)
 }
 

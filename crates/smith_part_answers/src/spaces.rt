@@ -1,6 +1,8 @@
 ghost use Rattle.std.specs.Prelude.{◌≡◌, [], false};
 ghost use Rattle.smith_types.specs.declared.value_type.ValType.TheVariants.{I32};
 
+use crate::shapes::Shaped;
+use crate::told::or_memory;
 use smith_case::{Case, Fault};
 use smith_case_shapes::shape_named;
 use smith_config::Config;
@@ -65,11 +67,17 @@ pub(crate) fn with_globals<'a>(types: &'a TypeSpace, globals: &'a [GlobalType]) 
 
 /// Returns the types under the key `types` of `case`: those of a shape, or no types.
 pub(crate) fn types_of(alloc: Global, case: &Case) -> Result<TypeSpace, Fault> {
-    let Some(name) = &case.shapes.types else {
-        return Ok(TypeSpace::new(alloc));
-    };
-    let shape = shape_named(alloc, name.as_str())?;
-    types_in(alloc, shape.groups.as_slice())
+    match &case.shapes.types {
+        Some(name) => types_of_shape(alloc, shape_named(alloc, name.as_str())),
+        None => Ok(TypeSpace::new(alloc)),
+    }
+}
+
+fn types_of_shape<S: Shaped>(alloc: Global, found: Result<S, Fault>) -> Result<TypeSpace, Fault> {
+    match found {
+        Ok(shape) => types_in(alloc, shape.shape().groups.as_slice()),
+        Err(fault) => Err(fault),
+    }
 }
 
 // Returns the types of `groups`.
@@ -99,5 +107,5 @@ fn add_group(alloc: Global, members: &[SubType], types: &mut TypeSpace) -> Resul
         }
         let _index = types.push_type(added)?;
     }
-    Ok(types.push_group()?)
+    or_memory(types.push_group())
 }

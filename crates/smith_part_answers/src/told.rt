@@ -4,17 +4,27 @@ use smith_text::{FromFmt, TextForm};
 use smith_types::{Items, TypeSpace};
 use std::fmt::{Debug, Display};
 
-/// Appends a line of `value` in the text format.
-pub(crate) fn tell<T: TextForm>(value: &T, answer: &mut String) -> Result<(), Fault> {
-    match (value, "\n").write_text(&mut FromFmt::new(&mut *answer)) {
+/// Returns the result of work that nothing but a lack of memory stops.
+pub(crate) fn or_memory<E: Drop>(done: Result<(), E>) -> Result<(), Fault> {
+    match done {
         Ok(()) => Ok(()),
         Err(_) => Err(Fault::Memory),
     }
 }
 
+/// Appends a line of `value` in the text format.
+pub(crate) fn tell<T: TextForm>(value: &T, answer: &mut String) -> Result<(), Fault> {
+    or_memory((value, "\n").write_text(&mut FromFmt::new(&mut *answer)))
+}
+
 /// Appends a line of `value`.
 pub(crate) fn tell_line<T: Display + Copy>(value: T, answer: &mut String) -> Result<(), Fault> {
-    Ok(writeln!(answer, "{value}")?)
+    or_memory(writeln!(answer, "{value}"))
+}
+
+/// Returns what answers say of a copy that is equal, or that is not.
+pub(crate) fn equality(is_equal: bool) -> &'static str {
+    if is_equal { "is equal" } else { "differs" }
 }
 
 /// Appends a line of `first` and `second`.
@@ -23,12 +33,12 @@ pub fn tell_pair<A: Display + Copy, B: Display + Copy>(
     second: B,
     answer: &mut String,
 ) -> Result<(), Fault> {
-    Ok(writeln!(answer, "{first} {second}")?)
+    or_memory(writeln!(answer, "{first} {second}"))
 }
 
 /// Appends a line of `value` as it prints for debugging.
 pub(crate) fn tell_debug<T: Debug>(value: &T, answer: &mut String) -> Result<(), Fault> {
-    Ok(writeln!(answer, "{value:?}")?)
+    or_memory(writeln!(answer, "{value:?}"))
 }
 
 /// Appends a line of the drawn value, or the refusal.
@@ -65,7 +75,7 @@ pub(crate) fn tell_values<T: TextForm>(values: &[T], answer: &mut String) -> Res
 /// types.
 pub(crate) fn tell_types(types: &TypeSpace, answer: &mut String) -> Result<(), Fault> {
     for group in types.rec_groups() {
-        writeln!(answer, "group {} {}", group.start, group.end)?;
+        or_memory(writeln!(answer, "group {} {}", group.start, group.end))?;
         tell_values(
             types.types().get(group.start..group.end).unwrap_or(&[]),
             answer,
@@ -76,7 +86,7 @@ pub(crate) fn tell_types(types: &TypeSpace, answer: &mut String) -> Result<(), F
 
 /// Appends the line of the refusal `refusal`.
 pub fn tell_refusal<T: Debug + Drop>(refusal: T, answer: &mut String) -> Result<(), Fault> {
-    Ok(writeln!(answer, "refused: {refusal:?}")?)
+    or_memory(writeln!(answer, "refused: {refusal:?}"))
 }
 
 /// Appends the number of bytes that `u` has left, and the next of these.
@@ -97,9 +107,9 @@ pub fn tell_bytes(word: &str, bytes: &[u8], answer: &mut String) -> Result<(), F
     if bytes.is_empty() {
         return Ok(());
     }
-    write!(answer, "{word} ")?;
+    or_memory(write!(answer, "{word} "))?;
     for byte in bytes {
-        write!(answer, "{byte:02x}")?;
+        or_memory(write!(answer, "{byte:02x}"))?;
     }
-    Ok(answer.push_str("\n")?)
+    or_memory(answer.push_str("\n"))
 }

@@ -3,8 +3,9 @@ ghost use Rattle.smith_types.specs.Matching.{IsInnerInRange};
 ghost use Rattle.smith_types.specs.Sizes.{IsTyped, size_in};
 ghost use Rattle.smith_types.specs.GroupedTypes.{MayFollow};
 
+use crate::shapes::Shaped;
 use crate::spaces::types_of;
-use crate::told::{tell_drawn_values, tell_line, tell_pair, tell_types};
+use crate::told::{or_memory, tell_drawn_values, tell_line, tell_pair, tell_types};
 use smith_bytes::Error;
 use smith_case::arguments::{value, word};
 use smith_case::call::SpaceCall;
@@ -126,11 +127,22 @@ fn answer_pushed(
     call: SpaceCall,
     answer: &mut String,
 ) -> Result<(), Fault> {
-    let Some(name) = &case.shapes.types else {
-        return Err(Fault::UnknownTypes);
-    };
-    let shape = shape_named(alloc, name.as_str())?;
-    push_groups(alloc, shape.groups.as_slice(), call, answer)
+    match &case.shapes.types {
+        Some(name) => answer_groups_of(alloc, shape_named(alloc, name.as_str()), call, answer),
+        None => Err(Fault::UnknownTypes),
+    }
+}
+
+fn answer_groups_of<S: Shaped>(
+    alloc: Global,
+    found: Result<S, Fault>,
+    call: SpaceCall,
+    answer: &mut String,
+) -> Result<(), Fault> {
+    match found {
+        Ok(shape) => push_groups(alloc, shape.shape().groups.as_slice(), call, answer),
+        Err(fault) => Err(fault),
+    }
 }
 
 fn push_groups(
@@ -170,7 +182,7 @@ fn push_group(
         }
         tell_pair("index", push(call, types, added)?, answer)?;
     }
-    Ok(types.push_group()?)
+    or_memory(types.push_group())
 }
 
 // Appends the types of the case that are suitable for the use that the argument names.
