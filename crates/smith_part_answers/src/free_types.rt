@@ -3,7 +3,7 @@ ghost use Rattle.smith_config.specs.Faults.{Passes};
 ghost use Rattle.smith_config.specs.Sanitized.{IsSanitized};
 
 use crate::spaces::{Over, types_of};
-use crate::told::{or_memory, tell_drawn, tell_line, tell_refusal, tell_types};
+use crate::told::{tell_drawn, tell_line, tell_refusal, tell_types};
 use smith_bytes::Unstructured;
 use smith_case::arguments::value;
 use smith_case::call::FreeCall;
@@ -56,21 +56,34 @@ pub(crate) fn answer_free_type(
     requires sanitized { IsSanitized over.now.config.now }
 {
     if matches!(call, FreeCall::RecGroup) {
-        return answer_drawn(over, call, u, answer);
+        return answer_groups(over, u, answer);
     }
     let bounds = bounds_of(over)?;
     match call {
-        FreeCall::Types => answer_drawn(over, call, u, answer),
+        FreeCall::Types => answer_types(over, u, answer),
         FreeCall::CloneRecGroup => answer_clone(over, u, answer),
         FreeCall::SubOfSuper => answer_subtype_of_one(over, bounds.limit, u, answer),
         _ => answer_type(over, call, bounds, u, answer),
     }
 }
 
-// Appends types that `call` draws into an empty type space.
-fn answer_drawn(
+// Appends types that are drawn into an empty type space.
+#[tactic(auto, using(smith_draw::proofs::CallerLemmas::passes_but_imports))]
+fn answer_types(over: &Over<'_>, u: &mut Unstructured<'_>, answer: &mut String) -> Result<(), Fault>
+    requires passes { Passes over.now.config.now }
+    requires sanitized { IsSanitized over.now.config.now }
+{
+    let mut types = TypeSpace::new(over.alloc);
+    match arbitrary_types(over.alloc, over.config, &mut types, &Entities::none(), u) {
+        Ok(()) => tell_types(&types, answer),
+        Err(refusal) => tell_refusal(refusal, answer),
+    }
+}
+
+// Draws a group for each argument, which says whether the group may be empty, and appends the
+// types. Without arguments, draws one group that may be empty.
+fn answer_groups(
     over: &Over<'_>,
-    call: FreeCall,
     u: &mut Unstructured<'_>,
     answer: &mut String,
 ) -> Result<(), Fault>
@@ -78,42 +91,8 @@ fn answer_drawn(
     requires sanitized { IsSanitized over.now.config.now }
 {
     let mut types = TypeSpace::new(over.alloc);
-    match call {
-        FreeCall::Types => answer_types(over, &mut types, u, answer),
-        _ => answer_groups(over, &mut types, u, answer),
-    }
-}
-
-// Appends `types` after types are added to them.
-#[tactic(auto, using(smith_draw::proofs::CallerLemmas::passes_but_imports))]
-fn answer_types(
-    over: &Over<'_>,
-    types: &mut TypeSpace,
-    u: &mut Unstructured<'_>,
-    answer: &mut String,
-) -> Result<(), Fault>
-    requires passes { Passes over.now.config.now }
-    requires sanitized { IsSanitized over.now.config.now }
-{
-    match arbitrary_types(over.alloc, over.config, types, &Entities::none(), u) {
-        Ok(()) => tell_types(types, answer),
-        Err(refusal) => tell_refusal(refusal, answer),
-    }
-}
-
-// Adds a group to `types` for each argument, which says whether the group may be empty, and appends
-// the types. Without arguments, adds one group that may be empty.
-fn answer_groups(
-    over: &Over<'_>,
-    types: &mut TypeSpace,
-    u: &mut Unstructured<'_>,
-    answer: &mut String,
-) -> Result<(), Fault>
-    requires passes { Passes over.now.config.now }
-    requires sanitized { IsSanitized over.now.config.now }
-{
-    add_groups(over, types, u)?;
-    tell_types(types, answer)
+    add_groups(over, &mut types, u)?;
+    tell_types(&types, answer)
 }
 
 // Adds a group to `types` for each argument, or one that may be empty.
@@ -145,40 +124,26 @@ fn add_group(
     if types.types().len() >= config.max_types {
         return Err(Fault::NotCallable(Obstacle::NoFurtherType));
     }
-    or_memory(arbitrary_rec_group(alloc, config, types, &Entities::none(), allow_empty, u))
+    Ok(arbitrary_rec_group(alloc, config, types, &Entities::none(), allow_empty, u)?)
 }
 
 // Appends the types with a clone of one of the groups of the case, which may be empty.
+#[tactic(auto, using(smith_draw::proofs::CallerLemmas::passes_but_imports))]
 fn answer_clone(over: &Over<'_>, u: &mut Unstructured<'_>, answer: &mut String) -> Result<(), Fault>
     requires { Passes over.now.config.now }
 {
-    answer_clone_in(over, &mut types_of(over.alloc, over.case)?, u, answer)
-}
-
-// Appends `types` with a clone of one of their groups.
-#[tactic(auto, using(smith_draw::proofs::CallerLemmas::passes_but_imports))]
-fn answer_clone_in(
-    over: &Over<'_>,
-    types: &mut TypeSpace,
-    u: &mut Unstructured<'_>,
-    answer: &mut String,
-) -> Result<(), Fault>
-    requires { Passes over.now.config.now }
-{
     let Over { alloc, config, .. } = *over;
+    let mut types = types_of(alloc, over.case)?;
     if types.types().len() >= config.max_types || types.rec_groups().is_empty() {
         return Err(Fault::NotCallable(Obstacle::NothingToClone));
     }
-    match clone_rec_group(alloc, config, types, &Entities::none(), true, u) {
-        Ok(is_cloned) => tell_cloned(is_cloned, types, answer),
+    match clone_rec_group(alloc, config, &mut types, &Entities::none(), true, u) {
+        Ok(is_cloned) => {
+            tell_line(is_cloned, answer)?;
+            tell_types(&types, answer)
+        }
         Err(refusal) => tell_refusal(refusal, answer),
     }
-}
-
-// Appends whether a group is cloned, and the types afterwards.
-fn tell_cloned(is_cloned: bool, types: &TypeSpace, answer: &mut String) -> Result<(), Fault> {
-    tell_line(is_cloned, answer)?;
-    tell_types(types, answer)
 }
 
 // Appends a subtype of one of the types of the case, of which the first may have subtypes.

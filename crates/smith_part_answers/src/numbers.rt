@@ -16,40 +16,22 @@ pub(crate) fn answer_number(
     answer: &mut String,
 ) -> Result<(), Fault> {
     let is_required = is_required(case, call)?;
-    let numbers = (value(case, 0)?, value(case, 1)?, value(case, 2)?);
-    answer_among(call, numbers, is_required, u, answer)
-}
-
-// Appends the numbers that `call` draws from the three numbers of the arguments.
-fn answer_among(
-    call: NumberCall,
-    (first, second, third): (u64, u64, u64),
-    is_required: bool,
-    u: &mut Unstructured<'_>,
-    answer: &mut String,
-) -> Result<(), Fault> {
-    match call {
+    let (first, second, third) = (value(case, 0)?, value(case, 1)?, value(case, 2)?);
+    let drawn = match call {
         NumberCall::GraduallyGrow if first <= second && second <= third => {
-            tell_line(gradually_grow(first, second, third, u), answer)
+            (gradually_grow(first, second, third, u), None)
         }
         NumberCall::Limits64 if first <= third && third <= second => {
-            tell_limits(
-                arbitrary_limits64(first, second, is_required, third, u),
-                answer,
-            )
+            arbitrary_limits64(first, second, is_required, third, u)
         }
         NumberCall::Offset if first <= second => {
-            tell_line(arbitrary_offset(first, second, third as usize, u), answer)
+            (arbitrary_offset(first, second, third as usize, u), None)
         }
-        _ => Err(Fault::NotCallable(Obstacle::Disorder)),
-    }
-}
-
-// Appends the minimum of `limits`, and the maximum if there is one.
-fn tell_limits(limits: (u64, Option<u64>), answer: &mut String) -> Result<(), Fault> {
-    match limits.1 {
-        Some(most) => tell_pair(limits.0, most, answer),
-        None => tell_line(limits.0, answer),
+        _ => return Err(Fault::NotCallable(Obstacle::Disorder)),
+    };
+    match drawn {
+        (least, Some(most)) => tell_pair(least, most, answer),
+        (least, None) => tell_line(least, answer),
     }
 }
 
