@@ -1,3 +1,4 @@
+use crate::memory::owned::Owned;
 use crate::memory::shapes::{USES, config_of_memories, set_shape, shape_for};
 use crate::memory::tries::{is_refused_first, refused};
 use smith_bytes::{Error, Which};
@@ -20,9 +21,9 @@ impl Tried for Copying<'_> {
 }
 
 // Returns the outcome of a copy of `config`.
-fn copied(copy: Result<Config, Error>, config: &Config) -> Ended {
+fn copied<C: Owned>(copy: Result<C, Error>, config: &Config) -> Ended {
     match copy {
-        Ok(copy) => compared(&copy, config),
+        Ok(mut copy) => compared(copy.config(), config),
         Err(refusal) => refused(refusal),
     }
 }
@@ -50,10 +51,15 @@ fn try_copy(alloc: Global, config: &mut Config) -> Result<(), Fail> {
     is_refused_first(alloc, &mut Copying { config })
 }
 
+fn try_copy_of<C: Owned>(config: C, alloc: Global) -> Result<(), Fail> {
+    let mut config = config;
+    try_copy(alloc, config.config())
+}
+
 // Copies a configuration with all shapes.
 #[test]
 fn copies(rt: HostRuntime) -> Result<(), Fail> {
-    try_copy(rt.alloc(), &mut Config::default())
+    try_copy_of(Config::default(), rt.alloc())
 }
 
 // A check of a shape.
@@ -74,9 +80,18 @@ impl Tried for Checking<'_> {
 }
 
 fn try_check(alloc: Global, shape: &Shape, which: Which) -> Result<(), Fail> {
-    let config = config_of_memories();
+    try_check_under(config_of_memories(), alloc, shape, which)
+}
+
+fn try_check_under<C: Owned>(
+    config: C,
+    alloc: Global,
+    shape: &Shape,
+    which: Which,
+) -> Result<(), Fail> {
+    let mut config = config;
     let mut checking = Checking {
-        config: &config,
+        config: config.config(),
         shape,
         which,
     };

@@ -6,6 +6,7 @@ mod configurations;
 mod fuel;
 mod modules;
 mod names;
+mod owned;
 mod parts;
 mod shapes;
 mod spelled;

@@ -1,3 +1,4 @@
+use crate::memory::owned::Owned;
 use crate::memory::parts::set_minimums;
 use crate::memory::shapes::set_shape;
 use crate::memory::tries::{is_left, is_refused_first, refused};
@@ -75,7 +76,17 @@ fn set_imports(config: &mut Config) {
 }
 
 fn try_asked(alloc: Global, asked: Asked, input: &'static [u8]) -> Result<(), Fail> {
-    try_under(alloc, asked, input, &mut Config::default())
+    try_owned(Config::default(), alloc, asked, input)
+}
+
+fn try_owned<C: Owned>(
+    config: C,
+    alloc: Global,
+    asked: Asked,
+    input: &'static [u8],
+) -> Result<(), Fail> {
+    let mut config = config;
+    try_under(alloc, asked, input, config.config())
 }
 
 fn try_under(

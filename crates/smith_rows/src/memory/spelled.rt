@@ -1,3 +1,4 @@
+use crate::memory::owned::Owned;
 use crate::memory::tries::{is_refused_first, refused};
 use smith_case_shapes::shape_named;
 use smith_config::{Config, Shape};
@@ -25,9 +26,13 @@ impl Tried for Spelling<'_> {
 }
 
 fn try_shape(alloc: Global, shape: &Shape) -> Result<(), Fail> {
-    let config = Config::default();
+    try_shape_under(Config::default(), alloc, shape)
+}
+
+fn try_shape_under<C: Owned>(config: C, alloc: Global, shape: &Shape) -> Result<(), Fail> {
+    let mut config = config;
     let mut spelling = Spelling {
-        config: &config,
+        config: config.config(),
         shape,
     };
     is_refused_first(alloc, &mut spelling)
