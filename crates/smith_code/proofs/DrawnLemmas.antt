@@ -478,13 +478,6 @@ if_drawn {scope = scope} {old = old} {entered = entered} {first = first} {other 
       short = rw same' (omega arith);
     }
 
--- the labels of an open block are its own, then those before
-pub opened_labels : {scope : Scope} {old entered : Draft} {instruction : Instr} (label : List ValType) → IsOpened instruction label old entered → AreLabels scope old.labels.items → AreValid (bare scope) label → length label ≤ widest scope.types.now.types → AreLabels scope entered.labels.items
-opened_labels {scope = scope} {old = old} label start labels valid few = rw start.labels (record {
-  valid = All-append (AreValid (bare scope)) (label ∷ []) old.labels.items (All-push (AreValid (bare scope)) [] label (All-nil (AreValid (bare scope))) valid) labels.valid;
-  few = All-append (λ (label : List ValType). length label ≤ widest scope.types.now.types) (label ∷ []) old.labels.items (All-push (λ (label : List ValType). length label ≤ widest scope.types.now.types) [] label (All-nil (λ (label : List ValType). length label ≤ widest scope.types.now.types)) few) labels.few;
-})
-
 -- instructions drawn from an empty draft are a body
 pub body_needed : {scope : Scope} {start new : Draft} → IsDrawn scope [] scope.results.now (length scope.results.now) start new → start.out ≡ [] → start.set.items ≡ [] → start.labels.items ≡ scope.results.now ∷ [] → HasNeededStops scope.config.now (bare scope) new.out
 body_needed {scope = scope} {start = start} {new = new} drawn empty unset label =

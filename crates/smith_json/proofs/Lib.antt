@@ -1,2 +1,1 @@
-pub mod DigitLemmas
 pub mod MemberLemmas

@@ -1,4 +1,1 @@
-pub mod Fields
-pub mod Places
-pub mod Values
 pub mod Objects

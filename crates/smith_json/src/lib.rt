@@ -1,17 +1,12 @@
 //! Reads a configuration from a JSON object whose members are named after the fields of `Config`.
 //!
-//! A name has hyphens in place of the field's underscores, as in `max-types`. A field that no
-//! member names keeps its default, and so does a field whose member is `null`. The macro [`fields`]
-//! lists the names, with a sentence on each field.
+//! The names are those of `smith_fields`, as `max-types`. A field that no member names keeps its
+//! default, and so does a field whose member is `null`.
 #![tactic(auto)]
 
-mod field;
-mod lend;
-mod place;
 mod read;
 mod refusal;
-mod value;
 
-pub use field::{FieldKind, kind_of};
 pub use read::{config, read_config, read_text};
-pub use refusal::{ConfigRefusal, Fault, Refusal};
+pub use refusal::{ConfigRefusal, Refusal};
+pub use smith_fields::{Fault, FieldKind, kind_of};

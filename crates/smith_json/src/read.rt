@@ -2,13 +2,14 @@ ghost use Rattle.std.specs.Prelude.{◌≡◌, ◌≢◌, ◌≤◌, length, [],
 ghost use Rattle.std.specs.List.{list_any};
 ghost use Rattle.std.specs.Str.{bytes_eq};
 ghost use Rattle.std.specs.String.{string_bytes};
-ghost use Rattle.smith_json.specs.Fields.{field_named};
-ghost use Rattle.smith_json.specs.Objects.{Sets, ReadsMembers, ReadsObject, ReadsAlone, ReadsText};
+ghost use Rattle.smith_fields.specs.Fields.{field_named};
+ghost use Rattle.smith_fields.specs.Sets.{Sets};
+ghost use Rattle.smith_json.specs.Objects.{ReadsMembers, ReadsObject, ReadsAlone, ReadsText};
 
-use crate::refusal::{ConfigRefusal, Fault, Refusal};
-use crate::value::set_field;
+use crate::refusal::{ConfigRefusal, Refusal};
 use json::{Reader, Scratch, Token};
 use smith_config::Config;
+use smith_fields::{Fault, set_field};
 use std::alloc::Global;
 
 /// Reads a configuration from `text`, which is one object. A field that no member names keeps its

@@ -1,28 +1,9 @@
 ghost use Rattle.std.specs.Prelude.{◌≡◌};
 ghost use Rattle.std.specs.String.{string_bytes};
 
-use crate::field::kind_of;
+use smith_fields::{Fault, kind_of};
 use std::error::Error;
 use std::fmt;
-
-/// A fault of the text of a configuration.
-#[derive(Clone, Copy, Debug, PartialEq, Eq)]
-pub enum Fault {
-    /// There is no JSON object, or the text stops being JSON.
-    NotAnObject,
-    /// No field has the name.
-    UnknownField,
-    /// An earlier member has the same name.
-    RepeatedField,
-    /// The value is of another type than the field takes.
-    WrongType,
-    /// The value has the field's type, but the field does not take it.
-    OutOfRange,
-    /// Something follows the object.
-    TextAfter,
-    /// Memory ran out.
-    OutOfMemory,
-}
 
 /// The reason why an object within a longer text is not a configuration, and its place.
 #[derive(Debug, Drop)]

@@ -7,8 +7,8 @@ use Rattle.smith_binary.specs.declared.error.EncodeError.TheVariants as encoding
 use Rattle.smith_bytes.specs.declared.error.Error.{Error}
 use Rattle.smith_bytes.specs.declared.error.Error.TheVariants as errors
 use Rattle.smith_json.specs.Objects.{ReadsText}
-use Rattle.smith_json.specs.declared.refusal.Fault.{Fault}
-use Rattle.smith_json.specs.declared.refusal.Fault.TheVariants.{OutOfMemory, NotAnObject, UnknownField, RepeatedField, WrongType, OutOfRange, TextAfter}
+use Rattle.smith_fields.specs.declared.fault.Fault.{Fault}
+use Rattle.smith_fields.specs.declared.fault.Fault.TheVariants.{OutOfMemory, NotAnObject, UnknownField, RepeatedField, WrongType, OutOfRange, TextAfter}
 use Rattle.smith_program.specs.declared.program.Program.{Program}
 use Rattle.smith_program_binary.specs.Long.{IsLongProgram}
 use Rattle.smith_request.specs.Made.{AnswersText}

@@ -14,7 +14,3 @@ pub mod ListedTypeLemmas
 pub mod MemberLemmas
 pub mod EarlierLoop
 pub mod AskedLemmas
-pub mod SpelledExamples
-pub mod SpelledMemberLemmas
-pub mod GroundedExamples
-pub mod SpellExamples

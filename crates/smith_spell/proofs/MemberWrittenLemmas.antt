@@ -13,9 +13,8 @@ use Rattle.smith_spell.specs.Family.{IsInFamily}
 use Rattle.smith_spell.specs.Spelling.{SpellsMember}
 use Rattle.smith_draw.specs.SpelledParts.{SpellsNoTag, SpellsFuncs}
 use Rattle.smith_spell.specs.Written.{Writes}
-use Rattle.smith_spell.proofs.WrittenLemmas.{joined_written, written_as}
+use Rattle.smith_spell.proofs.WrittenLemmas.{joined_written, regrouped, written_as}
 use Rattle.smith_spell.proofs.GroupsWrittenLoop.{at_place}
-use Rattle.smith_spell.proofs.SpelledExamples.{regrouped}
 
 any_turn : (b : Bool) (n : ℕ) (places : List ℕ) (rest : Bool) → nat_lt 0 (length places) ≡ rest → nat_lt 0 (length (cond b (n ∷ places) places)) ≡ (b || rest)
 any_turn true n places rest h = lt-ltb 0 (length (n ∷ places)) (omega arith)

@@ -26,3 +26,16 @@ written_as weaker one = record { piece = one.piece; spelled = weaker one.piece o
 -- the bytes written after none
 pub written_whole : {Spells : List ℕ → Type 0} {new : List ℕ} → Writes Spells [] new → Spells new
 written_whole {Spells = Spells} one = subst Spells (sym one.whole) one.spelled
+
+-- three joined pieces, grouped the other way
+pub regrouped : {First Second Third : List ℕ → Type 0} {piece : List ℕ} → Joined (Joined First Second) Third piece → Joined First (Joined Second Third) piece
+regrouped {piece = piece} outer =
+    let inner = outer.is_first in
+    let apart : piece ≡ (inner.first ++ inner.second) ++ outer.second = subst (λ part. piece ≡ part ++ outer.second) inner.whole outer.whole in
+    record {
+      first = inner.first;
+      second = inner.second ++ outer.second;
+      is_first = inner.is_first;
+      is_second = record { first = inner.second; second = outer.second; is_first = inner.is_second; is_second = outer.is_second; whole = refl };
+      whole = apart ∙ append_assoc inner.first inner.second outer.second;
+    }

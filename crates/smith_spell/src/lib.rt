@@ -5,7 +5,6 @@
 mod asked;
 mod composite_types;
 mod earlier;
-mod examples;
 mod family;
 mod funcs;
 mod groups;

@@ -1,0 +1,4 @@
+pub mod SpelledExamples
+pub mod GroundedExamples
+pub mod SpellExamples
+pub mod SpelledMemberLemmas
