@@ -9,11 +9,11 @@ use Rattle.smith_sections.specs.Types.{IsValType}
 use Rattle.smith_sections.specs.Instructions.{IsIndex, IsPrefixed}
 use Rattle.smith_instr.specs.declared.instr.Instr.{Instr}
 use Rattle.smith_instr.specs.declared.instr.Instr.TheVariants as instr
+use Rattle.smith_numeric_binary.specs.Numeric.{IsNumeric}
 use Rattle.smith_instr_binary.specs.Aggregate.{IsAggregate}
 use Rattle.smith_instr_binary.specs.Atomic.{atomic_number}
 use Rattle.smith_instr_binary.specs.Control.{IsBlockType, IsBranchCast, IsCatch}
 use Rattle.smith_instr_binary.specs.Memory.{IsLaneAccess, IsLaneAccessWritten, IsMemArg, IsMemArgWritten, IsMemory, load_opcode, store_opcode, vector_load_number}
-use Rattle.smith_instr_binary.specs.Numeric.{IsNumeric}
 use Rattle.smith_instr_binary.specs.References.{IsReference, IsTable}
 use Rattle.smith_instr_binary.specs.Vector.{IsVectorInstr}
 

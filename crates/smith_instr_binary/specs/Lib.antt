@@ -6,7 +6,6 @@ pub mod Instructions
 pub mod Long
 pub mod Memory
 pub mod Nesting
-pub mod Numeric
 pub mod References
 pub mod Vector
 pub mod VectorNumbers

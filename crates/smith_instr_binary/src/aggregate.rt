@@ -3,9 +3,10 @@ ghost use Rattle.smith_binary.specs.declared.error.EncodeError.TheVariants.{Memo
 ghost use Rattle.smith_binary.specs.Pieces.{Writes};
 ghost use Rattle.smith_instr_binary.specs.Aggregate.{IsAggregate, IsOn, IsOnTwo, get_number};
 
-use crate::opcodes::{write_prefixed, write_prefixed_index, write_prefixed_indices};
+use crate::opcodes::{write_prefixed_index, write_prefixed_indices};
 use smith_binary::{EncodeError, Sink};
 use smith_instr::{AggregateInstr, Extension};
+use smith_numeric_binary::write_prefixed;
 
 // Returns the number of a get with the extension `extension`. `first` is the number for an unpacked
 // field.

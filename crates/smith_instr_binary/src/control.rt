@@ -7,9 +7,10 @@ ghost use Rattle.smith_sections.specs.Long.{IsLongList, IsNeverLong};
 ghost use Rattle.smith_sections.specs.Types.{IsValType};
 ghost use Rattle.smith_instr_binary.specs.Control.{IsBlockType, IsBranchCast, IsCatch, cast_byte};
 
-use crate::opcodes::{write_indexed, write_prefixed, write_two_indices};
+use crate::opcodes::{write_indexed, write_two_indices};
 use smith_binary::{EncodeError, Sink};
 use smith_instr::{BlockType, BranchCast, Catch};
+use smith_numeric_binary::write_prefixed;
 use smith_sections::{Encode, EncodeItem, Listed, Plain};
 use smith_types::ValType;
 

@@ -17,12 +17,12 @@ use crate::memory::{
     load_opcode, store_opcode, vector_load_number, write_access, write_lane_access, write_memory,
     write_prefixed_access,
 };
-use crate::numeric::write_numeric;
-use crate::opcodes::{write_indexed, write_prefixed, write_two_indices};
+use crate::opcodes::{write_indexed, write_two_indices};
 use crate::references::{write_reference, write_table};
 use crate::vector::{write_vector, write_vector_const};
 use smith_binary::{EncodeError, Sink};
 use smith_instr::Instr;
+use smith_numeric_binary::{write_numeric, write_prefixed};
 
 // Writes `i32.const`.
 fn write_i32_const(value: i32, sink: &mut Sink) -> Result<(), EncodeError>

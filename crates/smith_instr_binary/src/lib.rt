@@ -11,7 +11,6 @@ mod bodies;
 mod control;
 mod instructions;
 mod memory;
-mod numeric;
 mod opcodes;
 mod references;
 mod vector;

@@ -12,9 +12,10 @@ ghost use Rattle.smith_instr_binary.specs.Memory.{
   vector_load_number,
 };
 
-use crate::opcodes::{write_indexed, write_prefixed, write_prefixed_index, write_prefixed_indices};
+use crate::opcodes::{write_indexed, write_prefixed_index, write_prefixed_indices};
 use smith_binary::{EncodeError, Sink};
 use smith_instr::{Load, MemArg, MemoryInstr, Store, VectorLoad};
+use smith_numeric_binary::write_prefixed;
 
 // Writes `at`. Names the memory unless it is the first.
 fn write_mem_arg(at: MemArg, sink: &mut Sink) -> Result<(), EncodeError>

@@ -4,15 +4,7 @@ ghost use Rattle.smith_binary.specs.Pieces.{IsByte, Joined, Writes};
 ghost use Rattle.smith_sections.specs.Instructions.{IsIndex, IsPrefixed};
 
 use smith_binary::{EncodeError, Sink};
-
-// Writes the opcode with the prefix `prefix` and the number `number`.
-pub(crate) fn write_prefixed(prefix: u8, number: u32, sink: &mut Sink) -> Result<(), EncodeError>
-    ensures writes { OnOk result (Writes (IsPrefixed prefix number) sink.old sink.new) }
-    ensures memory { IfErr result (λ e. e ≡ Memory) }
-{
-    sink.write_byte(prefix)?;
-    sink.write_u32(number)
-}
+use smith_numeric_binary::write_prefixed;
 
 // Writes the opcode `opcode`, then the index `index`.
 pub(crate) fn write_indexed(opcode: u8, index: u32, sink: &mut Sink) -> Result<(), EncodeError>

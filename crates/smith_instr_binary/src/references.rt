@@ -3,9 +3,10 @@ ghost use Rattle.smith_binary.specs.declared.error.EncodeError.TheVariants.{Memo
 ghost use Rattle.smith_binary.specs.Pieces.{Writes};
 ghost use Rattle.smith_instr_binary.specs.References.{IsCast, IsReference, IsTable, cast_number};
 
-use crate::opcodes::{write_indexed, write_prefixed, write_prefixed_index, write_prefixed_indices};
+use crate::opcodes::{write_indexed, write_prefixed_index, write_prefixed_indices};
 use smith_binary::{EncodeError, Sink};
 use smith_instr::{ReferenceInstr, TableInstr};
+use smith_numeric_binary::write_prefixed;
 use smith_sections::Encode;
 use smith_types::RefType;
 

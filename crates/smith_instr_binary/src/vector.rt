@@ -4,7 +4,6 @@ ghost use Rattle.smith_binary.specs.Numbers.{IsVector};
 ghost use Rattle.smith_binary.specs.Pieces.{IsByte, Joined, Writes};
 ghost use Rattle.smith_instr_binary.specs.Vector.{IsLanes, IsNumbered, IsVectorInstr};
 
-use crate::opcodes::write_prefixed;
 use crate::vector_numbers::{
     all_true_number, bitmask_number, extract_number, relaxed_binary_number,
     relaxed_float_binary_number, relaxed_float_ternary_number, relaxed_float_unary_number,
@@ -13,6 +12,7 @@ use crate::vector_numbers::{
 };
 use smith_binary::{EncodeError, Sink};
 use smith_instr::VectorInstr;
+use smith_numeric_binary::write_prefixed;
 
 // Writes the vector instruction with the number `number`.
 fn write_numbered(number: u32, sink: &mut Sink) -> Result<(), EncodeError>

@@ -1,5 +1,5 @@
 -- Instructions, expressions and bodies have one meaning.
-use Rattle.std.proofs.Common.{◌≡◌, ℕ, ◌+◌, ◌≤◌, Bool, List, [], ◌∷◌, ◌++◌, length, Some, refl, sym, subst, ap, ◌∙◌, arith, append_assoc, length-append}
+use Rattle.std.proofs.Common.{◌≡◌, ℕ, ◌≤◌, Bool, List, [], ◌∷◌, ◌++◌, length, Some, refl, sym, subst, ap, ◌∙◌, arith, append_assoc, length-append}
 use Rattle.smith_binary.specs.Pieces.{Joined, Each}
 use Rattle.smith_binary.specs.Unambiguous.{Same, IsUnambiguous, IsUnambiguousWhole}
 use Rattle.smith_binary.proofs.UnambiguousLemmas.{first_same, same_tail, sized_is_unambiguous}

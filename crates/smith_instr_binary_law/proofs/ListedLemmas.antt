@@ -1,10 +1,10 @@
 -- Each instruction is in the tables of opcodes.
 use Rattle.std.proofs.Common.{◌≡◌, ℕ, Bool, true, false, List, refl}
 use Rattle.std.specs.Prelude.{◌==◌}
+use Rattle.smith_numeric_binary.specs.Numeric.{int_unary_opcode, int_binary_opcode, int_compare_opcode, float_unary_opcode, float_binary_opcode, float_compare_opcode, conversion_opcode, extension_opcode, saturating_number, wide_number}
 use Rattle.smith_instr_binary.specs.Aggregate.{get_number}
 use Rattle.smith_instr_binary.specs.Atomic.{atomic_number}
 use Rattle.smith_instr_binary.specs.Memory.{load_opcode, store_opcode}
-use Rattle.smith_instr_binary.specs.Numeric.{int_unary_opcode, int_binary_opcode, int_compare_opcode, float_unary_opcode, float_binary_opcode, float_compare_opcode, conversion_opcode, extension_opcode, saturating_number, wide_number}
 use Rattle.smith_instr_binary.specs.References.{cast_number}
 use Rattle.smith_instr_binary_law.proofs.OpcodeLemmas.{Opcode, IsProper}
 use Rattle.smith_instr_binary_law.proofs.OpcodeLemmas.Opcode.{short, long}

@@ -1,7 +1,7 @@
 -- The table of the opcodes of one byte.
 use Rattle.std.proofs.Common.{ℕ, List, [], ◌∷◌, ◌++◌}
+use Rattle.smith_numeric_binary.specs.Numeric.{int_unary_opcode, int_binary_opcode, int_compare_opcode, float_unary_opcode, float_binary_opcode, float_compare_opcode, conversion_opcode, extension_opcode}
 use Rattle.smith_instr_binary.specs.Memory.{load_opcode, store_opcode}
-use Rattle.smith_instr_binary.specs.Numeric.{int_unary_opcode, int_binary_opcode, int_compare_opcode, float_unary_opcode, float_binary_opcode, float_compare_opcode, conversion_opcode, extension_opcode}
 use Rattle.smith_instr_binary_law.proofs.RowLemmas.{rows_of}
 use Rattle.smith_instr_binary_law.proofs.ShapeLemmas.{Shape}
 use Rattle.smith_instr_binary_law.proofs.ShapeLemmas.{Shape as form}

@@ -1,11 +1,11 @@
 -- Each instruction is an opcode of the tables, then its immediates.
 use Rattle.std.proofs.Common.{◌≡◌, ℕ, ◌+◌, List, refl}
 use Rattle.smith_binary.specs.Pieces.{Joined}
+use Rattle.smith_numeric_binary.specs.Numeric.{IsNumeric, int_unary_opcode, int_binary_opcode, int_compare_opcode, float_unary_opcode, float_binary_opcode, float_compare_opcode, conversion_opcode, extension_opcode, saturating_number, wide_number}
 use Rattle.smith_instr_binary.specs.Aggregate.{IsAggregate, get_number}
 use Rattle.smith_instr_binary.specs.Atomic.{atomic_number}
 use Rattle.smith_instr_binary.specs.Instructions.{IsInstr}
 use Rattle.smith_instr_binary.specs.Memory.{IsMemory, load_opcode, store_opcode, vector_load_number}
-use Rattle.smith_instr_binary.specs.Numeric.{IsNumeric, int_unary_opcode, int_binary_opcode, int_compare_opcode, float_unary_opcode, float_binary_opcode, float_compare_opcode, conversion_opcode, extension_opcode, saturating_number, wide_number}
 use Rattle.smith_instr_binary.specs.References.{IsReference, IsTable, cast_number}
 use Rattle.smith_instr_binary.specs.Vector.{IsVectorInstr}
 use Rattle.smith_instr_binary.specs.VectorNumbers.{vector_unary_number, vector_float_unary_number, vector_binary_number, vector_float_binary_number, all_true_number, bitmask_number, shift_number, splat_number, extract_number, replace_number, relaxed_float_unary_number, relaxed_binary_number, relaxed_float_binary_number, relaxed_ternary_number, relaxed_float_ternary_number}

@@ -1,7 +1,7 @@
 ghost use Rattle.std.specs.Prelude.{◌≡◌, ◌<◌, OnOk, IfErr};
 ghost use Rattle.smith_binary.specs.declared.error.EncodeError.TheVariants.{Memory};
 ghost use Rattle.smith_binary.specs.Pieces.{Writes};
-ghost use Rattle.smith_instr_binary.specs.Numeric.{
+ghost use Rattle.smith_numeric_binary.specs.Numeric.{
   int_unary_opcode,
   int_binary_opcode,
   int_compare_opcode,
@@ -15,7 +15,7 @@ ghost use Rattle.smith_instr_binary.specs.Numeric.{
   IsNumeric,
 };
 
-use crate::opcodes::write_prefixed;
+use crate::prefixed::write_prefixed;
 use smith_binary::{EncodeError, Sink};
 use smith_instr::{
     Conversion, FloatBinary, FloatCompare, FloatUnary, IntBinary, IntCompare, IntUnary,
@@ -200,8 +200,9 @@ fn wide_number(op: WideArithmetic) -> u32
     }
 }
 
-// Writes the numeric instruction `instruction`.
-pub(crate) fn write_numeric(instruction: NumericInstr, sink: &mut Sink) -> Result<(), EncodeError>
+/// Writes the numeric instruction `instruction` at the end of `sink`: the standard's section Binary
+/// Format, Instructions, Numeric Instructions.
+pub fn write_numeric(instruction: NumericInstr, sink: &mut Sink) -> Result<(), EncodeError>
     ensures writes { OnOk result (Writes (IsNumeric instruction) sink.old sink.new) }
     ensures memory { IfErr result (λ e. e ≡ Memory) }
 {
