@@ -4,6 +4,7 @@
 
 mod constants;
 mod entities;
+mod examples;
 mod floats;
 mod functions;
 mod imports;

@@ -1,5 +1,5 @@
 use Rattle.std.proofs.Common.{◌≡◌, ℕ, ◌≤◌, ◌+◌, List, [], ◌∷◌, ◌++◌, length, ap, arith, length-append, refl}
-use Rattle.smith_text_examples.proofs.bounds.texts.Goals as goal
+use Rattle.smith_text.proofs.examples.texts.Goals as goal
 
 pub returns-clause-all : goal.returns-clause-all
 returns-clause-all c = record {

@@ -1,5 +1,5 @@
 use Rattle.std.proofs.Common.{◌≡◌, ℕ, ◌+◌, ◌≤◌, List, [], ◌∷◌, ◌++◌, length, ap, arith, length-append, refl}
-use Rattle.smith_text_examples.proofs.bounds.measures.Goals as goal
+use Rattle.smith_text.proofs.examples.measures.Goals as goal
 
 pub returns-clause-bytes : goal.returns-clause-bytes
 returns-clause-bytes c old text new appended = let same : length new ≡ length (old ++ text) = ap length appended in omega (arith, simp length-append at same)

@@ -1,5 +1,5 @@
 use Rattle.std.proofs.Common.{◌≤◌, arith}
-use Rattle.smith_text_examples.proofs.bounds.counters.Goals as goal
+use Rattle.smith_text.proofs.examples.counters.Goals as goal
 
 pub returns-clause-kept : goal.returns-clause-kept
 returns-clause-kept c before has = omega (arith, has)

@@ -1,7 +1,9 @@
 ghost use Rattle.std.specs.Prelude.{[], ◌∷◌, length};
 ghost use Rattle.smith_text.specs.Written.{HasBytes, IsMeasure, Keeps, Writes};
-ghost use Rattle.smith_text_examples.specs.Destinations.{Appends, HoldsAtLeast};
+ghost use Rattle.smith_text.specs.ExampleDestinations.{Appends, HoldsAtLeast};
 
+// Bounds of texts that hold, and others that do not. The clauses are proved, and nothing calls these
+// functions.
 fn counters()
     ensures kept { Keeps HoldsAtLeast 2 3 }
     ensures one_lost { ¬ Keeps HoldsAtLeast 3 2 }
