@@ -76,7 +76,10 @@ fn seed_by_default(
     groups: &[Items<SubType>],
     corpus: &mut Vec<Items<u8>>,
 ) -> Result<(), Error> {
-    seed(alloc, &Config::default(), groups, corpus)
+    let config = Config::default();
+    let seeded = seed(alloc, &config, groups, corpus);
+    drop(config);
+    seeded
 }
 
 // Returns a corpus of the bytes that spell the group.

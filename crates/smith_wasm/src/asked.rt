@@ -74,7 +74,9 @@ pub(crate) fn module_of(
     input: &[u8],
 ) -> Result<Vec<u8>, Failure> {
     let mut config = Config::default();
-    module_under(alloc, asked, input, &mut config)
+    let made = module_under(alloc, asked, input, &mut config);
+    drop(config);
+    made
 }
 
 /// Returns the bytes of the module generated from `input`. Sets `config`, the default, to the

@@ -199,9 +199,13 @@ impl Module {
     {
         config.sanitize();
         if let Err(fault) = config.check() {
+            drop(config);
             return Err(Error::Config(fault));
         }
-        check_shapes(alloc, &config)?;
+        if let Err(refusal) = check_shapes(alloc, &config) {
+            drop(config);
+            return Err(refusal);
+        }
         build(alloc, config, behavior.is_distinct(), u)
     }
 
