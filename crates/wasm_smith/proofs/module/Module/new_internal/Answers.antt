@@ -47,11 +47,9 @@ module _ (distinct : Bool) (given : Config) (bytes : List ℕ) (sound : IsSaniti
       }
 
   -- the refusal of a shape is returned
-  shape_refused : (answer : Result ModuleParts Error) (e : Error) → Passes (sanitized given) → IsFirstFaulty (sanitized given) e → IsErrAnd answer (λ other. other ≡ e) → IsGenerated distinct given bytes answer bytes
-  shape_refused (Ok m) e passes first passed = absurd passed
-  shape_refused (Err other) e passes first passed =
-      let faulty : IsFirstFaulty (sanitized given) other = subst (IsFirstFaulty (sanitized given)) (sym passed) first in
-      refused_undrawn other (first_faulty_refuses (sanitized given) other faulty) (λ may_give. first_faulty_memory (sanitized given) other may_give.shapes_valid faulty) (λ fails. absurd (fails passes)) (λ _ _. faulty)
+  shape_refused : (e : Error) → Passes (sanitized given) → IsFirstFaulty (sanitized given) e → IsGenerated distinct given bytes (Err e) bytes
+  shape_refused e passes faulty =
+      refused_undrawn e (first_faulty_refuses (sanitized given) e faulty) (λ may_give. first_faulty_memory (sanitized given) e may_give.shapes_valid faulty) (λ fails. absurd (fails passes)) (λ _ _. faulty)
 
 given_there : (answer : Result ModuleParts Error) (P : Type 0) → P → OnOk answer P
 given_there (Ok m) P h = h
@@ -64,17 +62,17 @@ returns-in-Err c =
     let fault = rw c.sanitize.ensures.exact at c.in-Err.ensures.fault in
     refused_undrawn (is_distinct c.args.behavior) c.args.config c.args.u.now sound _ fault (λ may_give. absurd (fails may_give.passes)) (λ _. fault) (λ passes. absurd (fails passes))
 
-pub returns-in_err-check_shapes : goal.returns-in_err-check_shapes
-returns-in_err-check_shapes c =
+pub returns-in-Err-check_shapes : goal.returns-in-Err-check_shapes
+returns-in-Err-check_shapes c =
     let sound : IsSanitized (sanitized c.args.config) = rw c.sanitize.ensures.exact at c.sanitize.ensures.sound in
     let passes : Passes (sanitized c.args.config) = search rules in
-    let first = rw c.sanitize.ensures.exact at c.in_err-check_shapes.ensures.refused in
-    shape_refused (is_distinct c.args.behavior) c.args.config c.args.u.now sound _ _ passes first c.from_residual.ensures.1
+    let first = rw c.sanitize.ensures.exact at c.in-Err-check_shapes.ensures.refused in
+    shape_refused (is_distinct c.args.behavior) c.args.config c.args.u.now sound _ passes first
 
 pub returns : goal.returns
 returns c =
     let sound : IsSanitized (sanitized c.args.config) = rw c.sanitize.ensures.exact at c.sanitize.ensures.sound in
-    let may_give : MayGive (sanitized c.args.config) = record { passes = search rules; shapes_valid = rw c.sanitize.ensures.exact at c.in_ok-check_shapes.ensures.valid } in
+    let may_give : MayGive (sanitized c.args.config) = record { passes = search rules; shapes_valid = rw c.sanitize.ensures.exact at c.in_default-check_shapes.ensures.valid } in
     let refused = rw c.sanitize.ensures.exact at c.build.ensures.refusal in
     let given : IsGiven (is_distinct c.args.behavior) (sanitized c.args.config) c.args.u.now c.build.result c.build.new.u =
     record { exact = λ _. rw (c.sanitize.ensures.exact, c.is_distinct.ensures) at c.build.ensures.exact } in
