@@ -6,7 +6,7 @@ use smith_bytes::Unstructured;
 use smith_case::Fault;
 use smith_case::arguments::{value, word};
 use smith_case::call::MatchingCall;
-use smith_case_shapes::{
+use smith_case::shapes::{
     field_type_of, function_of, heap_type_of, ref_type_of, storage_type_of, val_type_of,
 };
 use smith_draw::{

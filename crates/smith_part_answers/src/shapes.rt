@@ -1,5 +1,5 @@
+use smith_case::shapes::shape_named;
 use smith_case::{Case, Fault};
-use smith_case_shapes::shape_named;
 use smith_config::Shape;
 use std::alloc::Global;
 

@@ -3,8 +3,8 @@ ghost use Rattle.smith_types.specs.declared.value_type.ValType.TheVariants.{I32}
 
 use crate::shapes::Shaped;
 use crate::told::or_memory;
+use smith_case::shapes::shape_named;
 use smith_case::{Case, Fault};
-use smith_case_shapes::shape_named;
 use smith_config::Config;
 use smith_draw::{Entities, Spaces};
 use smith_types::{GlobalType, Items, SubType, TypeSpace, ValType};

@@ -5,8 +5,8 @@ use crate::spaces::types_of;
 use crate::told::tell_line;
 use smith_case::arguments::word;
 use smith_case::call::SubtypeCall;
+use smith_case::shapes::{heap_type_of, ref_type_of, val_type_of};
 use smith_case::{Case, Fault, Obstacle};
-use smith_case_shapes::{heap_type_of, ref_type_of, val_type_of};
 use smith_types::{HeapType, TypeSpace, ValType};
 use std::alloc::Global;
 

@@ -9,8 +9,8 @@ use crate::told::{or_memory, tell_drawn_values, tell_line, tell_pair, tell_types
 use smith_bytes::Error;
 use smith_case::arguments::{value, word};
 use smith_case::call::SpaceCall;
+use smith_case::shapes::{entity_of, shape_named};
 use smith_case::{Case, Fault, Obstacle};
-use smith_case_shapes::{entity_of, shape_named};
 use smith_draw::{TypeUse, add_type, list_types};
 use smith_types::{
     CompositeInnerType, CompositeType, EntityType, Items, StandingValue, SubType, TypeSpace,

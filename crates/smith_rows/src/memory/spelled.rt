@@ -1,6 +1,6 @@
 use crate::memory::owned::Owned;
 use crate::memory::tries::{is_refused_first, refused};
-use smith_case_shapes::shape_named;
+use smith_case::shapes::shape_named;
 use smith_config::{Config, Shape};
 use smith_memory::{Ended, Tried};
 use smith_spell::spell;
