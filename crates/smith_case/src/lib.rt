@@ -46,11 +46,13 @@ mod case;
 mod fault;
 mod input;
 mod keys;
+mod owned;
 pub mod shapes;
 mod wanted;
 
-pub use case::{Case, ShapeNames, Wanted, goes_to_config, read_case};
+pub use case::{Case, ShapeNames, Wanted, goes_to_config, read_case, text_or};
 pub use fault::{Fault, Obstacle};
 pub use input::bytes_of;
 pub use keys::check_keys;
+pub use owned::Owned;
 pub use wanted::{Difference, check_wanted, first_difference};
