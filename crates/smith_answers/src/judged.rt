@@ -1,6 +1,8 @@
 use crate::answers::answer;
 use smith_case::call::RECORDED;
-use smith_case::{Case, Fault, bytes_of, check_wanted, first_difference, read_case};
+use smith_case::{
+    Case, Fault, Owned, bytes_of, check_wanted, first_difference, read_case, text_or,
+};
 use std::alloc::{AllocError, Global};
 use std::fmt::Display;
 
@@ -11,34 +13,25 @@ pub fn judge(alloc: Global, line: &str, report: &mut String) -> Result<bool, All
     judge_into(Case::default(), alloc, line, report)
 }
 
-// A case, which is judged. The function that owns it takes any such value, so that what it drops is
-// not proved field by field.
-trait Judges: Drop {
-    // Judges the case of `line`, which is read into the value.
-    fn judge(&mut self, alloc: Global, line: &str, report: &mut String) -> Result<bool, AllocError>;
-}
-
-impl Judges for Case {
-    fn judge(
-        &mut self,
-        alloc: Global,
-        line: &str,
-        report: &mut String,
-    ) -> Result<bool, AllocError> {
-        let judged = judged(alloc, line, self);
-        tell_judged(text_or_empty(&self.name), &judged, report)?;
-        Ok(matches!(judged, Ok(None)))
-    }
-}
-
-// Judges the case of `line`, which is read into `case`.
-fn judge_into<C: Judges>(
+fn judge_into<C: Owned<Case>>(
     mut case: C,
     alloc: Global,
     line: &str,
     report: &mut String,
 ) -> Result<bool, AllocError> {
-    case.judge(alloc, line, report)
+    judge_case(alloc, line, case.lend(), report)
+}
+
+// Judges the case of `line`, which is read into `case`.
+fn judge_case(
+    alloc: Global,
+    line: &str,
+    case: &mut Case,
+    report: &mut String,
+) -> Result<bool, AllocError> {
+    let judged = judged(alloc, line, case);
+    tell_judged(text_or(&case.name, ""), &judged, report)?;
+    Ok(matches!(judged, Ok(None)))
 }
 
 // Appends the line of the case `name`.
@@ -59,14 +52,6 @@ fn tell_wrong<T: Display>(name: &str, reason: &T, report: &mut String) -> Result
     writeln!(report, "not ok {name}: {reason}")
 }
 
-/// Returns the text `text`, or an empty one if there is none.
-pub(crate) fn text_or_empty(text: &Option<String>) -> &str {
-    match text {
-        Some(text) => text.as_str(),
-        None => "",
-    }
-}
-
 // Returns the first difference between the answers to the case of `line`, which is read into
 // `case`, and those that the case wants.
 fn judged(alloc: Global, line: &str, case: &mut Case) -> Result<Option<String>, Fault> {
@@ -77,11 +62,11 @@ fn judged(alloc: Global, line: &str, case: &mut Case) -> Result<Option<String>, 
 // Returns the first difference between the answers to `case`, which `line` holds, and those that it
 // wants.
 fn of_case(alloc: Global, line: &str, case: &Case) -> Result<Option<String>, Fault> {
-    if text_or_empty(&case.name).is_empty() {
+    if text_or(&case.name, "").is_empty() {
         return Err(Fault::NoName);
     }
     check_wanted(case)?;
-    let input = bytes_of(alloc, text_or_empty(&case.input))?;
+    let input = bytes_of(alloc, text_or(&case.input, ""))?;
     of_inputs(alloc, line, case, input.as_slice())
 }
 
@@ -160,7 +145,7 @@ fn lacks_memory(answer: &str) -> bool {
 
 // Returns whether the answer to `case` is a checksum of many answers, which is made once.
 fn is_recorded(case: &Case) -> bool {
-    text_or_empty(&case.call) == RECORDED
+    text_or(&case.call, "") == RECORDED
 }
 
 // Bytes that are inputs.

@@ -7,8 +7,10 @@ pub enum Call {
     Module(ModuleCall),
     /// A program, answered with its text or its binary.
     Program(ProgramCall),
-    /// A configuration, or a check of one or of a shape.
+    /// A configuration, or a check of one.
     Config(ConfigCall),
+    /// A call on a shape.
+    Shape(ShapeCall),
     /// A draw over a type space.
     Draw(DrawCall),
     /// A draw of the byte source alone.
@@ -19,12 +21,8 @@ pub enum Call {
     Parser(ParserCall),
     /// `config`.
     ReadConfig,
-    /// A subtype test.
-    Subtype(SubtypeCall),
     /// A call on a type space.
     Space(SpaceCall),
-    /// Copies of the types and imports of a shape.
-    Copies,
     /// The recorded form of a set of answers.
     Recorded,
 }
@@ -55,7 +53,7 @@ pub enum ProgramCall {
     Encode,
 }
 
-/// Calls on a configuration, or under it.
+/// Calls on a configuration.
 #[derive(Clone, Copy)]
 pub enum ConfigCall {
     /// `Config::arbitrary`.
@@ -68,15 +66,24 @@ pub enum ConfigCall {
     Check,
     /// `Config::features`.
     Features,
+}
+
+/// Calls on a shape.
+#[derive(Clone, Copy)]
+pub enum ShapeCall {
     /// `Shape::check`.
-    ShapeCheck,
+    Check,
     /// `spell`.
     Spell,
+    /// Copies of the types and imports.
+    Copies,
 }
 
 /// Draws over a type space.
 #[derive(Clone, Copy)]
 pub enum DrawCall {
+    /// Types that are added to the type space.
+    Types(TypesCall),
     /// A type.
     Free(FreeCall),
     /// A subtype or a supertype of another type.
@@ -89,15 +96,20 @@ pub enum DrawCall {
     Number(NumberCall),
 }
 
-/// Draws of a type.
+/// Draws of types that are added to the type space.
 #[derive(Clone, Copy)]
-pub enum FreeCall {
+pub enum TypesCall {
     /// `arbitrary_types`.
-    Types,
+    Arbitrary,
     /// `arbitrary_rec_group`.
     RecGroup,
     /// `clone_rec_group`.
     CloneRecGroup,
+}
+
+/// Draws of a type.
+#[derive(Clone, Copy)]
+pub enum FreeCall {
     /// `arbitrary_sub_type`.
     Sub,
     /// `arbitrary_sub_type_of_super_type`.
@@ -253,6 +265,8 @@ pub enum SubtypeCall {
 /// Calls on a type space.
 #[derive(Clone, Copy)]
 pub enum SpaceCall {
+    /// A subtype test.
+    Subtype(SubtypeCall),
     /// `TypeSpace::depth`.
     Depth,
     /// `TypeSpace::size_of`.
@@ -304,22 +318,22 @@ static CALLS: [(&str, Call, usize); 82] = [
     ("Config::sanitize", Call::Config(ConfigCall::Sanitize), 0),
     ("Config::check", Call::Config(ConfigCall::Check), 0),
     ("Config::features", Call::Config(ConfigCall::Features), 0),
-    ("Shape::check", Call::Config(ConfigCall::ShapeCheck), 1),
-    ("spell", Call::Config(ConfigCall::Spell), 0),
+    ("Shape::check", Call::Shape(ShapeCall::Check), 1),
+    ("spell", Call::Shape(ShapeCall::Spell), 0),
     (
         "arbitrary_types",
-        Call::Draw(DrawCall::Free(FreeCall::Types)),
-        2,
+        Call::Draw(DrawCall::Types(TypesCall::Arbitrary)),
+        0,
     ),
     (
         "arbitrary_rec_group",
-        Call::Draw(DrawCall::Free(FreeCall::RecGroup)),
+        Call::Draw(DrawCall::Types(TypesCall::RecGroup)),
         ANY,
     ),
     (
         "clone_rec_group",
-        Call::Draw(DrawCall::Free(FreeCall::CloneRecGroup)),
-        2,
+        Call::Draw(DrawCall::Types(TypesCall::CloneRecGroup)),
+        0,
     ),
     (
         "arbitrary_sub_type_of_super_type",
@@ -560,17 +574,17 @@ static CALLS: [(&str, Call, usize); 82] = [
     ("config", Call::ReadConfig, ANY),
     (
         "TypeSpace::heap_type_is_sub_type",
-        Call::Subtype(SubtypeCall::HeapType),
+        Call::Space(SpaceCall::Subtype(SubtypeCall::HeapType)),
         2,
     ),
     (
         "TypeSpace::ref_type_is_sub_type",
-        Call::Subtype(SubtypeCall::RefType),
+        Call::Space(SpaceCall::Subtype(SubtypeCall::RefType)),
         2,
     ),
     (
         "TypeSpace::val_type_is_sub_type",
-        Call::Subtype(SubtypeCall::ValType),
+        Call::Space(SpaceCall::Subtype(SubtypeCall::ValType)),
         2,
     ),
     (
@@ -583,7 +597,7 @@ static CALLS: [(&str, Call, usize); 82] = [
     ("TypeSpace::push_type", Call::Space(SpaceCall::Pushed), 0),
     ("add_type", Call::Space(SpaceCall::Added), 0),
     ("list_types", Call::Space(SpaceCall::Listed), 1),
-    ("clone", Call::Copies, 0),
+    ("clone", Call::Shape(ShapeCall::Copies), 0),
     (RECORDED, Call::Recorded, 3),
 ];
 

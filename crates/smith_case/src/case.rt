@@ -112,6 +112,14 @@ impl Wanted {
     }
 }
 
+/// Returns the text `text`, or `other` if there is none.
+pub fn text_or<'a>(text: &'a Option<String>, other: &'a str) -> &'a str {
+    match text {
+        Some(text) => text.as_str(),
+        None => other,
+    }
+}
+
 /// Returns the texts of `texts`, or an empty slice if there is no list.
 pub(crate) fn list(texts: &Option<Vec<String>>) -> &[String] {
     match texts {

@@ -1,4 +1,4 @@
-use crate::call::{Call, ConfigCall, ModuleCall};
+use crate::call::{Call, ConfigCall, ModuleCall, ShapeCall};
 use crate::case::Case;
 use crate::fault::Fault;
 
@@ -59,6 +59,7 @@ fn keys_of(call: Call) -> Keys {
             ..DRAWN
         },
         Call::Config(call) => keys_of_config(call),
+        Call::Shape(call) => keys_of_shape(call),
         Call::Draw(_) => Keys {
             types: true,
             ..DRAWN
@@ -69,13 +70,9 @@ fn keys_of(call: Call) -> Keys {
             ..NONE
         },
         Call::Parser(_) | Call::ReadConfig => Keys { args: true, ..NONE },
-        Call::Subtype(_) | Call::Space(_) => Keys {
+        Call::Space(_) => Keys {
             types: true,
             args: true,
-            ..NONE
-        },
-        Call::Copies => Keys {
-            shape: true,
             ..NONE
         },
         Call::Recorded => Keys {
@@ -103,9 +100,18 @@ fn keys_of_config(call: ConfigCall) -> Keys {
     Keys {
         config: !is_drawn,
         shapes: !is_drawn,
-        shape: matches!(call, ConfigCall::ShapeCheck | ConfigCall::Spell),
-        args: matches!(call, ConfigCall::ShapeCheck),
         input: is_drawn,
+        ..NONE
+    }
+}
+
+fn keys_of_shape(call: ShapeCall) -> Keys {
+    let is_configured = !matches!(call, ShapeCall::Copies);
+    Keys {
+        config: is_configured,
+        shapes: is_configured,
+        shape: true,
+        args: matches!(call, ShapeCall::Check),
         ..NONE
     }
 }

@@ -17,7 +17,7 @@
 //!   them.
 //! - `available-imports`, `exports` and `module-shape` name the shapes of the configuration,
 //!   `shape` the shape that the call is about, and `types` the shape whose types the call draws
-//!   over or compares. The shapes are in `smith_case_shapes`.
+//!   over or compares. `shapes/` lists the shapes.
 //! - `input` is the input in hexadecimal, with blanks between words. `00*512` means 512 bytes 00.
 //! - `inputs` is `each byte` for all inputs of one byte, `each even byte` or `each odd byte` for
 //!   half of them, or `each cut` for each prefix of `input`. The case then wants the same of each
@@ -46,10 +46,13 @@ mod case;
 mod fault;
 mod input;
 mod keys;
+mod owned;
+pub mod shapes;
 mod wanted;
 
-pub use case::{Case, ShapeNames, Wanted, goes_to_config, read_case};
+pub use case::{Case, ShapeNames, Wanted, goes_to_config, read_case, text_or};
 pub use fault::{Fault, Obstacle};
 pub use input::bytes_of;
 pub use keys::check_keys;
+pub use owned::Owned;
 pub use wanted::{Difference, check_wanted, first_difference};

@@ -1,8 +1,8 @@
 use crate::told::{or_memory, tell_debug};
 use json::{Reader, Scratch};
 use smith_case::arguments::word;
+use smith_case::shapes::shape_named;
 use smith_case::{Case, Fault, goes_to_config};
-use smith_case_shapes::shape_named;
 use smith_config::{Config, Shape};
 use smith_json::{ConfigRefusal, Refusal, config, read_config};
 use std::alloc::Global;

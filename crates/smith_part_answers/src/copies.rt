@@ -1,29 +1,17 @@
-use crate::shapes::{Shaped, shape_of};
 use crate::told::{equality, tell_debug, tell_pair};
 use smith_bytes::Error;
-use smith_case::{Case, Fault};
+use smith_case::Fault;
 use smith_config::Shape;
 use smith_types::{CompositeInnerType, CompositeType, ImportItem, Imports, Items, SubType};
 use std::alloc::Global;
 
-/// Appends a line for each group, type and import of the shape of `case`, and for each of their
-/// parts, that says whether a copy is equal. A group of imports is printed before its lines.
-pub fn answer_copies(alloc: Global, case: &Case, answer: &mut String) -> Result<(), Fault> {
-    answer_of(alloc, shape_of(alloc, case), answer)
-}
-
-fn answer_of<S: Shaped>(
+/// Appends a line for each group, type and import of `shape`, and for each of their parts, that says
+/// whether a copy is equal. A group of imports is printed before its lines.
+pub(crate) fn answer_copies(
     alloc: Global,
-    found: Result<S, Fault>,
+    shape: &Shape,
     answer: &mut String,
 ) -> Result<(), Fault> {
-    match found {
-        Ok(shape) => answer_shape(alloc, shape.shape(), answer),
-        Err(fault) => Err(fault),
-    }
-}
-
-fn answer_shape(alloc: Global, shape: &Shape, answer: &mut String) -> Result<(), Fault> {
     answer_groups(alloc, shape.groups.as_slice(), answer)?;
     answer_imports(alloc, shape.imports.as_slice(), answer)
 }

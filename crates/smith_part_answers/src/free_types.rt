@@ -1,20 +1,17 @@
 ghost use Rattle.std.specs.Prelude.{IsTrue, IfOk};
-ghost use Rattle.smith_config.specs.Faults.{Passes};
 ghost use Rattle.smith_config.specs.Sanitized.{IsSanitized};
 
-use crate::spaces::{Over, types_of};
-use crate::told::{tell_drawn, tell_line, tell_refusal, tell_types};
+use crate::spaces::Over;
+use crate::told::tell_drawn;
 use smith_bytes::Unstructured;
 use smith_case::arguments::value;
 use smith_case::call::FreeCall;
 use smith_case::{Fault, Obstacle};
 use smith_draw::{
-    Entities, arbitrary_composite_type, arbitrary_field_type, arbitrary_func_type,
-    arbitrary_heap_type, arbitrary_rec_group, arbitrary_ref_type, arbitrary_storage_type,
-    arbitrary_struct_type, arbitrary_sub_type, arbitrary_sub_type_of_super_type, arbitrary_types,
-    arbitrary_valtype, clone_rec_group,
+    arbitrary_composite_type, arbitrary_field_type, arbitrary_func_type, arbitrary_heap_type,
+    arbitrary_ref_type, arbitrary_storage_type, arbitrary_struct_type, arbitrary_sub_type,
+    arbitrary_sub_type_of_super_type, arbitrary_valtype,
 };
-use smith_types::TypeSpace;
 
 // Bounds of a drawn type.
 #[derive(Clone, Copy)]
@@ -52,97 +49,12 @@ pub(crate) fn answer_free_type(
     u: &mut Unstructured<'_>,
     answer: &mut String,
 ) -> Result<(), Fault>
-    requires passes { Passes over.now.config.now }
-    requires sanitized { IsSanitized over.now.config.now }
+    requires { IsSanitized over.now.config.now }
 {
-    if matches!(call, FreeCall::RecGroup) {
-        return answer_groups(over, u, answer);
-    }
     let bounds = bounds_of(over)?;
     match call {
-        FreeCall::Types => answer_types(over, u, answer),
-        FreeCall::CloneRecGroup => answer_clone(over, u, answer),
         FreeCall::SubOfSuper => answer_subtype_of_one(over, bounds.limit, u, answer),
         _ => answer_type(over, call, bounds, u, answer),
-    }
-}
-
-// Appends types that are drawn into an empty type space.
-#[tactic(auto, using(smith_draw::proofs::CallerLemmas::passes_but_imports))]
-fn answer_types(over: &Over<'_>, u: &mut Unstructured<'_>, answer: &mut String) -> Result<(), Fault>
-    requires passes { Passes over.now.config.now }
-    requires sanitized { IsSanitized over.now.config.now }
-{
-    let mut types = TypeSpace::new(over.alloc);
-    match arbitrary_types(over.alloc, over.config, &mut types, &Entities::none(), u) {
-        Ok(()) => tell_types(&types, answer),
-        Err(refusal) => tell_refusal(refusal, answer),
-    }
-}
-
-// Draws a group for each argument, which says whether the group may be empty, and appends the
-// types. Without arguments, draws one group that may be empty.
-fn answer_groups(
-    over: &Over<'_>,
-    u: &mut Unstructured<'_>,
-    answer: &mut String,
-) -> Result<(), Fault>
-    requires passes { Passes over.now.config.now }
-    requires sanitized { IsSanitized over.now.config.now }
-{
-    let mut types = TypeSpace::new(over.alloc);
-    add_groups(over, &mut types, u)?;
-    tell_types(&types, answer)
-}
-
-// Adds a group to `types` for each argument, or one that may be empty.
-fn add_groups(over: &Over<'_>, types: &mut TypeSpace, u: &mut Unstructured<'_>) -> Result<(), Fault>
-    requires passes { Passes over.now.config.now }
-    requires sanitized { IsSanitized over.now.config.now }
-{
-    if over.case.args().is_empty() {
-        return add_group(over, true, types, u);
-    }
-    for place in 0..over.case.args().len() {
-        add_group(over, value(over.case, place)?, types, u)?;
-    }
-    Ok(())
-}
-
-// Adds a group to `types`.
-#[tactic(auto, using(smith_draw::proofs::CallerLemmas::passes_but_imports))]
-fn add_group(
-    over: &Over<'_>,
-    allow_empty: bool,
-    types: &mut TypeSpace,
-    u: &mut Unstructured<'_>,
-) -> Result<(), Fault>
-    requires passes { Passes over.now.config.now }
-    requires sanitized { IsSanitized over.now.config.now }
-{
-    let Over { alloc, config, .. } = *over;
-    if types.types().len() >= config.max_types {
-        return Err(Fault::NotCallable(Obstacle::NoFurtherType));
-    }
-    Ok(arbitrary_rec_group(alloc, config, types, &Entities::none(), allow_empty, u)?)
-}
-
-// Appends the types with a clone of one of the groups of the case, which may be empty.
-#[tactic(auto, using(smith_draw::proofs::CallerLemmas::passes_but_imports))]
-fn answer_clone(over: &Over<'_>, u: &mut Unstructured<'_>, answer: &mut String) -> Result<(), Fault>
-    requires { Passes over.now.config.now }
-{
-    let Over { alloc, config, .. } = *over;
-    let mut types = types_of(alloc, over.case)?;
-    if types.types().len() >= config.max_types || types.rec_groups().is_empty() {
-        return Err(Fault::NotCallable(Obstacle::NothingToClone));
-    }
-    match clone_rec_group(alloc, config, &mut types, &Entities::none(), true, u) {
-        Ok(is_cloned) => {
-            tell_line(is_cloned, answer)?;
-            tell_types(&types, answer)
-        }
-        Err(refusal) => tell_refusal(refusal, answer),
     }
 }
 

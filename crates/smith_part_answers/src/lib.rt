@@ -19,14 +19,14 @@ mod spaces;
 mod subtypes;
 mod told;
 mod type_spaces;
+mod types;
 
 pub use configs::{answer_config, answer_drawn_config};
 pub use configured::{answer_read_config, set_config, taken};
-pub use copies::answer_copies;
 pub use draws::answer_draw;
 pub use names::answer_name;
 pub use parsers::answer_parser;
+pub use shapes::answer_shape;
 pub use sources::answer_source;
-pub use subtypes::answer_subtype;
 pub use told::{tell_bytes, tell_pair, tell_refusal, tell_rest};
 pub use type_spaces::answer_space;

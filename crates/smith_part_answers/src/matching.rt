@@ -6,7 +6,7 @@ use smith_bytes::Unstructured;
 use smith_case::Fault;
 use smith_case::arguments::{value, word};
 use smith_case::call::MatchingCall;
-use smith_case_shapes::{
+use smith_case::shapes::{
     field_type_of, function_of, heap_type_of, ref_type_of, storage_type_of, val_type_of,
 };
 use smith_draw::{
@@ -16,6 +16,19 @@ use smith_draw::{
     arbitrary_super_type_of_ref_type, arbitrary_super_type_of_val_type,
 };
 use smith_types::CompositeInnerType;
+
+// Appends the type that `$draw` draws for the type that `$text` denotes, if `$read` can read it.
+macro_rules! tell_wanted {
+    ($over:expr, $text:expr, $u:expr, $answer:expr; $read:ident => $draw:ident) => {
+        match $read($text) {
+            Some(wanted) => tell_drawn(
+                $draw($over.alloc, $over.config, $over.spaces, wanted, $u),
+                $answer,
+            ),
+            None => Err(Fault::Argument(0)),
+        }
+    };
+}
 
 /// Appends the subtype or supertype of the argument that `call` draws.
 pub(crate) fn answer_matching(
@@ -30,122 +43,42 @@ pub(crate) fn answer_matching(
     match call {
         MatchingCall::Func => answer_function(over, text, u, answer),
         MatchingCall::Struct => answer_structure(over, u, answer),
-        MatchingCall::Field => answer_field(over, text, u, answer),
-        MatchingCall::Storage => answer_storage(over, text, u, answer),
-        MatchingCall::Val | MatchingCall::AboveVal => answer_value(over, call, text, u, answer),
-        MatchingCall::Ref | MatchingCall::AboveRef => answer_reference(over, call, text, u, answer),
-        MatchingCall::Heap | MatchingCall::AboveHeap => {
-            answer_heap_type(over, call, text, u, answer)
-        }
+        _ => answer_part(over, call, text, u, answer),
     }
 }
 
-fn answer_field(
-    over: &Over<'_>,
-    text: &str,
-    u: &mut Unstructured<'_>,
-    answer: &mut String,
-) -> Result<(), Fault> {
-    let Some(wanted) = field_type_of(text) else {
-        return Err(Fault::Argument(0));
-    };
-    tell_drawn(
-        arbitrary_matching_field_type(over.alloc, over.config, over.spaces, wanted, u),
-        answer,
-    )
-}
-
-fn answer_storage(
-    over: &Over<'_>,
-    text: &str,
-    u: &mut Unstructured<'_>,
-    answer: &mut String,
-) -> Result<(), Fault> {
-    let Some(wanted) = storage_type_of(text) else {
-        return Err(Fault::Argument(0));
-    };
-    tell_drawn(
-        arbitrary_matching_storage_type(over.alloc, over.config, over.spaces, wanted, u),
-        answer,
-    )
-}
-
-// Appends a subtype or supertype of the value type that `text` denotes.
-fn answer_value(
+// Appends a subtype of the type that `text` denotes, or a supertype.
+fn answer_part(
     over: &Over<'_>,
     call: MatchingCall,
     text: &str,
     u: &mut Unstructured<'_>,
     answer: &mut String,
 ) -> Result<(), Fault> {
-    let Some(wanted) = val_type_of(text) else {
-        return Err(Fault::Argument(0));
-    };
-    let Over {
-        alloc,
-        config,
-        spaces,
-        ..
-    } = *over;
-    let drawn = match call {
-        MatchingCall::AboveVal => arbitrary_super_type_of_val_type(
-            alloc, config, spaces, wanted, u,
-        ),
-        _ => arbitrary_matching_val_type(alloc, config, spaces, wanted, u),
-    };
-    tell_drawn(drawn, answer)
-}
-
-// Appends a subtype or supertype of the reference type that `text` denotes.
-fn answer_reference(
-    over: &Over<'_>,
-    call: MatchingCall,
-    text: &str,
-    u: &mut Unstructured<'_>,
-    answer: &mut String,
-) -> Result<(), Fault> {
-    let Some(wanted) = ref_type_of(text) else {
-        return Err(Fault::Argument(0));
-    };
-    let Over {
-        alloc,
-        config,
-        spaces,
-        ..
-    } = *over;
-    let drawn = match call {
-        MatchingCall::AboveRef => arbitrary_super_type_of_ref_type(
-            alloc, config, spaces, wanted, u,
-        ),
-        _ => arbitrary_matching_ref_type(alloc, config, spaces, wanted, u),
-    };
-    tell_drawn(drawn, answer)
-}
-
-// Appends a subtype or supertype of the heap type that `text` denotes.
-fn answer_heap_type(
-    over: &Over<'_>,
-    call: MatchingCall,
-    text: &str,
-    u: &mut Unstructured<'_>,
-    answer: &mut String,
-) -> Result<(), Fault> {
-    let Some(wanted) = heap_type_of(text) else {
-        return Err(Fault::Argument(0));
-    };
-    let Over {
-        alloc,
-        config,
-        spaces,
-        ..
-    } = *over;
-    let drawn = match call {
-        MatchingCall::AboveHeap => arbitrary_super_type_of_heap_type(
-            alloc, config, spaces, wanted, u,
-        ),
-        _ => arbitrary_matching_heap_type(alloc, config, spaces, wanted, u),
-    };
-    tell_drawn(drawn, answer)
+    match call {
+        MatchingCall::Field => {
+            tell_wanted!(over, text, u, answer; field_type_of => arbitrary_matching_field_type)
+        }
+        MatchingCall::Storage => {
+            tell_wanted!(over, text, u, answer; storage_type_of => arbitrary_matching_storage_type)
+        }
+        MatchingCall::Val => {
+            tell_wanted!(over, text, u, answer; val_type_of => arbitrary_matching_val_type)
+        }
+        MatchingCall::Ref => {
+            tell_wanted!(over, text, u, answer; ref_type_of => arbitrary_matching_ref_type)
+        }
+        MatchingCall::Heap => {
+            tell_wanted!(over, text, u, answer; heap_type_of => arbitrary_matching_heap_type)
+        }
+        MatchingCall::AboveVal => {
+            tell_wanted!(over, text, u, answer; val_type_of => arbitrary_super_type_of_val_type)
+        }
+        MatchingCall::AboveRef => {
+            tell_wanted!(over, text, u, answer; ref_type_of => arbitrary_super_type_of_ref_type)
+        }
+        _ => tell_wanted!(over, text, u, answer; heap_type_of => arbitrary_super_type_of_heap_type),
+    }
 }
 
 // Appends a struct type that matches the type of the case at the index of the argument.

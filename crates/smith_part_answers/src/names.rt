@@ -99,16 +99,7 @@ fn drawn(
 // Appends a line of the names in order.
 fn tell_names(alloc: Global, names: &HashSet<String>, answer: &mut String) -> Result<(), Fault> {
     let mut sorted: Vec<&str> = Vec::with_capacity(alloc, names.len())?;
-    tell_sorted(names, &mut sorted, answer)
-}
-
-// Appends a line of `names`, which are listed in `sorted`.
-fn tell_sorted<'a>(
-    names: &'a HashSet<String>,
-    sorted: &mut Vec<&'a str>,
-    answer: &mut String,
-) -> Result<(), Fault> {
-    add_sorted(names, sorted)?;
+    add_sorted(names, &mut sorted)?;
     or_memory(writeln!(answer, "names {sorted:?}"))
 }
 

@@ -15,7 +15,10 @@ pub(crate) fn answer_number(
     u: &mut Unstructured<'_>,
     answer: &mut String,
 ) -> Result<(), Fault> {
-    let is_required = is_required(case, call)?;
+    let is_required = match call {
+        NumberCall::Limits64 => value(case, 3)?,
+        _ => false,
+    };
     let (first, second, third) = (value(case, 0)?, value(case, 1)?, value(case, 2)?);
     let drawn = match call {
         NumberCall::GraduallyGrow if first <= second && second <= third => {
@@ -32,13 +35,5 @@ pub(crate) fn answer_number(
     match drawn {
         (least, Some(most)) => tell_pair(least, most, answer),
         (least, None) => tell_line(least, answer),
-    }
-}
-
-// Returns whether the limits of `call` require a maximum, which the fourth argument says.
-fn is_required(case: &Case, call: NumberCall) -> Result<bool, Fault> {
-    match call {
-        NumberCall::Limits64 => value(case, 3),
-        _ => Ok(false),
     }
 }

@@ -13,7 +13,9 @@ pub fn answer_parser(case: &Case, call: ParserCall, answer: &mut String) -> Resu
         ParserCall::NoKinds => tell_kinds(InstructionKinds::none(), answer),
         ParserCall::AllKinds => tell_kinds(InstructionKinds::all(), answer),
         ParserCall::DefaultKinds => tell_kinds(InstructionKinds::default(), answer),
-        _ => answer_text(case, call, answer),
+        ParserCall::Contains => answer_contains(case, answer),
+        ParserCall::OffsetChoices => answer_choices(word(case, 0)?, answer),
+        _ => answer_kinds(word(case, 0)?, call, answer),
     }
 }
 
@@ -36,18 +38,6 @@ fn answer_kind(text: &str, answer: &mut String) -> Result<(), Fault> {
 // Appends the refusal of a text that names no kind.
 fn tell_unknown(fault: UnknownKind, answer: &mut String) -> Result<(), Fault> {
     tell_pair("refused: part", fault.part, answer)
-}
-
-// Appends what `call` makes of the first argument.
-fn answer_text(case: &Case, call: ParserCall, answer: &mut String) -> Result<(), Fault> {
-    if matches!(call, ParserCall::Contains) {
-        return answer_contains(case, answer);
-    }
-    let text = word(case, 0)?;
-    match call {
-        ParserCall::OffsetChoices => answer_choices(text, answer),
-        _ => answer_kinds(text, call, answer),
-    }
 }
 
 fn answer_choices(text: &str, answer: &mut String) -> Result<(), Fault> {

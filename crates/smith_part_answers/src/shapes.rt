@@ -1,25 +1,84 @@
-use smith_case::{Case, Fault};
-use smith_case_shapes::shape_named;
-use smith_config::Shape;
+use crate::copies::answer_copies;
+use crate::told::{tell_bytes, tell_check, tell_line, tell_refusal};
+use smith_bytes::{Error, Which};
+use smith_case::arguments::word;
+use smith_case::call::ShapeCall;
+use smith_case::shapes::shape_named;
+use smith_case::{Case, Fault, Owned, text_or};
+use smith_config::{Config, Shape};
+use smith_spell::spell;
+use smith_types::Items;
 use std::alloc::Global;
 
-/// A shape. The functions that own one take any such value, so that what they drop is not proved
-/// field by field.
-pub(crate) trait Shaped: Drop {
-    /// Returns the shape.
-    fn shape(&self) -> &Shape;
+/// Appends the result of `call` on the shape under the key `shape` of `case`, under `config`.
+pub fn answer_shape(
+    alloc: Global,
+    case: &Case,
+    call: ShapeCall,
+    config: &Config,
+    answer: &mut String,
+) -> Result<(), Fault> {
+    let found = shape_named(alloc, text_or(&case.shapes.shape, ""));
+    answer_found(alloc, case, call, config, found, answer)
 }
 
-impl Shaped for Shape {
-    fn shape(&self) -> &Shape {
-        self
+fn answer_found<S: Owned<Shape>>(
+    alloc: Global,
+    case: &Case,
+    call: ShapeCall,
+    config: &Config,
+    found: Result<S, Fault>,
+    answer: &mut String,
+) -> Result<(), Fault> {
+    match found {
+        Ok(mut shape) => answer_about(alloc, case, call, config, shape.lend(), answer),
+        Err(fault) => Err(fault),
     }
 }
 
-/// Returns the shape under the key `shape` of `case`.
-pub(crate) fn shape_of(alloc: Global, case: &Case) -> Result<Shape, Fault> {
-    match &case.shapes.shape {
-        Some(name) => shape_named(alloc, name.as_str()),
-        None => Err(Fault::UnknownShape),
+fn answer_about(
+    alloc: Global,
+    case: &Case,
+    call: ShapeCall,
+    config: &Config,
+    shape: &Shape,
+    answer: &mut String,
+) -> Result<(), Fault> {
+    match call {
+        ShapeCall::Check => tell_check(shape.check(alloc, which_of(case)?, config), answer),
+        ShapeCall::Spell => tell_spelling(spelling(alloc, config, shape), answer),
+        ShapeCall::Copies => answer_copies(alloc, shape, answer),
+    }
+}
+
+// Returns the use of a shape that the first argument names.
+fn which_of(case: &Case) -> Result<Which, Fault> {
+    match word(case, 0)? {
+        "AvailableImports" => Ok(Which::AvailableImports),
+        "Exports" => Ok(Which::Exports),
+        "ModuleShape" => Ok(Which::ModuleShape),
+        _ => Err(Fault::Argument(0)),
+    }
+}
+
+// Returns the bytes that spell the groups and the functions of `shape`.
+fn spelling(alloc: Global, config: &Config, shape: &Shape) -> Result<Option<Items<u8>>, Error> {
+    spell(
+        alloc,
+        config,
+        shape.groups.as_slice(),
+        shape.funcs.as_slice(),
+    )
+}
+
+// Appends the bytes of a spelling, or `none`.
+fn tell_spelling(
+    spelling: Result<Option<Items<u8>>, Error>,
+    answer: &mut String,
+) -> Result<(), Fault> {
+    match spelling {
+        Ok(Some(bytes)) => tell_bytes("spelled", bytes.as_slice(), answer),
+        Ok(None) => tell_line("none", answer),
+        Err(refusal) => tell_refusal(refusal, answer),
     }
 }

@@ -1,14 +1,15 @@
 ghost use Rattle.std.specs.Prelude.{◌≡◌, [], false};
 ghost use Rattle.smith_types.specs.declared.value_type.ValType.TheVariants.{I32};
 
-use crate::shapes::Shaped;
 use crate::told::or_memory;
 use smith_case::{Case, Fault};
-use smith_case_shapes::shape_named;
 use smith_config::Config;
 use smith_draw::{Entities, Spaces};
 use smith_types::{GlobalType, Items, SubType, TypeSpace, ValType};
 use std::alloc::Global;
+
+/// The name of the shape without types.
+pub(crate) const NO_TYPES: &str = "nothing";
 
 /// The context of a draw of a case.
 #[derive(Clone, Copy)]
@@ -65,29 +66,8 @@ pub(crate) fn with_globals<'a>(types: &'a TypeSpace, globals: &'a [GlobalType]) 
     }
 }
 
-/// Returns the types under the key `types` of `case`: those of a shape, or no types.
-pub(crate) fn types_of(alloc: Global, case: &Case) -> Result<TypeSpace, Fault> {
-    match &case.shapes.types {
-        Some(name) => types_of_shape(alloc, shape_named(alloc, name.as_str())),
-        None => Ok(TypeSpace::new(alloc)),
-    }
-}
-
-fn types_of_shape<S: Shaped>(alloc: Global, found: Result<S, Fault>) -> Result<TypeSpace, Fault> {
-    match found {
-        Ok(shape) => types_in(alloc, shape.shape().groups.as_slice()),
-        Err(fault) => Err(fault),
-    }
-}
-
-// Returns the types of `groups`.
-fn types_in(alloc: Global, groups: &[Items<SubType>]) -> Result<TypeSpace, Fault> {
-    let mut types = TypeSpace::new(alloc);
-    add_groups(alloc, groups, &mut types).and(Ok(types))
-}
-
-// Adds the groups `groups` to `types`.
-fn add_groups(
+/// Adds the groups `groups` to `types`.
+pub(crate) fn add_groups(
     alloc: Global,
     groups: &[Items<SubType>],
     types: &mut TypeSpace,

@@ -1,26 +1,15 @@
 ghost use Rattle.std.specs.Prelude.{◌↔◌, IsTrue};
 ghost use Rattle.smith_types.specs.Subtyping.{IsInRange, IsValInRange};
 
-use crate::spaces::types_of;
 use crate::told::tell_line;
 use smith_case::arguments::word;
 use smith_case::call::SubtypeCall;
+use smith_case::shapes::{heap_type_of, ref_type_of, val_type_of};
 use smith_case::{Case, Fault, Obstacle};
-use smith_case_shapes::{heap_type_of, ref_type_of, val_type_of};
 use smith_types::{HeapType, TypeSpace, ValType};
-use std::alloc::Global;
 
-/// Appends `yes` if the first argument is a subtype of the second, else `no`.
-pub fn answer_subtype(
-    alloc: Global,
-    case: &Case,
-    call: SubtypeCall,
-    answer: &mut String,
-) -> Result<(), Fault> {
-    answer_over(&types_of(alloc, case)?, case, call, answer)
-}
-
-fn answer_over(
+/// Appends `yes` if the first argument is a subtype of the second over `types`, else `no`.
+pub(crate) fn answer_subtype(
     types: &TypeSpace,
     case: &Case,
     call: SubtypeCall,

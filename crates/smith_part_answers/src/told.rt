@@ -89,6 +89,14 @@ pub fn tell_refusal<T: Debug + Drop>(refusal: T, answer: &mut String) -> Result<
     or_memory(writeln!(answer, "refused: {refusal:?}"))
 }
 
+/// Appends the result `checked` of a check.
+pub(crate) fn tell_check(checked: Result<(), Error>, answer: &mut String) -> Result<(), Fault> {
+    match checked {
+        Ok(()) => tell_line("passes", answer),
+        Err(refusal) => tell_refusal(refusal, answer),
+    }
+}
+
 /// Appends the number of bytes that `u` has left, and the next of these.
 pub fn tell_rest(u: &Unstructured<'_>, answer: &mut String) -> Result<(), Fault> {
     let count = u.len();

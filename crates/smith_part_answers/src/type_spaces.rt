@@ -3,14 +3,15 @@ ghost use Rattle.smith_types.specs.Matching.{IsInnerInRange};
 ghost use Rattle.smith_types.specs.Sizes.{IsTyped, size_in};
 ghost use Rattle.smith_types.specs.GroupedTypes.{MayFollow};
 
-use crate::shapes::Shaped;
-use crate::spaces::types_of;
+use crate::spaces::{NO_TYPES, add_groups};
+use crate::subtypes::answer_subtype;
 use crate::told::{or_memory, tell_drawn_values, tell_line, tell_pair, tell_types};
 use smith_bytes::Error;
 use smith_case::arguments::{value, word};
 use smith_case::call::SpaceCall;
-use smith_case::{Case, Fault, Obstacle};
-use smith_case_shapes::{entity_of, shape_named};
+use smith_case::shapes::{entity_of, shape_named};
+use smith_case::{Case, Fault, Obstacle, Owned, text_or};
+use smith_config::Shape;
 use smith_draw::{TypeUse, add_type, list_types};
 use smith_types::{
     CompositeInnerType, CompositeType, EntityType, Items, StandingValue, SubType, TypeSpace,
@@ -18,27 +19,50 @@ use smith_types::{
 };
 use std::alloc::Global;
 
-/// Appends the result of `call` on the type space of `case`.
+/// Appends the result of `call` on the type space of `case`, which has the types of the shape under
+/// the key `types`.
 pub fn answer_space(
     alloc: Global,
     case: &Case,
     call: SpaceCall,
     answer: &mut String,
 ) -> Result<(), Fault> {
-    match call {
-        SpaceCall::Pushed | SpaceCall::Added => answer_pushed(alloc, case, call, answer),
-        _ => answer_over(alloc, &types_of(alloc, case)?, case, call, answer),
-    }
+    let found = shape_named(alloc, text_or(&case.shapes.types, NO_TYPES));
+    answer_found(alloc, found, TypeSpace::new(alloc), case, call, answer)
 }
 
-fn answer_over(
+fn answer_found<S: Owned<Shape>, T: Owned<TypeSpace>>(
     alloc: Global,
-    types: &TypeSpace,
+    found: Result<S, Fault>,
+    mut types: T,
     case: &Case,
     call: SpaceCall,
     answer: &mut String,
 ) -> Result<(), Fault> {
+    match found {
+        Ok(mut shape) => {
+            let groups = shape.lend().groups.as_slice();
+            answer_call(alloc, groups, types.lend(), case, call, answer)
+        }
+        Err(fault) => Err(fault),
+    }
+}
+
+// Appends the result of `call` on `types`, which are empty, after the types of `groups` are added.
+fn answer_call(
+    alloc: Global,
+    groups: &[Items<SubType>],
+    types: &mut TypeSpace,
+    case: &Case,
+    call: SpaceCall,
+    answer: &mut String,
+) -> Result<(), Fault> {
+    if matches!(call, SpaceCall::Pushed | SpaceCall::Added) {
+        return push_groups(alloc, groups, call, types, answer);
+    }
+    add_groups(alloc, groups, types)?;
     match call {
+        SpaceCall::Subtype(call) => answer_subtype(types, case, call, answer),
         SpaceCall::Depth => answer_depth(types, case, answer),
         SpaceCall::Size => answer_size(types, case, answer),
         SpaceCall::Matches => answer_match(types, case, answer),
@@ -120,42 +144,19 @@ fn composite_at<'a>(
     Ok(&ty.composite_type)
 }
 
-// Appends the index of each type of the case as it is added, and then the types in their groups.
-fn answer_pushed(
-    alloc: Global,
-    case: &Case,
-    call: SpaceCall,
-    answer: &mut String,
-) -> Result<(), Fault> {
-    match &case.shapes.types {
-        Some(name) => answer_groups_of(alloc, shape_named(alloc, name.as_str()), call, answer),
-        None => Err(Fault::UnknownTypes),
-    }
-}
-
-fn answer_groups_of<S: Shaped>(
-    alloc: Global,
-    found: Result<S, Fault>,
-    call: SpaceCall,
-    answer: &mut String,
-) -> Result<(), Fault> {
-    match found {
-        Ok(shape) => push_groups(alloc, shape.shape().groups.as_slice(), call, answer),
-        Err(fault) => Err(fault),
-    }
-}
-
+// Adds the types of `groups` to `types` by `call`. Appends the index of each as it is added, and
+// then the types in their groups.
 fn push_groups(
     alloc: Global,
     groups: &[Items<SubType>],
     call: SpaceCall,
+    types: &mut TypeSpace,
     answer: &mut String,
 ) -> Result<(), Fault> {
-    let mut types = TypeSpace::new(alloc);
     for group in groups {
-        push_group(alloc, group.as_slice(), call, &mut types, answer)?;
+        push_group(alloc, group.as_slice(), call, types, answer)?;
     }
-    tell_types(&types, answer)
+    tell_types(types, answer)
 }
 
 // Adds the type `added`, which may follow, by `call`.

@@ -1,5 +1,5 @@
 use smith_bytes::Error;
-use smith_case_shapes::{entity_of, function_of, val_type_of};
+use smith_case::shapes::{entity_of, function_of, val_type_of};
 use smith_text::{FromFmt, TextForm};
 use smith_types::{
     AbstractHeapType, ArrayType, CompositeInnerType, CompositeType, ConstInstr, DataSegment,

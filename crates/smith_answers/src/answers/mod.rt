@@ -6,14 +6,13 @@ mod told;
 
 use crate::answers::modules::answer_module;
 use crate::answers::programs::answer_program;
-use crate::judged::text_or_empty;
 use crate::recorded::answer_recorded;
 use smith_case::call::{Call, ConfigCall, call_named};
-use smith_case::{Case, Fault, check_keys};
+use smith_case::{Case, Fault, Owned, check_keys, text_or};
 use smith_config::Config;
 use smith_part_answers::{
-    answer_config, answer_copies, answer_draw, answer_drawn_config, answer_name, answer_parser,
-    answer_read_config, answer_source, answer_space, answer_subtype, set_config,
+    answer_config, answer_draw, answer_drawn_config, answer_name, answer_parser,
+    answer_read_config, answer_shape, answer_source, answer_space, set_config,
 };
 use std::alloc::Global;
 
@@ -24,7 +23,7 @@ pub(crate) fn answer(
     case: &Case,
     input: &[u8],
 ) -> Result<String, Fault> {
-    let Some((call, most)) = call_named(text_or_empty(&case.call)) else {
+    let Some((call, most)) = call_named(text_or(&case.call, "")) else {
         return Err(Fault::UnknownCall);
     };
     check_keys(case, call, most)?;
@@ -46,9 +45,7 @@ fn append_answer(
         Call::Name(call) => answer_name(alloc, case, call, input, answer),
         Call::Parser(call) => answer_parser(case, call, answer),
         Call::ReadConfig => answer_read_config(alloc, case, answer),
-        Call::Subtype(call) => answer_subtype(alloc, case, call, answer),
         Call::Space(call) => answer_space(alloc, case, call, answer),
-        Call::Copies => answer_copies(alloc, case, answer),
         Call::Config(ConfigCall::Arbitrary) => answer_drawn_config(input, answer),
         _ => answer_configured(alloc, line, case, call, input, answer),
     }
@@ -66,44 +63,7 @@ fn answer_configured(
     answer_under(Config::default(), alloc, line, case, call, input, answer)
 }
 
-// A configuration under which calls are answered. The function that owns it takes any such value,
-// so that what it drops is not proved field by field.
-trait Answers: Drop {
-    // Appends the answer to the call of `case`, after the configuration is set as `line` says.
-    fn answer(
-        &mut self,
-        alloc: Global,
-        line: &str,
-        case: &Case,
-        call: Call,
-        input: &[u8],
-        answer: &mut String,
-    ) -> Result<(), Fault>;
-}
-
-impl Answers for Config {
-    fn answer(
-        &mut self,
-        alloc: Global,
-        line: &str,
-        case: &Case,
-        call: Call,
-        input: &[u8],
-        answer: &mut String,
-    ) -> Result<(), Fault> {
-        set_config(alloc, line, case, self)?;
-        match call {
-            Call::Module(call) => answer_module(alloc, case, call, self, input, answer),
-            Call::Program(call) => answer_program(alloc, case, call, self, input, answer),
-            Call::Draw(call) => answer_draw(alloc, case, call, self, input, answer),
-            Call::Config(call) => answer_config(alloc, case, call, self, answer),
-            _ => answer_recorded(alloc, case, self, answer),
-        }
-    }
-}
-
-// Appends the answer to a call under `config`.
-fn answer_under<C: Answers>(
+fn answer_under<C: Owned<Config>>(
     mut config: C,
     alloc: Global,
     line: &str,
@@ -112,5 +72,26 @@ fn answer_under<C: Answers>(
     input: &[u8],
     answer: &mut String,
 ) -> Result<(), Fault> {
-    config.answer(alloc, line, case, call, input, answer)
+    answer_call(alloc, line, case, call, config.lend(), input, answer)
+}
+
+// Appends the answer to the call of `case`, after `config` is set as `line` says.
+fn answer_call(
+    alloc: Global,
+    line: &str,
+    case: &Case,
+    call: Call,
+    config: &mut Config,
+    input: &[u8],
+    answer: &mut String,
+) -> Result<(), Fault> {
+    set_config(alloc, line, case, config)?;
+    match call {
+        Call::Module(call) => answer_module(alloc, case, call, config, input, answer),
+        Call::Program(call) => answer_program(alloc, case, call, config, input, answer),
+        Call::Draw(call) => answer_draw(alloc, case, call, config, input, answer),
+        Call::Config(call) => answer_config(alloc, call, config, answer),
+        Call::Shape(call) => answer_shape(alloc, case, call, config, answer),
+        _ => answer_recorded(alloc, case, config, answer),
+    }
 }

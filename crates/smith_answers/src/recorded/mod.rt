@@ -9,7 +9,7 @@ use crate::recorded::formula::{Formula, formula_named};
 use sha2::{Digest, Sha256};
 use smith_bytes::{Error, Unstructured};
 use smith_case::arguments::{value, word};
-use smith_case::{Case, Fault};
+use smith_case::{Case, Fault, Owned};
 use smith_config::Config;
 use smith_text::text;
 use std::alloc::Global;
@@ -107,34 +107,22 @@ fn feed(
     Ok(kind)
 }
 
-// A module that is drawn. The function that owns it takes any such value, so that what it drops is
-// not proved part by part.
-trait Feeds: Drop {
-    // Feeds `hasher` with the text of the module.
-    fn feed(&self, alloc: Global, hasher: &mut Sha256) -> Result<(), Error>;
-}
-
-impl Feeds for Module {
-    fn feed(&self, alloc: Global, hasher: &mut Sha256) -> Result<(), Error> {
-        hasher.update(text(alloc, self)?.as_str());
-        Ok(())
-    }
-}
-
 // Feeds `hasher` with the text of the module that is drawn, or a line of the refusal. Returns the
 // kind of the answer.
-fn feed_drawn<M: Feeds>(
+fn feed_drawn<M: Owned<Module>>(
     alloc: Global,
     drawn: Result<M, Error>,
     hasher: &mut Sha256,
 ) -> Result<String, Error> {
     match drawn {
-        Ok(module) => {
-            module.feed(alloc, hasher)?;
-            Ok(String::from_str(alloc, "Ok")?)
-        }
+        Ok(mut module) => feed_text(alloc, module.lend(), hasher),
         Err(refusal) => feed_refusal(alloc, refusal, hasher),
     }
+}
+
+fn feed_text(alloc: Global, module: &Module, hasher: &mut Sha256) -> Result<String, Error> {
+    hasher.update(text(alloc, module)?.as_str());
+    Ok(String::from_str(alloc, "Ok")?)
 }
 
 fn feed_refusal(alloc: Global, refusal: Error, hasher: &mut Sha256) -> Result<String, Error> {

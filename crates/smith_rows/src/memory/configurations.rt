@@ -1,8 +1,7 @@
-use crate::memory::owned::Owned;
 use crate::memory::shapes::{USES, config_of_memories, set_shape, shape_for};
 use crate::memory::tries::{is_refused_first, refused};
 use smith_bytes::{Error, Which};
-use smith_case::Fault;
+use smith_case::{Fault, Owned};
 use smith_config::{Config, Shape};
 use smith_memory::{Ended, Tried};
 use std::alloc::Global;
@@ -21,9 +20,9 @@ impl Tried for Copying<'_> {
 }
 
 // Returns the outcome of a copy of `config`.
-fn copied<C: Owned>(copy: Result<C, Error>, config: &Config) -> Ended {
+fn copied<C: Owned<Config>>(copy: Result<C, Error>, config: &Config) -> Ended {
     match copy {
-        Ok(mut copy) => compared(copy.config(), config),
+        Ok(mut copy) => compared(copy.lend(), config),
         Err(refusal) => refused(refusal),
     }
 }
@@ -51,9 +50,9 @@ fn try_copy(alloc: Global, config: &mut Config) -> Result<(), Fail> {
     is_refused_first(alloc, &mut Copying { config })
 }
 
-fn try_copy_of<C: Owned>(config: C, alloc: Global) -> Result<(), Fail> {
+fn try_copy_of<C: Owned<Config>>(config: C, alloc: Global) -> Result<(), Fail> {
     let mut config = config;
-    try_copy(alloc, config.config())
+    try_copy(alloc, config.lend())
 }
 
 // Copies a configuration with all shapes.
@@ -83,7 +82,7 @@ fn try_check(alloc: Global, shape: &Shape, which: Which) -> Result<(), Fail> {
     try_check_under(config_of_memories(), alloc, shape, which)
 }
 
-fn try_check_under<C: Owned>(
+fn try_check_under<C: Owned<Config>>(
     config: C,
     alloc: Global,
     shape: &Shape,
@@ -91,7 +90,7 @@ fn try_check_under<C: Owned>(
 ) -> Result<(), Fail> {
     let mut config = config;
     let mut checking = Checking {
-        config: config.config(),
+        config: config.lend(),
         shape,
         which,
     };

@@ -6,7 +6,6 @@ mod configurations;
 mod fuel;
 mod modules;
 mod names;
-mod owned;
 mod parts;
 mod shapes;
 mod spelled;

@@ -1,9 +1,8 @@
-use crate::memory::owned::Owned;
 use crate::memory::parts::set_minimums;
 use crate::memory::shapes::set_shape;
 use crate::memory::tries::{is_left, is_refused_first, refused};
 use smith_bytes::{Error, Unstructured, Which};
-use smith_case::Fault;
+use smith_case::{Fault, Owned};
 use smith_config::Config;
 use smith_memory::{Ended, Tried};
 use std::alloc::Global;
@@ -79,14 +78,14 @@ fn try_asked(alloc: Global, asked: Asked, input: &'static [u8]) -> Result<(), Fa
     try_owned(Config::default(), alloc, asked, input)
 }
 
-fn try_owned<C: Owned>(
+fn try_owned<C: Owned<Config>>(
     config: C,
     alloc: Global,
     asked: Asked,
     input: &'static [u8],
 ) -> Result<(), Fail> {
     let mut config = config;
-    try_under(alloc, asked, input, config.config())
+    try_under(alloc, asked, input, config.lend())
 }
 
 fn try_under(

@@ -2,7 +2,7 @@
 
 use smith_bytes::Which;
 use smith_case::Fault;
-use smith_case_shapes::shape_named;
+use smith_case::shapes::shape_named;
 use smith_config::{Config, Shape};
 use std::alloc::Global;
 

@@ -1,6 +1,6 @@
-use crate::memory::owned::Owned;
 use crate::memory::tries::{is_refused_first, refused};
-use smith_case_shapes::shape_named;
+use smith_case::Owned;
+use smith_case::shapes::shape_named;
 use smith_config::{Config, Shape};
 use smith_memory::{Ended, Tried};
 use smith_spell::spell;
@@ -29,10 +29,10 @@ fn try_shape(alloc: Global, shape: &Shape) -> Result<(), Fail> {
     try_shape_under(Config::default(), alloc, shape)
 }
 
-fn try_shape_under<C: Owned>(config: C, alloc: Global, shape: &Shape) -> Result<(), Fail> {
+fn try_shape_under<C: Owned<Config>>(config: C, alloc: Global, shape: &Shape) -> Result<(), Fail> {
     let mut config = config;
     let mut spelling = Spelling {
-        config: config.config(),
+        config: config.lend(),
         shape,
     };
     is_refused_first(alloc, &mut spelling)

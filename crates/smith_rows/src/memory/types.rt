@@ -1,6 +1,6 @@
 use crate::memory::tries::is_refused_first;
 use smith_bytes::Error;
-use smith_case_shapes::shape_named;
+use smith_case::shapes::shape_named;
 use smith_config::Shape;
 use smith_memory::{Ended, Tried};
 use smith_types::{CompositeInnerType, CompositeType, Items, StructType, SubType, TypeSpace};

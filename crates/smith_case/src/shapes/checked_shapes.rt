@@ -1,4 +1,4 @@
-/// The shapes that are checked, copied or drawn over, in the form of those of `shapes.rt`.
+/// The shapes that are checked, copied or drawn over, in the form of those of `named_shapes.rt`.
 pub(crate) const CHECKED_SHAPES: &str = "\
 an open array below an open array: group open array i8; open below 0 array i8
 a function of two numbers: group func i32,f64 -> i64

@@ -1,6 +1,6 @@
-use crate::checked_shapes::CHECKED_SHAPES;
-use crate::parts::{known, with_parts};
-use smith_case::Fault;
+use crate::fault::Fault;
+use crate::shapes::checked_shapes::CHECKED_SHAPES;
+use crate::shapes::parts::{known, with_parts};
 use smith_config::Shape;
 use smith_types::Items;
 use std::alloc::Global;

@@ -1,8 +1,8 @@
 //! Lists as shapes write them, with separators between their parts.
 
-use crate::shape_parts::{add_part, item_of, sub_type_of};
-use crate::type_names::{field_type_of, val_type_of};
-use smith_case::Fault;
+use crate::fault::Fault;
+use crate::shapes::shape_parts::{add_part, item_of, sub_type_of};
+use crate::shapes::type_names::{field_type_of, val_type_of};
 use smith_config::Shape;
 use smith_types::{FieldType, ImportItem, Items, Name, SubType, ValType};
 use std::alloc::Global;

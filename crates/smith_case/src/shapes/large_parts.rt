@@ -1,6 +1,6 @@
 //! Parts of shapes that are too large to be written out.
 
-use smith_case::Fault;
+use crate::fault::Fault;
 use smith_types::{
     CompositeInnerType, CompositeType, ExportKind, FieldType, HeapType, Items, Name, RefType,
     StorageType, StructType, SubType, ValType,

@@ -1,7 +1,7 @@
-use crate::large_parts::{add_chain, add_cycle, add_fan, add_wide, export_many};
-use crate::parts::{known, name_of, push, with_parts};
-use crate::type_names::{field_type_of, ref_type_of, take_word, val_type_of};
-use smith_case::Fault;
+use crate::fault::Fault;
+use crate::shapes::large_parts::{add_chain, add_cycle, add_fan, add_wide, export_many};
+use crate::shapes::parts::{known, name_of, push, with_parts};
+use crate::shapes::type_names::{field_type_of, ref_type_of, take_word, val_type_of};
 use smith_config::Shape;
 use smith_types::{
     ArrayType, CompositeInnerType, CompositeType, EntityType, ExportKind, FieldType, FuncType,

@@ -1,0 +1,97 @@
+ghost use Rattle.smith_config.specs.Faults.{Passes};
+ghost use Rattle.smith_config.specs.Sanitized.{IsSanitized};
+
+use crate::told::{tell_line, tell_refusal, tell_types};
+use smith_bytes::Unstructured;
+use smith_case::arguments::value;
+use smith_case::call::TypesCall;
+use smith_case::{Case, Fault, Obstacle};
+use smith_config::Config;
+use smith_draw::{Entities, arbitrary_rec_group, arbitrary_types, clone_rec_group};
+use smith_types::TypeSpace;
+use std::alloc::Global;
+
+/// Appends `types` with the types that `call` draws after them.
+#[tactic(auto, using(smith_draw::proofs::CallerLemmas::passes_but_imports))]
+pub(crate) fn answer_types(
+    alloc: Global,
+    case: &Case,
+    call: TypesCall,
+    config: &Config,
+    types: &mut TypeSpace,
+    u: &mut Unstructured<'_>,
+    answer: &mut String,
+) -> Result<(), Fault>
+    requires passes { Passes config.now }
+    requires sanitized { IsSanitized config.now }
+{
+    match call {
+        TypesCall::Arbitrary => {
+            if let Err(refusal) = arbitrary_types(alloc, config, types, &Entities::none(), u) {
+                return tell_refusal(refusal, answer);
+            }
+        }
+        TypesCall::RecGroup => add_groups(alloc, case, config, types, u)?,
+        TypesCall::CloneRecGroup => add_clone(alloc, config, types, u, answer)?,
+    }
+    tell_types(types, answer)
+}
+
+// Adds a group to `types` for each argument, which says whether the group may be empty. Without
+// arguments, adds one group that may be empty.
+fn add_groups(
+    alloc: Global,
+    case: &Case,
+    config: &Config,
+    types: &mut TypeSpace,
+    u: &mut Unstructured<'_>,
+) -> Result<(), Fault>
+    requires passes { Passes config.now }
+    requires sanitized { IsSanitized config.now }
+{
+    if case.args().is_empty() {
+        return add_group(alloc, true, config, types, u);
+    }
+    for place in 0..case.args().len() {
+        add_group(alloc, value(case, place)?, config, types, u)?;
+    }
+    Ok(())
+}
+
+// Adds a group to `types`.
+#[tactic(auto, using(smith_draw::proofs::CallerLemmas::passes_but_imports))]
+fn add_group(
+    alloc: Global,
+    allow_empty: bool,
+    config: &Config,
+    types: &mut TypeSpace,
+    u: &mut Unstructured<'_>,
+) -> Result<(), Fault>
+    requires passes { Passes config.now }
+    requires sanitized { IsSanitized config.now }
+{
+    if types.types().len() >= config.max_types {
+        return Err(Fault::NotCallable(Obstacle::NoFurtherType));
+    }
+    Ok(arbitrary_rec_group(alloc, config, types, &Entities::none(), allow_empty, u)?)
+}
+
+// Adds a clone of one of the groups, which may be empty, to `types`. Appends whether it is cloned.
+#[tactic(auto, using(smith_draw::proofs::CallerLemmas::passes_but_imports))]
+fn add_clone(
+    alloc: Global,
+    config: &Config,
+    types: &mut TypeSpace,
+    u: &mut Unstructured<'_>,
+    answer: &mut String,
+) -> Result<(), Fault>
+    requires { Passes config.now }
+{
+    if types.types().len() >= config.max_types || types.rec_groups().is_empty() {
+        return Err(Fault::NotCallable(Obstacle::NothingToClone));
+    }
+    tell_line(
+        clone_rec_group(alloc, config, types, &Entities::none(), true, u)?,
+        answer,
+    )
+}
