@@ -45,8 +45,8 @@ unfoldable pub use Rattle.smith_imports.specs.ImportedEntities.{entity_at, entit
 unfoldable pub use Rattle.smith_imports.specs.Importing.{fill_at, filled_at, group_at, group_of_kind_at, groups_at, imports_at}
 pub use Rattle.smith_rules.specs.Refusals.{shape_for}
 pub use Rattle.smith_rules_examples.specs.ExampleShapes.{exporting, for_exports, for_imports, for_module, memory_available, untyped}
-pub use Rattle.smith_spell.proofs.SpellExamples.{function_spellable}
-pub use Rattle.smith_spell.proofs.SpelledExamples.{any_byte, joined, one_function_spelled}
+pub use Rattle.smith_spell_examples.proofs.SpellExamples.{function_spellable}
+pub use Rattle.smith_spell_examples.proofs.SpelledExamples.{any_byte, joined, one_function_spelled}
 unfoldable pub use Rattle.smith_spell.specs.Spelling.{SpellsRest}
 pub use Rattle.smith_types.specs.ExampleTypes.{nullable, plain_func, shared_type}
 pub use Rattle.smith_types.specs.Kinds.{shared}
