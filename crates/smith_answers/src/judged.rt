@@ -1,8 +1,6 @@
 use crate::answers::answer;
 use smith_case::call::RECORDED;
-use smith_case::{
-    Case, Fault, Owned, bytes_of, check_wanted, first_difference, read_case, text_or,
-};
+use smith_case::{Case, Fault, bytes_of, check_wanted, first_difference, read_case, text_or};
 use std::alloc::{AllocError, Global};
 use std::fmt::Display;
 
@@ -10,16 +8,10 @@ use std::fmt::Display;
 /// the line `ok NAME`, or `not ok NAME: ` and the first difference. Returns whether the answers are
 /// as the case wants.
 pub fn judge(alloc: Global, line: &str, report: &mut String) -> Result<bool, AllocError> {
-    judge_into(Case::default(), alloc, line, report)
-}
-
-fn judge_into<C: Owned<Case>>(
-    mut case: C,
-    alloc: Global,
-    line: &str,
-    report: &mut String,
-) -> Result<bool, AllocError> {
-    judge_case(alloc, line, case.lend(), report)
+    let mut case = Case::default();
+    let answer = judge_case(alloc, line, &mut case, report);
+    drop(case);
+    answer
 }
 
 // Judges the case of `line`, which is read into `case`.

@@ -1,5 +1,8 @@
 //! Numbers, names, lists and sections in the binary format of the WebAssembly Core Specification
 //! 3.0.
+//!
+//! A call that returns a `Result` fails only if an allocation fails, apart from the errors in its
+//! section `# Errors`.
 #![tactic(auto)]
 
 mod error;

@@ -1,5 +1,8 @@
 //! The byte source of the generator, the values and names drawn from it, and the errors of all
 //! crates.
+//!
+//! A call that returns a `Result` fails only if an allocation fails, apart from the errors in its
+//! section `# Errors`.
 #![tactic(auto)]
 
 mod arbitrary;

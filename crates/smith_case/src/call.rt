@@ -515,15 +515,15 @@ static CALLS: [(&str, Call, usize); 82] = [
     (
         "Unstructured::arbitrary_len",
         Call::Source(SourceCall::ArbitraryLen),
-        ANY,
+        0,
     ),
     (
         "arbitrary_loop",
         Call::Source(SourceCall::ArbitraryLoop),
         ANY,
     ),
-    ("limited_str", Call::Name(NameCall::LimitedStr), ANY),
-    ("limited_string", Call::Name(NameCall::LimitedString), ANY),
+    ("limited_str", Call::Name(NameCall::LimitedStr), 1),
+    ("limited_string", Call::Name(NameCall::LimitedString), 1),
     ("unique_string", Call::Name(NameCall::UniqueString), ANY),
     (
         "unique_kebab_string",

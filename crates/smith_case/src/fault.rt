@@ -90,6 +90,8 @@ pub enum Fault {
     WantsNothing,
     /// A line or a piece is wanted that each answer has.
     EmptyPiece,
+    /// A line is wanted after one that matches all further lines.
+    WantsUnread,
     /// The second run returns a different answer.
     Unsteady,
     /// The call may not be made.
@@ -125,6 +127,7 @@ impl Fault {
             Fault::UselessKey => "a key that the call does not read",
             Fault::WantsNothing => "nothing is wanted",
             Fault::EmptyPiece => "an empty piece is wanted",
+            Fault::WantsUnread => "lines are wanted after `...`",
             Fault::Unsteady => "the second run returned a different answer",
             Fault::NotCallable(_) => "the call may not be made: ",
             Fault::Config { .. } => "the configuration, line ",

@@ -46,7 +46,6 @@ mod case;
 mod fault;
 mod input;
 mod keys;
-mod owned;
 pub mod shapes;
 mod wanted;
 
@@ -54,5 +53,4 @@ pub use case::{Case, ShapeNames, Wanted, goes_to_config, read_case, text_or};
 pub use fault::{Fault, Obstacle};
 pub use input::bytes_of;
 pub use keys::check_keys;
-pub use owned::Owned;
 pub use wanted::{Difference, check_wanted, first_difference};

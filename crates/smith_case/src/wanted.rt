@@ -39,11 +39,16 @@ impl fmt::Display for Difference<'_> {
     }
 }
 
-/// Checks that `case` wants something that not every answer has, and no list that is empty.
+/// Checks that `case` wants something that not every answer has, no list that is empty, and no line
+/// after one that matches all further lines.
 pub fn check_wanted(case: &Case) -> Result<(), Fault> {
     let wanted = &case.wanted;
-    if wants_nothing(wanted) || begins_with_anything(list(&wanted.answer)) {
+    let answer = list(&wanted.answer);
+    if wants_nothing(wanted) || begins_with_anything(answer) {
         return Err(Fault::WantsNothing);
+    }
+    if goes_past_anything(answer) {
+        return Err(Fault::WantsUnread);
     }
     check_texts(&wanted.answer)
         .and(check_texts(&wanted.lines))
@@ -82,6 +87,19 @@ fn begins_with_anything(lines: &[String]) -> bool {
     }
 }
 
+// Returns whether a line that matches all further lines is not the last of `lines`.
+fn goes_past_anything(lines: &[String]) -> bool {
+    let Some((_, others)) = lines.split_last() else {
+        return false;
+    };
+    for line in others {
+        if line.as_str().trim() == ANYTHING {
+            return true;
+        }
+    }
+    false
+}
+
 /// Returns the first difference of the answer `answer` from the one that `case` wants: of its kind,
 /// then of all of its lines, then of single lines, of pieces, and of absent pieces.
 pub fn first_difference<'a>(answer: &'a str, case: &'a Case) -> Option<Difference<'a>> {
@@ -107,12 +125,14 @@ fn other_kind<'a>(answer: &'a str, may: &Option<Vec<String>>) -> Option<Differen
     Some(Difference::Kind(given))
 }
 
-/// Returns the kind of an answer: its refusal, or `Ok`.
-pub(crate) fn kind_of(answer: &str) -> &str {
-    match answer.strip_prefix("refused: ") {
-        Some(refusal) => refusal.trim_end(),
-        None => "Ok",
+// Returns the kind of an answer: its first refusal, or `Ok`.
+fn kind_of(answer: &str) -> &str {
+    for line in answer.lines() {
+        if let Some(refusal) = line.strip_prefix("refused: ") {
+            return refusal;
+        }
     }
+    "Ok"
 }
 
 // The line that matches all further lines.

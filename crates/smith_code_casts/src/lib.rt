@@ -1,5 +1,8 @@
 //! Choices of casts, tests and conversions of references, of instructions on an i31, and of
 //! branches on casts. The standard is the WebAssembly Core Specification 3.0.
+//!
+//! A call that returns a `Result` fails only if an allocation fails, apart from the errors in its
+//! section `# Errors`.
 #![tactic(auto)]
 
 mod cast_branches;

@@ -1,5 +1,8 @@
 //! Choices of instructions on memories, of vector instructions, and of atomic ones. The standard is
 //! the WebAssembly Core Specification 3.0.
+//!
+//! A call that returns a `Result` fails only if an allocation fails, apart from the errors in its
+//! section `# Errors`.
 #![tactic(auto)]
 
 mod atomics;

@@ -1,6 +1,9 @@
 //! The context of a body, the instructions that are offered in it, and nodes: instructions with the
 //! types of their operands. The numeric instructions, and those on references, are chosen here. The
 //! standard is the WebAssembly Core Specification 3.0.
+//!
+//! A call that returns a `Result` fails only if an allocation fails, apart from the errors in its
+//! section `# Errors`.
 #![tactic(auto)]
 
 mod addresses;

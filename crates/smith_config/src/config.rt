@@ -134,16 +134,16 @@ pub struct Config {
     /// `false`. If `true`, `min_exports` and `max_exports` are ignored.
     pub export_everything: bool,
 
-    /// Whether f32 and f64 may occur in types and constants. Defaults to `true`. A shape may
-    /// contain floats in any case.
+    /// Whether f32 and f64 may occur in types and constants, and instructions on floats in bodies
+    /// of a program. Defaults to `true`. A shape may contain floats in any case.
     pub allow_floats: bool,
 
     /// Whether active segments fit in their tables and memories, so that they never trap, and no
     /// instruction of a generated body traps except `unreachable`. That instruction is then used
     /// only as the whole body if `max_instructions` is 0, in the checks of fuel that
-    /// `ensure_termination` adds, or for a value that no other instruction without operands
-    /// produces. Imported functions and raw bytes may still trap. Defaults to `false`. If `true`, a
-    /// table may have one element and a memory one page even if `max_table_elements`,
+    /// `ensure_termination` adds, or for a value that no other permitted instructions produce
+    /// without a budget. Imported functions and raw bytes may still trap. Defaults to `false`. If
+    /// `true`, a table may have one element and a memory one page even if `max_table_elements`,
     /// `max_memory32_bytes` or `max_memory64_bytes` is lower.
     pub disallow_traps: bool,
 
@@ -227,17 +227,18 @@ pub struct Config {
     /// [`Config::arbitrary`] leaves it `false`.
     pub non_nullable_enabled: bool,
 
-    /// The kinds of instructions that bodies of a program may have. Defaults to all. Ignored for a
-    /// module, whose bodies have no drawn instructions.
+    /// The kinds of instructions that bodies of a program may have, without those on floats if
+    /// `allow_floats` is `false`. Defaults to all. Ignored for a module, whose bodies have no drawn
+    /// instructions.
     pub allowed_instructions: InstructionKinds,
 
     /// The weights for the position of the offset of a memory access. Ignored for a module, whose
     /// bodies have no drawn instructions.
     pub memory_offset_choices: MemoryOffsetChoices,
 
-    /// The number of instructions with operands or nested instructions to choose for a body of a
-    /// program. Defaults to 100. With 0, each body of a program is `unreachable`. Ignored for a
-    /// module, whose bodies have no drawn instructions.
+    /// The maximum number of statements and values to choose for a body of a program, besides
+    /// leaves, such as constants and locals. Defaults to 100. With 0, each body of a program is
+    /// `unreachable`. Ignored for a module, whose bodies have no drawn instructions.
     pub max_instructions: usize,
 
     /// Whether NaN results are made canonical. Defaults to `false`. Ignored: no result is changed.

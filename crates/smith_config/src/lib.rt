@@ -1,4 +1,7 @@
 //! The configuration of a generated module, and its checks.
+//!
+//! A call that returns a `Result` fails only if an allocation fails, apart from the errors in its
+//! section `# Errors`.
 #![tactic(auto)]
 
 mod arbitrary;

@@ -1,4 +1,7 @@
 //! The contents of a module after its definitions: exports, a start function, segments and bodies.
+//!
+//! A call that returns a `Result` fails only if an allocation fails, apart from the errors in its
+//! section `# Errors`.
 #![tactic(auto)]
 
 mod all_exports;

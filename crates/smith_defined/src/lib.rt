@@ -1,5 +1,8 @@
 //! The entities that a module defines: tags, functions, tables, memories and globals, and those
 //! that the exports of a shape require.
+//!
+//! A call that returns a `Result` fails only if an allocation fails, apart from the errors in its
+//! section `# Errors`.
 #![tactic(auto)]
 
 mod definitions;

@@ -1,4 +1,4 @@
-ghost use Rattle.std.specs.Prelude.{◌≡◌, ◌≤◌, length, drop, Some, IfOk, IfSome, OnOk};
+ghost use Rattle.std.specs.Prelude.{◌≡◌, ◌≤◌, length, drop, Some, IfOk, IfErr, IfSome, OnOk};
 ghost use Rattle.std.specs.List.{list_all};
 ghost use Rattle.std.specs.Char.{is_ascii_digit};
 ghost use Rattle.json.specs.Reads.{token_of};
@@ -176,10 +176,17 @@ fn weights(reader: &mut Reader<'_>) -> Result<MemoryOffsetChoices, Fault>
     Ok(MemoryOffsetChoices(inside, between, past))
 }
 
-/// Reads the value of the member `name` from `reader`, and sets the field of that name to it.
+/// Reads the value of the member `name` from `reader`, and sets the field of that name to it. The
+/// value `null` leaves `config` as it is.
+///
+/// # Errors
+///
+/// Refuses a name that no field has, before it reads anything, and a value that the field doesn't
+/// take. `config` is then unchanged, and `reader` is within the value or past it.
 pub fn set_field(config: &mut Config, name: &str, reader: &mut Reader<'_>) -> Result<(), Fault>
     ensures exact { Sets (field_named name.now) config.old reader.old
         (outcome result config.new reader.new) }
+    ensures unchanged { IfErr result (λ fault. config.new ≡ config.old) }
     ensures shorter { length reader.new ≤ length reader.old }
 {
     match place_named(name) {
@@ -200,6 +207,7 @@ pub fn set_field(config: &mut Config, name: &str, reader: &mut Reader<'_>) -> Re
 fn read_size(config: &mut Config, size: Size, reader: &mut Reader<'_>) -> Result<(), Fault>
     ensures exact { Sets (Some (field_of (Place.Size size))) config.old reader.old
         (outcome result config.new reader.new) }
+    ensures unchanged { IfErr result (λ fault. config.new ≡ config.old) }
     ensures shorter { length reader.new ≤ length reader.old }
 {
     if let Some(value) = whole(reader, usize::MAX as u128)? {
@@ -212,6 +220,7 @@ fn read_size(config: &mut Config, size: Size, reader: &mut Reader<'_>) -> Result
 fn read_word(config: &mut Config, word: Word, reader: &mut Reader<'_>) -> Result<(), Fault>
     ensures exact { Sets (Some (field_of (Place.Word word))) config.old reader.old
         (outcome result config.new reader.new) }
+    ensures unchanged { IfErr result (λ fault. config.new ≡ config.old) }
     ensures shorter { length reader.new ≤ length reader.old }
 {
     if let Some(value) = whole(reader, u32::MAX as u128)? {
@@ -224,6 +233,7 @@ fn read_word(config: &mut Config, word: Word, reader: &mut Reader<'_>) -> Result
 fn read_long(config: &mut Config, long: Long, reader: &mut Reader<'_>) -> Result<(), Fault>
     ensures exact { Sets (Some (field_of (Place.Long long))) config.old reader.old
         (outcome result config.new reader.new) }
+    ensures unchanged { IfErr result (λ fault. config.new ≡ config.old) }
     ensures shorter { length reader.new ≤ length reader.old }
 {
     if let Some(value) = whole(reader, u64::MAX as u128)? {
@@ -236,6 +246,7 @@ fn read_long(config: &mut Config, long: Long, reader: &mut Reader<'_>) -> Result
 fn read_uleb_size(config: &mut Config, reader: &mut Reader<'_>) -> Result<(), Fault>
     ensures exact { Sets (Some (field_of Place.MinUlebSize)) config.old reader.old
         (outcome result config.new reader.new) }
+    ensures unchanged { IfErr result (λ fault. config.new ≡ config.old) }
     ensures shorter { length reader.new ≤ length reader.old }
 {
     if let Some(value) = whole(reader, u8::MAX as u128)? {
@@ -248,6 +259,7 @@ fn read_uleb_size(config: &mut Config, reader: &mut Reader<'_>) -> Result<(), Fa
 fn read_memory64_bytes(config: &mut Config, reader: &mut Reader<'_>) -> Result<(), Fault>
     ensures exact { Sets (Some (field_of Place.MaxMemory64Bytes)) config.old reader.old
         (outcome result config.new reader.new) }
+    ensures unchanged { IfErr result (λ fault. config.new ≡ config.old) }
     ensures shorter { length reader.new ≤ length reader.old }
 {
     if let Some(value) = whole(reader, u128::MAX)? {
@@ -260,6 +272,7 @@ fn read_memory64_bytes(config: &mut Config, reader: &mut Reader<'_>) -> Result<(
 fn read_flag(config: &mut Config, flag: Flag, reader: &mut Reader<'_>) -> Result<(), Fault>
     ensures exact { Sets (Some (field_of (Place.Flag flag))) config.old reader.old
         (outcome result config.new reader.new) }
+    ensures unchanged { IfErr result (λ fault. config.new ≡ config.old) }
     ensures shorter { length reader.new ≤ length reader.old }
 {
     if let Some(value) = truth(reader)? {
@@ -272,6 +285,7 @@ fn read_flag(config: &mut Config, flag: Flag, reader: &mut Reader<'_>) -> Result
 fn read_instructions(config: &mut Config, reader: &mut Reader<'_>) -> Result<(), Fault>
     ensures exact { Sets (Some (field_of Place.AllowedInstructions)) config.old reader.old
         (outcome result config.new reader.new) }
+    ensures unchanged { IfErr result (λ fault. config.new ≡ config.old) }
     ensures shorter { length reader.new ≤ length reader.old }
 {
     if let Some(kinds) = kinds(reader)? {
@@ -284,6 +298,7 @@ fn read_instructions(config: &mut Config, reader: &mut Reader<'_>) -> Result<(),
 fn read_choices(config: &mut Config, reader: &mut Reader<'_>) -> Result<(), Fault>
     ensures exact { Sets (Some (field_of Place.MemoryOffsetChoices)) config.old reader.old
         (outcome result config.new reader.new) }
+    ensures unchanged { IfErr result (λ fault. config.new ≡ config.old) }
     ensures shorter { length reader.new ≤ length reader.old }
 {
     match next(reader) {

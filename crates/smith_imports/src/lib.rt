@@ -1,5 +1,8 @@
 //! The imports of a module: drawn freely, taken from available imports, or copied from a module
 //! shape.
+//!
+//! A call that returns a `Result` fails only if an allocation fails, apart from the errors in its
+//! section `# Errors`.
 #![tactic(auto)]
 
 mod available;

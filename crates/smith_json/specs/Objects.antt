@@ -16,9 +16,10 @@ use Rattle.smith_fields.specs.Sets.{Sets}
 abbrev pub is_given : List (List ℕ) → List ℕ → Bool
 is_given given name = list_any (λ other. bytes_eq other name) given
 
--- the configuration and the tokens after an object, or the first fault with the name of the member
+-- the configuration and the tokens after an object, or the first fault, the name of its member and
+-- the configuration with the members before it
 abbrev pub Reading : Type 0
-Reading = Result (Config × List Token) (Fault × List ℕ)
+Reading = Result (Config × List Token) (Fault × List ℕ × Config)
 
 -- the result of the members from here to the end of the object, after members with the names
 -- `given`
@@ -26,32 +27,33 @@ pub data ReadsMembers : List (List ℕ) → Config → List Token → Reading �
   ends : {given : List (List ℕ)} {config : Config} {ts rest : List Token} →
       read_key ts ≡ Some (None, rest) → ReadsMembers given config ts (Ok (config, rest))
   breaks : {given : List (List ℕ)} {config : Config} {ts : List Token} →
-      read_key ts ≡ None → ReadsMembers given config ts (Err (NotAnObject, []))
+      read_key ts ≡ None → ReadsMembers given config ts (Err (NotAnObject, [], config))
   repeats : {given : List (List ℕ)} {config : Config} {ts rest : List Token} {name : List ℕ} →
-      read_key ts ≡ Some (Some name, rest) → is_given given name ≡ true → ReadsMembers given config ts (Err (RepeatedField, name))
+      read_key ts ≡ Some (Some name, rest) → is_given given name ≡ true → ReadsMembers given config ts (Err (RepeatedField, name, config))
   refuses : {given : List (List ℕ)} {config : Config} {ts rest : List Token} {name : List ℕ} {fault : Fault} →
       read_key ts ≡ Some (Some name, rest) → is_given given name ≡ false → Sets (field_named name) config rest (Err fault) →
-      ReadsMembers given config ts (Err (fault, name))
+      ReadsMembers given config ts (Err (fault, name, config))
   sets : {given : List (List ℕ)} {config next : Config} {ts rest after : List Token} {name : List ℕ} {r : Reading} →
       read_key ts ≡ Some (Some name, rest) → is_given given name ≡ false → Sets (field_named name) config rest (Ok (next, after)) →
       ReadsMembers (given ++ name ∷ []) next after r → ReadsMembers given config ts r
 
 -- the result of an object for a configuration
 abbrev pub ReadsObject : Config → List Token → Reading → Type 0
-ReadsObject config [] r = r ≡ Err (NotAnObject, [])
+ReadsObject config [] r = r ≡ Err (NotAnObject, [], config)
 ReadsObject config (begin_object ∷ ts) r = ReadsMembers [] config ts r
-ReadsObject config (t ∷ ts) r = r ≡ Err (NotAnObject, [])
+ReadsObject config (t ∷ ts) r = r ≡ Err (NotAnObject, [], config)
 
 -- nothing may follow the object
 abbrev pub alone : Reading → Reading
 alone (Ok (config, [])) = Ok (config, [])
-alone (Ok (config, t ∷ ts)) = Err (TextAfter, [])
+alone (Ok (config, t ∷ ts)) = Err (TextAfter, [], config)
 alone (Err e) = Err e
 
 -- the result of a whole text for a configuration
 abbrev pub ReadsAlone : Config → List ℕ → Reading → Type 0
 ReadsAlone config text r = (s : Reading) × ReadsObject config (tokens text) s × (r ≡ alone s)
 
--- the result of a whole text for the default configuration
-abbrev pub ReadsText : List ℕ → Reading → Type 0
-ReadsText text r = ReadsAlone default_config text r
+-- the configuration of a whole text, or the first fault and the name of its member
+abbrev pub ReadsText : List ℕ → Result Config (Fault × List ℕ) → Type 0
+ReadsText text (Ok config) = ReadsAlone default_config text (Ok (config, []))
+ReadsText text (Err (fault, name)) = (left : Config) × ReadsAlone default_config text (Err (fault, name, left))

@@ -20,7 +20,7 @@ use std::alloc::Global;
 /// Refuses the text at its first fault, reading from the start; [`ConfigRefusal`] names the member
 /// and its line and column.
 pub fn config(alloc: Global, text: &str) -> Result<Config, ConfigRefusal>
-    ensures ok { IfOk result (λ config. ReadsText text.now (Ok (config, []))) }
+    ensures ok { IfOk result (λ config. ReadsText text.now (Ok config)) }
     ensures refused { IfErr result (λ refusal. refusal.fault ≢ Fault.OutOfMemory
         → ReadsText text.now (Err (refusal.fault, string_bytes refusal.field))) }
 {
@@ -43,7 +43,8 @@ pub fn config(alloc: Global, text: &str) -> Result<Config, ConfigRefusal>
 pub fn read_text(alloc: Global, text: &str, config: &mut Config) -> Result<(), Refusal>
     ensures ok { OnOk result (ReadsAlone config.old text.now (Ok (config.new, []))) }
     ensures refused { IfErr result (λ refusal. refusal.fault ≢ Fault.OutOfMemory
-        → ReadsAlone config.old text.now (Err (refusal.fault, string_bytes refusal.field))) }
+        → ReadsAlone config.old text.now
+            (Err (refusal.fault, string_bytes refusal.field, config.new))) }
 {
     let mut scratch = Scratch::new(alloc);
     let Ok(mut reader) = Reader::new(text, &mut scratch) else {
@@ -71,7 +72,8 @@ pub fn read_config(
 ) -> Result<(), Refusal>
     ensures ok { OnOk result (ReadsObject config.old reader.old (Ok (config.new, reader.new))) }
     ensures refused { IfErr result (λ refusal. refusal.fault ≢ Fault.OutOfMemory
-        → ReadsObject config.old reader.old (Err (refusal.fault, string_bytes refusal.field))) }
+        → ReadsObject config.old reader.old
+            (Err (refusal.fault, string_bytes refusal.field, config.new))) }
 {
     let start = reader.offset();
     match reader.next() {
@@ -88,7 +90,8 @@ fn read_members<'a>(
 ) -> Result<(), Refusal>
     ensures ok { OnOk result (ReadsMembers [] config.old reader.old (Ok (config.new, reader.new))) }
     ensures refused { IfErr result (λ refusal. refusal.fault ≢ Fault.OutOfMemory
-        → ReadsMembers [] config.old reader.old (Err (refusal.fault, string_bytes refusal.field))) }
+        → ReadsMembers [] config.old reader.old
+            (Err (refusal.fault, string_bytes refusal.field, config.new))) }
 {
     let mut given: Vec<&'a str> = Vec::new(alloc);
     loop {
@@ -134,6 +137,7 @@ fn read_member(
     ensures refused { IfErr result (λ refusal. refusal.fault ≢ Fault.OutOfMemory
         → Sets (field_named name.now) config.old reader.old (Err refusal.fault)
         × (string_bytes refusal.field ≡ name.now)) }
+    ensures unchanged { IfErr result (λ refusal. config.new ≡ config.old) }
     ensures shorter { length reader.new ≤ length reader.old }
 {
     let offset = reader.offset();

@@ -1,6 +1,9 @@
 //! Numeric instructions in the binary format of the WebAssembly Core Specification 3.0 (chapter
 //! Binary Format, Instructions, Numeric Instructions). Wide arithmetic is written in the encoding of
 //! the wide arithmetic proposal.
+//!
+//! A call that returns a `Result` fails only if an allocation fails, apart from the errors in its
+//! section `# Errors`.
 #![tactic(auto)]
 
 mod numeric;

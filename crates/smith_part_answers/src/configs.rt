@@ -1,7 +1,7 @@
 use crate::told::{equality, or_memory, tell_check, tell_line, tell_refusal};
 use smith_bytes::{Error, Unstructured};
 use smith_case::call::ConfigCall;
-use smith_case::{Fault, Owned};
+use smith_case::Fault;
 use smith_config::Config;
 use smith_types::WasmFeatures;
 use std::alloc::{AllocError, Global};
@@ -26,36 +26,31 @@ pub fn answer_config(
 
 /// Appends the configuration drawn from `input`, and its features.
 pub fn answer_drawn_config(input: &[u8], answer: &mut String) -> Result<(), Fault> {
-    tell_drawn(Config::arbitrary(&mut Unstructured::new(input)), answer)
-}
-
-// Appends the configuration that is drawn and its features, or the refusal.
-fn tell_drawn<C: Owned<Config>>(drawn: Result<C, Error>, answer: &mut String) -> Result<(), Fault> {
-    match drawn {
-        Ok(mut drawn) => {
-            let config = drawn.lend();
-            tell_config(config, answer)?;
-            tell_features(config.features(), answer)
+    match Config::arbitrary(&mut Unstructured::new(input)) {
+        Ok(config) => {
+            let told = tell_all(&config, answer);
+            drop(config);
+            told
         }
         Err(refusal) => tell_refusal(refusal, answer),
     }
 }
 
+// Appends `config` and its features.
+fn tell_all(config: &Config, answer: &mut String) -> Result<(), Fault> {
+    tell_config(config, answer)?;
+    tell_features(config.features(), answer)
+}
+
 // Appends whether a copy of `config` is equal: whether the shapes are, and whether both print the
 // same for debugging.
 fn answer_copy(alloc: Global, config: &Config, answer: &mut String) -> Result<(), Fault> {
-    tell_copy(alloc, config.clone(alloc), config, answer)
-}
-
-// Appends whether a copy of `config` is equal, or the refusal.
-fn tell_copy<C: Owned<Config>>(
-    alloc: Global,
-    copy: Result<C, Error>,
-    config: &Config,
-    answer: &mut String,
-) -> Result<(), Fault> {
-    match copy {
-        Ok(mut copy) => tell_equality(alloc, copy.lend(), config, answer),
+    match config.clone(alloc) {
+        Ok(copy) => {
+            let told = tell_equality(alloc, &copy, config, answer);
+            drop(copy);
+            told
+        }
         Err(refusal) => tell_refusal(refusal, answer),
     }
 }

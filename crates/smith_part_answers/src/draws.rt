@@ -6,15 +6,14 @@ use crate::entities::answer_entity;
 use crate::free_types::answer_free_type;
 use crate::matching::answer_matching;
 use crate::numbers::answer_number;
-use crate::spaces::{NO_TYPES, Over, add_groups, spaces_of};
+use crate::spaces::{Over, spaces_of, types_of};
 use crate::told::tell_rest;
 use crate::types::answer_types;
 use smith_bytes::Unstructured;
 use smith_case::call::DrawCall;
-use smith_case::shapes::shape_named;
-use smith_case::{Case, Fault, Obstacle, Owned, text_or};
-use smith_config::{Config, Shape};
-use smith_types::{Items, SubType, TypeSpace};
+use smith_case::{Case, Fault, Obstacle};
+use smith_config::Config;
+use smith_types::TypeSpace;
 use std::alloc::Global;
 
 /// Appends the result of the draw `call` from `input` over the types of `case`, and the bytes left.
@@ -32,47 +31,16 @@ pub fn answer_draw(
         return Err(Fault::NotCallable(Obstacle::InvalidConfig));
     }
     let mut u = Unstructured::new(input);
-    let found = shape_named(alloc, text_or(&case.shapes.types, NO_TYPES));
-    answer_found(
-        alloc,
-        found,
-        TypeSpace::new(alloc),
-        case,
-        call,
-        config,
-        &mut u,
-        answer,
-    )?;
+    let mut types = types_of(alloc, case)?;
+    let told = answer_call(alloc, &mut types, case, call, config, &mut u, answer);
+    drop(types);
+    told?;
     tell_rest(&u, answer)
 }
 
-fn answer_found<S: Owned<Shape>, T: Owned<TypeSpace>>(
-    alloc: Global,
-    found: Result<S, Fault>,
-    mut types: T,
-    case: &Case,
-    call: DrawCall,
-    config: &Config,
-    u: &mut Unstructured<'_>,
-    answer: &mut String,
-) -> Result<(), Fault>
-    requires passes { Passes config.now }
-    requires sanitized { IsSanitized config.now }
-{
-    match found {
-        Ok(mut shape) => {
-            let groups = shape.lend().groups.as_slice();
-            answer_call(alloc, groups, types.lend(), case, call, config, u, answer)
-        }
-        Err(fault) => Err(fault),
-    }
-}
-
-// Appends the result of the draw `call` over `types`, which are empty, after the types of `groups`
-// are added.
+// Appends the result of the draw `call` over `types`.
 fn answer_call(
     alloc: Global,
-    groups: &[Items<SubType>],
     types: &mut TypeSpace,
     case: &Case,
     call: DrawCall,
@@ -83,7 +51,6 @@ fn answer_call(
     requires passes { Passes config.now }
     requires sanitized { IsSanitized config.now }
 {
-    add_groups(alloc, groups, types)?;
     let spaces = spaces_of(types);
     let over = Over {
         alloc,

@@ -4,7 +4,7 @@ use smith_bytes::{Error, Which};
 use smith_case::arguments::word;
 use smith_case::call::ShapeCall;
 use smith_case::shapes::shape_named;
-use smith_case::{Case, Fault, Owned, text_or};
+use smith_case::{Case, Fault, text_or};
 use smith_config::{Config, Shape};
 use smith_spell::spell;
 use smith_types::Items;
@@ -18,22 +18,10 @@ pub fn answer_shape(
     config: &Config,
     answer: &mut String,
 ) -> Result<(), Fault> {
-    let found = shape_named(alloc, text_or(&case.shapes.shape, ""));
-    answer_found(alloc, case, call, config, found, answer)
-}
-
-fn answer_found<S: Owned<Shape>>(
-    alloc: Global,
-    case: &Case,
-    call: ShapeCall,
-    config: &Config,
-    found: Result<S, Fault>,
-    answer: &mut String,
-) -> Result<(), Fault> {
-    match found {
-        Ok(mut shape) => answer_about(alloc, case, call, config, shape.lend(), answer),
-        Err(fault) => Err(fault),
-    }
+    let shape = shape_named(alloc, text_or(&case.shapes.shape, ""))?;
+    let told = answer_about(alloc, case, call, config, &shape, answer);
+    drop(shape);
+    told
 }
 
 fn answer_about(

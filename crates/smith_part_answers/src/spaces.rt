@@ -2,14 +2,15 @@ ghost use Rattle.std.specs.Prelude.{◌≡◌, [], false};
 ghost use Rattle.smith_types.specs.declared.value_type.ValType.TheVariants.{I32};
 
 use crate::told::or_memory;
-use smith_case::{Case, Fault};
-use smith_config::Config;
+use smith_case::shapes::shape_named;
+use smith_case::{Case, Fault, text_or};
+use smith_config::{Config, Shape};
 use smith_draw::{Entities, Spaces};
 use smith_types::{GlobalType, Items, SubType, TypeSpace, ValType};
 use std::alloc::Global;
 
-/// The name of the shape without types.
-pub(crate) const NO_TYPES: &str = "nothing";
+// The name of the shape without types.
+const NO_TYPES: &str = "nothing";
 
 /// The context of a draw of a case.
 #[derive(Clone, Copy)]
@@ -66,8 +67,28 @@ pub(crate) fn with_globals<'a>(types: &'a TypeSpace, globals: &'a [GlobalType]) 
     }
 }
 
-/// Adds the groups `groups` to `types`.
-pub(crate) fn add_groups(
+/// Returns the shape under the key `types` of `case`, or one without types.
+pub(crate) fn shape_of_types(alloc: Global, case: &Case) -> Result<Shape, Fault> {
+    shape_named(alloc, text_or(&case.shapes.types, NO_TYPES))
+}
+
+/// Returns the types of the shape under the key `types` of `case`.
+pub(crate) fn types_of(alloc: Global, case: &Case) -> Result<TypeSpace, Fault> {
+    let shape = shape_of_types(alloc, case)?;
+    let mut types = TypeSpace::new(alloc);
+    let added = add_groups(alloc, shape.groups.as_slice(), &mut types);
+    drop(shape);
+    match added {
+        Ok(()) => Ok(types),
+        Err(fault) => {
+            drop(types);
+            Err(fault)
+        }
+    }
+}
+
+// Adds the groups `groups` to `types`.
+fn add_groups(
     alloc: Global,
     groups: &[Items<SubType>],
     types: &mut TypeSpace,

@@ -3,15 +3,14 @@ ghost use Rattle.smith_types.specs.Matching.{IsInnerInRange};
 ghost use Rattle.smith_types.specs.Sizes.{IsTyped, size_in};
 ghost use Rattle.smith_types.specs.GroupedTypes.{MayFollow};
 
-use crate::spaces::{NO_TYPES, add_groups};
+use crate::spaces::{shape_of_types, types_of};
 use crate::subtypes::answer_subtype;
 use crate::told::{or_memory, tell_drawn_values, tell_line, tell_pair, tell_types};
 use smith_bytes::Error;
 use smith_case::arguments::{value, word};
 use smith_case::call::SpaceCall;
-use smith_case::shapes::{entity_of, shape_named};
-use smith_case::{Case, Fault, Obstacle, Owned, text_or};
-use smith_config::Shape;
+use smith_case::shapes::entity_of;
+use smith_case::{Case, Fault, Obstacle};
 use smith_draw::{TypeUse, add_type, list_types};
 use smith_types::{
     CompositeInnerType, CompositeType, EntityType, Items, StandingValue, SubType, TypeSpace,
@@ -27,40 +26,38 @@ pub fn answer_space(
     call: SpaceCall,
     answer: &mut String,
 ) -> Result<(), Fault> {
-    let found = shape_named(alloc, text_or(&case.shapes.types, NO_TYPES));
-    answer_found(alloc, found, TypeSpace::new(alloc), case, call, answer)
+    if matches!(call, SpaceCall::Pushed | SpaceCall::Added) {
+        return answer_pushes(alloc, case, call, answer);
+    }
+    let types = types_of(alloc, case)?;
+    let told = answer_call(alloc, &types, case, call, answer);
+    drop(types);
+    told
 }
 
-fn answer_found<S: Owned<Shape>, T: Owned<TypeSpace>>(
+// Appends the indices of the types of `case` as they are added by `call`, and then the types.
+fn answer_pushes(
     alloc: Global,
-    found: Result<S, Fault>,
-    mut types: T,
     case: &Case,
     call: SpaceCall,
     answer: &mut String,
 ) -> Result<(), Fault> {
-    match found {
-        Ok(mut shape) => {
-            let groups = shape.lend().groups.as_slice();
-            answer_call(alloc, groups, types.lend(), case, call, answer)
-        }
-        Err(fault) => Err(fault),
-    }
+    let shape = shape_of_types(alloc, case)?;
+    let mut types = TypeSpace::new(alloc);
+    let told = push_groups(alloc, shape.groups.as_slice(), call, &mut types, answer);
+    drop(types);
+    drop(shape);
+    told
 }
 
-// Appends the result of `call` on `types`, which are empty, after the types of `groups` are added.
+// Appends the result of `call` on `types`.
 fn answer_call(
     alloc: Global,
-    groups: &[Items<SubType>],
-    types: &mut TypeSpace,
+    types: &TypeSpace,
     case: &Case,
     call: SpaceCall,
     answer: &mut String,
 ) -> Result<(), Fault> {
-    if matches!(call, SpaceCall::Pushed | SpaceCall::Added) {
-        return push_groups(alloc, groups, call, types, answer);
-    }
-    add_groups(alloc, groups, types)?;
     match call {
         SpaceCall::Subtype(call) => answer_subtype(types, case, call, answer),
         SpaceCall::Depth => answer_depth(types, case, answer),

@@ -12,7 +12,7 @@ use Rattle.smith_program_binary.specs.Programs.{IsProgramBinary}
 -- the configuration of a text: the default one if the text is empty, else that of the JSON object
 pub data IsConfigured (text : List ℕ) (config : Config) : Type 0 where
   by_default : text ≡ [] → config ≡ default_config → IsConfigured text config
-  read : ReadsText text (Ok (config, [])) → IsConfigured text config
+  read : ReadsText text (Ok config) → IsConfigured text config
 
 -- a possible result of the generator for a configuration and an input: it has all properties of the
 -- contract

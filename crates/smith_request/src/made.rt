@@ -1,4 +1,4 @@
-ghost use Rattle.std.specs.Prelude.{◌≡◌, ℕ, List, [], Ok, Err, IfOk, IfErr};
+ghost use Rattle.std.specs.Prelude.{◌≡◌, ℕ, List, Ok, Err, IfOk, IfErr};
 ghost use Rattle.smith_json.specs.Objects.{ReadsText};
 ghost use Rattle.smith_request.specs.Made.{IsConfigured, IsProgramAnswer, AnswersText, IsBinary};
 ghost use Rattle.smith_request.specs.Made.{HasProgram};
@@ -13,7 +13,7 @@ use std::alloc::Global;
 use std::str;
 
 fn parsed(alloc: Global, text: &str) -> Result<Config, Refusal>
-    ensures ok { IfOk result (λ config. ReadsText text.now (Ok (config, []))) }
+    ensures ok { IfOk result (λ config. ReadsText text.now (Ok config)) }
     ensures refused { IfErr result (λ refusal.
         (input : List ℕ) → IsRefusal text.now input refusal) }
     ensures short { IfErr result IsNotTooLong }

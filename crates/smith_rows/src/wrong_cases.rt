@@ -8,7 +8,7 @@ const RIGHT: &str =
     r#"{"name": "a", "call": "Module::new", "lines": ["(module", ")"], "absent": ["start"]}"#;
 
 // Each line, and the start of its report.
-static WRONG: [(&str, &str); 28] = [
+static WRONG: [(&str, &str); 35] = [
     ("", "not ok : not a JSON object of a case"),
     ("[]", "not ok : not a JSON object of a case"),
     ("{}", "not ok : no name"),
@@ -39,6 +39,10 @@ static WRONG: [(&str, &str); 28] = [
     (
         r#"{"name": "a", "call": "Module::new", "lines": [" "]}"#,
         "not ok a: an empty piece is wanted",
+    ),
+    (
+        r#"{"name": "a", "call": "Module::new", "answer": ["(module", "...", ")"]}"#,
+        "not ok a: lines are wanted after `...`",
     ),
     (
         r#"{"name": "a", "call": "Module::new", "wants": ["Ok"]}"#,
@@ -89,6 +93,14 @@ static WRONG: [(&str, &str); 28] = [
         "not ok a: a key that the call does not read",
     ),
     (
+        r#"{"name": "a", "call": "Unstructured::arbitrary_len", "args": ["1"], "may": ["Ok"]}"#,
+        "not ok a: a key that the call does not read",
+    ),
+    (
+        r#"{"name": "a", "call": "limited_str", "args": ["1", "a"], "may": ["Ok"]}"#,
+        "not ok a: more arguments than the call has",
+    ),
+    (
         r#"{"name": "a", "call": "Module::new", "args": ["left", "1"], "may": ["Ok"]}"#,
         "not ok a: argument 1 is missing or not valid for the call",
     ),
@@ -99,6 +111,22 @@ static WRONG: [(&str, &str); 28] = [
     (
         r#"{"name": "a", "call": "Module::new", "may": ["EmptyChoose"]}"#,
         "not ok a: the answer is Ok",
+    ),
+    (
+        r#"{"name": "a", "call": "config", "args": ["{}", "[]"], "may": ["Ok"]}"#,
+        "not ok a: the answer is line 1, column 1: not a JSON object",
+    ),
+    (
+        r#"{"name": "a", "call": "Module::new", "inputs": "each byte", "may": ["EmptyChoose"]}"#,
+        "not ok a: of the byte 00: the answer is Ok",
+    ),
+    (
+        r#"{"name": "a", "call": "Module::new", "inputs": "each cut", "may": ["EmptyChoose"]}"#,
+        "not ok a: cut at 0: the answer is Ok",
+    ),
+    (
+        r#"{"name": "a", "call": "Module::new", "lines": [")"], "absent": ["(module"]}"#,
+        "not ok a: a piece \"(module\"",
     ),
     (
         r#"{"name": "a", "call": "Module::new", "answer": ["(module", "(start 0)"]}"#,

@@ -1,5 +1,8 @@
 //! The sections of modules in the binary format of the WebAssembly Core Specification 3.0, written
 //! from plain data.
+//!
+//! A call that returns a `Result` fails only if an allocation fails, apart from the errors in its
+//! section `# Errors`.
 #![tactic(auto)]
 
 mod codes;

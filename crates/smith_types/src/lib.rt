@@ -1,6 +1,9 @@
 //! The types of WebAssembly modules as plain data, the type space, and the subtype test. The
 //! standard is the WebAssembly Core Specification 3.0. Sections in parentheses are sections of the
 //! standard.
+//!
+//! A call that returns a `Result` fails only if an allocation fails, apart from the errors in its
+//! section `# Errors`.
 #![tactic(auto)]
 
 mod clone_in;

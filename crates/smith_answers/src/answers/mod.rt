@@ -8,7 +8,7 @@ use crate::answers::modules::answer_module;
 use crate::answers::programs::answer_program;
 use crate::recorded::answer_recorded;
 use smith_case::call::{Call, ConfigCall, call_named};
-use smith_case::{Case, Fault, Owned, check_keys, text_or};
+use smith_case::{Case, Fault, check_keys, text_or};
 use smith_config::Config;
 use smith_part_answers::{
     answer_config, answer_draw, answer_drawn_config, answer_name, answer_parser,
@@ -60,19 +60,10 @@ fn answer_configured(
     input: &[u8],
     answer: &mut String,
 ) -> Result<(), Fault> {
-    answer_under(Config::default(), alloc, line, case, call, input, answer)
-}
-
-fn answer_under<C: Owned<Config>>(
-    mut config: C,
-    alloc: Global,
-    line: &str,
-    case: &Case,
-    call: Call,
-    input: &[u8],
-    answer: &mut String,
-) -> Result<(), Fault> {
-    answer_call(alloc, line, case, call, config.lend(), input, answer)
+    let mut config = Config::default();
+    let told = answer_call(alloc, line, case, call, &mut config, input, answer);
+    drop(config);
+    told
 }
 
 // Appends the answer to the call of `case`, after `config` is set as `line` says.

@@ -1,13 +1,11 @@
-use crate::answers::told::{
-    Fuelled, Told, tell_binary, tell_fuel, tell_made, tell_text, terminate,
-};
+use crate::answers::told::{Fuelled, tell_binary, tell_fuel, tell_text, terminate};
 use smith_bytes::{Error, Unstructured};
 use smith_case::arguments::word;
 use smith_case::call::ModuleCall;
 use smith_case::{Case, Fault, Obstacle};
 use smith_config::Config;
 use smith_encode::encode;
-use smith_part_answers::{taken, tell_rest};
+use smith_part_answers::{taken, tell_refusal, tell_rest};
 use smith_text::text;
 use std::alloc::Global;
 use wasm_smith::{DuplicateImportsBehavior, Module};
@@ -102,27 +100,43 @@ fn of_drawn(alloc: Global, u: &mut Unstructured<'_>) -> Result<Module, Error> {
     }
 }
 
-impl Told<Form> for Module {
-    // Appends the text of the module, or its binary, after fuel is added and before its details.
-    fn tell(
-        &mut self,
-        alloc: Global,
-        case: &Case,
-        form: Form,
-        answer: &mut String,
-    ) -> Result<(), Fault> {
-        if takes_fuel(form.call) {
-            terminate(alloc, case, self, answer)?;
+// Appends the module that is made in the form `form`, or the refusal.
+fn tell_made(
+    alloc: Global,
+    case: &Case,
+    form: Form,
+    made: Result<Module, Error>,
+    answer: &mut String,
+) -> Result<(), Fault> {
+    match made {
+        Ok(mut module) => {
+            let told = tell_module(alloc, case, form, &mut module, answer);
+            drop(module);
+            told
         }
-        if matches!(form.call, ModuleCall::Encode) {
-            return tell_binary(alloc, encode(alloc, self), answer);
-        }
-        tell_text(text(alloc, self), answer)?;
-        if form.debug {
-            writeln!(answer, "{self:?}")?;
-        }
-        Ok(())
+        Err(refusal) => tell_refusal(refusal, answer),
     }
+}
+
+// Appends the text of `module`, or its binary, after fuel is added and before its details.
+fn tell_module(
+    alloc: Global,
+    case: &Case,
+    form: Form,
+    module: &mut Module,
+    answer: &mut String,
+) -> Result<(), Fault> {
+    if takes_fuel(form.call) {
+        terminate(alloc, case, module, answer)?;
+    }
+    if matches!(form.call, ModuleCall::Encode) {
+        return tell_binary(alloc, encode(alloc, module), answer);
+    }
+    tell_text(text(alloc, module), answer)?;
+    if form.debug {
+        writeln!(answer, "{module:?}")?;
+    }
+    Ok(())
 }
 
 // Returns whether the arguments of `call` are fuel that is added to the module.

@@ -1,11 +1,9 @@
-use crate::answers::told::{
-    Fuelled, Told, tell_binary, tell_fuel, tell_made, tell_text, terminate,
-};
-use smith_bytes::Unstructured;
+use crate::answers::told::{Fuelled, tell_binary, tell_fuel, tell_text, terminate};
+use smith_bytes::{Error, Unstructured};
 use smith_case::call::ProgramCall;
 use smith_case::{Case, Fault, Obstacle};
 use smith_config::Config;
-use smith_part_answers::{taken, tell_rest};
+use smith_part_answers::{taken, tell_refusal, tell_rest};
 use smith_program::Program;
 use smith_program_binary::encode;
 use smith_program_text::text;
@@ -28,20 +26,36 @@ pub(crate) fn answer_program(
     tell_rest(&u, answer)
 }
 
-impl Told<ProgramCall> for Program {
-    // Appends the form of the program that `call` names, after fuel is added for each argument.
-    fn tell(
-        &mut self,
-        alloc: Global,
-        case: &Case,
-        call: ProgramCall,
-        answer: &mut String,
-    ) -> Result<(), Fault> {
-        terminate(alloc, case, self, answer)?;
-        match call {
-            ProgramCall::New => tell_text(text(alloc, self), answer),
-            ProgramCall::Encode => tell_binary(alloc, encode(alloc, self), answer),
+// Appends the form of the program that `call` names, or the refusal.
+fn tell_made(
+    alloc: Global,
+    case: &Case,
+    call: ProgramCall,
+    made: Result<Program, Error>,
+    answer: &mut String,
+) -> Result<(), Fault> {
+    match made {
+        Ok(mut program) => {
+            let told = tell_program(alloc, case, call, &mut program, answer);
+            drop(program);
+            told
         }
+        Err(refusal) => tell_refusal(refusal, answer),
+    }
+}
+
+// Appends `program` in the form that `call` names, after fuel is added for each argument.
+fn tell_program(
+    alloc: Global,
+    case: &Case,
+    call: ProgramCall,
+    program: &mut Program,
+    answer: &mut String,
+) -> Result<(), Fault> {
+    terminate(alloc, case, program, answer)?;
+    match call {
+        ProgramCall::New => tell_text(text(alloc, program), answer),
+        ProgramCall::Encode => tell_binary(alloc, encode(alloc, program), answer),
     }
 }
 

@@ -14,33 +14,6 @@ pub(crate) fn tell_text(text: Result<String, Error>, answer: &mut String) -> Res
     }
 }
 
-/// A module or a program that an answer tells, in a form of the type `F`. The function that owns one
-/// takes any such value, so that what it drops is not proved part by part.
-pub(crate) trait Told<F>: Drop {
-    /// Appends the value in the form `form`.
-    fn tell(
-        &mut self,
-        alloc: Global,
-        case: &Case,
-        form: F,
-        answer: &mut String,
-    ) -> Result<(), Fault>;
-}
-
-/// Appends the value that is made in the form `form`, or the refusal.
-pub(crate) fn tell_made<F: Copy, T: Told<F>>(
-    alloc: Global,
-    case: &Case,
-    form: F,
-    made: Result<T, Error>,
-    answer: &mut String,
-) -> Result<(), Fault> {
-    match made {
-        Ok(mut value) => value.tell(alloc, case, form, answer),
-        Err(refusal) => tell_refusal(refusal, answer),
-    }
-}
-
 /// A module or a program to which fuel is added.
 pub(crate) trait Fuelled {
     /// Adds the fuel `fuel`, and appends the answer.

@@ -9,7 +9,7 @@ use crate::recorded::formula::{Formula, formula_named};
 use sha2::{Digest, Sha256};
 use smith_bytes::{Error, Unstructured};
 use smith_case::arguments::{value, word};
-use smith_case::{Case, Fault, Owned};
+use smith_case::{Case, Fault};
 use smith_config::Config;
 use smith_text::text;
 use std::alloc::Global;
@@ -109,13 +109,17 @@ fn feed(
 
 // Feeds `hasher` with the text of the module that is drawn, or a line of the refusal. Returns the
 // kind of the answer.
-fn feed_drawn<M: Owned<Module>>(
+fn feed_drawn(
     alloc: Global,
-    drawn: Result<M, Error>,
+    drawn: Result<Module, Error>,
     hasher: &mut Sha256,
 ) -> Result<String, Error> {
     match drawn {
-        Ok(mut module) => feed_text(alloc, module.lend(), hasher),
+        Ok(module) => {
+            let kind = feed_text(alloc, &module, hasher);
+            drop(module);
+            kind
+        }
         Err(refusal) => feed_refusal(alloc, refusal, hasher),
     }
 }

@@ -1,7 +1,7 @@
 use crate::memory::shapes::{USES, config_of_memories, set_shape, shape_for};
 use crate::memory::tries::{is_refused_first, refused};
 use smith_bytes::{Error, Which};
-use smith_case::{Fault, Owned};
+use smith_case::Fault;
 use smith_config::{Config, Shape};
 use smith_memory::{Ended, Tried};
 use std::alloc::Global;
@@ -20,9 +20,13 @@ impl Tried for Copying<'_> {
 }
 
 // Returns the outcome of a copy of `config`.
-fn copied<C: Owned<Config>>(copy: Result<C, Error>, config: &Config) -> Ended {
+fn copied(copy: Result<Config, Error>, config: &Config) -> Ended {
     match copy {
-        Ok(mut copy) => compared(copy.lend(), config),
+        Ok(copy) => {
+            let ended = compared(&copy, config);
+            drop(copy);
+            ended
+        }
         Err(refusal) => refused(refusal),
     }
 }
@@ -50,15 +54,13 @@ fn try_copy(alloc: Global, config: &mut Config) -> Result<(), Fail> {
     is_refused_first(alloc, &mut Copying { config })
 }
 
-fn try_copy_of<C: Owned<Config>>(config: C, alloc: Global) -> Result<(), Fail> {
-    let mut config = config;
-    try_copy(alloc, config.lend())
-}
-
 // Copies a configuration with all shapes.
 #[test]
 fn copies(rt: HostRuntime) -> Result<(), Fail> {
-    try_copy_of(Config::default(), rt.alloc())
+    let mut config = Config::default();
+    let tried = try_copy(rt.alloc(), &mut config);
+    drop(config);
+    tried
 }
 
 // A check of a shape.
@@ -79,22 +81,15 @@ impl Tried for Checking<'_> {
 }
 
 fn try_check(alloc: Global, shape: &Shape, which: Which) -> Result<(), Fail> {
-    try_check_under(config_of_memories(), alloc, shape, which)
-}
-
-fn try_check_under<C: Owned<Config>>(
-    config: C,
-    alloc: Global,
-    shape: &Shape,
-    which: Which,
-) -> Result<(), Fail> {
-    let mut config = config;
+    let config = config_of_memories();
     let mut checking = Checking {
-        config: config.lend(),
+        config: &config,
         shape,
         which,
     };
-    is_refused_first(alloc, &mut checking)
+    let tried = is_refused_first(alloc, &mut checking);
+    drop(config);
+    tried
 }
 
 fn try_check_for(alloc: Global, which: Which) -> Result<(), Fail> {

@@ -2,7 +2,7 @@ use crate::memory::parts::set_minimums;
 use crate::memory::shapes::set_shape;
 use crate::memory::tries::{is_left, is_refused_first, refused};
 use smith_bytes::{Error, Unstructured, Which};
-use smith_case::{Fault, Owned};
+use smith_case::Fault;
 use smith_config::Config;
 use smith_memory::{Ended, Tried};
 use std::alloc::Global;
@@ -42,7 +42,10 @@ fn drawn(alloc: Global, config: Config, input: &[u8]) -> Ended {
 // Returns the outcome of the call that answered `answer`.
 fn made(answer: Result<Module, Error>) -> Ended {
     match answer {
-        Ok(_) => Ended::Given,
+        Ok(module) => {
+            drop(module);
+            Ended::Given
+        }
         Err(refusal) => refused(refusal),
     }
 }
@@ -75,17 +78,10 @@ fn set_imports(config: &mut Config) {
 }
 
 fn try_asked(alloc: Global, asked: Asked, input: &'static [u8]) -> Result<(), Fail> {
-    try_owned(Config::default(), alloc, asked, input)
-}
-
-fn try_owned<C: Owned<Config>>(
-    config: C,
-    alloc: Global,
-    asked: Asked,
-    input: &'static [u8],
-) -> Result<(), Fail> {
-    let mut config = config;
-    try_under(alloc, asked, input, config.lend())
+    let mut config = Config::default();
+    let tried = try_under(alloc, asked, input, &mut config);
+    drop(config);
+    tried
 }
 
 fn try_under(

@@ -1,5 +1,4 @@
 use crate::memory::tries::{is_refused_first, refused};
-use smith_case::Owned;
 use smith_case::shapes::shape_named;
 use smith_config::{Config, Shape};
 use smith_memory::{Ended, Tried};
@@ -26,16 +25,14 @@ impl Tried for Spelling<'_> {
 }
 
 fn try_shape(alloc: Global, shape: &Shape) -> Result<(), Fail> {
-    try_shape_under(Config::default(), alloc, shape)
-}
-
-fn try_shape_under<C: Owned<Config>>(config: C, alloc: Global, shape: &Shape) -> Result<(), Fail> {
-    let mut config = config;
+    let config = Config::default();
     let mut spelling = Spelling {
-        config: config.lend(),
+        config: &config,
         shape,
     };
-    is_refused_first(alloc, &mut spelling)
+    let tried = is_refused_first(alloc, &mut spelling);
+    drop(config);
+    tried
 }
 
 fn try_named(alloc: Global, name: &str) -> Result<(), Fail> {
