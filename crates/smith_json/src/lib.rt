@@ -4,6 +4,7 @@
 //! default, and so does a field whose member is `null`.
 #![tactic(auto)]
 
+mod examples;
 mod read;
 mod refusal;
 
