@@ -4,9 +4,13 @@ use smith_case::{Case, Fault, bytes_of, check_wanted, first_difference, read_cas
 use std::alloc::{AllocError, Global};
 use std::fmt::Display;
 
-/// Answers the case of `line` twice, or once if the answer is a checksum, and appends to `report`
-/// the line `ok NAME`, or `not ok NAME: ` and the first difference. Returns whether the answers are
-/// as the case wants.
+/// Answers the case of `line` twice for each of its inputs, or once if the answer is a checksum,
+/// and appends to `report` the line `ok NAME`, or `not ok NAME: ` and the fault of the case or the
+/// first difference. Returns whether the answers are as the case wants.
+///
+/// # Errors
+///
+/// Fails if memory for the line of `report` runs out.
 pub fn judge(alloc: Global, line: &str, report: &mut String) -> Result<bool, AllocError> {
     let mut case = Case::default();
     let answer = judge_case(alloc, line, &mut case, report);

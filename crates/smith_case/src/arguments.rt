@@ -5,6 +5,10 @@ use crate::fault::Fault;
 use std::str::FromStr;
 
 /// Returns the argument of `case` at `place`, from 0.
+///
+/// # Errors
+///
+/// Returns `Argument` if it is missing.
 pub fn word(case: &Case, place: usize) -> Result<&str, Fault> {
     match case.args().get(place) {
         Some(word) => Ok(word.as_str()),
@@ -12,7 +16,11 @@ pub fn word(case: &Case, place: usize) -> Result<&str, Fault> {
     }
 }
 
-/// Returns the argument of `case` at `place`, from 0, as a number, or as `true` or `false`.
+/// Parses the argument of `case` at `place`, from 0, as a `T`.
+///
+/// # Errors
+///
+/// Returns `Argument` if it is missing, or is no `T`.
 pub fn value<T: FromStr + Drop>(case: &Case, place: usize) -> Result<T, Fault>
 where
     T::Err: Drop,

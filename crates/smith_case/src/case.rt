@@ -128,8 +128,12 @@ pub(crate) fn list(texts: &Option<Vec<String>>) -> &[String] {
     }
 }
 
-/// Reads the case of `line` into `case`, whose fields are empty. After a fault `case` has the keys
-/// before it. The configuration is only skipped.
+/// Reads the case of `line` into `case`, whose fields are empty. The configuration is only skipped.
+///
+/// # Errors
+///
+/// Reports the first key that no case has or that occurs twice, or the first place from which
+/// `line` is no JSON object of a case, or lack of memory. `case` has the keys before it then.
 pub fn read_case(alloc: Global, line: &str, case: &mut Case) -> Result<(), Fault> {
     let mut scratch = Scratch::new(alloc);
     let mut reader = Reader::new(line, &mut scratch)?;
@@ -245,8 +249,8 @@ fn read_texts(
 }
 
 /// Moves `reader`, which is at the start of a case of at most `most` keys, to the value of the key
-/// `config`. Returns `false` if the case has no such key.
-pub fn goes_to_config(reader: &mut Reader<'_>, most: usize) -> bool {
+/// `config`. Returns `false` if the case has no such key, or is no JSON before it.
+pub fn move_to_config(reader: &mut Reader<'_>, most: usize) -> bool {
     let _ = reader.next();
     for _ in 0..most {
         match reader.next_key() {

@@ -27,7 +27,7 @@ pub enum Obstacle {
     NoFurtherType,
     /// No group of types may be cloned.
     NothingToClone,
-    /// The first type is final.
+    /// The first type may not have subtypes, or there is none.
     FinalType,
     /// No type can be that of a tag.
     NoTagType,
@@ -62,11 +62,12 @@ impl Obstacle {
 /// A reason why a case cannot be answered.
 #[derive(Clone, Copy)]
 pub enum Fault {
-    /// The line is not a JSON object of strings and lists of strings, from this byte on.
+    /// The line is not a JSON object of strings, lists of strings and a configuration, from this
+    /// byte on.
     Syntax(usize),
-    /// A key that no case has.
+    /// A key that no case has. The number is that of the byte after it.
     UnknownKey(usize),
-    /// The same key twice.
+    /// The same key twice. The number is that of the byte after the second.
     RepeatedKey(usize),
     /// No name, or an empty one.
     NoName,
@@ -74,8 +75,6 @@ pub enum Fault {
     UnknownCall,
     /// An unknown shape.
     UnknownShape,
-    /// An unknown type space.
-    UnknownTypes,
     /// An input that is not hexadecimal.
     Input,
     /// An unknown way to make several inputs.
@@ -119,7 +118,6 @@ impl Fault {
             Fault::NoName => "no name",
             Fault::UnknownCall => "an unknown call",
             Fault::UnknownShape => "an unknown shape",
-            Fault::UnknownTypes => "an unknown type space",
             Fault::Input => "the input is not hexadecimal",
             Fault::UnknownInputs => "unknown inputs",
             Fault::Argument(_) => "argument ",
@@ -196,6 +194,7 @@ impl From<AllocError> for Fault {
     }
 }
 
+// Only errors of calls that nothing but lack of memory refuses are converted.
 impl From<Error> for Fault {
     fn from(_refused: Error) -> Fault {
         Fault::Memory

@@ -3,6 +3,10 @@ use std::alloc::Global;
 
 /// Returns the bytes of `text`: words separated by blanks, each hexadecimal bytes, or `BYTES*COUNT`
 /// for `COUNT` copies of the bytes.
+///
+/// # Errors
+///
+/// Returns `Input` if a word has another form or `COUNT` is above 100,000, or `Memory`.
 pub fn bytes_of(alloc: Global, text: &str) -> Result<Vec<u8>, Fault> {
     let mut bytes = Vec::new(alloc);
     for word in text.split_whitespace() {

@@ -31,6 +31,10 @@ const DRAWN: Keys = Keys {
 };
 
 /// Checks that `call` reads each key that `case` has, and that there are at most `most` arguments.
+///
+/// # Errors
+///
+/// Returns `UselessKey` if `call` does not read a key of `case`, else `TooManyArguments`.
 pub fn check_keys(case: &Case, call: Call, most: usize) -> Result<(), Fault> {
     if has_useless_key(case, keys_of(call)) {
         return Err(Fault::UselessKey);

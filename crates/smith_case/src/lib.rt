@@ -6,9 +6,9 @@
 //! - `call` names the call as Rust does, such as `Module::new`, `spell` or `arbitrary_const_expr`.
 //!   `call.rt` lists them. `Module::new of Config::arbitrary` draws the configuration first and the
 //!   module from the bytes left. `encode` adds fuel to the module of `Module::new` for each
-//!   argument and encodes it. `Program::new` and `encode of Program::new` do the same with the
-//!   program, and report the bytes of the input left. `recorded` makes checksums of the results for
-//!   generated inputs.
+//!   argument and encodes it. `Program::new` adds fuel to the program likewise and answers its text,
+//!   `encode of Program::new` its binary; both report the bytes of the input left. `recorded` makes
+//!   checksums of the results for generated inputs.
 //! - `args` lists the arguments of the call: numbers in decimal, types and heap types as the text
 //!   format writes them without its abbreviations, function types and entities as shapes write
 //!   them, `true` and `false`, names. The functions of `smith_part_answers` and `smith_answers`
@@ -32,7 +32,7 @@
 //! A case wants at least one of the first four of these, none of them empty. Blanks around lines do
 //! not count.
 //!
-//! - `answer` lists all lines, or those up to a last line `...`.
+//! - `answer` lists all lines, or the first ones and `...` in place of at least one more.
 //! - `lines` lists lines that occur in this order.
 //! - `pieces` lists pieces that occur.
 //! - `may` lists the kinds that the answer may have: `Ok`, or the refusal's name as in
@@ -49,7 +49,7 @@ mod keys;
 pub mod shapes;
 mod wanted;
 
-pub use case::{Case, ShapeNames, Wanted, goes_to_config, read_case, text_or};
+pub use case::{Case, ShapeNames, Wanted, move_to_config, read_case, text_or};
 pub use fault::{Fault, Obstacle};
 pub use input::bytes_of;
 pub use keys::check_keys;

@@ -18,7 +18,7 @@ pub enum Difference<'a> {
     },
     /// A text that is missing, or that must not be there.
     Text {
-        /// The text before it: what is missing, or what is there.
+        /// What is wrong: `no line`, `no piece` or `a piece`.
         what: &'static str,
         /// The line or the piece.
         text: &'a str,
@@ -39,8 +39,12 @@ impl fmt::Display for Difference<'_> {
     }
 }
 
-/// Checks that `case` wants something that not every answer has, no list that is empty, and no line
-/// after one that matches all further lines.
+/// Checks that `case` wants something that not every answer has, no list that is empty, no blank
+/// text, and no line after one that matches all further lines.
+///
+/// # Errors
+///
+/// Returns `WantsNothing`, `WantsUnread` or `EmptyPiece`.
 pub fn check_wanted(case: &Case) -> Result<(), Fault> {
     let wanted = &case.wanted;
     let answer = list(&wanted.answer);

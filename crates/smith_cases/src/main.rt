@@ -6,7 +6,7 @@
 //! the last line is `not ok: Memory while reading` and the status is 1 too. A case is answered
 //! twice, a case of checksums once; if the two answers differ, it is not ok. Blank lines, and lines
 //! that begin with `#`, are skipped. The crate's own cases are in `stdin`. In this folder, this
-//! command tries them in about four minutes, before any proof:
+//! command tries them in four to nine minutes of processor time, before any proof:
 //!
 //! ```sh
 //! rt try --seconds 600 < stdin

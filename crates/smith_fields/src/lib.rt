@@ -5,6 +5,7 @@
 //! lists the names, with a sentence on each field.
 #![tactic(auto)]
 
+mod examples;
 mod fault;
 mod field;
 mod lend;

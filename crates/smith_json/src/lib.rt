@@ -4,9 +4,10 @@
 //! default, and so does a field whose member is `null`.
 #![tactic(auto)]
 
+mod examples;
 mod read;
 mod refusal;
 
 pub use read::{config, read_config, read_text};
 pub use refusal::{ConfigRefusal, Refusal};
-pub use smith_fields::{Fault, FieldKind, kind_of};
+pub use smith_fields::Fault;

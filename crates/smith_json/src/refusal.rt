@@ -68,7 +68,8 @@ impl fmt::Display for ConfigRefusal {
     fn fmt<W: fmt::Write>(&self, f: &mut fmt::Formatter<W>) -> fmt::Result {
         let field = self.field.as_str();
         let (before, name, after) = match self.fault {
-            Fault::NotAnObject => ("not a JSON object", "", ""),
+            Fault::NotAnObject if field.is_empty() => ("not a JSON object", "", ""),
+            Fault::NotAnObject => ("the value of `", field, "` is not JSON"),
             Fault::UnknownField => ("there is no field `", field, "`"),
             Fault::RepeatedField => ("the field `", field, "` occurs twice"),
             Fault::WrongType => ("the value of `", field, "` has the wrong type"),

@@ -2,7 +2,7 @@ use crate::told::{or_memory, tell_debug};
 use json::{Reader, Scratch};
 use smith_case::arguments::word;
 use smith_case::shapes::shape_named;
-use smith_case::{Case, Fault, goes_to_config};
+use smith_case::{Case, Fault, move_to_config};
 use smith_config::{Config, Shape};
 use smith_json::{ConfigRefusal, Refusal, config, read_config};
 use std::alloc::Global;
@@ -57,7 +57,7 @@ pub fn taken(config: &mut Config) -> Config {
 fn set_fields(alloc: Global, line: &str, config: &mut Config) -> Result<(), Fault> {
     let mut scratch = Scratch::new(alloc);
     let mut reader = Reader::new(line, &mut scratch)?;
-    if goes_to_config(&mut reader, line.len()) {
+    if move_to_config(&mut reader, line.len()) {
         return read_fields(alloc, line, &mut reader, config);
     }
     Ok(())

@@ -1,5 +1,9 @@
 //! Answers, each as text, to the calls that make neither a module nor a program: on sources of
 //! bytes, names, kinds of instructions, types, shapes and configurations.
+//!
+//! A call fails if an argument is missing or not valid, a condition of the call does not hold, a
+//! shape is unknown, the configuration cannot be read, or memory runs out. A refusal by the call
+//! itself is part of the answer.
 #![tactic(auto)]
 
 mod configs;

@@ -120,7 +120,11 @@ fn answer_function(
     let Some(written) = text.strip_prefix("func ") else {
         return Err(Fault::Argument(0));
     };
-    let function = function_of(over.alloc, written)?;
+    let function = match function_of(over.alloc, written) {
+        Ok(function) => function,
+        Err(Fault::UnknownShape) => return Err(Fault::Argument(0)),
+        Err(fault) => return Err(fault),
+    };
     tell_drawn(
         arbitrary_matching_func_type(over.alloc, over.config, over.spaces, &function, u),
         answer,

@@ -9,9 +9,9 @@ use smith_case::{Case, Fault};
 use std::alloc::Global;
 use std::collections::HashSet;
 
-/// Appends the name that `call` draws from `input`, the names that are taken afterwards, and the
-/// bytes left. The first argument is the greatest number of bytes of a name, the others are the
-/// names that are taken.
+/// Appends to `answer` the name that `call` draws from `input`, for each call but `limited_str` the
+/// names that are taken afterwards, and the bytes left. The first argument of `case` is the greatest
+/// number of bytes of a name, the others are the names that are taken.
 pub fn answer_name(
     alloc: Global,
     case: &Case,

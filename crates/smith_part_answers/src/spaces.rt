@@ -3,7 +3,7 @@ ghost use Rattle.smith_types.specs.declared.value_type.ValType.TheVariants.{I32}
 
 use crate::told::or_memory;
 use smith_case::shapes::shape_named;
-use smith_case::{Case, Fault, text_or};
+use smith_case::{Case, Fault, Obstacle, text_or};
 use smith_config::{Config, Shape};
 use smith_draw::{Entities, Spaces};
 use smith_types::{GlobalType, Items, SubType, TypeSpace, ValType};
@@ -11,6 +11,9 @@ use std::alloc::Global;
 
 // The name of the shape without types.
 const NO_TYPES: &str = "nothing";
+
+/// The fault of a name of a type that does not exist.
+pub(crate) const MISSING: Fault = Fault::NotCallable(Obstacle::MissingType);
 
 /// The context of a draw of a case.
 #[derive(Clone, Copy)]
@@ -104,7 +107,7 @@ fn add_group(alloc: Global, members: &[SubType], types: &mut TypeSpace) -> Resul
     for member in members {
         let added = member.clone(alloc)?;
         if !types.may_follow(&added) {
-            return Err(Fault::UnknownTypes);
+            return Err(Fault::NotCallable(Obstacle::MisplacedType));
         }
         let _index = types.push_type(added)?;
     }

@@ -1,11 +1,12 @@
 ghost use Rattle.std.specs.Prelude.{◌↔◌, IsTrue};
 ghost use Rattle.smith_types.specs.Subtyping.{IsInRange, IsValInRange};
 
+use crate::spaces::MISSING;
 use crate::told::tell_line;
 use smith_case::arguments::word;
 use smith_case::call::SubtypeCall;
 use smith_case::shapes::{heap_type_of, ref_type_of, val_type_of};
-use smith_case::{Case, Fault, Obstacle};
+use smith_case::{Case, Fault};
 use smith_types::{HeapType, TypeSpace, ValType};
 
 /// Appends `yes` if the first argument is a subtype of the second over `types`, else `no`.
@@ -44,9 +45,6 @@ fn is_value_standing(types: &TypeSpace, value: ValType) -> bool
         _ => true,
     }
 }
-
-// The fault of a name of a type that does not exist.
-const MISSING: Fault = Fault::NotCallable(Obstacle::MissingType);
 
 // Returns whether the heap type that `a` denotes is a subtype of the one that `b` denotes.
 fn is_heap_below(types: &TypeSpace, a: &str, b: &str) -> Result<bool, Fault> {

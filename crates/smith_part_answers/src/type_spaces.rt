@@ -3,7 +3,7 @@ ghost use Rattle.smith_types.specs.Matching.{IsInnerInRange};
 ghost use Rattle.smith_types.specs.Sizes.{IsTyped, size_in};
 ghost use Rattle.smith_types.specs.GroupedTypes.{MayFollow};
 
-use crate::spaces::{shape_of_types, types_of};
+use crate::spaces::{MISSING, shape_of_types, types_of};
 use crate::subtypes::answer_subtype;
 use crate::told::{or_memory, tell_drawn_values, tell_line, tell_pair, tell_types};
 use smith_bytes::Error;
@@ -66,9 +66,6 @@ fn answer_call(
         _ => answer_listed(alloc, types, case, answer),
     }
 }
-
-// The fault of a name of a type that does not exist.
-const MISSING: Fault = Fault::NotCallable(Obstacle::MissingType);
 
 // Appends the depth of the type at the index of the argument.
 fn answer_depth(types: &TypeSpace, case: &Case, answer: &mut String) -> Result<(), Fault> {

@@ -31,15 +31,15 @@ pub(crate) fn answer_types(
                 return tell_refusal(refusal, answer);
             }
         }
-        TypesCall::RecGroup => add_groups(alloc, case, config, types, u)?,
-        TypesCall::CloneRecGroup => add_clone(alloc, config, types, u, answer)?,
+        TypesCall::RecGroup => draw_groups(alloc, case, config, types, u)?,
+        TypesCall::CloneRecGroup => draw_clone(alloc, config, types, u, answer)?,
     }
     tell_types(types, answer)
 }
 
 // Adds a group to `types` for each argument, which says whether the group may be empty. Without
 // arguments, adds one group that may be empty.
-fn add_groups(
+fn draw_groups(
     alloc: Global,
     case: &Case,
     config: &Config,
@@ -50,17 +50,17 @@ fn add_groups(
     requires sanitized { IsSanitized config.now }
 {
     if case.args().is_empty() {
-        return add_group(alloc, true, config, types, u);
+        return draw_group(alloc, true, config, types, u);
     }
     for place in 0..case.args().len() {
-        add_group(alloc, value(case, place)?, config, types, u)?;
+        draw_group(alloc, value(case, place)?, config, types, u)?;
     }
     Ok(())
 }
 
 // Adds a group to `types`.
 #[tactic(auto, using(smith_draw::proofs::CallerLemmas::passes_but_imports))]
-fn add_group(
+fn draw_group(
     alloc: Global,
     allow_empty: bool,
     config: &Config,
@@ -78,7 +78,7 @@ fn add_group(
 
 // Adds a clone of one of the groups, which may be empty, to `types`. Appends whether it is cloned.
 #[tactic(auto, using(smith_draw::proofs::CallerLemmas::passes_but_imports))]
-fn add_clone(
+fn draw_clone(
     alloc: Global,
     config: &Config,
     types: &mut TypeSpace,

@@ -48,6 +48,11 @@ fn drawn(alloc: Global, config: Config, input: &[u8]) -> Result<Program, Error>
 
 /// Draws a program from `input`, for the configuration in `text`: the module, and then, from the
 /// bytes left, a body for each function that it defines.
+///
+/// # Errors
+///
+/// Refuses a text that is not UTF-8 or no configuration, a module for the reasons of
+/// [`Program::new`], and for lack of memory.
 pub fn program(alloc: Global, text: &[u8], input: &[u8]) -> Result<Program, Refusal>
     ensures ok { IfOk result (λ program. AnswersText text.now input.now (Ok program)) }
     ensures refused { IfErr result (λ refusal. IsRefusal text.now input.now refusal) }
@@ -60,6 +65,10 @@ pub fn program(alloc: Global, text: &[u8], input: &[u8]) -> Result<Program, Refu
 }
 
 /// Draws the program of [`program`], and encodes it in the binary format.
+///
+/// # Errors
+///
+/// Those of [`program`], and a program that is too long for the format.
 pub fn binary(alloc: Global, text: &[u8], input: &[u8]) -> Result<Vec<u8>, Refusal>
     ensures ok { IfOk result (λ bytes. IsBinary text.now input.now bytes.items) }
     ensures refused { IfErr result (λ refusal. IsRefusal text.now input.now refusal) }
@@ -84,6 +93,10 @@ fn written(alloc: Global, program: &Program) -> Result<String, Refusal>
 
 /// Draws the program of [`program`], and writes it in the text format. Never refuses it as too
 /// long. No clause states the text; it is tested.
+///
+/// # Errors
+///
+/// Those of [`program`].
 pub fn text(alloc: Global, text: &[u8], input: &[u8]) -> Result<String, Refusal>
     ensures ok { IfOk result (λ written. HasProgram text.now input.now) }
     ensures refused { IfErr result (λ refusal. IsRefusal text.now input.now refusal) }

@@ -111,3 +111,52 @@ pub(crate) fn write_imports<S: Sink>(imports: &[Imports], sink: &mut S) -> fmt::
     }
     Ok(())
 }
+
+/// An import without an index: the section Text Format, Imports.
+impl TextForm for Import {
+    fn write_text<S: Sink>(&self, sink: &mut S) -> fmt::Result {
+        let ty = (" ", &self.entity_type, ")");
+        (("(import ", &self.module, " "), &self.name, ty).write_text(sink)
+    }
+}
+
+/// An import of a group, as the compact imports proposal writes it, without an index.
+impl TextForm for ImportItem {
+    fn write_text<S: Sink>(&self, sink: &mut S) -> fmt::Result {
+        let ty = (" ", &self.entity_type, ")");
+        ("(item ", &self.name, ty).write_text(sink)
+    }
+}
+
+// Writes the names of a group whose imports have one type.
+fn write_names<S: Sink>(names: &[Name], sink: &mut S) -> fmt::Result
+    requires open { S.failed sink.old ≡ false }
+    ensures fault { S.failed sink.new ≡ is_err result }
+    ensures keeps { OnOk result (Keeps S.has sink.old sink.new) }
+{
+    for name in names {
+        (" (item ", name, ")").write_text(sink)?;
+    }
+    Ok(())
+}
+
+/// An import, or a group on one line, as the compact imports proposal writes it, without indices.
+impl TextForm for Imports {
+    fn write_text<S: Sink>(&self, sink: &mut S) -> fmt::Result {
+        match self {
+            Imports::Single(import) => import.write_text(sink),
+            Imports::Compact1 { module, items } => {
+                (("(import ", module), items, ")").write_text(sink)
+            }
+            Imports::Compact2 {
+                module,
+                entity_type,
+                names,
+            } => {
+                ("(import ", module).write_text(sink)?;
+                write_names(names.as_slice(), sink)?;
+                (" ", entity_type, ")").write_text(sink)
+            }
+        }
+    }
+}

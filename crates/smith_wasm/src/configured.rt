@@ -4,10 +4,12 @@ use crate::fields::fields;
 use crate::words::{ARBITRARY, CONFIG};
 use smith_bytes::{Error, Unstructured};
 use smith_config::{Config, MemoryOffsetChoices};
-use smith_json::{FieldKind, kind_of, read_text};
+use smith_fields::{FieldKind, kind_of};
+use smith_json::{Fault, read_text};
 use smith_output::OutputFault;
 use smith_types::InstructionKinds;
 use std::alloc::Global;
+use std::mem;
 use std::str::FromStr;
 
 /// Sets `config`, the default, to the configuration that `asked` requests: the default, or one
@@ -30,7 +32,7 @@ pub(crate) fn set_config(
 fn set_drawn(drawn: Result<Config, Error>, config: &mut Config) -> Result<(), Failure> {
     match drawn {
         Ok(drawn) => {
-            *config = drawn;
+            drop(mem::replace(config, drawn));
             Ok(())
         }
         Err(refusal) => Err(Failure::Output(OutputFault::Refused(refusal))),
@@ -84,10 +86,26 @@ fn is_set(alloc: Global, name: &str, value: &str, config: &mut Config) -> Result
     match kind_of(name) {
         Some(FieldKind::InstructionKinds) => Ok(is_kinds_set(value, config)),
         Some(FieldKind::OffsetChoices) => Ok(is_choices_set(value, config)),
-        _ => {
-            let text = format!(in alloc; "{{\"{name}\":{value}}}")?;
-            Ok(is_plain(value) && read_text(alloc, text.as_str(), config).is_ok())
-        }
+        _ if is_plain(value) => is_plain_set(alloc, name, value, config),
+        _ => Ok(false),
+    }
+}
+
+/// Sets the field `name` to `value`, a word that JSON may know. Returns whether it is a value of the
+/// field.
+fn is_plain_set(
+    alloc: Global,
+    name: &str,
+    value: &str,
+    config: &mut Config,
+) -> Result<bool, Failure> {
+    let text = format!(in alloc; "{{\"{name}\":{value}}}")?;
+    match read_text(alloc, text.as_str(), config) {
+        Ok(()) => Ok(true),
+        Err(refusal) => match refusal.fault {
+            Fault::OutOfMemory => Err(Failure::Memory),
+            _ => Ok(false),
+        },
     }
 }
 

@@ -10,10 +10,12 @@ use smith_text::text;
 use std::alloc::Global;
 use wasm_smith::{DuplicateImportsBehavior, Module};
 
-/// Appends the text of the module that `call` makes, or its binary if `call` encodes it, or the
-/// refusal. The configuration `config` is used up. The arguments of `Module::new`, and those of
-/// `Module::new_internal` after the first, name details to append: `debug` is the line that the
-/// module prints for debugging, `left` the bytes of the input that the call leaves.
+/// Appends to `answer` the text of the module that `call` makes, or its binary if `call` encodes
+/// it, or the refusal. The configuration `config` is used up. The first argument of
+/// `Module::new_internal` is `Allowed` or `Disallowed`; those after it, and the arguments of
+/// `Module::new`, name details to append: `debug` is the line that the module prints for debugging,
+/// `left` the bytes of the input that the call leaves. Those of `Module::ensure_termination` and
+/// `encode` are fuel.
 pub(crate) fn answer_module(
     alloc: Global,
     case: &Case,

@@ -5,9 +5,10 @@ use std::alloc::{AllocError, Global};
 pub(crate) enum Formula {
     /// Input k has k bytes, and byte i of it is `31 * i + 17 * k`, modulo 256.
     Plain,
-    /// Input k has `64 + 4 * k` bytes. They are numbers of a linear congruential generator with the
-    /// initial state k + 1: whole if 4 divides k, else modulo 2, 4 or 8 if k is 1, 2 or 3 modulo 4.
-    /// Small numbers make large modules, since they seldom end a list.
+    /// Input k has `64 + 4 * k` bytes. They are the bits 16 to 23 of the states of a linear
+    /// congruential generator after the initial state k + 1: whole if 4 divides k, else modulo 2, 4
+    /// or 8 if k is 1, 2 or 3 modulo 4. Small numbers make large modules, since they seldom end a
+    /// list.
     Rich,
 }
 

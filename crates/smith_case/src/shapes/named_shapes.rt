@@ -112,6 +112,10 @@ fn parts_of(name: &str) -> Option<&'static str> {
 }
 
 /// Creates the shape named `name`.
+///
+/// # Errors
+///
+/// Returns `UnknownShape` if there is none, or `Memory`.
 pub fn shape_named(alloc: Global, name: &str) -> Result<Shape, Fault> {
     with_parts(alloc, known(parts_of(name))?, '|', nothing(alloc))
 }

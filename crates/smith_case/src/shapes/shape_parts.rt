@@ -116,6 +116,10 @@ fn inner_of(alloc: Global, text: &str) -> Result<CompositeInnerType, Fault> {
 }
 
 /// Reads the function type that `text` denotes: `i32,f64 -> i64`.
+///
+/// # Errors
+///
+/// Returns `UnknownShape` if `text` denotes none, or `Memory`.
 pub fn function_of(alloc: Global, text: &str) -> Result<FuncType, Fault> {
     let Some((params, results)) = text.split_once("->") else {
         return Err(Fault::UnknownShape);

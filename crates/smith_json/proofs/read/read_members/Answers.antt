@@ -26,7 +26,7 @@ returns-in_err-read_member-clause-refused c =
     let after : read_key c.loop-key.reader ≡ Some (Some c.in-Some.name.now, c.next_key.new.self) = rw c.in-Some.is at c.in-Ok.ensures.value in
     let given = given_name _ c.loop-key.given.items c.in-Some.name.now _ c.as_slice.ensures.value c.is_given.ensures ∙ c.if-is_given.false in
     let handed = err_from_is_err_and c.from_residual.result c.from_residual.ensures.1 in
-    rw (handed.1, handed.2) (λ h. let said = c.in_err-read_member.ensures.refused h in rw said.1 (c.loop-key.invariant _ (refuses after given said.0)))
+    rw (handed.1, handed.2) (λ h. let said = c.in_err-read_member.ensures.refused h in rw (said.1, c.in_err-read_member.ensures.unchanged) (c.loop-key.invariant _ (refuses after given said.0)))
 
 pub loop-key-smaller : goal.loop-key-smaller
 loop-key-smaller c =

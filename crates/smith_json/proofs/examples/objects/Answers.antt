@@ -1,0 +1,12 @@
+use Rattle.std.proofs.Common.{refl}
+use Rattle.smith_json.specs.Objects.{ends, sets}
+use Rattle.smith_json.proofs.examples.objects.Goals as goal
+
+pub returns-clause-empty : goal.returns-clause-empty
+returns-clause-empty c = ends refl
+
+pub returns-clause-field : goal.returns-clause-field
+returns-clause-field c = sets refl refl refl (ends refl)
+
+pub returns-clause-unchanged : goal.returns-clause-unchanged
+returns-clause-unchanged c = sets refl refl refl (ends refl)
