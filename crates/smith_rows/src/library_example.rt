@@ -1,4 +1,4 @@
-//! The examples of the README: they compile, and return the expected answers.
+//! Complete examples of the library: they compile, and return the expected answers.
 
 use smith_types::{CompositeType, FuncType};
 use std::alloc::Global;

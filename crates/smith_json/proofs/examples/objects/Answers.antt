@@ -1,4 +1,5 @@
 use Rattle.std.proofs.Common.{refl}
+use Rattle.smith_fields.specs.Fields.{fields}
 use Rattle.smith_json.specs.Objects.{ends, sets}
 use Rattle.smith_json.proofs.examples.objects.Goals as goal
 
@@ -6,7 +7,9 @@ pub returns-clause-empty : goal.returns-clause-empty
 returns-clause-empty c = ends refl
 
 pub returns-clause-field : goal.returns-clause-field
+unfolding fields
 returns-clause-field c = sets refl refl refl (ends refl)
 
 pub returns-clause-unchanged : goal.returns-clause-unchanged
+unfolding fields
 returns-clause-unchanged c = sets refl refl refl (ends refl)
