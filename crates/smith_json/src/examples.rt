@@ -25,7 +25,7 @@ fn refusals()
         (Err (UnknownField, codes "max-typos", default_config)) }
     ensures repeated { ReadsObject default_config
         (begin_object ∷ key (codes "max-types") ∷ number (codes "3")
-            ∷ key (codes "max-types") ∷ number (codes "4") ∷ end_object ∷ [])
+        ∷ key (codes "max-types") ∷ number (codes "4") ∷ end_object ∷ [])
         (Err (RepeatedField, codes "max-types", record default_config { max_types = 3 })) }
     ensures wrong_type { ReadsObject default_config
         (begin_object ∷ key (codes "max-types") ∷ boolean true ∷ end_object ∷ [])

@@ -25,11 +25,13 @@ pub fn config(alloc: Global, text: &str) -> Result<Config, ConfigRefusal>
         → ReadsText text.now (Err (refusal.fault, string_bytes refusal.field))) }
 {
     let mut config = Config::default();
-    let read = match read_text(alloc, text, &mut config) {
-        Ok(()) => Ok(()),
-        Err(refusal) => Err(refusal.in_text(text)),
-    };
-    read.and(Ok(config))
+    match read_text(alloc, text, &mut config) {
+        Ok(()) => Ok(config),
+        Err(refusal) => {
+            drop(config);
+            Err(refusal.in_text(text))
+        }
+    }
 }
 
 /// Reads an object from `text`, which holds nothing else, and sets the fields of `config` that its
@@ -44,7 +46,7 @@ pub fn read_text(alloc: Global, text: &str, config: &mut Config) -> Result<(), R
     ensures ok { OnOk result (ReadsAlone config.old text.now (Ok (config.new, []))) }
     ensures refused { IfErr result (λ refusal. refusal.fault ≢ Fault.OutOfMemory
         → ReadsAlone config.old text.now
-            (Err (refusal.fault, string_bytes refusal.field, config.new))) }
+        (Err (refusal.fault, string_bytes refusal.field, config.new))) }
 {
     let mut scratch = Scratch::new(alloc);
     let Ok(mut reader) = Reader::new(text, &mut scratch) else {
@@ -73,7 +75,7 @@ pub fn read_config(
     ensures ok { OnOk result (ReadsObject config.old reader.old (Ok (config.new, reader.new))) }
     ensures refused { IfErr result (λ refusal. refusal.fault ≢ Fault.OutOfMemory
         → ReadsObject config.old reader.old
-            (Err (refusal.fault, string_bytes refusal.field, config.new))) }
+        (Err (refusal.fault, string_bytes refusal.field, config.new))) }
 {
     let start = reader.offset();
     match reader.next() {
@@ -91,7 +93,7 @@ fn read_members<'a>(
     ensures ok { OnOk result (ReadsMembers [] config.old reader.old (Ok (config.new, reader.new))) }
     ensures refused { IfErr result (λ refusal. refusal.fault ≢ Fault.OutOfMemory
         → ReadsMembers [] config.old reader.old
-            (Err (refusal.fault, string_bytes refusal.field, config.new))) }
+        (Err (refusal.fault, string_bytes refusal.field, config.new))) }
 {
     let mut given: Vec<&'a str> = Vec::new(alloc);
     loop {

@@ -1,7 +1,7 @@
 use crate::told::{equality, or_memory, tell_check, tell_line, tell_refusal};
 use smith_bytes::{Error, Unstructured};
-use smith_case::call::ConfigCall;
 use smith_case::Fault;
+use smith_case::call::ConfigCall;
 use smith_config::Config;
 use smith_types::WasmFeatures;
 use std::alloc::{AllocError, Global};
