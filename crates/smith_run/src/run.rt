@@ -56,8 +56,8 @@ pub fn run<R: Source, W: Sink>(
     ensures unwritten { IsErrOf result RunFault.Read → w.new ≡ w.old }
 {
     match read_whole(alloc, r) {
-        Ok(input) => tell(w, &generated(alloc, drawn, &input)),
-        Err(InputFault::Memory) => tell(w, &Err(Error::Memory)),
+        Ok(input) => tell(w, generated(alloc, drawn, &input)),
+        Err(InputFault::Memory) => tell(w, Err(Error::Memory)),
         Err(InputFault::Read) => Err(RunFault::Read),
     }
 }
@@ -73,7 +73,18 @@ fn generated(alloc: Global, drawn: bool, input: &[u8]) -> Result<Module, Error>
     Module::arbitrary(alloc, &mut u)
 }
 
-fn tell<W: Sink>(w: &mut W, answer: &Result<Module, Error>) -> Result<Outcome, RunFault>
+fn tell<W: Sink>(w: &mut W, answer: Result<Module, Error>) -> Result<Outcome, RunFault>
+    ensures written { OnOk result (Appends (W.written w.old) (W.written w.new) (line_of answer)) }
+    ensures told { IfOk result (λ outcome. outcome ≡ outcome_of answer) }
+    ensures fault { IfErr result (λ fault. fault ≡ RunFault.Write) }
+    ensures failed { W.failed w.new ≡ (W.failed w.old || is_err result) }
+{
+    let told = write_answer(w, &answer);
+    drop(answer);
+    told
+}
+
+fn write_answer<W: Sink>(w: &mut W, answer: &Result<Module, Error>) -> Result<Outcome, RunFault>
     ensures written { OnOk result
         (Appends (W.written w.old) (W.written w.new) (line_of answer.now)) }
     ensures told { IfOk result (λ outcome. outcome ≡ outcome_of answer.now) }
