@@ -1,10 +1,10 @@
 use smith_bytes::Error;
-use smith_case::shapes::{entity_of, function_of, val_type_of};
+use smith_case::shapes::{entity_of, function_of, shape_named, val_type_of};
 use smith_text::{FromFmt, TextForm};
 use smith_types::{
     AbstractHeapType, ArrayType, CompositeInnerType, CompositeType, ConstInstr, DataSegment,
-    DataSegmentKind, ElementKind, ElementSegment, Elements, FieldType, HeapType, Items, Name,
-    Offset, RefType, StorageType, StructType, SubType, ValType,
+    DataSegmentKind, ElementKind, ElementSegment, Elements, FieldType, HeapType, Imports, Items,
+    Name, Offset, RefType, StorageType, StructType, SubType, ValType,
 };
 use std::alloc::Global;
 use std::test::Fail;
@@ -88,6 +88,49 @@ const ENTITIES: [(&str, &str); 12] = [
 fn entities_are_written(rt: HostRuntime) -> Result<(), Fail> {
     for (text, wanted) in &ENTITIES {
         is_read(rt.alloc(), entity_of(text), wanted)?;
+    }
+    Ok(())
+}
+
+// Shapes as cases name them, and the texts of their imports.
+const IMPORTS: [(&str, &[&str]); 2] = [
+    (
+        "a memory that is imported and exported",
+        &["(import \"env\" \"memory\" (memory 1))"],
+    ),
+    (
+        "memories in groups",
+        &[
+            "(import \"env\" (item \"one\" (memory 1)))",
+            "(import \"a\")",
+            "(import \"b\" (item \"two\") (item \"three\") (memory 1))",
+            "(import \"env\" (memory 1))",
+        ],
+    ),
+];
+
+fn are_imports_written(alloc: Global, imports: &[Imports], wanted: &[&str]) -> Result<(), Fail> {
+    for (import, text) in imports.iter().zip(wanted) {
+        is_written(alloc, import, text)?;
+    }
+    if imports.len() == wanted.len() {
+        Ok(())
+    } else {
+        Err(Fail::new("another number of imports is wanted"))
+    }
+}
+
+fn are_written_of(alloc: Global, name: &str, wanted: &[&str]) -> Result<(), Fail> {
+    let shape = shape_named(alloc, name)?;
+    let written = are_imports_written(alloc, shape.imports.as_slice(), wanted);
+    drop(shape);
+    written
+}
+
+#[test]
+fn imports_are_written(rt: HostRuntime) -> Result<(), Fail> {
+    for (name, wanted) in &IMPORTS {
+        are_written_of(rt.alloc(), name, wanted)?;
     }
     Ok(())
 }
