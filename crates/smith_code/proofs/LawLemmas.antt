@@ -35,7 +35,7 @@ use Rattle.smith_code_aggregates.specs.Aggregates.{first_created_array, first_cr
 use Rattle.smith_code_aggregates.specs.Fields.{struct_in, struct_of}
 use Rattle.smith_code_aggregates.proofs.FirstLemmas.{chosen_first, none_offered}
 use Rattle.smith_code_nodes.specs.Offered.{is_global_below, is_named, is_readable, is_reference, offered}
-use Rattle.smith_code_nodes.specs.Scopes.{indexed, is_permitted}
+use Rattle.smith_code_nodes.specs.Scopes.{indexed, is_permitted, kinds_of_bodies}
 use Rattle.smith_code_nodes.specs.Traps.{may_trap}
 use Rattle.smith_code_nodes.specs.declared.offer.Reach.TheVariants as reach
 use Rattle.smith_code_nodes.proofs.OfferLemmas.{both}
@@ -46,7 +46,7 @@ use Rattle.smith_code.proofs.SearchLemmas.{none_both, none_tried, or_some, tried
 pub stop_forbidden : (features : Features) (config : Config) → config.disallow_traps ≡ true → is_permitted features config instr.Unreachable ≡ true → ⊥
 unfolding is_permitted
 stop_forbidden features config trapless is =
-    let (_, kept) = both (is_enabled features config.allowed_instructions instr.Unreachable) (not config.disallow_traps || not (may_trap instr.Unreachable)) is in
+    let (_, kept) = both (is_enabled features (kinds_of_bodies config) instr.Unreachable) (not config.disallow_traps || not (may_trap instr.Unreachable)) is in
     let never : (not true || false) ≡ true = subst (λ (b : Bool). (not b || false) ≡ true) trapless kept in
     cc
 

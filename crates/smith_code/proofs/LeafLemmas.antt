@@ -20,7 +20,7 @@ use Rattle.smith_code_aggregates.specs.Aggregates.{is_creatable_in, is_created_b
 use Rattle.smith_code_aggregates.specs.Fields.{struct_in}
 use Rattle.smith_code_aggregates.proofs.CreationLemmas.{default_there}
 use Rattle.smith_code_aggregates.proofs.FirstLemmas.{array_created}
-use Rattle.smith_code_nodes.specs.Scopes.{IsAllowedIn, is_permitted}
+use Rattle.smith_code_nodes.specs.Scopes.{IsAllowedIn, is_permitted, kinds_of_bodies}
 use Rattle.smith_code_nodes.specs.Traps.{may_trap}
 use Rattle.smith_code_nodes.specs.Offered.{is_readable, is_global_below, IsReferenceTo}
 use Rattle.smith_code_nodes.specs.declared.scope.Scope.{Scope}
@@ -90,6 +90,6 @@ outside_over context set shared nullable =
 pub internal_valid : (context : BodyContext) (config : Config) (shared nullable : Bool) → is_permitted context.features config (instr.Aggregate aggregate.ExternConvertAny) ≡ true → IsValid context (external shared nullable) → IsValid context (internal shared nullable)
 unfolding is_permitted is_enabled
 internal_valid context config shared nullable permitted valid =
-    let (enabled, _) = both (is_enabled context.features config.allowed_instructions (instr.Aggregate aggregate.ExternConvertAny)) (not config.disallow_traps || not (may_trap (instr.Aggregate aggregate.ExternConvertAny))) permitted in
+    let (enabled, _) = both (is_enabled context.features (kinds_of_bodies config) (instr.Aggregate aggregate.ExternConvertAny)) (not config.disallow_traps || not (may_trap (instr.Aggregate aggregate.ExternConvertAny))) permitted in
     let (gc, _) = both context.features.gc _ enabled in
     (valid.0, record { heap_type = (gc, valid.1.heap_type.1); nullable = valid.1.nullable })

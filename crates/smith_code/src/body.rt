@@ -6,7 +6,7 @@ ghost use Rattle.smith_instr.specs.Sequences.{IsBodyTyped};
 ghost use Rattle.smith_code.specs.Bodies.{body_at};
 ghost use Rattle.smith_code.specs.Leaves.{longest_leaf};
 ghost use Rattle.smith_code.specs.Stops.{HasNeededStops};
-ghost use Rattle.smith_code_nodes.specs.Scopes.{IsScope, bare, most};
+ghost use Rattle.smith_code_nodes.specs.Scopes.{IsScope, bare, kinds_of_bodies, most};
 ghost use Rattle.smith_code_nodes.specs.Traps.{IsTrapless};
 
 use crate::drawn::draw_whole;
@@ -25,13 +25,15 @@ const DEPTH: u32 = 40;
 /// Most instructions take one unit of `budget` each. Constants, reads of locals and globals, and
 /// references to functions take none. With a budget of 0 the body is `unreachable`.
 ///
-/// With `disallow_traps` of the configuration, only `unreachable` may trap. It is then drawn only
-/// with a budget of 0, or for a value that no other permitted instructions produce without a
-/// budget. These are a local, a global, a function reference, a constant, null, a struct of default
-/// values, an array without elements, an i31 of a constant, the conversion of one of them between
-/// internal and external references, and a struct of the type that a reference type names, if each
-/// field has a value of one instruction. Such a value takes at most three instructions, or one for
-/// each field and one for the creation.
+/// Without `allow_floats` of the configuration, no instruction is one on floats.
+///
+/// With `disallow_traps`, only `unreachable` may trap. It is then drawn only with a budget of 0, or
+/// for a value that no other permitted instructions produce without a budget. These are a local, a
+/// global, a function reference, a constant, null, a struct of default values, an array without
+/// elements, an i31 of a constant, the conversion of one of them between internal and external
+/// references, and a struct of the type that a reference type names, if each field has a value of
+/// one instruction. Such a value takes at most three instructions, or one for each field and one for
+/// the creation.
 ///
 /// # Errors
 ///
@@ -45,7 +47,7 @@ pub fn draw_body(
     requires scope { IsScope (bare scope.now) }
     ensures typed { IfOk result (IsBodyTyped (bare scope.now)) }
     ensures allowed { IfOk result (All
-        (IsEnabled (features_in scope.now.features) scope.now.config.now.allowed_instructions)) }
+        (IsEnabled (features_in scope.now.features) (kinds_of_bodies scope.now.config.now))) }
     ensures trapless { IsTrue scope.now.config.now.disallow_traps → IfOk result (All IsTrapless) }
     ensures needed { 0 < budget
         → IfOk result (HasNeededStops scope.now.config.now (bare scope.now)) }
@@ -73,7 +75,7 @@ fn draw_some(
     requires some { 0 < budget }
     ensures typed { IfOk result (IsBodyTyped (bare scope.now)) }
     ensures allowed { IfOk result (All
-        (IsEnabled (features_in scope.now.features) scope.now.config.now.allowed_instructions)) }
+        (IsEnabled (features_in scope.now.features) (kinds_of_bodies scope.now.config.now))) }
     ensures trapless { IsTrue scope.now.config.now.disallow_traps → IfOk result (All IsTrapless) }
     ensures needed { IfOk result (HasNeededStops scope.now.config.now (bare scope.now)) }
     ensures short { IfOk result (λ body. length body ≤ longest_leaf scope.now.config.now

@@ -23,7 +23,7 @@ use Rattle.smith_instr.specs.declared.aggregate.AggregateInstr.TheVariants as ag
 use Rattle.smith_instr.specs.declared.instr.Instr.{Instr}
 use Rattle.smith_instr.specs.declared.instr.Instr.TheVariants as instr
 use Rattle.smith_instr.specs.declared.reference.ReferenceInstr.TheVariants as reference
-use Rattle.smith_code_nodes.specs.Scopes.{is_permitted}
+use Rattle.smith_code_nodes.specs.Scopes.{is_permitted, kinds_of_bodies}
 use Rattle.smith_code_nodes.specs.Traps.{may_trap}
 use Rattle.smith_code.specs.Laws.{HasNoOther, HasNoSingle, HasNoValue, IsNumber}
 use Rattle.smith_code_law.specs.Barren.{IsSharingOn, IsBarren, IsBarrenReference}
@@ -32,18 +32,18 @@ or_true : (a : Bool) → (a || true) ≡ true
 or_true true = refl
 or_true false = refl
 
--- with all kinds of instructions, one that has its features and doesn't trap is permitted
-permitted : (features : Features) (config : Config) (instruction : Instr) → config.allowed_instructions ≡ every_kind → has_features features instruction ≡ true → is_kind_enabled every_kind instruction ≡ true → may_trap instruction ≡ false → is_permitted features config instruction ≡ true
+-- where bodies may have all kinds of instructions, one that has its features and doesn't trap is permitted
+permitted : (features : Features) (config : Config) (instruction : Instr) → kinds_of_bodies config ≡ every_kind → has_features features instruction ≡ true → is_kind_enabled every_kind instruction ≡ true → may_trap instruction ≡ false → is_permitted features config instruction ≡ true
 unfolding is_permitted is_enabled
 permitted features config instruction every has kind calm = rw (every, has, kind, calm) (or_true (not config.disallow_traps))
 
 -- a number of this type has a value of one instruction
-numbered : (config : Config) (context : BodyContext) (set : List ℕ) (value : ValType) (instruction : Instr) → config.allowed_instructions ≡ every_kind → has_features context.features instruction ≡ true → is_kind_enabled every_kind instruction ≡ true → may_trap instruction ≡ false
+numbered : (config : Config) (context : BodyContext) (set : List ℕ) (value : ValType) (instruction : Instr) → kinds_of_bodies config ≡ every_kind → has_features context.features instruction ≡ true → is_kind_enabled every_kind instruction ≡ true → may_trap instruction ≡ false
     → IsNumber instruction → HasInstrType context set instruction [] (value ∷ []) → IsValBelow context.types value value → sets instruction ≡ [] → ¬ HasNoSingle config context set value
 numbered config context set value instruction every has kind calm number typed below sets_none none =
     none.no_number instruction number (permitted context.features config instruction every has kind calm, record { value = value; typed = typed; below = below; sets_none = sets_none })
 
-number_32 : (config : Config) (context : BodyContext) (set : List ℕ) → config.allowed_instructions ≡ every_kind → ¬ HasNoSingle config context set I32
+number_32 : (config : Config) (context : BodyContext) (set : List ℕ) → kinds_of_bodies config ≡ every_kind → ¬ HasNoSingle config context set I32
 number_32 config context set every none = numbered config context set I32 (instr.I32Const (pos 0)) every refl refl refl tt (refl, refl) tt refl none
 
 both_true : (a b : Bool) → a ≡ true → b ≡ true → (a && b) ≡ true
@@ -71,7 +71,7 @@ has_index : (types : List SubType) (index : ℕ) (t : SubType) → slice_get typ
 has_index types index t at few = let inside : index < length types = slice_get_within types index t at in omega (arith, inside, few)
 
 -- an i31 has a value of two instructions
-no_i31 : (config : Config) (context : BodyContext) (set : List ℕ) (more : ℕ) (tried : Bool) (wanted : ValType) (shared : Bool) → config.allowed_instructions ≡ every_kind → IsTrue context.features.gc → IsSharingOn context shared
+no_i31 : (config : Config) (context : BodyContext) (set : List ℕ) (more : ℕ) (tried : Bool) (wanted : ValType) (shared : Bool) → kinds_of_bodies config ≡ every_kind → IsTrue context.features.gc → IsSharingOn context shared
     → IsValBelow context.types (reference_to (Abstract shared abstract.I31)) wanted → ¬ HasNoValue config context set (suc more) tried wanted
 no_i31 config context set more tried wanted false every gc on below none =
     number_32 config context set every
@@ -82,7 +82,7 @@ no_i31 config context set more tried wanted true every gc on below none =
     (permitted context.features config (instr.Aggregate aggregate.RefI31Shared) every (both_true context.features.gc context.features.shared_everything_threads gc (on refl)) refl refl, record { value = reference_to (Abstract true abstract.I31); typed = (refl, refl); below = below; sets_none = refl }))
 
 -- an external reference has a value of three instructions: a converted i31
-no_external : (config : Config) (context : BodyContext) (set : List ℕ) (tried : Bool) (wanted : ValType) (shared : Bool) → config.allowed_instructions ≡ every_kind → IsTrue context.features.gc → IsSharingOn context shared
+no_external : (config : Config) (context : BodyContext) (set : List ℕ) (tried : Bool) (wanted : ValType) (shared : Bool) → kinds_of_bodies config ≡ every_kind → IsTrue context.features.gc → IsSharingOn context shared
     → IsValBelow context.types (reference_to (Abstract shared abstract.Extern)) wanted → ¬ HasNoValue config context set 2 tried wanted
 no_external config context set tried wanted shared every gc on below none =
     no_i31 config context set 0 tried (internal shared false) shared every gc on (i31_below_any context.types shared)
@@ -90,13 +90,13 @@ no_external config context set tried wanted shared every gc on below none =
     (permitted context.features config (instr.Aggregate aggregate.ExternConvertAny) every gc refl refl, record { value = external shared false; typed = (shared, (false, (refl, refl))); below = below; sets_none = refl }))
 
 -- a reference type with no value isn't nullable, and its heap type is barren
-no_null : (config : Config) (context : BodyContext) (set : List ℕ) (nullable : Bool) (heap_type : HeapType) → config.allowed_instructions ≡ every_kind → IsValid context (Ref (record { nullable = nullable; heap_type = heap_type }))
+no_null : (config : Config) (context : BodyContext) (set : List ℕ) (nullable : Bool) (heap_type : HeapType) → kinds_of_bodies config ≡ every_kind → IsValid context (Ref (record { nullable = nullable; heap_type = heap_type }))
     → HasNoSingle config context set (Ref (record { nullable = nullable; heap_type = heap_type })) → nullable ≡ false
 no_null config context set false heap_type every valid none = refl
 no_null config context set true heap_type every valid none =
     absurd (none.no_null heap_type (permitted context.features config (instr.Reference (reference.Null heap_type)) every valid.0 refl refl, record { value = nullable_to heap_type; typed = (valid.1.heap_type, (refl, refl)); below = record { heap = itself; nullable = λ is. is }; sets_none = refl }))
 
-is_barren : (config : Config) (context : BodyContext) (set : List ℕ) (to : RefType) → length context.types ≤ 2 ^ 32 - 1 → IsValid context (Ref to) → IsTrue context.features.gc → config.allowed_instructions ≡ every_kind → HasNoValue config context set 2 true (Ref to)
+is_barren : (config : Config) (context : BodyContext) (set : List ℕ) (to : RefType) → length context.types ≤ 2 ^ 32 - 1 → IsValid context (Ref to) → IsTrue context.features.gc → kinds_of_bodies config ≡ every_kind → HasNoValue config context set 2 true (Ref to)
     → IsBarren context to.heap_type
 is_barren config context set to few valid gc every none = record {
   no_struct = λ (index, by).
@@ -133,7 +133,7 @@ is_barren config context set to few valid gc every none = record {
   no_external = λ shared on below. no_external config context set true (Ref to) shared every gc on (non_null_below context.types (Abstract shared abstract.Extern) to below) none;
 }
 
-pub barren : (config : Config) (context : BodyContext) (set : List ℕ) (wanted : ValType) → length context.types ≤ 2 ^ 32 - 1 → IsValid context wanted → IsTrue context.features.gc → config.allowed_instructions ≡ every_kind → HasNoOther config context set wanted → IsBarrenReference context wanted
+pub barren : (config : Config) (context : BodyContext) (set : List ℕ) (wanted : ValType) → length context.types ≤ 2 ^ 32 - 1 → IsValid context wanted → IsTrue context.features.gc → kinds_of_bodies config ≡ every_kind → HasNoOther config context set wanted → IsBarrenReference context wanted
 barren config context set I32 few valid gc every none = absurd (number_32 config context set every none.none.0)
 barren config context set I64 few valid gc every none = absurd (numbered config context set I64 (instr.I64Const (pos 0)) every refl refl refl tt (refl, refl) tt refl none.none.0)
 barren config context set F32 few valid gc every none = absurd (numbered config context set F32 (instr.F32Const 0) every refl refl refl tt (refl, refl) tt refl none.none.0)

@@ -1,4 +1,5 @@
--- The types that may have no value without a budget, where all kinds of instructions are allowed.
+-- The types that may have no value without a budget, where bodies may have all kinds of
+-- instructions.
 -- With `disallow_traps`, a body has `unreachable` in place of such a value. Rules of this project.
 use Rattle.std.specs.Prelude.{◌≡◌, ℕ, ◌-◌, ◌^◌, ◌≤◌, Bool, false, IsTrue, List, length, slice_get, Some}
 use Rattle.std.specs.List.{Contains}
@@ -14,6 +15,7 @@ use Rattle.smith_types.specs.declared.value_type.HeapType.TheVariants.{Abstract}
 use Rattle.smith_types.specs.declared.value_type.ValType.{ValType}
 use Rattle.smith_types.specs.declared.value_type.ValType.TheVariants.{Ref}
 use Rattle.smith_instr.specs.Contexts.{BodyContext, IsValid, created_reference, reference_to_function}
+use Rattle.smith_code_nodes.specs.Scopes.{kinds_of_bodies}
 use Rattle.smith_code.specs.Laws.{HasNoOther}
 
 -- references of this sharedness may be created
@@ -34,10 +36,10 @@ abbrev pub IsBarrenReference : BodyContext → ValType → Type 0
 IsBarrenReference context (Ref to) = (to.nullable ≡ false) × IsBarren context to.heap_type
 IsBarrenReference context _ = ⊥
 
--- with garbage collection and all kinds of instructions, a valid type for which no permitted
--- instructions produce a value without a budget is such a reference type
+-- with garbage collection, where bodies may have all kinds of instructions, a valid type for which
+-- no permitted instructions produce a value without a budget is such a reference type
 abbrev pub OnlyBarrenTypesHaveNoOther : Type 0
 OnlyBarrenTypesHaveNoOther =
     (config : Config) (context : BodyContext) (set : List ℕ) (wanted : ValType)
-    → length context.types ≤ 2 ^ 32 - 1 → IsValid context wanted → IsTrue context.features.gc → config.allowed_instructions ≡ every_kind
+    → length context.types ≤ 2 ^ 32 - 1 → IsValid context wanted → IsTrue context.features.gc → kinds_of_bodies config ≡ every_kind
     → HasNoOther config context set wanted → IsBarrenReference context wanted

@@ -1,5 +1,5 @@
-//! Laws of values that need no budget: for which types there are none, where all kinds of
-//! instructions are allowed, and what grounds these types.
+//! Laws of values that need no budget: for which types there are none, where bodies may have all
+//! kinds of instructions, and what grounds these types.
 #![tactic(auto)]
 
 mod examples;
@@ -7,10 +7,10 @@ mod examples;
 ghost use Rattle.smith_code_law.specs.Barren.{OnlyBarrenTypesHaveNoOther};
 ghost use Rattle.smith_code_law.specs.Unnamed.{BarrenTypesAreGroundedByUnnamedFunctions};
 
-/// States that, with garbage collection and all kinds of instructions, only barren types have no value
-/// that needs no budget. These are non-nullable references to heap types below which there is nothing
-/// that can be created or named. With `disallow_traps`, a body has `unreachable` in place of values of
-/// such types alone.
+/// States that, with garbage collection and where bodies may have all kinds of instructions, only
+/// barren types have no value that needs no budget. These are non-nullable references to heap types
+/// below which there is nothing that can be created or named. With `disallow_traps`, a body has
+/// `unreachable` in place of values of such types alone.
 pub fn only_barren_types_have_no_other()
     ensures { OnlyBarrenTypesHaveNoOther }
 {}

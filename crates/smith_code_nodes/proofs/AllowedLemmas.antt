@@ -12,7 +12,7 @@ use Rattle.smith_instr.specs.declared.instr.Instr.{Instr}
 use Rattle.smith_instr.specs.declared.control.BlockType.{BlockType}
 use Rattle.smith_instr.specs.declared.control.Catch.{Catch}
 use Rattle.smith_instr.specs.declared.instr.Instr.TheVariants as instr
-use Rattle.smith_code_nodes.specs.Scopes.{is_permitted, IsAllowedIn}
+use Rattle.smith_code_nodes.specs.Scopes.{is_permitted, kinds_of_bodies, IsAllowedIn}
 use Rattle.smith_code_nodes.specs.Traps.{may_trap, IsTrapless}
 use Rattle.smith_code_nodes.specs.declared.scope.Scope.{Scope}
 use Rattle.smith_code_nodes.specs.Nodes.{IsHeadAllowed, is_drop_allowed, is_head_allowed}
@@ -30,12 +30,12 @@ parts true false traps h = (refl, λ yes no. false≢true yes)
 pub permitted_allowed : (scope : Scope) (instruction : Instr) → IsTrue (is_permitted (features_in scope.features) scope.config.now instruction) → IsAllowedIn scope instruction
 unfolding is_permitted
 permitted_allowed scope instruction permitted =
-    let (enabled, harmless) = parts (is_enabled (features_in scope.features) scope.config.now.allowed_instructions instruction) scope.config.now.disallow_traps (may_trap instruction) permitted in
+    let (enabled, harmless) = parts (is_enabled (features_in scope.features) (kinds_of_bodies scope.config.now) instruction) scope.config.now.disallow_traps (may_trap instruction) permitted in
     record { enabled = enabled; trapless = λ disallowed traps. absurd (harmless disallowed traps) }
 
-pub all_enabled : (scope : Scope) (body : List Instr) → All (IsAllowedIn scope) body → All (IsEnabled (features_in scope.features) scope.config.now.allowed_instructions) body
+pub all_enabled : (scope : Scope) (body : List Instr) → All (IsAllowedIn scope) body → All (IsEnabled (features_in scope.features) (kinds_of_bodies scope.config.now)) body
 all_enabled scope body allowed =
-    All-weaker (IsAllowedIn scope) (IsEnabled (features_in scope.features) scope.config.now.allowed_instructions) (λ (instruction : Instr) (h : IsAllowedIn scope instruction). h.enabled) body allowed
+    All-weaker (IsAllowedIn scope) (IsEnabled (features_in scope.features) (kinds_of_bodies scope.config.now)) (λ (instruction : Instr) (h : IsAllowedIn scope instruction). h.enabled) body allowed
 
 pub all_trapless : (scope : Scope) (body : List Instr) → All (IsAllowedIn scope) body → IsTrue scope.config.now.disallow_traps → All IsTrapless body
 all_trapless scope body allowed disallowed = All-weaker (IsAllowedIn scope) IsTrapless (λ (instruction : Instr) (h : IsAllowedIn scope instruction). h.trapless disallowed) body allowed
@@ -53,7 +53,7 @@ shuffled false false k h = refl
 
 try_permitted : (features : Features) (config : Config) (ty : BlockType) (clauses : List Catch) → is_permitted features config (instr.TryTable ty clauses) ≡ (is_permitted features config (instr.Throw 0) && is_permitted features config (instr.Block ty))
 unfolding is_permitted is_enabled
-try_permitted features config ty clauses = shuffled (is_block_enabled features ty) features.exceptions (is_allowed config.allowed_instructions kind.Control) (not config.disallow_traps || true)
+try_permitted features config ty clauses = shuffled (is_block_enabled features ty) features.exceptions (is_allowed (kinds_of_bodies config) kind.Control) (not config.disallow_traps || true)
 
 pub try_forbidden : (features : Features) (config : Config) (ty : BlockType) (clauses : List Catch) (drop : Bool) → is_permitted features config (instr.Throw 0) ≡ false → false ≡ (is_permitted features config (instr.TryTable ty clauses) && drop)
 try_forbidden features config ty clauses drop off = rw (try_permitted features config ty clauses, off) refl

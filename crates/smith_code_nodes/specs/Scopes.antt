@@ -1,7 +1,8 @@
 -- The context in which a body is drawn.
-use Rattle.std.specs.Prelude.{◌≡◌, ℕ, ◌+◌, ◌*◌, ◌≤◌, ◌-◌, ◌^◌, ◌&&◌, ◌||◌, not, Bool, IsTrue, min, max, List, [], ◌∷◌, length, slice_get, Some, All}
+use Rattle.std.specs.Prelude.{◌≡◌, ℕ, ◌+◌, ◌*◌, ◌≤◌, ◌-◌, ◌^◌, ◌&&◌, ◌||◌, not, Bool, IsTrue, min, max, List, [], ◌∷◌, length, slice_get, Some, All, bit_and, if◌then◌else◌}
 use Rattle.smith_types.specs.FeatureBits.{features_in}
 use Rattle.smith_types.specs.Features.{Features}
+use Rattle.smith_types.specs.Instructions.{float_bits, kinds_bits}
 use Rattle.smith_types.specs.Types.{IsOrderly}
 use Rattle.smith_types.specs.Entities.{IsFuncAt, IsFuncTypeIndex, IsMemoryValid, IsTagValid}
 use Rattle.smith_types.specs.Expressions.{field_values}
@@ -13,6 +14,7 @@ use Rattle.smith_types.specs.declared.composite_type.FuncType.{FuncType}
 use Rattle.smith_types.specs.declared.composite_type.SubType.{SubType}
 use Rattle.smith_types.specs.declared.entity_type.GlobalType.{GlobalType}
 use Rattle.smith_types.specs.declared.entity_type.TableType.{TableType}
+use Rattle.smith_types.specs.declared.instruction_kind.InstructionKinds.{InstructionKinds}
 use Rattle.smith_config.specs.declared.config.Config.{Config}
 use Rattle.smith_draw.specs.ConstScopes.{fields_of}
 use Rattle.smith_instr.specs.Contexts.{BodyContext, AreValid, IsRefValid}
@@ -50,15 +52,23 @@ bare scope = context_of scope []
 abbrev pub where_stands : Scope → Draft → BodyContext
 where_stands scope draft = context_of scope draft.labels.items
 
--- an instruction may be chosen: it is enabled, and with `disallow_traps` it doesn't trap
+-- the kinds of instructions that bodies may have: the allowed kinds, and unless `allow_floats` is
+-- set without the bits that concern floats (own rule)
+abbrev pub kinds_of_bodies : Config → InstructionKinds
+kinds_of_bodies config =
+    if config.allow_floats then config.allowed_instructions
+    else record { 0 = bit_and (kinds_bits config.allowed_instructions) (2 ^ 16 - 1 - float_bits) }
+
+-- an instruction may be chosen: it is enabled, by the kinds that bodies may have, and with
+-- `disallow_traps` it doesn't trap
 unfoldable pub is_permitted : Features → Config → Instr → Bool
 is_permitted features config instruction =
-    is_enabled features config.allowed_instructions instruction && (not config.disallow_traps || not (may_trap instruction))
+    is_enabled features (kinds_of_bodies config) instruction && (not config.disallow_traps || not (may_trap instruction))
 
--- an instruction that may be used in a scope: it is enabled, and with `disallow_traps` it does not
--- trap, or is `unreachable`
+-- an instruction that may be used in a scope: it is enabled, by the kinds that bodies may have, and
+-- with `disallow_traps` it does not trap, or is `unreachable`
 pub record IsAllowedIn (scope : Scope) (instruction : Instr) : Type 0 where
-  pub enabled : IsEnabled (features_in scope.features) scope.config.now.allowed_instructions instruction
+  pub enabled : IsEnabled (features_in scope.features) (kinds_of_bodies scope.config.now) instruction
   pub trapless : IsTrue scope.config.now.disallow_traps → IsTrapless instruction
 
 -- the number of items that have an index (Structure, Indices)

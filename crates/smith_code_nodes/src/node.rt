@@ -5,7 +5,7 @@ ghost use Rattle.smith_types.specs.declared.value_type.ValType.{ValType as Val};
 ghost use Rattle.smith_types.specs.declared.value_type.ValType.TheVariants.{I32};
 ghost use Rattle.smith_instr.specs.declared.control.Catch.{Catch as Clause};
 ghost use Rattle.smith_instr.specs.declared.instr.Instr.TheVariants as instr;
-ghost use Rattle.smith_code_nodes.specs.Scopes.{IsAllowedIn, is_permitted};
+ghost use Rattle.smith_code_nodes.specs.Scopes.{IsAllowedIn, is_permitted, kinds_of_bodies};
 ghost use Rattle.smith_code_nodes.specs.Nodes.{IsHeadAllowed, IsNodeAllowed, blocked, fitting};
 ghost use Rattle.smith_code_nodes.specs.Nodes.{head_instruction, head_params, is_drop_allowed};
 ghost use Rattle.smith_code_nodes.specs.Nodes.{is_head_allowed, is_node_allowed, node_of, setting};
@@ -14,8 +14,9 @@ ghost use Rattle.smith_code_nodes.specs.Nodes.{trying};
 use crate::scope::Scope;
 use crate::traps::may_trap;
 use smith_bytes::Error;
+use smith_config::Config;
 use smith_instr::{BlockType, Catch, Instr};
-use smith_types::{Items, ValType};
+use smith_types::{InstructionKinds, Items, ValType};
 use std::alloc::Global;
 
 /// The parameters and results of a block.
@@ -293,8 +294,19 @@ pub fn is_allowed(scope: &Scope<'_>, instruction: &Instr) -> bool
         ≡ is_permitted (features_in scope.now.features) scope.now.config.now instruction.now }
     ensures allowed { IsTrue result → IsAllowedIn scope.now instruction.now }
 {
-    if !instruction.is_enabled(scope.features, scope.config.allowed_instructions) {
+    if !instruction.is_enabled(scope.features, kinds_of_bodies(scope.config)) {
         return false;
     }
     !scope.config.disallow_traps || !may_trap(instruction)
+}
+
+/// Returns the kinds of instructions that bodies may have: those that `config` allows, without
+/// those on floats unless it allows floats.
+fn kinds_of_bodies(config: &Config) -> InstructionKinds
+    ensures { result ≡ kinds_of_bodies config.now }
+{
+    if config.allow_floats {
+        return config.allowed_instructions;
+    }
+    config.allowed_instructions.without_floats()
 }

@@ -14,8 +14,8 @@ use smith_types::{
 pub struct Scope<'a> {
     /// The features that are on.
     pub features: WasmFeatures,
-    /// The configuration: the allowed kinds of instructions, whether they may trap, and the weights
-    /// of offsets into memories.
+    /// The configuration: the kinds of instructions that bodies may have, whether they may trap, and
+    /// the weights of offsets into memories.
     pub config: &'a Config,
     /// The types.
     pub types: &'a TypeSpace,
