@@ -29,7 +29,7 @@ use Rattle.smith_rules.specs.Module.{ModuleParts, IsValid, module_features, modu
 use Rattle.smith_instr.specs.Enabled.{IsEnabled}
 use Rattle.smith_instr.specs.Sequences.{IsBodyTyped}
 use Rattle.smith_instr.specs.declared.instr.Instr.{Instr}
-use Rattle.smith_code_nodes.specs.Scopes.{most, IsScope}
+use Rattle.smith_code_nodes.specs.Scopes.{kinds_of_bodies, most, IsScope}
 use Rattle.smith_code_nodes.specs.Traps.{IsTrapless}
 use Rattle.smith_code.specs.Leaves.{longest_leaf}
 use Rattle.smith_code.specs.Stops.{HasNeededStops}
@@ -133,7 +133,7 @@ not_raw (Arbitrary bytes) other = λ raw. other bytes refl
 
 -- the drawn body of a function is that of the function at its place
 pub drawn_at : (m : ModuleParts) (place : ℕ) (given : Code) (function : FuncType) (instructions : List Instr) → given ≡ get_or m.code place given → ¬ IsRaw given.instructions → HasDefinedType m place function
-    → IsBodyTyped (function_context m function given.locals) instructions → All (IsEnabled (module_features m) m.config.allowed_instructions) instructions → (IsTrue m.config.disallow_traps → All IsTrapless instructions)
+    → IsBodyTyped (function_context m function given.locals) instructions → All (IsEnabled (module_features m) (kinds_of_bodies m.config)) instructions → (IsTrue m.config.disallow_traps → All IsTrapless instructions)
     → (0 < m.config.max_instructions → HasNeededStops m.config (function_context m function given.locals) instructions) → length instructions ≤ 1 + longest_leaf m.config m.types * (length function.results + most m.types * m.config.max_instructions)
     → (code : Code) → slice_get m.code place ≡ Some code → (¬ IsRaw code.instructions) × IsDrawnAt m place code instructions
 drawn_at m place given function instructions read drawn there typed enabled trapless needed short code at =

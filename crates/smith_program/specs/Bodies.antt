@@ -12,7 +12,7 @@ use Rattle.smith_instr.specs.Contexts.{BodyContext}
 use Rattle.smith_instr.specs.Enabled.{IsEnabled}
 use Rattle.smith_instr.specs.Sequences.{IsBodyTyped}
 use Rattle.smith_instr.specs.declared.instr.Instr.{Instr}
-use Rattle.smith_code_nodes.specs.Scopes.{most}
+use Rattle.smith_code_nodes.specs.Scopes.{kinds_of_bodies, most}
 use Rattle.smith_code_nodes.specs.Traps.{IsTrapless}
 use Rattle.smith_code.specs.Leaves.{longest_leaf}
 use Rattle.smith_code.specs.Stops.{HasNeededStops}
@@ -53,12 +53,13 @@ pub record IsBodyAt (m : ModuleParts) (place : ℕ) (code : Code) (instructions 
   pub there : HasDefinedType m place function
   pub typed : IsBodyTyped (function_context m function code.locals) instructions
 
--- the same; the instructions are enabled, no more than the budget of a body allows, and with
--- `disallow_traps` only `unreachable` may trap, which is only in place of a value that no other
--- instructions produce without a budget, unless the budget is 0 (own rules)
+-- the same; the instructions are enabled, those on floats only with `allow_floats`, no more than the
+-- budget of a body allows, and with `disallow_traps` only `unreachable` may trap, which is only in
+-- place of a value that no other instructions produce without a budget, unless the budget is 0 (own
+-- rules)
 pub record IsDrawnAt (m : ModuleParts) (place : ℕ) (code : Code) (instructions : List Instr) : Type 0 where
   pub body : IsBodyAt m place code instructions
-  pub enabled : All (IsEnabled (module_features m) m.config.allowed_instructions) instructions
+  pub enabled : All (IsEnabled (module_features m) (kinds_of_bodies m.config)) instructions
   pub trapless : IsTrue m.config.disallow_traps → All IsTrapless instructions
   pub needed : 0 < m.config.max_instructions → HasNeededStops m.config (function_context m body.function code.locals) instructions
   pub short : length instructions ≤ 1 + longest_leaf m.config m.types * (length body.function.results + most m.types * m.config.max_instructions)

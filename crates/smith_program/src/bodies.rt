@@ -14,7 +14,7 @@ ghost use Rattle.smith_program.specs.Named.{IsNamed};
 ghost use Rattle.smith_code.specs.Bodies.{body_at};
 ghost use Rattle.smith_code.specs.Leaves.{longest_leaf};
 ghost use Rattle.smith_code.specs.Stops.{HasNeededStops};
-ghost use Rattle.smith_code_nodes.specs.Scopes.{most};
+ghost use Rattle.smith_code_nodes.specs.Scopes.{kinds_of_bodies, most};
 ghost use Rattle.smith_code_nodes.specs.Traps.{IsTrapless};
 
 use crate::program::Body;
@@ -154,7 +154,7 @@ fn draw_instructions(
     ensures typed { IfOk result
         (IsBodyTyped (function_context «module».now function.now code.now.locals)) }
     ensures enabled { IfOk result
-        (All (IsEnabled (module_features «module».now) «module».now.config.allowed_instructions)) }
+        (All (IsEnabled (module_features «module».now) (kinds_of_bodies «module».now.config))) }
     ensures trapless { IsTrue «module».now.config.disallow_traps → IfOk result (All IsTrapless) }
     ensures needed { 0 < «module».now.config.max_instructions
         → IfOk result (HasNeededStops «module».now.config
