@@ -17,7 +17,7 @@ use Rattle.smith_code_nodes.specs.Offered.{chunk_at, function_at, is_callable, i
 use Rattle.smith_code_nodes.specs.Scopes.{indexed}
 use Rattle.smith_code_nodes.specs.declared.node.Node.{Node}
 use Rattle.smith_code_nodes.proofs.ChosenLemmas.{same_item, chosen_by, no_count, no_index}
-use Rattle.smith_code.specs.Choices.{allowed_choice_at, any_call_at, any_call_node, call_at, call_node, drop_at, dropped_at, global_set_at, global_set_node, set_at, set_node, statement_choice_at, statement_families, statement_of, tee_at, tee_node, value_choice_at, value_families, value_of}
+use Rattle.smith_code.specs.Choices.{allowed_choice_at, any_call_at, any_call_node, call_at, call_node, drop_at, dropped_at, dropped_types, global_set_at, global_set_node, set_at, set_node, statement_choice_at, statement_families, statement_of, tee_at, tee_node, value_choice_at, value_families, value_of}
 use Rattle.smith_code.specs.declared.families.StatementFamily.{StatementFamily}
 use Rattle.smith_code.specs.declared.families.StatementFamily.TheVariants as statement
 use Rattle.smith_code.specs.declared.families.ValueFamily.{ValueFamily}
@@ -95,27 +95,27 @@ global_set_there context bytes left index d drawn inside =
     ∙ ap (λ (o : Option GlobalType). (option_map (λ (global : GlobalType). node_of (global.val_type ∷ []) (instr.GlobalSet index) 0) o, left)) (slice_get-get_or context.globals index d inside)
 
 -- a value that is dropped
-pub dropped_by : (locals : List ValType) (bytes left : List ℕ) (place : ℕ) (value : ValType) → range_at 0 (length locals + 3) bytes ≡ (place, left) → slice_index_or (I32 ∷ I64 ∷ F32 ∷ F64 ∷ locals) place I32 ≡ value
-    → dropped_at locals bytes ≡ (value, left)
+pub dropped_by : (config : Config) (locals : List ValType) (bytes left : List ℕ) (place : ℕ) (value : ValType) → range_at 0 (length locals + 3) bytes ≡ (place, left) → slice_index_or (dropped_types config locals) place I32 ≡ value
+    → dropped_at config locals bytes ≡ (value, left)
 unfolding dropped_at chosen_at
-dropped_by locals bytes left place value drawn is =
-    let count : length (I32 ∷ I64 ∷ F32 ∷ F64 ∷ locals) - 1 ≡ length locals + 3 = omega arith in
-    let drawn' : range_at 0 (length (I32 ∷ I64 ∷ F32 ∷ F64 ∷ locals) - 1) bytes ≡ (place, left) = ap (λ (n : ℕ). range_at 0 n bytes) count ∙ drawn in
+dropped_by config locals bytes left place value drawn is =
+    let count : length (dropped_types config locals) - 1 ≡ length locals + 3 = omega arith in
+    let drawn' : range_at 0 (length (dropped_types config locals) - 1) bytes ≡ (place, left) = ap (λ (n : ℕ). range_at 0 n bytes) count ∙ drawn in
     rw (drawn', is) refl
 
-pub dropped_local : (locals : List ValType) (place : ℕ) (d : ValType) → 4 ≤ place → place - 4 < length locals → slice_index_or (I32 ∷ I64 ∷ F32 ∷ F64 ∷ locals) place I32 ≡ get_or locals (place - 4) d
-dropped_local locals zero d above inside = absurd (omega arith)
-dropped_local locals (suc zero) d above inside = absurd (omega arith)
-dropped_local locals (suc (suc zero)) d above inside = absurd (omega arith)
-dropped_local locals (suc (suc (suc zero))) d above inside = absurd (omega arith)
-dropped_local locals (suc (suc (suc (suc k)))) d above inside =
+pub dropped_local : (config : Config) (locals : List ValType) (place : ℕ) (d : ValType) → 4 ≤ place → place - 4 < length locals → slice_index_or (dropped_types config locals) place I32 ≡ get_or locals (place - 4) d
+dropped_local config locals zero d above inside = absurd (omega arith)
+dropped_local config locals (suc zero) d above inside = absurd (omega arith)
+dropped_local config locals (suc (suc zero)) d above inside = absurd (omega arith)
+dropped_local config locals (suc (suc (suc zero))) d above inside = absurd (omega arith)
+dropped_local config locals (suc (suc (suc (suc k)))) d above inside =
     let same : suc (suc (suc (suc k))) - 4 ≡ k = omega arith in
     let inside' : k < length locals = rw same at inside in
     rw same (same_item locals k I32 d inside')
 
-pub drop_by : (context : BodyContext) (bytes left : List ℕ) (value : ValType) → dropped_at context.locals bytes ≡ (value, left) → drop_at context bytes ≡ (Some (node_of (value ∷ []) instr.Drop 0), left)
+pub drop_by : (config : Config) (context : BodyContext) (bytes left : List ℕ) (value : ValType) → dropped_at config context.locals bytes ≡ (value, left) → drop_at config context bytes ≡ (Some (node_of (value ∷ []) instr.Drop 0), left)
 unfolding drop_at
-drop_by context bytes left value drawn = ap (λ (d : ValType × List ℕ). (Some (node_of (d.0 ∷ []) instr.Drop 0), d.1)) drawn
+drop_by config context bytes left value drawn = ap (λ (d : ValType × List ℕ). (Some (node_of (d.0 ∷ []) instr.Drop 0), d.1)) drawn
 
 pub value_by : (config : Config) (context : BodyContext) (wanted : ValType) (bytes left : List ℕ) (families : List ValueFamily) (drawn_family family : ValueFamily) → families ≡ value_families wanted → chosen_at value.Leaf families bytes ≡ (drawn_family, left) → drawn_family ≡ family
     → value_choice_at config context wanted bytes ≡ value_of config context wanted family left

@@ -218,12 +218,17 @@ allowed_choice_at config context wanted bytes =
     let chosen = value_choice_at config context wanted bytes in
     (if_allowed context.features config chosen.0, chosen.1)
 
--- a value that is dropped: of a number type, or of the type of a local
-unfoldable pub dropped_at : List ValType → List ℕ → ValType × List ℕ
-dropped_at locals bytes = chosen_at I32 (I32 ∷ I64 ∷ F32 ∷ F64 ∷ locals) bytes
+-- the types of values that are dropped: number types, of which a float is the integer of its width
+-- unless floats are allowed, and the types of the locals
+abbrev pub dropped_types : Config → List ValType → List ValType
+dropped_types config locals = I32 ∷ I64 ∷ (if config.allow_floats then F32 else I32) ∷ (if config.allow_floats then F64 else I64) ∷ locals
 
-unfoldable pub drop_at : BodyContext → List ℕ → Chosen
-drop_at context bytes = let value = dropped_at context.locals bytes in (Some (node_of (value.0 ∷ []) instr.Drop 0), value.1)
+-- the type of a value that is dropped
+unfoldable pub dropped_at : Config → List ValType → List ℕ → ValType × List ℕ
+dropped_at config locals bytes = chosen_at I32 (dropped_types config locals) bytes
+
+unfoldable pub drop_at : Config → BodyContext → List ℕ → Chosen
+drop_at config context bytes = let value = dropped_at config context.locals bytes in (Some (node_of (value.0 ∷ []) instr.Drop 0), value.1)
 
 -- a local that is set
 abbrev pub set_node : BodyContext → ℕ → Option Node
@@ -285,7 +290,7 @@ statement_families =
 -- a statement of a family; none for `nop`
 abbrev pub statement_of : Config → BodyContext → StatementFamily → List ℕ → Chosen
 statement_of config context statement.Nop bytes = (None, bytes)
-statement_of config context statement.Drop bytes = drop_at context bytes
+statement_of config context statement.Drop bytes = drop_at config context bytes
 statement_of config context statement.GlobalSet bytes = global_set_at context bytes
 statement_of config context statement.Call bytes = any_call_at context bytes
 statement_of config context statement.Block bytes = any_block_at context bytes

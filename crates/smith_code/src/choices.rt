@@ -235,7 +235,8 @@ pub(crate) fn choose_statement(
     }
 }
 
-/// Chooses a value that is dropped, of a number type or of the type of a local.
+/// Chooses a value that is dropped, of a number type or of the type of a local. Without floats an
+/// integer comes in place of a float.
 fn choose_drop(
     alloc: Global,
     scope: &Scope<'_>,
@@ -244,7 +245,8 @@ fn choose_drop(
 ) -> Result<Node, Error>
     requires scope { IsScope (bare scope.now) }
     ensures exact { IfOk result (λ node.
-        or_nop (drop_at (where_stands scope.now draft.now) u.old) ≡ (node, u.new)) }
+        or_nop (drop_at scope.now.config.now (where_stands scope.now draft.now) u.old)
+        ≡ (node, u.new)) }
     ensures node { IfOk result (IsNode (where_stands scope.now draft.now) draft.now.set.items []) }
     ensures memory { IfErr result (λ e. e ≡ Error.Memory) }
     ensures left { KeepsPieces u.old u.new }
@@ -255,7 +257,7 @@ fn choose_drop(
 
 fn draw_dropped(scope: &Scope<'_>, u: &mut Unstructured<'_>) -> ValType
     requires scope { IsScope (bare scope.now) }
-    ensures exact { dropped_at scope.now.locals.now u.old ≡ (result, u.new) }
+    ensures exact { dropped_at scope.now.config.now scope.now.locals.now u.old ≡ (result, u.new) }
     ensures valid { IsValid (bare scope.now) result }
     ensures left { KeepsPieces u.old u.new }
 {
@@ -263,8 +265,10 @@ fn draw_dropped(scope: &Scope<'_>, u: &mut Unstructured<'_>) -> ValType
     match u.int_in_range(0..=count + 3) {
         0 => ValType::I32,
         1 => ValType::I64,
-        2 => ValType::F32,
-        3 => ValType::F64,
+        2 if scope.config.allow_floats => ValType::F32,
+        3 if scope.config.allow_floats => ValType::F64,
+        2 => ValType::I32,
+        3 => ValType::I64,
         place => {
             if place - 4 < count {
                 return scope.locals[place - 4];

@@ -92,6 +92,8 @@ fn bodies_without_floats()
     ensures comparison { body_at without_floats (function_of [] (I32 ∷ [])) 1
         (0 ∷ 1 ∷ 40 ∷ narrow 7)
         ≡ (number 7 ∷ [], []) }
+    ensures dropped { body_at without_floats (function_of [] []) 1 (1 ∷ 1 ∷ 2 ∷ narrow 7)
+        ≡ (number 7 ∷ instr.Drop ∷ [], []) }
     ensures comparison_of_integers { body_at without_floats (function_of [] (I32 ∷ [])) 1
         (0 ∷ 1 ∷ 30 ∷ wide 5 ++ wide 7)
         ≡ (
