@@ -94,7 +94,7 @@ static WRONG: [(&str, &str); 35] = [
     ),
     (
         r#"{"name": "a", "call": "Unstructured::arbitrary_len", "args": ["1"], "may": ["Ok"]}"#,
-        "not ok a: a key that the call does not read",
+        "not ok a: more arguments than the call has",
     ),
     (
         r#"{"name": "a", "call": "limited_str", "args": ["1", "a"], "may": ["Ok"]}"#,
