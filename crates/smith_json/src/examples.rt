@@ -1,5 +1,5 @@
-// Objects of members, and what they make of the default configuration. The clauses are proved, and
-// nothing calls these functions.
+// Objects of members, and what they make of the default configuration; places in texts. The clauses
+// are proved, and nothing calls these functions.
 
 ghost use Rattle.std.specs.Prelude.{◌≡◌, [], ◌∷◌, Ok, Err, true, codes};
 ghost use Rattle.json.specs.Token.{begin_object, end_object, key, number, string, boolean, null};
@@ -7,6 +7,7 @@ ghost use Rattle.smith_config.specs.Config.{default_config};
 ghost use Rattle.smith_fields.specs.declared.fault.Fault.TheVariants.{UnknownField, RepeatedField};
 ghost use Rattle.smith_fields.specs.declared.fault.Fault.TheVariants.{WrongType, OutOfRange};
 ghost use Rattle.smith_fields.specs.declared.fault.Fault.TheVariants.{NotAnObject};
+ghost use Rattle.smith_json.specs.Lines.{line_of, column_of};
 ghost use Rattle.smith_json.specs.Objects.{ReadsObject};
 
 fn objects()
@@ -35,4 +36,12 @@ fn refusals()
         (Err (OutOfRange, codes "min-uleb-size", default_config)) }
     ensures no_object { ReadsObject default_config (string (codes "max-types") ∷ [])
         (Err (NotAnObject, [], default_config)) }
+{}
+
+fn places()
+    ensures start { (line_of [] ≡ 1) × (column_of [] ≡ 1) }
+    ensures second_line { (line_of (97 ∷ 10 ∷ 98 ∷ 99 ∷ []) ≡ 2)
+        × (column_of (97 ∷ 10 ∷ 98 ∷ 99 ∷ []) ≡ 3) }
+    ensures character_of_two_bytes { column_of (195 ∷ 164 ∷ []) ≡ 2 }
+    ensures no_column_a_byte { ¬ (column_of (195 ∷ 164 ∷ []) ≡ 3) }
 {}

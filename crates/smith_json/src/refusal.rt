@@ -1,5 +1,6 @@
-ghost use Rattle.std.specs.Prelude.{◌≡◌};
+ghost use Rattle.std.specs.Prelude.{◌≡◌, take};
 ghost use Rattle.std.specs.String.{string_bytes};
+ghost use Rattle.smith_json.specs.Lines.{line_of, column_of};
 
 use smith_fields::{Fault, kind_of};
 use std::error::Error;
@@ -30,38 +31,55 @@ pub struct ConfigRefusal {
 }
 
 impl Refusal {
-    /// Returns the refusal with its line and column in `text`, which the reader has read.
+    /// Returns the refusal with the line and the column of its offset in `text`, which the reader has
+    /// read.
     pub fn in_text(self, text: &str) -> ConfigRefusal
-        ensures { (result.fault ≡ self.fault)
+        ensures reason { (result.fault ≡ self.fault)
             × (string_bytes result.field ≡ string_bytes self.field) }
+        ensures line { result.line ≡ line_of (take self.offset text.now) }
+        ensures column { result.column ≡ column_of (take self.offset text.now) }
     {
         let Refusal {
             fault,
             field,
             offset,
         } = self;
-        let (line, column) = place(text.as_bytes(), offset);
+        let before = &text.as_bytes()[..offset.min(text.len())];
         ConfigRefusal {
             fault,
             field,
-            line,
-            column,
+            line: line_of(before),
+            column: column_of(before),
         }
     }
 }
 
-/// Returns the line and the column, both from 1, of the byte at `offset`. A column is a character.
-fn place(text: &[u8], offset: usize) -> (usize, usize) {
-    let (mut line, mut column) = (1usize, 1usize);
-    for byte in &text[..offset.min(text.len())] {
+/// Returns the line, from 1, of the place after the bytes `before`.
+fn line_of(before: &[u8]) -> usize
+    ensures { result ≡ line_of before.now }
+{
+    let mut feeds = 0;
+    for byte in before {
         if *byte == b'\n' {
-            line = line.saturating_add(1);
-            column = 1;
-        } else if *byte & 0xC0 != 0x80 {
-            column = column.saturating_add(1);
+            feeds += 1;
         }
     }
-    (line, column)
+    feeds + 1
+}
+
+/// Returns the column, a character from 1, of the place after the bytes `before`.
+fn column_of(before: &[u8]) -> usize
+    ensures { result ≡ column_of before.now }
+{
+    let mut characters = 0;
+    for byte in before {
+        if *byte == b'\n' {
+            characters = 0;
+        } else if *byte & 0xC0 != 0x80 {
+            characters += 1;
+        }
+    }
+    characters + 1
 }
 
 impl fmt::Display for ConfigRefusal {

@@ -1,0 +1,25 @@
+-- The line and the column of a place in a text, by the bytes before it: both from 1, and a column is a
+-- character. Rules of this project.
+use Rattle.std.specs.Prelude.{ℕ, ◌+◌, List, [], ◌∷◌, Bool, not, ◌==◌, bit_and, if◌then◌else◌, count_by}
+use Rattle.std.specs.List.{list_any}
+
+-- a line feed, which ends a line
+abbrev pub is_feed : ℕ → Bool
+is_feed byte = byte == 10
+
+-- the first byte of a character: in UTF-8 any byte but 10xxxxxx
+abbrev pub begins : ℕ → Bool
+begins byte = not (bit_and byte 192 == 128)
+
+-- the bytes after the last line feed
+abbrev pub last_line : List ℕ → List ℕ
+last_line [] = []
+last_line (byte ∷ bytes) = if list_any is_feed (byte ∷ bytes) then last_line bytes else byte ∷ bytes
+
+-- one more than the number of line feeds
+abbrev pub line_of : List ℕ → ℕ
+line_of before = 1 + count_by is_feed before
+
+-- one more than the number of characters after the last line feed
+abbrev pub column_of : List ℕ → ℕ
+column_of before = 1 + count_by begins (last_line before)
