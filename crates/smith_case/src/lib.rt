@@ -11,8 +11,8 @@
 //!   checksums of the results for generated inputs.
 //! - `args` lists the arguments of the call: numbers in decimal, types and heap types as the text
 //!   format writes them without its abbreviations, function types and entities as shapes write
-//!   them, `true` and `false`, names. The functions of `smith_part_answers` and `smith_answers`
-//!   that make the calls describe each.
+//!   them, `true` and `false`, names. The functions of `smith_answers` that make the calls describe
+//!   each.
 //! - `config` holds the fields of the configuration that are not the default, as `smith_json` reads
 //!   them.
 //! - `available-imports`, `exports` and `module-shape` name the shapes of the configuration,

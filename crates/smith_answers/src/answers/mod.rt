@@ -1,19 +1,40 @@
 //! The answers to calls, each as text.
 
+mod configs;
+mod configured;
+mod constants;
+mod copies;
+mod draws;
+mod entities;
+mod free_types;
+mod made;
+mod matching;
 mod modules;
+mod names;
+mod numbers;
+mod parsers;
 mod programs;
-mod told;
+mod shapes;
+mod sources;
+mod spaces;
+mod subtypes;
+mod type_spaces;
+mod types;
 
+use crate::answers::configs::{answer_config, answer_drawn_config};
+use crate::answers::configured::{answer_read_config, set_config};
+use crate::answers::draws::answer_draw;
 use crate::answers::modules::answer_module;
+use crate::answers::names::answer_name;
+use crate::answers::parsers::answer_parser;
 use crate::answers::programs::answer_program;
+use crate::answers::shapes::answer_shape;
+use crate::answers::sources::answer_source;
+use crate::answers::type_spaces::answer_space;
 use crate::recorded::answer_recorded;
 use smith_case::call::{Call, ConfigCall, call_named};
 use smith_case::{Case, Fault, check_keys, text_or};
 use smith_config::Config;
-use smith_part_answers::{
-    answer_config, answer_draw, answer_drawn_config, answer_name, answer_parser,
-    answer_read_config, answer_shape, answer_source, answer_space, set_config,
-};
 use std::alloc::Global;
 
 /// Returns the answer to the call of `case`, which `line` holds, over the bytes `input`.

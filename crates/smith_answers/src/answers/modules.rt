@@ -1,11 +1,12 @@
-use crate::answers::told::{Fuelled, tell_binary, tell_fuel, tell_text, terminate};
+use crate::answers::configured::taken;
+use crate::answers::made::{Fuelled, tell_binary, tell_fuel, tell_text, terminate};
+use crate::told::{tell_refusal, tell_rest};
 use smith_bytes::{Error, Unstructured};
 use smith_case::arguments::word;
 use smith_case::call::ModuleCall;
 use smith_case::{Case, Fault, Obstacle};
 use smith_config::Config;
 use smith_encode::encode;
-use smith_part_answers::{taken, tell_refusal, tell_rest};
 use smith_text::text;
 use std::alloc::Global;
 use wasm_smith::{DuplicateImportsBehavior, Module};

@@ -1,9 +1,10 @@
-use crate::answers::told::{Fuelled, tell_binary, tell_fuel, tell_text, terminate};
+use crate::answers::configured::taken;
+use crate::answers::made::{Fuelled, tell_binary, tell_fuel, tell_text, terminate};
+use crate::told::{tell_refusal, tell_rest};
 use smith_bytes::{Error, Unstructured};
 use smith_case::call::ProgramCall;
 use smith_case::{Case, Fault, Obstacle};
 use smith_config::Config;
-use smith_part_answers::{taken, tell_refusal, tell_rest};
 use smith_program::Program;
 use smith_program_binary::encode;
 use smith_program_text::text;

@@ -2,7 +2,7 @@ ghost use Rattle.std.specs.Prelude.{◌≡◌, false, length, IsTrue, IfOk};
 ghost use Rattle.smith_config.specs.Features.{features_of};
 ghost use Rattle.smith_types.specs.ValidTypes.{AreTypesValid, IsRefTypeValid, IsValTypeValid};
 
-use crate::spaces::{Over, number_global, spaces_of, with_globals};
+use crate::answers::spaces::{Over, number_global, spaces_of, with_globals};
 use crate::told::{tell_drawn_values, tell_line, tell_pair, tell_refusal, tell_values};
 use smith_bytes::{Error, Unstructured};
 use smith_case::arguments::{value, word};

@@ -28,7 +28,7 @@ pub(crate) fn equality(is_equal: bool) -> &'static str {
 }
 
 /// Appends a line of `first` and `second`.
-pub fn tell_pair<A: Display + Copy, B: Display + Copy>(
+pub(crate) fn tell_pair<A: Display + Copy, B: Display + Copy>(
     first: A,
     second: B,
     answer: &mut String,
@@ -85,7 +85,7 @@ pub(crate) fn tell_types(types: &TypeSpace, answer: &mut String) -> Result<(), F
 }
 
 /// Appends the line of the refusal `refusal`.
-pub fn tell_refusal<T: Debug + Drop>(refusal: T, answer: &mut String) -> Result<(), Fault> {
+pub(crate) fn tell_refusal<T: Debug + Drop>(refusal: T, answer: &mut String) -> Result<(), Fault> {
     or_memory(writeln!(answer, "refused: {refusal:?}"))
 }
 
@@ -98,7 +98,7 @@ pub(crate) fn tell_check(checked: Result<(), Error>, answer: &mut String) -> Res
 }
 
 /// Appends the number of bytes that `u` has left, and the next of these.
-pub fn tell_rest(u: &Unstructured<'_>, answer: &mut String) -> Result<(), Fault> {
+pub(crate) fn tell_rest(u: &Unstructured<'_>, answer: &mut String) -> Result<(), Fault> {
     let count = u.len();
     tell_pair("left", count, answer)?;
     match u.peek_bytes(count.min(MOST_BYTES)) {
@@ -111,7 +111,7 @@ pub fn tell_rest(u: &Unstructured<'_>, answer: &mut String) -> Result<(), Fault>
 const MOST_BYTES: usize = 16;
 
 /// Appends a line of `word` and `bytes` in hexadecimal, if there are any.
-pub fn tell_bytes(word: &str, bytes: &[u8], answer: &mut String) -> Result<(), Fault> {
+pub(crate) fn tell_bytes(word: &str, bytes: &[u8], answer: &mut String) -> Result<(), Fault> {
     if bytes.is_empty() {
         return Ok(());
     }

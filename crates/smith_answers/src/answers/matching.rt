@@ -1,6 +1,6 @@
 ghost use Rattle.smith_config.specs.Sanitized.{IsSanitized};
 
-use crate::spaces::Over;
+use crate::answers::spaces::Over;
 use crate::told::tell_drawn;
 use smith_bytes::Unstructured;
 use smith_case::Fault;

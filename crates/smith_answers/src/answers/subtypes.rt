@@ -1,7 +1,7 @@
 ghost use Rattle.std.specs.Prelude.{◌↔◌, IsTrue};
 ghost use Rattle.smith_types.specs.Subtyping.{IsInRange, IsValInRange};
 
-use crate::spaces::MISSING;
+use crate::answers::spaces::MISSING;
 use crate::told::tell_line;
 use smith_case::arguments::word;
 use smith_case::call::SubtypeCall;

@@ -1,9 +1,9 @@
+use crate::told::{tell_bytes, tell_pair, tell_refusal};
 use sha2::{Digest, Sha256};
 use smith_bytes::Error;
 use smith_case::arguments::value;
 use smith_case::{Case, Fault};
 use smith_encode::EncodeError;
-use smith_part_answers::{tell_bytes, tell_pair, tell_refusal};
 use std::alloc::Global;
 
 /// Appends the text of a module or a program, or the refusal.

@@ -1,4 +1,4 @@
-use crate::copies::answer_copies;
+use crate::answers::copies::answer_copies;
 use crate::told::{tell_bytes, tell_check, tell_line, tell_refusal};
 use smith_bytes::{Error, Which};
 use smith_case::arguments::word;
@@ -11,7 +11,7 @@ use smith_types::Items;
 use std::alloc::Global;
 
 /// Appends the result of `call` on the shape under the key `shape` of `case`, under `config`.
-pub fn answer_shape(
+pub(crate) fn answer_shape(
     alloc: Global,
     case: &Case,
     call: ShapeCall,

@@ -1,14 +1,14 @@
 ghost use Rattle.smith_config.specs.Faults.{Passes};
 ghost use Rattle.smith_config.specs.Sanitized.{IsSanitized};
 
-use crate::constants::answer_constant;
-use crate::entities::answer_entity;
-use crate::free_types::answer_free_type;
-use crate::matching::answer_matching;
-use crate::numbers::answer_number;
-use crate::spaces::{Over, spaces_of, types_of};
+use crate::answers::constants::answer_constant;
+use crate::answers::entities::answer_entity;
+use crate::answers::free_types::answer_free_type;
+use crate::answers::matching::answer_matching;
+use crate::answers::numbers::answer_number;
+use crate::answers::spaces::{Over, spaces_of, types_of};
+use crate::answers::types::answer_types;
 use crate::told::tell_rest;
-use crate::types::answer_types;
 use smith_bytes::Unstructured;
 use smith_case::call::DrawCall;
 use smith_case::{Case, Fault, Obstacle};
@@ -18,7 +18,7 @@ use std::alloc::Global;
 
 /// Appends the result of the draw `call` from `input` over the types of `case`, and the bytes left.
 /// Sanitises `config` first. Fails with `NotCallable` if `config` does not pass its check.
-pub fn answer_draw(
+pub(crate) fn answer_draw(
     alloc: Global,
     case: &Case,
     call: DrawCall,

@@ -11,7 +11,7 @@ use std::mem;
 
 /// Sets the fields and the shapes of `case` in `config`, which is the default. `line` holds the
 /// case.
-pub fn set_config(
+pub(crate) fn set_config(
     alloc: Global,
     line: &str,
     case: &Case,
@@ -22,7 +22,11 @@ pub fn set_config(
 }
 
 /// Appends a line for each argument, a text: its configuration, or the refusal of the text.
-pub fn answer_read_config(alloc: Global, case: &Case, answer: &mut String) -> Result<(), Fault> {
+pub(crate) fn answer_read_config(
+    alloc: Global,
+    case: &Case,
+    answer: &mut String,
+) -> Result<(), Fault> {
     let _first = word(case, 0)?;
     for text in case.args() {
         tell_read(config(alloc, text.as_str()), answer)?;
@@ -49,7 +53,7 @@ fn tell_read_refusal(refusal: &ConfigRefusal, answer: &mut String) -> Result<(),
 }
 
 /// Returns the configuration `config`, and leaves the default in its place.
-pub fn taken(config: &mut Config) -> Config {
+pub(crate) fn taken(config: &mut Config) -> Config {
     mem::replace(config, Config::default())
 }
 

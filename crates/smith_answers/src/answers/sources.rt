@@ -7,7 +7,7 @@ use std::fmt::Display;
 use std::str::FromStr;
 
 /// Appends the result of the draw `call` from `input`, and the bytes left.
-pub fn answer_source(
+pub(crate) fn answer_source(
     case: &Case,
     call: SourceCall,
     input: &[u8],

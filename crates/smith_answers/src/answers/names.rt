@@ -12,7 +12,7 @@ use std::collections::HashSet;
 /// Appends to `answer` the name that `call` draws from `input`, for each call but `limited_str` the
 /// names that are taken afterwards, and the bytes left. The first argument of `case` is the greatest
 /// number of bytes of a name, the others are the names that are taken.
-pub fn answer_name(
+pub(crate) fn answer_name(
     alloc: Global,
     case: &Case,
     call: NameCall,

@@ -7,7 +7,7 @@ use smith_types::WasmFeatures;
 use std::alloc::{AllocError, Global};
 
 /// Appends the result of `call` on `config`.
-pub fn answer_config(
+pub(crate) fn answer_config(
     alloc: Global,
     call: ConfigCall,
     config: &mut Config,
@@ -25,7 +25,7 @@ pub fn answer_config(
 }
 
 /// Appends the configuration drawn from `input`, and its features.
-pub fn answer_drawn_config(input: &[u8], answer: &mut String) -> Result<(), Fault> {
+pub(crate) fn answer_drawn_config(input: &[u8], answer: &mut String) -> Result<(), Fault> {
     match Config::arbitrary(&mut Unstructured::new(input)) {
         Ok(config) => {
             let told = tell_all(&config, answer);

@@ -7,7 +7,11 @@ use smith_types::{InstructionKind, InstructionKinds, UnknownKind};
 use std::str::FromStr;
 
 /// Appends the result of parsing the argument with `call`, or a set of kinds.
-pub fn answer_parser(case: &Case, call: ParserCall, answer: &mut String) -> Result<(), Fault> {
+pub(crate) fn answer_parser(
+    case: &Case,
+    call: ParserCall,
+    answer: &mut String,
+) -> Result<(), Fault> {
     match call {
         ParserCall::Kind => answer_each_kind(case, answer),
         ParserCall::NoKinds => tell_kinds(InstructionKinds::none(), answer),

@@ -1,7 +1,7 @@
 ghost use Rattle.std.specs.Prelude.{IsTrue, IfOk};
 ghost use Rattle.smith_config.specs.Sanitized.{IsSanitized};
 
-use crate::spaces::Over;
+use crate::answers::spaces::Over;
 use crate::told::tell_drawn;
 use smith_bytes::Unstructured;
 use smith_case::arguments::value;

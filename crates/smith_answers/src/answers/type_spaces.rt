@@ -3,8 +3,8 @@ ghost use Rattle.smith_types.specs.Matching.{IsInnerInRange};
 ghost use Rattle.smith_types.specs.Sizes.{IsTyped, size_in};
 ghost use Rattle.smith_types.specs.GroupedTypes.{MayFollow};
 
-use crate::spaces::{MISSING, shape_of_types, types_of};
-use crate::subtypes::answer_subtype;
+use crate::answers::spaces::{MISSING, shape_of_types, types_of};
+use crate::answers::subtypes::answer_subtype;
 use crate::told::{or_memory, tell_drawn_values, tell_line, tell_pair, tell_types};
 use smith_bytes::Error;
 use smith_case::arguments::{value, word};
@@ -18,7 +18,7 @@ use std::alloc::Global;
 
 /// Appends the result of `call` on the type space of `case`, which has the types of the shape under
 /// the key `types`.
-pub fn answer_space(
+pub(crate) fn answer_space(
     alloc: Global,
     case: &Case,
     call: SpaceCall,
