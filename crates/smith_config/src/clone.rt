@@ -1,27 +1,48 @@
-ghost use Rattle.std.specs.Prelude.{◌≡◌, IsOk, IfOk, IfErr};
+ghost use Rattle.std.specs.Prelude.{◌≡◌, IsOk, IfOk, IfErr, OnOk, Ok, Err};
 ghost use Rattle.smith_config.specs.InUse.{HasNoShapes};
 
 use crate::{Config, Shape};
 use smith_bytes::Error;
-use smith_types::CloneIn;
+use smith_types::{CloneIn, Items};
 use std::alloc::Global;
 
 impl CloneIn for Shape {
     fn clone_in(&self, alloc: Global) -> Result<Shape, Error> {
-        Ok(Shape {
-            groups: self.groups.clone_in(alloc)?,
-            imports: self.imports.clone_in(alloc)?,
-            funcs: self.funcs.copy_in(alloc)?,
-            tags: self.tags.copy_in(alloc)?,
-            tables: self.tables.copy_in(alloc)?,
-            memories: self.memories.copy_in(alloc)?,
-            globals: self.globals.copy_in(alloc)?,
-            exports: self.exports.clone_in(alloc)?,
-        })
+        let mut copy = Shape::empty(alloc);
+        copy_parts(self, alloc, &mut copy).and(Ok(copy))
     }
 }
 
+// Makes the parts of `copy` copies of those of `shape`.
+fn copy_parts(shape: &Shape, alloc: Global, copy: &mut Shape) -> Result<(), Error>
+    ensures ok { OnOk result (copy.new ≡ shape.now) }
+    ensures memory { IfErr result (λ e. e ≡ Error.Memory) }
+{
+    put(shape.groups.clone_in(alloc), &mut copy.groups)?;
+    put(shape.imports.clone_in(alloc), &mut copy.imports)?;
+    put(shape.funcs.copy_in(alloc), &mut copy.funcs)?;
+    put(shape.tags.copy_in(alloc), &mut copy.tags)?;
+    put(shape.tables.copy_in(alloc), &mut copy.tables)?;
+    put(shape.memories.copy_in(alloc), &mut copy.memories)?;
+    put(shape.globals.copy_in(alloc), &mut copy.globals)?;
+    put(shape.exports.clone_in(alloc), &mut copy.exports)
+}
+
 impl Shape {
+    // Creates a shape without parts.
+    fn empty(alloc: Global) -> Self {
+        Shape {
+            groups: Items::new(alloc),
+            imports: Items::new(alloc),
+            funcs: Items::new(alloc),
+            tags: Items::new(alloc),
+            tables: Items::new(alloc),
+            memories: Items::new(alloc),
+            globals: Items::new(alloc),
+            exports: Items::new(alloc),
+        }
+    }
+
     /// Copies the shape into memory from `alloc`.
     pub fn clone(&self, alloc: Global) -> Result<Self, Error>
         ensures ok { IfOk result (λ copy. copy ≡ self.now) }
@@ -39,13 +60,42 @@ impl Config {
         ensures memory { IfErr result (λ e. e ≡ Error.Memory) }
         ensures shapeless { HasNoShapes self.now → IsOk result }
     {
-        Ok(Config {
-            available_imports: copy_of(&self.available_imports, alloc)?,
-            exports: copy_of(&self.exports, alloc)?,
-            module_shape: copy_of(&self.module_shape, alloc)?,
+        let mut copy = Config {
+            available_imports: None,
+            exports: None,
+            module_shape: None,
             ..*self
-        })
+        };
+        copy_shapes(self, alloc, &mut copy).and(Ok(copy))
     }
+}
+
+// Makes the shapes of `copy` copies of those of `config`.
+fn copy_shapes(config: &Config, alloc: Global, copy: &mut Config) -> Result<(), Error>
+    ensures ok { OnOk result (copy.new ≡ record copy.old {
+      available_imports = config.now.available_imports;
+      exports = config.now.exports;
+      module_shape = config.now.module_shape;
+    }) }
+    ensures memory { IfErr result (λ e. e ≡ Error.Memory) }
+    ensures shapeless { HasNoShapes config.now → IsOk result }
+{
+    put(
+        copy_of(&config.available_imports, alloc),
+        &mut copy.available_imports,
+    )?;
+    put(copy_of(&config.exports, alloc), &mut copy.exports)?;
+    put(copy_of(&config.module_shape, alloc), &mut copy.module_shape)
+}
+
+// Puts the value that is made into `slot`.
+fn put<T: Drop>(made: Result<T, Error>, slot: &mut T) -> Result<(), Error>
+    ensures ok { OnOk result (made ≡ Ok slot.new) }
+    ensures err { IfErr result (λ e. made ≡ Err e) }
+    ensures succeeds { IsOk made → IsOk result }
+{
+    *slot = made?;
+    Ok(())
 }
 
 fn copy_of(shape: &Option<Shape>, alloc: Global) -> Result<Option<Shape>, Error>
