@@ -44,15 +44,14 @@ impl Config {
     fn undrawn() -> Config
         ensures { result ≡ undrawn_config }
     {
-        Config {
-            max_components: 0,
-            max_instances: 0,
-            max_modules: 0,
-            max_values: 0,
-            allowed_instructions: InstructionKinds::none(),
-            wide_arithmetic_enabled: false,
-            ..Config::default()
-        }
+        let mut config = Config::default();
+        config.max_components = 0;
+        config.max_instances = 0;
+        config.max_modules = 0;
+        config.max_values = 0;
+        config.allowed_instructions = InstructionKinds::none();
+        config.wide_arithmetic_enabled = false;
+        config
     }
 
     #[tactic(auto, unfolding(crate::specs::Arbitrary::maximums_at))]

@@ -1,4 +1,4 @@
-ghost use Rattle.std.specs.Prelude.{◌≡◌};
+ghost use Rattle.std.specs.Prelude.{◌≡◌, None};
 ghost use Rattle.smith_config.specs.Sanitized.{sanitized, IsSanitized, IsLowered};
 
 use crate::Config;
@@ -13,6 +13,13 @@ impl Config {
         ensures lowered { IsLowered self.old self.new }
         ensures once { sanitized self.new ≡ self.new }
         ensures kept { IsSanitized self.old → self.new ≡ self.old }
+    {
+        self.lower();
+    }
+
+    // Sets each field to its sanitised value.
+    fn lower(&mut self)
+        ensures { self.new ≡ sanitized self.old }
     {
         if !self.reference_types_enabled {
             self.max_tables = self.max_tables.min(1);
@@ -32,8 +39,15 @@ impl Config {
             self.acquire_release_atomics_enabled = false;
         }
         if self.module_shape.is_some() {
-            self.available_imports = None;
-            self.exports = None;
+            clear(&mut self.available_imports);
+            clear(&mut self.exports);
         }
     }
+}
+
+// Leaves no value in `slot`.
+fn clear<T: Drop>(slot: &mut Option<T>)
+    ensures { slot.new ≡ None }
+{
+    *slot = None;
 }
