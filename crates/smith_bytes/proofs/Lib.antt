@@ -1,5 +1,4 @@
 pub mod PieceLemmas
-pub mod PieceTestLemmas
 pub mod TextFrontLemmas
 pub mod EndianLemmas
 pub mod DrawnLemmas

@@ -8,6 +8,5 @@ pub mod ReadLaws
 pub mod Names
 pub mod Kebab
 pub mod Loop
-pub mod ExampleBytes
 pub mod ErrorNames
 pub mod Steps

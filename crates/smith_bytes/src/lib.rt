@@ -8,7 +8,6 @@
 mod arbitrary;
 mod digits;
 mod error;
-mod examples;
 mod growth;
 mod kebab;
 /// Laws: functions with empty bodies whose clauses state theorems.

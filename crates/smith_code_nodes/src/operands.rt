@@ -25,11 +25,9 @@ pub fn repeated(alloc: Global, value: ValType, count: u32) -> Result<Items<ValTy
     ensures exact { IfOk result (λ values. values ≡ replicate count value) }
     ensures memory { IfErr result (λ e. e ≡ Error.Memory) }
 {
-    let mut values = Items::new(alloc);
-    for _ in 0..count {
-        values.push(value)?;
-    }
-    Ok(values)
+    let mut values = Vec::new(alloc);
+    values.resize(count as usize, value)?;
+    Ok(Items::from_vec(values))
 }
 
 /// Creates the node of `instruction`, which takes `operands`.

@@ -21,7 +21,7 @@ use Rattle.smith_types.specs.declared.segments.Offset.{Offset}
 use Rattle.smith_types.specs.declared.segments.Offset.TheVariants.{Const32, Const64, Global}
 use Rattle.smith_types.specs.declared.value_type.RefType.{RefType}
 use Rattle.smith_types.specs.declared.value_type.ValType.TheVariants.{Ref}
-use Rattle.smith_types.proofs.HeldValueLemmas.{all_of_parts}
+use Rattle.smith_validity.proofs.HeldValueLemmas.{all_of_parts}
 use Rattle.smith_config.specs.declared.config.Config.{Config}
 use Rattle.smith_config.specs.Granted.{IsUngrounded}
 use Rattle.smith_draw.specs.ConstScopes.{seen_by}

@@ -13,7 +13,7 @@ use Rattle.smith_types.specs.declared.value_type.HeapType.TheVariants.{Concrete,
 use Rattle.smith_types.specs.declared.value_type.ValType.{ValType}
 use Rattle.smith_types.specs.declared.composite_type.SubType.{SubType}
 use Rattle.smith_types.specs.declared.entity_type.GlobalType.{GlobalType}
-use Rattle.smith_types.proofs.ReferredTypeLemmas.{value_in_range}
+use Rattle.smith_validity.proofs.ReferredTypeLemmas.{value_in_range}
 use Rattle.smith_draw.specs.Below.{is_val_below}
 use Rattle.smith_draw.specs.ConstOffers.{each_from, offered_if, global_offers, function_offers}
 use Rattle.smith_draw.specs.KeptOffers.{AreClasses, AreFewRead, AreFlags, AreItemsRead, AreKeptOffers, AreManyKept, AreRecorded, IsEntry, IsKeptOffer, is_offered, offered_before, readable}

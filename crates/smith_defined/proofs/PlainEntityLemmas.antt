@@ -16,7 +16,7 @@ use Rattle.smith_types.specs.declared.value_type.HeapType.TheVariants.{Abstract,
 use Rattle.smith_types.specs.declared.value_type.RefType.{RefType}
 use Rattle.smith_types.specs.declared.value_type.ValType.{ValType}
 use Rattle.smith_types.specs.declared.value_type.ValType.TheVariants.{I32, I64, F32, F64, V128, Ref}
-use Rattle.smith_types.proofs.HeldValueLemmas.{all_values_apart}
+use Rattle.smith_validity.proofs.HeldValueLemmas.{all_values_apart}
 use Rattle.smith_types.proofs.SpaceLemmas.{IsOrderly-push}
 use Rattle.smith_types.proofs.ValidityLemmas.{AreTypesValid-at, AreTypesValid-single}
 use Rattle.smith_config.specs.Shapes.{IsHeapTypeIncluded, IsValTypeIncluded, IsNotConcrete, HasNoConcrete, IsTypePlain, IsNothingLeftOut, ArePlain}

@@ -11,7 +11,7 @@ use Rattle.smith_types.specs.ValidTypes.{IsValTypeValid}
 use Rattle.smith_types.specs.declared.composite_type.SubType.{SubType}
 use Rattle.smith_types.specs.declared.entity_type.GlobalType.{GlobalType}
 use Rattle.smith_types.specs.declared.value_type.ValType.{ValType}
-use Rattle.smith_types.proofs.ReferredTypeLemmas.{value_in_range}
+use Rattle.smith_validity.proofs.ReferredTypeLemmas.{value_in_range}
 use Rattle.smith_draw.specs.ConstOffers.{offered_if, global_offers, function_offers}
 use Rattle.smith_draw.specs.ConstScopes.{IsScope}
 use Rattle.smith_draw.specs.KeptOffers.{AreClasses, AreRecorded, IsKnown, IsWhole, counts_of, is_offered, readable}

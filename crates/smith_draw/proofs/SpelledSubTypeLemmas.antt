@@ -12,7 +12,7 @@ use Rattle.smith_bytes.specs.Growth.{grow_at}
 use Rattle.smith_bytes.specs.Spelling.{SpellsRefusal, Where}
 use Rattle.smith_bytes.proofs.SpelledLemmas.{joined_parts, bool_read}
 use Rattle.smith_types.specs.Expressions.{Context}
-use Rattle.smith_types.specs.Decided.{AreHeld}
+use Rattle.smith_validity.specs.Decided.{AreHeld}
 use Rattle.smith_types.specs.Types.{IsOrderly}
 use Rattle.smith_types.specs.declared.composite_type.SubType.{SubType}
 use Rattle.smith_config.specs.declared.config.Config.{Config}

@@ -8,10 +8,10 @@ use Rattle.smith_bytes.specs.Spelling.{Each, Listed}
 use Rattle.smith_bytes.specs.Takes.{SpellsSuch}
 use Rattle.smith_bytes.proofs.SpelledLemmas.{joined_parts, bool_read, number_read, listed_read, each_read, listed_such, each_such}
 use Rattle.smith_types.specs.Expressions.{Context}
-use Rattle.smith_types.specs.Decided.{IsStored, AreHeld}
+use Rattle.smith_validity.specs.Decided.{IsStored, AreHeld}
 use Rattle.smith_types.specs.Types.{IsOrderly}
 use Rattle.smith_types.specs.ValidTypes.{values_of}
-use Rattle.smith_types.proofs.HeldValueLemmas.{held_from_values}
+use Rattle.smith_validity.proofs.HeldValueLemmas.{held_from_values}
 use Rattle.smith_types.specs.declared.value_type.ValType.{ValType}
 use Rattle.smith_types.specs.declared.composite_type.StorageType.{StorageType}
 use Rattle.smith_types.specs.declared.composite_type.StorageType.TheVariants.{I8, I16, Val}

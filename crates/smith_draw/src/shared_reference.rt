@@ -1,7 +1,8 @@
 ghost use Rattle.std.specs.Prelude.{◌≡◌};
 ghost use Rattle.smith_draw.specs.SharedHeapTypes.{is_heap_type_shared};
 
-use smith_types::{Predicate, RefType, ShareableValue, SubType, ValType};
+use smith_types::{RefType, SubType, ValType};
+use smith_validity::{Predicate, ShareableValue};
 
 /// Returns whether the heap type of `reference` is shared.
 pub(crate) fn is_reference_shared(types: &[SubType], reference: RefType) -> bool

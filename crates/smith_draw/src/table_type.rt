@@ -20,7 +20,8 @@ use crate::standing::Standing;
 use crate::value_type::draw_ref_type;
 use smith_bytes::{Error, Unstructured};
 use smith_config::Config;
-use smith_types::{TableType, most_elements_of};
+use smith_types::TableType;
+use smith_validity::most_elements_of;
 use std::alloc::Global;
 
 /// Returns the maximum number of elements of a drawn table: as many as `config` permits, but at

@@ -20,7 +20,7 @@ use Rattle.smith_types.specs.declared.entity_type.EntityType.{EntityType}
 use Rattle.smith_types.specs.declared.entity_type.EntityType.TheVariants as entity
 use Rattle.smith_types.specs.declared.imports.Import.{Import}
 use Rattle.smith_types.specs.declared.imports.Imports.{Imports}
-use Rattle.smith_types.proofs.HeldValueLemmas.{all_apart, parts_of_all}
+use Rattle.smith_validity.proofs.HeldValueLemmas.{all_apart, parts_of_all}
 use Rattle.smith_config.specs.declared.config.Config.{Config}
 use Rattle.smith_config.specs.declared.shape.Shape.{Shape}
 use Rattle.smith_config.specs.Faults.{maximum_of}

@@ -14,7 +14,7 @@ use Rattle.smith_types.specs.Imports.{IsImportsValid, imports_of, flattened, imp
 use Rattle.smith_types.specs.declared.imports.Import.{Import}
 use Rattle.smith_types.specs.declared.imports.Imports.{Imports}
 use Rattle.smith_types.specs.declared.imports.Imports.TheVariants.{Single, Compact1, Compact2}
-use Rattle.smith_types.proofs.HeldValueLemmas.{all_apart}
+use Rattle.smith_validity.proofs.HeldValueLemmas.{all_apart}
 use Rattle.smith_config.specs.declared.config.Config.{Config}
 use Rattle.smith_config.specs.declared.shape.Shape.{Shape}
 use Rattle.smith_config.specs.Features.{features_of}

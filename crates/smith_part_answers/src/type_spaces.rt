@@ -12,10 +12,8 @@ use smith_case::call::SpaceCall;
 use smith_case::shapes::entity_of;
 use smith_case::{Case, Fault, Obstacle};
 use smith_draw::{TypeUse, add_type, list_types};
-use smith_types::{
-    CompositeInnerType, CompositeType, EntityType, Items, StandingValue, SubType, TypeSpace,
-    all_values_hold,
-};
+use smith_types::{CompositeInnerType, CompositeType, EntityType, Items, SubType, TypeSpace};
+use smith_validity::{StandingValue, all_values_hold};
 use std::alloc::Global;
 
 /// Appends the result of `call` on the type space of `case`, which has the types of the shape under
@@ -120,7 +118,7 @@ fn answer_match(types: &TypeSpace, case: &Case, answer: &mut String) -> Result<(
 
 // Returns the composite type at the index of the argument at `place`. It refers only to types that
 // exist.
-#[tactic(auto, using(smith_types::proofs::ReferredTypeLemmas::inner_in_range))]
+#[tactic(auto, using(smith_validity::proofs::ReferredTypeLemmas::inner_in_range))]
 fn composite_at<'a>(
     types: &'a TypeSpace,
     case: &Case,

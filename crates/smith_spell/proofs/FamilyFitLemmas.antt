@@ -4,7 +4,7 @@ use Rattle.std.specs.Prelude.{slice_get}
 use Rattle.std.specs.List.{All, flat_map, AllByRecursion as ByRecursion}
 use Rattle.std.proofs.Math.Seq.{take-append_seam}
 use Rattle.std.proofs.lemmas.List.Elements.{All-weaker, recursion_from_All}
-use Rattle.smith_types.specs.Decided.{IsStored, AreHeld}
+use Rattle.smith_validity.specs.Decided.{IsStored, AreHeld}
 use Rattle.smith_types.specs.Subtyping.{IsInRange}
 use Rattle.smith_types.specs.ValidTypes.{values_of}
 use Rattle.smith_types.specs.declared.value_type.HeapType.{HeapType}
@@ -17,7 +17,7 @@ use Rattle.smith_types.specs.declared.composite_type.FieldType.{FieldType}
 use Rattle.smith_types.specs.declared.composite_type.CompositeInnerType.{CompositeInnerType}
 use Rattle.smith_types.specs.declared.composite_type.CompositeInnerType.TheVariants.{Array, Func, Struct}
 use Rattle.smith_types.specs.declared.composite_type.SubType.{SubType}
-use Rattle.smith_types.proofs.HeldValueLemmas.{values_from_held}
+use Rattle.smith_validity.proofs.HeldValueLemmas.{values_from_held}
 use Rattle.smith_config.specs.declared.config.Config.{Config}
 use Rattle.smith_draw.specs.Spelling.{RefersTo, ReferBack, GroupsFit}
 use Rattle.smith_spell.specs.Family.{IsMemberHeapType, IsMemberValType, IsMemberStorage, IsMemberField, IsMemberInner, IsMemberType, IsInFamily}

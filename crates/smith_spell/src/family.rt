@@ -10,7 +10,8 @@ use crate::earlier::{Earlier, Known};
 use crate::member_type::is_member_type;
 use smith_bytes::Error;
 use smith_config::Config;
-use smith_types::{Items, SubType, TypeSpace, are_funcs_valid, type_space_of};
+use smith_types::{Items, SubType, TypeSpace, type_space_of};
+use smith_validity::are_funcs_valid;
 use std::alloc::Global;
 
 /// Returns the type space of `groups` if `groups` and `funcs` are in the family of `config`, or

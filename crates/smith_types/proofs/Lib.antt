@@ -2,11 +2,7 @@ pub mod ListLemmas
 pub mod ResultLemmas
 pub mod GrowthLemmas
 pub mod LengthLemmas
-pub mod HeldValueLemmas
-pub mod ReferredTypeLemmas
-pub mod GroupTestLemmas
 pub mod GroupsAddedLemmas
-pub mod StandingEntityLemmas
 pub mod ImportedSpaceLemmas
 pub mod PathLemmas
 pub mod RangeLemmas

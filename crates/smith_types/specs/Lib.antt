@@ -1,5 +1,4 @@
 pub mod Bodies
-pub mod Decided
 pub mod Entities
 pub mod EntitySpaces
 pub mod ExampleContexts

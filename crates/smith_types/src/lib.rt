@@ -18,7 +18,6 @@ mod features;
 mod func_grounds;
 mod ground;
 mod grouped_types;
-mod held_values;
 mod imports;
 mod instruction_kind;
 mod kind_counts;
@@ -28,14 +27,9 @@ mod list;
 mod matching;
 mod noted_kinds;
 mod place;
-mod predicate;
 mod segments;
-mod standing_exports;
 mod subtyping;
 mod type_space;
-mod valid_entities;
-mod valid_types;
-mod valid_values;
 mod value_type;
 
 pub use clone_in::CloneIn;
@@ -52,20 +46,9 @@ pub use features::WasmFeatures;
 pub use func_grounds::FuncGrounds;
 pub use ground::{are_defaultable, is_defaultable, unpacked};
 pub use grouped_types::type_space_of;
-pub use held_values::{all_named_values_hold, all_values_hold};
 pub use imports::{Import, ImportItem, Imports};
 pub use instruction_kind::{InstructionKind, InstructionKinds, UnknownKind};
 pub use list::{Items, Name};
-pub use predicate::{Predicate, all_hold};
 pub use segments::{DataSegment, DataSegmentKind, ElementKind, ElementSegment, Elements, Offset};
-pub use standing_exports::are_exports_standing;
-pub use type_space::TypeSpace;
-pub use valid_entities::{
-    are_counts_enabled, are_entities_valid, are_funcs_valid, are_globals_valid, are_limits_valid,
-    are_memories_valid, are_tables_valid, are_tags_valid, most_elements_of,
-};
-pub use valid_types::are_types_valid;
-pub use valid_values::{
-    ShareableValue, StandingValue, ValidValue, is_ref_type_valid, is_val_type_valid,
-};
+pub use type_space::{TypeSpace, start_after};
 pub use value_type::{AbstractHeapType, HeapType, RefType, ValType};

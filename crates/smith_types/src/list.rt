@@ -99,6 +99,15 @@ impl<T: Copy> Items<T> {
     {
         Ok(Items::from_vec(Vec::from_slice(alloc, items)?))
     }
+
+    /// Appends copies of the elements of `items` to the list.
+    pub fn extend_from_slice(&mut self, items: &[T]) -> Result<(), Error>
+        ensures ok { OnOk result (self.new ≡ self.old ++ items.now) }
+        ensures err { OnErr result (self.new ≡ self.old) }
+        ensures memory { IfErr result (λ e. e ≡ Error.Memory) }
+    {
+        Ok(self.items.extend_from_slice(items)?)
+    }
 }
 
 /// Dereferences to a slice, so that the methods of slices can be called on the list.

@@ -78,14 +78,10 @@ fn end_with_row(table: &mut Vec<u32>, above: Place) -> Result<usize, Error>
     ensures memory { IfErr result (λ e. e ≡ Error.Memory) }
 {
     let end = table.len();
-    let length = above.depth as usize - 1;
-    if above.start + length == end {
+    let row = above.start..above.start + (above.depth as usize - 1);
+    if row.end == end {
         return Ok(above.start);
     }
-    table.reserve(length)?;
-    for k in 0..length {
-        let ancestor = table[above.start + k];
-        table.push(ancestor)?;
-    }
+    table.extend_from_within(row)?;
     Ok(end)
 }

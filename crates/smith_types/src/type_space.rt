@@ -629,8 +629,8 @@ fn size_of_function(ty: &SubType) -> u32
     }
 }
 
-// Returns the index at which the group after `groups` starts.
-pub(crate) fn start_after(groups: &[Range<usize>]) -> usize
+/// Returns the index at which the group after `groups` starts.
+pub fn start_after(groups: &[Range<usize>]) -> usize
     ensures { result ≡ next_start groups.now }
 {
     match groups {

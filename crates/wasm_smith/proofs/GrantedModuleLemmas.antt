@@ -9,7 +9,7 @@ use Rattle.smith_types.specs.declared.code.Code.{Code}
 use Rattle.smith_types.specs.declared.segments.ElementSegment.{ElementSegment}
 use Rattle.smith_types.specs.declared.value_type.ValType.{ValType}
 use Rattle.smith_types.specs.declared.value_type.ValType.TheVariants as vals
-use Rattle.smith_types.proofs.HeldValueLemmas.{all_values_joined}
+use Rattle.smith_validity.proofs.HeldValueLemmas.{all_values_joined}
 use Rattle.smith_config.specs.declared.config.Config.{Config}
 use Rattle.smith_config.specs.Granted.{IsUngrounded, IsGranted, HasGroundedItems}
 use Rattle.smith_rules.specs.Module.{ModuleParts, module_context}

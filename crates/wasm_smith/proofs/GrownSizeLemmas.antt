@@ -16,7 +16,7 @@ use Rattle.smith_types.specs.declared.composite_type.SubType.{SubType}
 use Rattle.smith_types.specs.declared.entity_type.EntityType.{EntityType}
 use Rattle.smith_types.specs.declared.entity_type.EntityType.TheVariants as entity
 use Rattle.smith_types.specs.declared.imports.Import.{Import}
-use Rattle.smith_types.proofs.HeldValueLemmas.{all_apart}
+use Rattle.smith_validity.proofs.HeldValueLemmas.{all_apart}
 use Rattle.smith_config.specs.declared.config.Config.{Config}
 use Rattle.smith_config.specs.Features.{features_of}
 use Rattle.wasm_smith.specs.FirstParts.{StandsSoFar, size_of_imports}

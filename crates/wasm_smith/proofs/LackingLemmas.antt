@@ -12,7 +12,7 @@ use Rattle.smith_bytes.specs.declared.error.Error.TheVariants as errors
 use Rattle.smith_bytes.specs.declared.error.Which.{Which}
 use Rattle.smith_bytes.specs.declared.error.Which.TheVariants as which
 use Rattle.smith_bytes.specs.declared.error.Why.TheVariants.{SeveralMemories, SeveralTables}
-use Rattle.smith_types.specs.Decided.{IsStored, AreHeld}
+use Rattle.smith_validity.specs.Decided.{IsStored, AreHeld}
 use Rattle.smith_types.specs.Expressions.{Context, field_values, unpacked}
 use Rattle.smith_types.specs.HeldValues.{values_in}
 use Rattle.smith_types.specs.Imports.{EntitySpaces, imported_spaces}
@@ -27,7 +27,7 @@ use Rattle.smith_types.specs.declared.entity_type.GlobalType.{GlobalType}
 use Rattle.smith_types.specs.declared.entity_type.TableType.{TableType}
 use Rattle.smith_types.specs.declared.value_type.ValType.{ValType}
 use Rattle.smith_types.specs.declared.value_type.ValType.TheVariants.{Ref}
-use Rattle.smith_types.proofs.HeldValueLemmas.{held_from_values, all_values_apart}
+use Rattle.smith_validity.proofs.HeldValueLemmas.{held_from_values, all_values_apart}
 use Rattle.smith_config.specs.declared.config.Config.{Config}
 use Rattle.smith_config.specs.declared.shape.Shape.{Shape}
 use Rattle.smith_config.specs.Shapes.{shape_imports, shape_spaces, shape_types, shape_values}

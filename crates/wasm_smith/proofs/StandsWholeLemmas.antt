@@ -12,7 +12,7 @@ use Rattle.smith_types.specs.Imports.{flattened, imported_spaces}
 use Rattle.smith_types.specs.EntitySpaces.{spaces_in}
 use Rattle.smith_types.specs.GroupedTypes.{GroupedTypes}
 use Rattle.smith_types.specs.declared.entity_spaces.EntitySpaces.{EntitySpaces as Held}
-use Rattle.smith_types.proofs.HeldValueLemmas.{all_apart}
+use Rattle.smith_validity.proofs.HeldValueLemmas.{all_apart}
 use Rattle.smith_config.specs.declared.config.Config.{Config}
 use Rattle.smith_config.specs.declared.shape.Shape.{Shape}
 use Rattle.smith_config.specs.Shapes.{shape_spaces}

@@ -37,7 +37,10 @@ pub use smith_types::{
     ExportKind, FieldType, FuncType, GlobalType, HeapType, Import, ImportItem, Imports,
     InstructionKind, InstructionKinds, Instructions, Items, MemoryType, Name, Offset, RefType,
     StorageType, StructType, SubType, TableType, TypeSpace, UnknownKind, ValType, WasmFeatures,
-    are_counts_enabled, are_defaultable, are_entities_valid, are_exports_standing, are_funcs_valid,
+    are_defaultable, imported_spaces_of, type_space_of,
+};
+pub use smith_validity::{
+    are_counts_enabled, are_entities_valid, are_exports_standing, are_funcs_valid,
     are_globals_valid, are_limits_valid, are_memories_valid, are_tables_valid, are_tags_valid,
-    are_types_valid, imported_spaces_of, is_ref_type_valid, is_val_type_valid, type_space_of,
+    are_types_valid, is_ref_type_valid, is_val_type_valid,
 };

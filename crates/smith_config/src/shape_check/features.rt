@@ -5,9 +5,9 @@ ghost use Rattle.smith_config.specs.Shapes.{AreCountsFor};
 ghost use Rattle.smith_config.specs.ShapeFaults.{AreFeaturesEnough};
 
 use smith_bytes::Which;
-use smith_types::{
-    EntitySpaces, TypeSpace, WasmFeatures, are_counts_enabled, are_globals_valid,
-    are_memories_valid, are_tables_valid, are_types_valid,
+use smith_types::{EntitySpaces, TypeSpace, WasmFeatures};
+use smith_validity::{
+    are_counts_enabled, are_globals_valid, are_memories_valid, are_tables_valid, are_types_valid,
 };
 
 /// Returns whether `features` suffice for the types of `space` and the entities of `spaces` in the

@@ -3,10 +3,8 @@ ghost use Rattle.smith_types.specs.EntitySpaces.{spaces_in};
 ghost use Rattle.smith_config.specs.ShapeFaults.{AreIndicesSound};
 ghost use Rattle.smith_config.specs.Decided.{AreIndicesFound};
 
-use smith_types::{
-    EntitySpaces, ExportKind, Name, TypeSpace, are_exports_standing, are_funcs_valid,
-    are_tags_valid,
-};
+use smith_types::{EntitySpaces, ExportKind, Name, TypeSpace};
+use smith_validity::{are_exports_standing, are_funcs_valid, are_tags_valid};
 
 /// Returns whether the functions and tags of `spaces`, and `exports`, refer to existing items of
 /// the right kind.

@@ -5,10 +5,8 @@ ghost use Rattle.smith_types.specs.declared.entity_type.GlobalType.{GlobalType a
 ghost use Rattle.smith_types.specs.declared.entity_type.TableType.{TableType as Table};
 ghost use Rattle.smith_config.specs.Shapes.{IsNothingLeftOut, IsValTypeIncluded};
 
-use smith_types::{
-    EntitySpaces, GlobalType, HeapType, Predicate, SubType, TableType, TypeSpace, ValType,
-    all_named_values_hold,
-};
+use smith_types::{EntitySpaces, GlobalType, HeapType, SubType, TableType, TypeSpace, ValType};
+use smith_validity::{Predicate, all_named_values_hold};
 
 /// Returns whether nothing in `space` and `spaces` is shared except memories, and no reference is
 /// exact.

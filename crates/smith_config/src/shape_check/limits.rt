@@ -6,10 +6,8 @@ ghost use Rattle.smith_types.specs.declared.entity_type.TableType.{TableType as 
 ghost use Rattle.smith_config.specs.Shapes.{IsShallow};
 ghost use Rattle.smith_config.specs.ShapeFaults.{AreLimitsSound};
 
-use smith_types::{
-    EntitySpaces, MemoryType, TableType, TypeSpace, WasmFeatures, are_limits_valid,
-    are_memories_valid, most_elements_of,
-};
+use smith_types::{EntitySpaces, MemoryType, TableType, TypeSpace, WasmFeatures};
+use smith_validity::{are_limits_valid, are_memories_valid, most_elements_of};
 
 /// The maximum depth of a type. A type without a supertype has depth 1.
 const MOST_DEEP: u32 = 63;

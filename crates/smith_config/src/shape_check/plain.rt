@@ -4,10 +4,8 @@ ghost use Rattle.smith_types.specs.EntitySpaces.{spaces_in};
 ghost use Rattle.smith_config.specs.Shapes.{IsTypePlain, ArePlain, HasNoConcrete};
 
 use smith_bytes::Which;
-use smith_types::{
-    CompositeInnerType, EntitySpaces, HeapType, Predicate, SubType, TypeSpace, ValType,
-    all_named_values_hold,
-};
+use smith_types::{CompositeInnerType, EntitySpaces, HeapType, SubType, TypeSpace, ValType};
+use smith_validity::{Predicate, all_named_values_hold};
 
 /// Returns whether the types of a shape for exports are plain. Shapes for other uses may have any
 /// types.

@@ -8,9 +8,9 @@ ghost use Rattle.smith_types.specs.declared.entity_type.GlobalType.{GlobalType a
 ghost use Rattle.smith_types.specs.declared.entity_type.TableType.{TableType as Table};
 ghost use Rattle.smith_config.specs.ShapeFaults.{AreTypesSound};
 
-use smith_types::{
-    EntitySpaces, GlobalType, Predicate, ShareableValue, SubType, TableType, TypeSpace, ValType,
-    ValidValue, WasmFeatures, all_named_values_hold, are_types_valid,
+use smith_types::{EntitySpaces, GlobalType, SubType, TableType, TypeSpace, ValType, WasmFeatures};
+use smith_validity::{
+    Predicate, ShareableValue, ValidValue, all_named_values_hold, are_types_valid,
 };
 
 /// Returns whether the types of `space`, and the entities of `spaces` that refer to types, are

@@ -1,0 +1,4 @@
+pub mod HeldValueLemmas
+pub mod ReferredTypeLemmas
+pub mod GroupTestLemmas
+pub mod StandingEntityLemmas

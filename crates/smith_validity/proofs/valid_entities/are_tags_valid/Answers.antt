@@ -1,0 +1,4 @@
+use Rattle.smith_validity.proofs.valid_entities.are_tags_valid.Goals as goal
+
+pub returns : goal.returns
+returns c = (λ yes. record { each = c.all_hold.ensures.0 yes }, λ h. c.all_hold.ensures.1 h.each)
