@@ -5,7 +5,3 @@ pub mod ImportGroundLemmas
 pub mod FilledGroupLoop
 pub mod ImportGroupsLoop
 pub mod NoImportLemmas
-pub mod TakenImportsLoop
-pub mod AvailableImportLemmas
-pub mod GroupedImportsLoop
-pub mod KeptImportLemmas

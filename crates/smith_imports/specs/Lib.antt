@@ -3,5 +3,3 @@ pub mod ImportNames
 pub mod ImportedEntities
 pub mod Imported
 pub mod Importing
-pub mod AvailableImports
-pub mod KeptImports

@@ -21,7 +21,7 @@ use smith_draw::{
 use smith_types::{EntityType, ExportKind, TypeSpace};
 
 /// Returns the kind of the entity `added`.
-pub(crate) fn entity_kind(added: &EntityType) -> ExportKind
+pub fn entity_kind(added: &EntityType) -> ExportKind
     ensures { result ≡ entity_kind added.now }
 {
     match added {

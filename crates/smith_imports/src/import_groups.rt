@@ -10,7 +10,7 @@ use smith_types::{EntityType, ImportItem, Imports, Name};
 
 /// The form in which a group of imports is written.
 #[derive(Clone, Copy)]
-pub(crate) enum GroupKind {
+pub enum GroupKind {
     /// A single import.
     Single,
     /// Compact imports of one module, each with its own type.
@@ -22,7 +22,7 @@ pub(crate) enum GroupKind {
 /// Draws the kind of a group. Returns a single import without a draw if `config` has no compact
 /// imports.
 #[tactic(auto, unfolding(crate::specs::ImportGroups::group_kind_at))]
-pub(crate) fn draw_group_kind(config: &Config, u: &mut Unstructured<'_>) -> GroupKind
+pub fn draw_group_kind(config: &Config, u: &mut Unstructured<'_>) -> GroupKind
     ensures draws { AlwaysDraws (group_kind_at config.now u.old) result u.old u.new }
     ensures enabled { (result ≡ GroupKind.Single → ⊥) → IsTrue config.now.compact_imports_enabled }
     ensures shorter { (result ≡ GroupKind.Single → ⊥) → length u.new < length u.old }
@@ -53,7 +53,7 @@ pub(crate) fn module_name(group: &Imports) -> &Name
 }
 
 /// Returns whether `group` has an import.
-pub(crate) fn has_imports(group: &Imports) -> bool
+pub fn has_imports(group: &Imports) -> bool
     ensures { IsTrue result ↔ (0 < length (imports_of group.now)) }
 {
     match group {
@@ -64,11 +64,7 @@ pub(crate) fn has_imports(group: &Imports) -> bool
 }
 
 /// Adds an import to the compact group `group`. Leaves a single import as it is.
-pub(crate) fn push_import(
-    group: &mut Imports,
-    name: Name,
-    entity_type: EntityType,
-) -> Result<(), Error>
+pub fn push_import(group: &mut Imports, name: Name, entity_type: EntityType) -> Result<(), Error>
     ensures ok { OnOk result (group.new ≡ with_import group.old name entity_type) }
     ensures memory { IfErr result (λ e. e ≡ Error.Memory) }
 {

@@ -11,7 +11,7 @@ use smith_draw::{choose_enabled, count_enabled};
 use smith_types::ExportKind;
 
 /// Returns whether `config` allows another entity of the kind `kind` after `imported`.
-pub(crate) fn has_room(config: &Config, imported: &Imported, kind: ExportKind) -> bool
+pub fn has_room(config: &Config, imported: &Imported, kind: ExportKind) -> bool
     ensures { result ≡ has_room config.now (spaces_of imported.now) kind }
 {
     match kind {

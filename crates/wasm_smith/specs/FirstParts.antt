@@ -19,7 +19,7 @@ use Rattle.smith_config.specs.Faults.{maximum_of}
 use Rattle.smith_config.specs.Features.{features_of}
 use Rattle.smith_config.specs.InUse.{FixesImports}
 use Rattle.smith_config.specs.Shapes.{shape_imports, shape_spaces, shape_types, space_of}
-use Rattle.smith_imports.specs.AvailableImports.{AreImportsWithin, available_at}
+use Rattle.smith_given_imports.specs.AvailableImports.{AreImportsWithin, available_at}
 use Rattle.smith_imports.specs.Imported.{HasNoImports}
 use Rattle.smith_rules.specs.ShapeImports.{kept_groups, sizes_of, count_in, taken_from}
 use Rattle.smith_bytes.specs.declared.error.Count.{Count}

@@ -45,7 +45,7 @@ fn of_a_module_shape()
 {}
 
 // Available imports add the types of their shape, even if no import is picked.
-#[tactic(auto, unfolding(wasm_smith::specs::FirstParts::first_parts_at, wasm_smith::specs::FirstParts::first_parts_by_imports_at, smith_imports::specs::AvailableImports::available_at, smith_imports::specs::AvailableImports::picked_at, smith_imports::specs::AvailableImports::grouped_at, smith_bytes::specs::Draws::bool_at))]
+#[tactic(auto, unfolding(wasm_smith::specs::FirstParts::first_parts_at, wasm_smith::specs::FirstParts::first_parts_by_imports_at, smith_given_imports::specs::AvailableImports::available_at, smith_given_imports::specs::AvailableImports::picked_at, smith_given_imports::specs::AvailableImports::grouped_at, smith_bytes::specs::Draws::bool_at))]
 fn of_available_imports()
     ensures none_picked { first_parts_at (for_imports environment default_config) (0 ∷ 0 ∷ 7 ∷ [])
         ≡ Ok (record nothing_so_far { types = space_of environment.groups }, 7 ∷ []) }

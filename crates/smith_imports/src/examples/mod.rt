@@ -1,3 +1,3 @@
-//! Example values of private types.
+//! Example values of the kinds of groups.
 
 mod import_groups;

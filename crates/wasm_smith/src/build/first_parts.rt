@@ -20,7 +20,7 @@ use crate::build::parts_so_far::PartsSoFar;
 use smith_bytes::{Error, Unstructured};
 use smith_config::{Config, Shape};
 use smith_defined::make_shape_exports;
-use smith_imports::{imports_of_shape, take_available_imports, types_of_shape};
+use smith_given_imports::{imports_of_shape, take_available_imports, types_of_shape};
 use smith_types::TypeSpace;
 use std::alloc::Global;
 

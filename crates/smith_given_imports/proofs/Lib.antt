@@ -1,0 +1,4 @@
+pub mod TakenImportsLoop
+pub mod AvailableImportLemmas
+pub mod GroupedImportsLoop
+pub mod KeptImportLemmas

@@ -1,0 +1,2 @@
+pub mod AvailableImports
+pub mod KeptImports
