@@ -81,15 +81,19 @@ sum_of_one body =
     let two : length second.operands ≡ 2 = ap length second.typed.0 in
     omega arith
 
-pub left_over : IsBodyTyped (function_of [] []) (number 1 ∷ []) → ⊥
+-- a value is left where none is wanted
+pub one_left : {context : BodyContext} {a b : Stacked} → length a.stack ≡ 0 → length b.stack ≡ 0 → AreTyped context (number 1 ∷ []) a b → ⊥
 unfolding is_plain
-left_over body =
-    let (a, first, rest) = step_of refl body.typed in
+one_left empty wanted typed =
+    let (between, first, rest) = step_of refl typed in
     let (enough, high) = height first in
     let none : length first.operands ≡ 0 = ap length first.typed.0 in
     let one : length first.results ≡ 1 = ap length first.typed.1 in
-    let end : length a.stack ≡ 0 = end_height rest in
+    let end : length between.stack ≡ 0 = end_height rest ∙ wanted in
     omega arith
+
+pub left_over : IsBodyTyped (function_of [] []) (number 1 ∷ []) → ⊥
+left_over body = one_left refl refl body.typed
 
 pub missing : IsBodyTyped (function_of [] (I32 ∷ [])) [] → ⊥
 missing body = let end : ◌≡◌ {A = ℕ} 0 1 = end_height body.typed in omega arith
@@ -209,11 +213,11 @@ pub if_for_a_result : IsBodyTyped (function_of [] (I32 ∷ [])) (number 1 ∷ in
 unfolding is_plain
 if_for_a_result body = let (a, first, rest) = step_of refl body.typed in no_if rest
 
-funcref_valid : (context : BodyContext) → context.features ≡ usual_features → AreValid context (Ref funcref ∷ [])
+pub funcref_valid : (context : BodyContext) → context.features ≡ usual_features → AreValid context (Ref funcref ∷ [])
 funcref_valid context is =
     valid_one context (Ref funcref) (rw is refl, record { heap_type = (tt, λ never. cc); nullable = λ is. cc })
 
-weakened : (context : BodyContext) → context.features ≡ usual_features → CountsAs context (some_func ∷ []) (Ref funcref ∷ [])
+pub weakened : (context : BodyContext) → context.features ≡ usual_features → CountsAs context (some_func ∷ []) (Ref funcref ∷ [])
 weakened context is = record { below = (record { heap = itself; nullable = λ is. refl }, tt); valid = funcref_valid context is }
 
 pub to_above : AreTyped (function_of [] []) [] (stacked (some_func ∷ []) []) (stacked (Ref funcref ∷ []) [])
