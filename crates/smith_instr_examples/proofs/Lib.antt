@@ -6,3 +6,4 @@ pub mod PartLemmas
 pub mod PassedLemmas
 pub mod BlockExamples
 pub mod LocalExamples
+pub mod LabelExamples

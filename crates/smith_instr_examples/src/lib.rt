@@ -17,6 +17,7 @@ mod handlers;
 mod instructions;
 mod jumps;
 mod kinds;
+mod labels;
 mod lanes;
 mod loads;
 mod memories;
