@@ -7,3 +7,4 @@ pub mod PassedLemmas
 pub mod BlockExamples
 pub mod LocalExamples
 pub mod LabelExamples
+pub mod SubsumptionExamples

@@ -27,6 +27,7 @@ mod scalars;
 mod sequences;
 mod shared;
 mod stores;
+mod subsumption;
 mod tables;
 mod vector_accesses;
 mod vectors;
