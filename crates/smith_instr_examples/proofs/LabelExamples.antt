@@ -22,7 +22,7 @@ wrong {taken = taken} n label wanted apart there is typed =
     let (after, second, rest) = step_of refl more in
     let (found, at, (below, operands, valid)) = second.typed in
     let same : found ≡ wanted ∷ [] = same_Some found taken (sym at ∙ there) ∙ is in
-    apart (passed first second I64 wanted below first.typed.1 (operands ∙ ap (λ (xs : List ValType). below ++ xs) same))
+    apart (passed first.framed second.framed I64 wanted below first.typed.1 (operands ∙ ap (λ (xs : List ValType). below ++ xs) same))
 
 module _ {a b : Stacked} where
   pub wrong_in_the_first_arm : AreTyped context (instr.If (blocks.Value I32) ∷ wide_number 1 ∷ instr.Br 0 ∷ instr.Else ∷ number 2 ∷ instr.End ∷ []) a b → ⊥

@@ -5,6 +5,7 @@ pub mod ManagedExamples
 pub mod PartLemmas
 pub mod PassedLemmas
 pub mod BlockExamples
+pub mod FrameExamples
 pub mod LocalExamples
 pub mod LabelExamples
 pub mod SubsumptionExamples

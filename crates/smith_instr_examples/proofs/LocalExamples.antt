@@ -27,9 +27,9 @@ read_unset unset typed =
 abbrev setting : List Instr
 setting = instr.Unreachable ∷ instr.LocalSet 0 ∷ []
 
-gone : {label : List ValType → List ValType → List ValType} {ty : BlockType} {inner more : List Instr} {a b : Stacked} → a.set ≡ []
-    → Parts (inside []) label ty inner (instr.LocalGet 0 ∷ more) a b → ⊥
-gone unset parts = read_unset (parts.kept ∙ ap (λ (xs : List ℕ). xs ++ []) unset) parts.onwards
+gone : {label : List ValType → List ValType → List ValType} {needs : List ValType → List ValType} {ty : BlockType} {inner more : List Instr} {a b : Stacked} → a.set ≡ []
+    → Parts (inside []) label needs ty inner (instr.LocalGet 0 ∷ more) a b → ⊥
+gone unset parts = read_unset (parts.framed.set_then ∙ ap (λ (xs : List ℕ). xs ++ []) unset) parts.onwards
 
 module _ {a b : Stacked} (unset : a.set ≡ []) where
   pub after_a_block : AreTyped (inside []) (instr.Block blocks.Empty ∷ instr.Unreachable ∷ instr.LocalSet 0 ∷ instr.End ∷ instr.LocalGet 0 ∷ []) a b → ⊥

@@ -60,7 +60,7 @@ unfolding is_plain
 too_wide body =
     let (a, first, more) = step_of refl body.typed in
     let (b, second, rest) = step_of refl more in
-    passed first second I64 I32 [] first.typed.1 second.typed.0
+    passed first.framed second.framed I64 I32 [] first.typed.1 second.typed.0
 
 pub null_set : IsBodyTyped (function_of (some_func ∷ []) []) (instr.Reference (reference.Null (plain heap.Func)) ∷ instr.LocalSet 0 ∷ []) → ⊥
 unfolding is_plain
@@ -69,7 +69,7 @@ null_set body =
     let (b, second, rest) = step_of refl more in
     let (value, at, is) = second.typed in
     let same : value ≡ some_func = sym (same_Some some_func value at) in
-    let below = passed first second (Ref funcref) value [] first.typed.1.1 is.0 in
+    let below = passed first.framed second.framed (Ref funcref) value [] first.typed.1.1 is.0 in
     let under : IsValBelow here.types (Ref funcref) some_func = subst (IsValBelow here.types (Ref funcref)) same below in
     let never : ◌≡◌ {A = Bool} false true = under.nullable refl in
     cc
@@ -80,7 +80,7 @@ any_read body =
     let (a, first, more) = step_of refl body.typed in
     let (b, second, rest) = step_of refl more in
     let (field, there, reads, is) = second.typed in
-    let below : IsRefBelow managed_types anything any_struct = passed first second (Ref anything) (Ref any_struct) [] first.typed.1.1 is.0 in
+    let below : IsRefBelow managed_types anything any_struct = passed first.framed second.framed (Ref anything) (Ref any_struct) [] first.typed.1.1 is.0 in
     let (t, at, shares, bottoms) = by_cases_from_below managed_types orderly (plain heap.Any) (Concrete 0) below.heap in
     let same : t ≡ first_struct = sym (same_Some first_struct t at) in
     let never : heap.Any ≡ heap.None = bottoms ∙ ap bottom same in

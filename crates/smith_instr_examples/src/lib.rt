@@ -13,6 +13,7 @@ mod creations;
 mod elements;
 mod enabled;
 mod features;
+mod frames;
 mod handlers;
 mod instructions;
 mod jumps;
