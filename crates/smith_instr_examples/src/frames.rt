@@ -17,6 +17,9 @@ fn results()
     ensures second_arm_with_another_result { (before after : Stacked) → ¬ AreTyped
         (function_of [] []) (instr.If (block.Value I32) ∷ number 1 ∷ instr.Else ∷ wide_number 2
         ∷ instr.End ∷ []) before after }
+    ensures only_arm_with_another_result { (before after : Stacked) → ¬ AreTyped
+        (function_of [] []) (instr.If (block.Func 4) ∷ instr.Drop ∷ wide_number 1 ∷ instr.End ∷ [])
+        before after }
     ensures try_table_with_another_result { (before after : Stacked) → ¬ AreTyped
         (function_of [] []) (instr.TryTable (block.Value I32) [] ∷ wide_number 1 ∷ instr.End ∷ [])
         before after }
