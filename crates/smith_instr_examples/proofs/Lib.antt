@@ -9,3 +9,4 @@ pub mod FrameExamples
 pub mod LocalExamples
 pub mod LabelExamples
 pub mod SubsumptionExamples
+pub mod SharedExamples
