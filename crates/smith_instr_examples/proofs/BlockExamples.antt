@@ -1,10 +1,10 @@
 -- Loops, ifs with an else and blocks, taken apart.
-use Rattle.smith_instr_examples.proofs.Common.{◌≡◌, ℕ, ◌+◌, List, [], ◌∷◌, length, refl, ap, ◌∙◌, arith, length-append, same_Some, IsFuncAt, final_type, taking, Func, FuncType, ValType, I32, BodyContext, labelled, Stacked, stacked, AreTyped, step, block, loop, if_else, one, framed, finished, function_of, number, weakens}
+use Rattle.smith_instr_examples.proofs.Common.{◌≡◌, ℕ, ◌+◌, List, [], ◌∷◌, ◌++◌, length, refl, ap, ◌∙◌, arith, length-append, same_Some, IsFuncAt, final_type, taking, Func, FuncType, ValType, I32, BodyContext, labelled, Stacked, stacked, AreTyped, IsBodyTyped, IsBlockType, step, block, loop, if_alone, if_else, try_table, BlockType, subst, one, framed, finished, function_of, number, weakens}
 use Rattle.smith_instr.specs.declared.control.BlockType.TheVariants as blocks
 use Rattle.smith_instr.specs.declared.instr.Instr.TheVariants as instr
 use Rattle.smith_instr_examples.proofs.ManagedExamples.{func_alone}
-use Rattle.smith_instr_examples.proofs.PartLemmas.{loop_parts, arms, is_inner}
-use Rattle.smith_instr_examples.proofs.SequenceExamples.{is_plain, step_of, end_height, height, valid_none, valid_one}
+use Rattle.smith_instr_examples.proofs.PartLemmas.{loop_parts, arms, no_else, is_inner}
+use Rattle.smith_instr_examples.proofs.SequenceExamples.{is_plain, step_of, end_height, height, zip_length, valid_none, valid_one}
 
 -- a function type that takes an i32
 abbrev pub takes : FuncType
@@ -77,3 +77,24 @@ no_result typed =
     let low : length parts.params ≡ 0 = ap length parts.fits.1 in
     let top : length parts.results ≡ 1 = ap length parts.fits.2 in
     omega arith
+
+-- an if for a result, without an else
+no_if : {context : BodyContext} {a b : Stacked} → AreTyped context (instr.If (blocks.Value I32) ∷ number 2 ∷ instr.End ∷ []) a b → ⊥
+unfolding is_inner is_plain
+no_if (step s rest) = s.typed
+no_if (block is fits inner framed rest) = cc
+no_if (loop is fits inner framed rest) = cc
+no_if {context = context} (if_alone {ty = ty} {params = params} {results = results} is fits inner same framed rest) =
+    let of : ty ≡ blocks.Value I32 = cc in
+    let (valid, none, one) = subst (λ (t : BlockType). IsBlockType context t params results) of fits in
+    let high = zip_length _ params results same.below in
+    let low : length params ≡ 0 = ap length none in
+    let top : length results ≡ 1 = ap length one in
+    omega arith
+no_if (if_else {body = body} {other = other} {more = more} is fits inner last framed rest) =
+    absurd (no_else (number 2 ∷ []) [] (refl, tt) tt body (other ++ instr.End ∷ more) cc)
+no_if (try_table is fits caught inner framed rest) = cc
+
+pub if_for_a_result : IsBodyTyped (function_of [] (I32 ∷ [])) (number 1 ∷ instr.If (blocks.Value I32) ∷ number 2 ∷ instr.End ∷ []) → ⊥
+unfolding is_plain
+if_for_a_result body = let (a, first, rest) = step_of refl body.typed in no_if rest

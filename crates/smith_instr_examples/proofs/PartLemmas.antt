@@ -103,7 +103,7 @@ at_end : (inner rest : List Instr) → AreInner inner → AreInner rest → (bod
 unfolding is_inner
 at_end inner rest all_inner all_rest body more is = cut instr.End inner rest body more (lack_of instr.End refl inner all_inner) (lack_of instr.End refl rest all_rest) is
 
-no_else : (inner rest : List Instr) → AreInner inner → AreInner rest → (body ys : List Instr) → inner ++ instr.End ∷ rest ≡ body ++ instr.Else ∷ ys → ⊥
+pub no_else : (inner rest : List Instr) → AreInner inner → AreInner rest → (body ys : List Instr) → inner ++ instr.End ∷ rest ≡ body ++ instr.Else ∷ ys → ⊥
 unfolding is_inner
 no_else inner rest all_inner all_rest body ys is =
     let lack = lack_append instr.Else inner (instr.End ∷ rest) (lack_of instr.Else refl inner all_inner) (λ same. cc, lack_of instr.Else refl rest all_rest) in
