@@ -1,5 +1,5 @@
 -- The names that these proofs cite, passed on from one place.
-pub use Rattle.std.proofs.Common.{[], ap, arith, Bool, false, inl, inr, IsTrue, length, length-append, List, None, refl, rules, Some, subst, suc, sym, true, zero, ℕ, ◌++◌, ◌+◌, ◌<◌, ◌∙◌, ◌∷◌, ◌≡◌, ◌≤◌}
+pub use Rattle.std.proofs.Common.{[], ap, append_assoc, arith, Bool, false, inl, inr, IsTrue, length, length-append, List, None, refl, rules, Some, subst, suc, sym, true, zero, ℕ, ◌++◌, ◌+◌, ◌<◌, ◌∙◌, ◌∷◌, ◌≡◌, ◌≤◌}
 pub use Rattle.std.proofs.lemmas.Grind.{common_steps}
 pub use Rattle.std.proofs.lemmas.List.Elements.{All-from_recursion, All-head, All-nil, All-push, All-replicate}
 pub use Rattle.std.proofs.lemmas.Option.{same_Some}
@@ -14,7 +14,7 @@ pub use Rattle.smith_instr.specs.Sequences.{AreTyped, block, CountsAs, if_alone,
 pub use Rattle.smith_instr.specs.declared.control.BlockType.{BlockType}
 pub use Rattle.smith_instr.specs.declared.instr.Instr.{Instr}
 pub use Rattle.smith_instr.specs.declared.memory.MemArg.{MemArg}
-pub use Rattle.smith_instr_examples.specs.ExampleBodies.{add, exnref, function_of, functions, narrow_memory, number, some_func, weakens, wide_memory}
+pub use Rattle.smith_instr_examples.specs.ExampleBodies.{add, exnref, function_of, functions, narrow_memory, number, some_func, weakens, wide_memory, wide_number}
 pub use Rattle.smith_instr_examples.specs.ExampleManaged.{any_struct, anything, external, managed, managed_types, narrows, some_struct, something, wide_functions}
 pub use Rattle.smith_types.proofs.GrowthLemmas.{IsBelow-trans, IsRefBelow-refl, IsValBelow-refl}
 pub use Rattle.smith_types.proofs.PathLemmas.{below_abstract, below_kind}

@@ -2,4 +2,11 @@ pub mod Common
 pub mod AccessExamples
 pub mod SequenceExamples
 pub mod ManagedExamples
+pub mod PartLemmas
+pub mod PassedLemmas
 pub mod BlockExamples
+pub mod FrameExamples
+pub mod LocalExamples
+pub mod LabelExamples
+pub mod SubsumptionExamples
+pub mod SharedExamples

@@ -51,11 +51,15 @@ narrows_there = (final_type (Func narrows), refl, refl)
 pub takes_there : IsFuncAt managed_types 7 (record { params = I32 ∷ []; results = [] })
 takes_there = (final_type (taking (I32 ∷ [])), refl, refl)
 
-pub narrows_alone : (function : FuncType) → IsFuncAt managed_types 6 function → function ≡ narrows
-narrows_alone function (t, at, inner) =
-    let same : final_type (Func narrows) ≡ t = same_Some (final_type (Func narrows)) t at in
-    let is : Func narrows ≡ Func function = subst (λ (u : SubType). u.composite_type.inner ≡ Func function) (sym same) inner in
+-- there is one function type at an index
+pub func_alone : (types : List SubType) (index : ℕ) (one other : FuncType) → IsFuncAt types index one → IsFuncAt types index other → other ≡ one
+func_alone types index one other (t, at, inner) (u, there, within) =
+    let same : t ≡ u = same_Some t u (sym at ∙ there) in
+    let is : Func one ≡ Func other = sym inner ∙ (ap (λ (v : SubType). v.composite_type.inner) same ∙ within) in
     cc
+
+pub narrows_alone : (function : FuncType) → IsFuncAt managed_types 6 function → function ≡ narrows
+narrows_alone function there = func_alone managed_types 6 narrows function narrows_there there
 
 -- the tables of functions
 pub narrow_table : (labels : List (List ValType)) (results : List ValType) → IsFunctionTable (managed labels results) 0 false

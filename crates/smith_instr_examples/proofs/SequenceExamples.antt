@@ -1,5 +1,5 @@
 -- Sequences of one instruction after another, taken apart.
-use Rattle.smith_instr_examples.proofs.Common.{◌≡◌, ℕ, suc, ◌+◌, ◌<◌, ◌≤◌, Bool, true, false, inl, inr, List, [], ◌∷◌, ◌++◌, length, refl, sym, subst, ap, ◌∙◌, arith, length-append, AllZip, same_Some, All-nil, All-push, IsDefaultable, IsValBelow, itself, ValType, I32, I64, Ref, funcref, usual_features, final_type, Func, BodyContext, labelled, IsValid, AreValid, IsBlockType, HasInstrType, Stacked, stacked, CountsAs, IsStep, AreTyped, IsBodyTyped, nothing, step, block, loop, if_alone, if_else, try_table, BlockType, Instr, one, framed, finished, count_as_themselves, weakens, function_of, some_func, number, add}
+use Rattle.smith_instr_examples.proofs.Common.{◌≡◌, ℕ, suc, ◌+◌, ◌<◌, ◌≤◌, Bool, true, false, inl, inr, List, [], ◌∷◌, ◌++◌, length, refl, sym, subst, ap, ◌∙◌, arith, length-append, AllZip, same_Some, All-nil, All-push, IsDefaultable, IsValBelow, itself, ValType, I32, I64, Ref, funcref, usual_features, final_type, Func, BodyContext, labelled, IsValid, AreValid, HasInstrType, Stacked, stacked, CountsAs, IsStep, AreTyped, IsBodyTyped, nothing, step, block, loop, if_alone, if_else, try_table, Instr, one, framed, finished, count_as_themselves, weakens, function_of, some_func, number, add}
 use Rattle.smith_instr.specs.declared.control.BlockType.TheVariants as blocks
 use Rattle.smith_instr.specs.declared.instr.Instr.TheVariants as instr
 
@@ -81,15 +81,19 @@ sum_of_one body =
     let two : length second.operands ≡ 2 = ap length second.typed.0 in
     omega arith
 
-pub left_over : IsBodyTyped (function_of [] []) (number 1 ∷ []) → ⊥
+-- a value is left where none is wanted
+pub one_left : {context : BodyContext} {a b : Stacked} → length a.stack ≡ 0 → length b.stack ≡ 0 → AreTyped context (number 1 ∷ []) a b → ⊥
 unfolding is_plain
-left_over body =
-    let (a, first, rest) = step_of refl body.typed in
+one_left empty wanted typed =
+    let (between, first, rest) = step_of refl typed in
     let (enough, high) = height first in
     let none : length first.operands ≡ 0 = ap length first.typed.0 in
     let one : length first.results ≡ 1 = ap length first.typed.1 in
-    let end : length a.stack ≡ 0 = end_height rest in
+    let end : length between.stack ≡ 0 = end_height rest ∙ wanted in
     omega arith
+
+pub left_over : IsBodyTyped (function_of [] []) (number 1 ∷ []) → ⊥
+left_over body = one_left refl refl body.typed
 
 pub missing : IsBodyTyped (function_of [] (I32 ∷ [])) [] → ⊥
 missing body = let end : ◌≡◌ {A = ℕ} 0 1 = end_height body.typed in omega arith
@@ -183,37 +187,11 @@ if_without_else =
           (framed context (I32 ∷ []) [] [] [] [] [] valid refl) (finished context [] [] valid));
     }
 
-no_else : (body ys : List Instr) → number 2 ∷ instr.End ∷ [] ≡ body ++ instr.Else ∷ ys → ⊥
-no_else [] ys is = cc
-no_else (x ∷ []) ys is = cc
-no_else (x ∷ y ∷ []) ys is = cc
-no_else (x ∷ y ∷ z ∷ body) ys is = cc
-
--- an if without an else that has a result
-no_if : {context : BodyContext} {a b : Stacked} → AreTyped context (instr.If (blocks.Value I32) ∷ number 2 ∷ instr.End ∷ []) a b → ⊥
-no_if (step s rest) = s.typed
-no_if (block is fits inner framed rest) = cc
-no_if (loop is fits inner framed rest) = cc
-no_if {context = context} (if_alone {ty = ty} {params = params} {results = results} is fits inner same framed rest) =
-    let of : ty ≡ blocks.Value I32 = cc in
-    let (valid, none, one) = subst (λ (t : BlockType). IsBlockType context t params results) of fits in
-    let high = zip_length _ params results same.below in
-    let low : length params ≡ 0 = ap length none in
-    let top : length results ≡ 1 = ap length one in
-    omega arith
-no_if (if_else {body = body} {other = other} {more = more} is fits inner last framed rest) =
-    no_else body (other ++ instr.End ∷ more) cc
-no_if (try_table is fits caught inner framed rest) = cc
-
-pub if_for_a_result : IsBodyTyped (function_of [] (I32 ∷ [])) (number 1 ∷ instr.If (blocks.Value I32) ∷ number 2 ∷ instr.End ∷ []) → ⊥
-unfolding is_plain
-if_for_a_result body = let (a, first, rest) = step_of refl body.typed in no_if rest
-
-funcref_valid : (context : BodyContext) → context.features ≡ usual_features → AreValid context (Ref funcref ∷ [])
+pub funcref_valid : (context : BodyContext) → context.features ≡ usual_features → AreValid context (Ref funcref ∷ [])
 funcref_valid context is =
     valid_one context (Ref funcref) (rw is refl, record { heap_type = (tt, λ never. cc); nullable = λ is. cc })
 
-weakened : (context : BodyContext) → context.features ≡ usual_features → CountsAs context (some_func ∷ []) (Ref funcref ∷ [])
+pub weakened : (context : BodyContext) → context.features ≡ usual_features → CountsAs context (some_func ∷ []) (Ref funcref ∷ [])
 weakened context is = record { below = (record { heap = itself; nullable = λ is. refl }, tt); valid = funcref_valid context is }
 
 pub to_above : AreTyped (function_of [] []) [] (stacked (some_func ∷ []) []) (stacked (Ref funcref ∷ []) [])

@@ -77,6 +77,9 @@ aligned memory align = record { align = align; offset = 0; memory = memory }
 abbrev pub number : ℕ → Instr
 number n = instr.I32Const (pos n)
 
+abbrev pub wide_number : ℕ → Instr
+wide_number n = instr.I64Const (pos n)
+
 abbrev pub add : Instr
 add = instr.Numeric (numeric.I32Binary Add)
 

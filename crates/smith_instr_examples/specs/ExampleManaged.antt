@@ -1,14 +1,14 @@
 -- The context of the examples on references, structs, arrays, tables and calls.
 use Rattle.std.specs.Prelude.{ℕ, true, List, [], ◌∷◌}
-use Rattle.smith_types.specs.ExampleTypes.{constant, final_type, func, not_null, nullable, plain, struct, taking, variable}
+use Rattle.smith_types.specs.ExampleTypes.{constant, final_type, func, not_null, nullable, plain, shared_type, struct, taking, variable}
 use Rattle.smith_types.specs.Flags.{funcref}
 use Rattle.smith_types.specs.declared.composite_type.CompositeInnerType.TheVariants.{Array, Func}
 use Rattle.smith_types.specs.declared.composite_type.FuncType.{FuncType}
-use Rattle.smith_types.specs.declared.composite_type.StorageType.TheVariants.{I8, Val}
+use Rattle.smith_types.specs.declared.composite_type.StorageType.TheVariants.{I8, I16, Val}
 use Rattle.smith_types.specs.declared.composite_type.SubType.{SubType}
 use Rattle.smith_types.specs.declared.entity_type.TableType.{TableType}
 use Rattle.smith_types.specs.declared.value_type.AbstractHeapType.TheVariants as heap
-use Rattle.smith_types.specs.declared.value_type.HeapType.TheVariants.{Concrete}
+use Rattle.smith_types.specs.declared.value_type.HeapType.TheVariants.{Abstract, Concrete}
 use Rattle.smith_types.specs.declared.value_type.RefType.{RefType}
 use Rattle.smith_types.specs.declared.value_type.ValType.{ValType}
 use Rattle.smith_types.specs.declared.value_type.ValType.TheVariants.{I32, I64, Ref}
@@ -76,3 +76,20 @@ managed labels results = record (function_of [] results) {
 -- the immediates of a branch to a label if a reference of one type is of another
 abbrev pub casting : ℕ → RefType → RefType → BranchCast
 casting label from to = record { label = label; from = from; to = to }
+
+-- a table of shared functions
+abbrev pub shared_functions : TableType
+shared_functions = record functions { element_type = nullable (Abstract true heap.Func) }
+
+-- a function over shared types: a struct of a constant packed field of 16 bits and a variable i64,
+-- an array of variable i32, and a function type from an i64 to an i32; with a table of shared
+-- functions
+abbrev pub sharing : BodyContext
+sharing = record (managed [] []) {
+  types =
+      shared_type (struct (constant I16 ∷ variable (Val I64) ∷ []))
+      ∷ shared_type (Array (record { 0 = variable (Val I32) }))
+      ∷ shared_type (Func narrows)
+      ∷ [];
+  tables = shared_functions ∷ [];
+}

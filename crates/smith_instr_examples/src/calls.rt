@@ -29,6 +29,8 @@ fn indirect()
         → ¬ HasInstrType (managed [] []) [] (instr.CallIndirect 0 6) (I64 ∷ []) results }
     ensures another_result { ¬ HasInstrType (managed [] []) [] (instr.CallIndirect 0 6)
         (I64 ∷ I32 ∷ []) (I64 ∷ []) }
+    ensures past_the_last_type { (operands results : List ValType)
+        → ¬ HasInstrType (managed [] []) [] (instr.CallIndirect 0 8) operands results }
 {}
 
 fn by_reference()
@@ -44,6 +46,8 @@ fn by_reference()
     ensures reference_first { (results : List ValType)
         → ¬ HasInstrType (managed [] []) [] (instr.CallRef 6)
         (nullable_to (Concrete 6) ∷ I64 ∷ []) results }
+    ensures past_the_last_type { (operands results : List ValType)
+        → ¬ HasInstrType (managed [] []) [] (instr.CallRef 8) operands results }
 {}
 
 fn tail()
@@ -72,4 +76,17 @@ fn tail()
     ensures reference_to_any_function { (results : List ValType)
         → ¬ HasInstrType (managed [] (I32 ∷ [])) [] (instr.ReturnCallRef 6)
         (I64 ∷ Ref funcref ∷ []) results }
+    ensures indirect_past_the_last_table { (operands results : List ValType)
+        → ¬ HasInstrType (managed [] (I32 ∷ [])) [] (instr.ReturnCallIndirect 3 6)
+        operands results }
+    ensures indirect_past_the_last_type { (operands results : List ValType)
+        → ¬ HasInstrType (managed [] (I32 ∷ [])) [] (instr.ReturnCallIndirect 0 8)
+        operands results }
+    ensures indirect_of_a_struct { (operands results : List ValType)
+        → ¬ HasInstrType (managed [] (I32 ∷ [])) [] (instr.ReturnCallIndirect 0 0)
+        operands results }
+    ensures reference_past_the_last_type { (operands results : List ValType)
+        → ¬ HasInstrType (managed [] (I32 ∷ [])) [] (instr.ReturnCallRef 8) operands results }
+    ensures reference_of_a_struct { (operands results : List ValType)
+        → ¬ HasInstrType (managed [] (I32 ∷ [])) [] (instr.ReturnCallRef 0) operands results }
 {}

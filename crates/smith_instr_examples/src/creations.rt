@@ -9,6 +9,7 @@ ghost use Rattle.smith_instr.specs.declared.aggregate.AggregateInstr.TheVariants
 ghost use Rattle.smith_instr.specs.declared.instr.Instr.TheVariants as instr;
 ghost use Rattle.smith_instr_examples.specs.ExampleBodies.{some_func};
 ghost use Rattle.smith_instr_examples.specs.ExampleManaged.{managed, some_struct};
+ghost use Rattle.smith_instr_examples.specs.ExampleTyping.{HasNoType};
 
 fn structs()
     ensures packed_first { HasInstrType (managed [] []) [] (instr.Aggregate (aggregate.StructNew 0))
@@ -59,6 +60,9 @@ fn arrays()
     ensures of_two_with_a_size { (results : List ValType)
         → ¬ HasInstrType (managed [] []) [] (instr.Aggregate (aggregate.ArrayNewFixed 5 2))
         (some_func ∷ some_func ∷ I32 ∷ []) results }
+    ensures struct_by_default { HasNoType (instr.Aggregate (aggregate.ArrayNewDefault 0)) }
+    ensures struct_of_two { HasNoType (instr.Aggregate (aggregate.ArrayNewFixed 0 2)) }
+    ensures struct_of_none { HasNoType (instr.Aggregate (aggregate.ArrayNewFixed 0 0)) }
 {}
 
 fn arrays_from_segments()
@@ -86,4 +90,6 @@ fn arrays_from_segments()
     ensures past_the_last_element_segment { (operands results : List ValType)
         → ¬ HasInstrType (managed [] []) [] (instr.Aggregate (aggregate.ArrayNewElem 4 3))
         operands results }
+    ensures struct_of_data { HasNoType (instr.Aggregate (aggregate.ArrayNewData 0 0)) }
+    ensures struct_of_elements { HasNoType (instr.Aggregate (aggregate.ArrayNewElem 0 0)) }
 {}

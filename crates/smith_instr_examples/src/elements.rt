@@ -1,16 +1,20 @@
-ghost use Rattle.std.specs.Prelude.{List, [], ◌∷◌};
-ghost use Rattle.smith_types.specs.ExampleTypes.{eqref, plain};
+ghost use Rattle.std.specs.Prelude.{List, [], ◌∷◌, ◌≡◌};
+ghost use Rattle.smith_types.specs.ExampleTypes.{constant, eqref, plain};
 ghost use Rattle.smith_types.specs.Flags.{funcref};
+ghost use Rattle.smith_types.specs.declared.composite_type.StorageType.TheVariants as storage;
 ghost use Rattle.smith_types.specs.declared.value_type.AbstractHeapType.TheVariants as heap;
 ghost use Rattle.smith_types.specs.declared.value_type.HeapType.TheVariants.{Concrete};
 ghost use Rattle.smith_types.specs.declared.value_type.ValType.{ValType};
-ghost use Rattle.smith_types.specs.declared.value_type.ValType.TheVariants.{I32, I64, Ref};
+ghost use Rattle.smith_types.specs.declared.value_type.ValType.TheVariants.{F32, F64, I32, I64, Ref};
+ghost use Rattle.smith_types.specs.declared.value_type.ValType.TheVariants.{V128};
+ghost use Rattle.smith_instr.specs.AggregateTypes.{IsOfBytes, IsReadBy, value_of};
 ghost use Rattle.smith_instr.specs.Contexts.{nullable_to};
 ghost use Rattle.smith_instr.specs.InstrTypes.{HasInstrType};
 ghost use Rattle.smith_instr.specs.declared.aggregate.AggregateInstr.TheVariants as aggregate;
 ghost use Rattle.smith_instr.specs.declared.aggregate.Extension.TheVariants as extension;
 ghost use Rattle.smith_instr.specs.declared.instr.Instr.TheVariants as instr;
 ghost use Rattle.smith_instr_examples.specs.ExampleManaged.{any_struct, managed};
+ghost use Rattle.smith_instr_examples.specs.ExampleTyping.{HasNoType};
 
 fn fields()
     ensures past_the_last { (operands results : List ValType)
@@ -85,6 +89,8 @@ fn written()
     ensures filled_without_a_size { (results : List ValType)
         → ¬ HasInstrType (managed [] []) [] (instr.Aggregate (aggregate.ArrayFill 2))
         (nullable_to (Concrete 2) ∷ I32 ∷ I32 ∷ []) results }
+    ensures struct_written { HasNoType (instr.Aggregate (aggregate.ArraySet 0)) }
+    ensures struct_filled { HasNoType (instr.Aggregate (aggregate.ArrayFill 0)) }
 {}
 
 fn copied()
@@ -106,6 +112,8 @@ fn copied()
     ensures of_references_into_numbers { (operands results : List ValType)
         → ¬ HasInstrType (managed [] []) [] (instr.Aggregate (aggregate.ArrayCopy 2 4))
         operands results }
+    ensures into_a_struct { HasNoType (instr.Aggregate (aggregate.ArrayCopy 0 2)) }
+    ensures of_a_struct { HasNoType (instr.Aggregate (aggregate.ArrayCopy 2 0)) }
 {}
 
 fn initialised()
@@ -133,4 +141,19 @@ fn initialised()
     ensures past_the_last_element_segment { (operands results : List ValType)
         → ¬ HasInstrType (managed [] []) [] (instr.Aggregate (aggregate.ArrayInitElem 4 3))
         operands results }
+    ensures struct_of_data { HasNoType (instr.Aggregate (aggregate.ArrayInitData 0 0)) }
+    ensures struct_of_elements { HasNoType (instr.Aggregate (aggregate.ArrayInitElem 0 0)) }
+{}
+
+fn storage()
+    ensures floats_of_bytes { IsOfBytes (storage.Val F32) }
+    ensures wide_floats_of_bytes { IsOfBytes (storage.Val F64) }
+    ensures wide_numbers_of_bytes { IsOfBytes (storage.Val I64) }
+    ensures vectors_of_bytes { IsOfBytes (storage.Val V128) }
+    ensures halves_of_bytes { IsOfBytes storage.I16 }
+    ensures references_of_bytes { ¬ IsOfBytes (storage.Val (Ref funcref)) }
+    ensures halves_signed { IsReadBy extension.Signed storage.I16 }
+    ensures halves_unsigned { IsReadBy extension.Unsigned storage.I16 }
+    ensures halves_unpacked { ¬ IsReadBy extension.Unpacked storage.I16 }
+    ensures halves_as_numbers { value_of (constant storage.I16) ≡ I32 }
 {}

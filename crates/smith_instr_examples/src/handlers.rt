@@ -26,6 +26,10 @@ fn try_tables()
         → ¬ AreTyped (managed ((I32 ∷ []) ∷ []) [])
         (instr.TryTable block.Empty (catch.One 0 0 ∷ catch.All 0 ∷ []) ∷ instr.End ∷ [])
         before after }
+    ensures body_without_its_result { (before after : Stacked) → ¬ AreTyped (managed [] [])
+        (instr.TryTable (block.Value I32) [] ∷ instr.End ∷ []) before after }
+    ensures body_with_a_value_left { (before after : Stacked) → ¬ AreTyped (managed [] [])
+        (instr.TryTable block.Empty [] ∷ number 1 ∷ instr.End ∷ []) before after }
 {}
 
 fn clauses()

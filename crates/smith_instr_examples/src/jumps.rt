@@ -55,6 +55,8 @@ fn on_null()
     ensures past_the_last_type { (results : List ValType)
         → ¬ HasInstrType (managed ([] ∷ []) []) [] (instr.BrOnNull 0)
         (nullable_to (Concrete 8) ∷ []) results }
+    ensures past_the_last_label { (operands results : List ValType)
+        → ¬ HasInstrType (managed ([] ∷ []) []) [] (instr.BrOnNull 1) operands results }
 {}
 
 fn on_non_null()
@@ -71,4 +73,7 @@ fn on_non_null()
         operands results }
     ensures null_is_left { ¬ HasInstrType (managed ((Ref some_struct ∷ []) ∷ []) []) []
         (instr.BrOnNonNull 0) (Ref any_struct ∷ []) (Ref any_struct ∷ []) }
+    ensures past_the_last_label { (operands results : List ValType)
+        → ¬ HasInstrType (managed ((Ref any_struct ∷ []) ∷ []) []) [] (instr.BrOnNonNull 1)
+        operands results }
 {}

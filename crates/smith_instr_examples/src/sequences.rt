@@ -26,6 +26,8 @@ fn locals()
         (instr.LocalGet 0 ∷ []) }
     ensures read_after_it_is_set { IsBodyTyped (function_of (some_func ∷ []) [])
         (instr.Unreachable ∷ instr.LocalSet 0 ∷ instr.LocalGet 0 ∷ instr.Drop ∷ []) }
+    ensures read_after_a_tee { IsBodyTyped (function_of (some_func ∷ []) [])
+        (instr.Unreachable ∷ instr.LocalTee 0 ∷ instr.Drop ∷ instr.LocalGet 0 ∷ instr.Drop ∷ []) }
     ensures read_before_it_is_set { ¬ IsBodyTyped (function_of (some_func ∷ []) [])
         (instr.LocalGet 0 ∷ instr.Drop ∷ []) }
 {}

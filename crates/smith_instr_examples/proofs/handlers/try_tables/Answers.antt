@@ -1,7 +1,8 @@
-use Rattle.smith_instr_examples.proofs.Common.{[], ◌∷◌, refl, All-from_recursion, I32, labelled, IsCatch, step, try_table, one, framed, finished, number, managed}
+use Rattle.smith_instr_examples.proofs.Common.{[], ◌∷◌, refl, ap, length, All-from_recursion, I32, labelled, IsCatch, step, try_table, one, framed, finished, number, managed}
 use Rattle.smith_instr.specs.declared.control.Catch.TheVariants as catch
 use Rattle.smith_instr.specs.declared.instr.Instr.TheVariants as instr
-use Rattle.smith_instr_examples.proofs.SequenceExamples.{valid_none, valid_one}
+use Rattle.smith_instr_examples.proofs.PartLemmas.{try_parts, is_inner}
+use Rattle.smith_instr_examples.proofs.SequenceExamples.{is_plain, one_left, valid_none, valid_one}
 use Rattle.smith_instr_examples.proofs.ManagedExamples.{takes_there}
 use Rattle.smith_instr_examples.proofs.handlers.try_tables.Goals as goal
 
@@ -25,3 +26,9 @@ returns-clause-with_a_result c =
     (All-from_recursion (IsCatch context) (catch.All 0 ∷ []) (([], refl, tt), tt))
     (step (one inside (number 1) [] (I32 ∷ []) [] [] [] (refl, refl) (valid_one inside I32 tt) refl) (finished inside (I32 ∷ []) [] (valid_one inside I32 tt)))
     (framed context [] (I32 ∷ []) [] [] [] [] valid refl) (finished context (I32 ∷ []) [] valid)
+
+pub returns-clause-body_with_a_value_left : goal.returns-clause-body_with_a_value_left
+unfolding is_inner is_plain
+returns-clause-body_with_a_value_left c = λ before after typed.
+    let parts = try_parts (number 1 ∷ []) [] (refl, tt) tt typed in
+    one_left (ap length parts.fits.0) (ap length parts.fits.1) parts.within
