@@ -29,11 +29,13 @@ const DEPTH: u32 = 40;
 ///
 /// With `disallow_traps`, only `unreachable` may trap. It is then drawn only with a budget of 0, or
 /// for a value that no other permitted instructions produce without a budget. These are a local, a
-/// global, a function reference, a constant, null, a struct of default values, an array without
-/// elements, an i31 of a constant, the conversion of one of them between internal and external
-/// references, and a struct of the type that a reference type names, if each field has a value of
-/// one instruction. Such a value takes at most three instructions, or one for each field and one for
-/// the creation.
+/// global, a function reference, a constant, null, a struct of default values, and an array without
+/// elements; an i31 of a number of one instruction; a value converted between internal and external
+/// references; a struct of one field, whose value may be any of these, another struct of one field
+/// among them; and a struct of several fields, if each field has a value of one instruction. If the
+/// reference type names a type, only a struct of that type is tried. If it names none, each struct
+/// type is tried in turn, but not again for the field of a struct of one field. Such a value takes
+/// at most three instructions, or one for each field and one for the creation.
 ///
 /// # Errors
 ///
