@@ -15,9 +15,9 @@ use Rattle.smith_types.specs.declared.imports.Imports.TheVariants.{Single, Compa
 use Rattle.smith_validity.proofs.HeldValueLemmas.{all_apart}
 use Rattle.smith_config.specs.declared.config.Config.{Config}
 use Rattle.smith_given_imports.specs.AvailableImports.{may_join, group_begun, joins_at, group_begun_at, joined_at, grouped_at, AreGroupsOf}
-use Rattle.smith_imports.specs.ImportGroups.{GroupKind}
 use Rattle.smith_imports.specs.Imported.{IsCompact, IsOfGroup}
 use Rattle.smith_imports.specs.Importing.{module_name, with_import}
+use Rattle.smith_imports.specs.declared.import_groups.GroupKind.{GroupKind}
 use Rattle.smith_imports.specs.declared.import_groups.GroupKind.TheVariants as groups
 use Rattle.smith_imports.proofs.ImportedEntityLemmas.{first_holds, second_holds}
 use Rattle.smith_imports.proofs.ImportsGrownLemmas.{import_added}

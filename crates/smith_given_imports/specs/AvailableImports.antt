@@ -17,12 +17,13 @@ use Rattle.smith_config.specs.declared.config.Config.{Config}
 use Rattle.smith_config.specs.declared.shape.Shape.{Shape}
 use Rattle.smith_config.specs.Features.{features_of}
 use Rattle.smith_config.specs.Shapes.{shape_types, shape_imports}
-use Rattle.smith_imports.specs.ImportGroups.{GroupKind, group_kind_at}
+use Rattle.smith_imports.specs.ImportGroups.{group_kind_at}
 use Rattle.smith_types.specs.Exports.{entity_kind}
 use Rattle.smith_imports.specs.ImportedEntities.{has_room}
 use Rattle.smith_imports.specs.Imported.{AreNumbersWithin, spaces_of}
 use Rattle.smith_imports.specs.Importing.{with_import}
 use Rattle.smith_rules.specs.ShapeImports.{is_allowed, is_fitting, sizes_of}
+use Rattle.smith_imports.specs.declared.import_groups.GroupKind.{GroupKind}
 use Rattle.smith_imports.specs.declared.import_groups.GroupKind.TheVariants as groups
 use Rattle.smith_imports.specs.declared.imported.Imported.{Imported}
 
