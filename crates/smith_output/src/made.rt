@@ -67,7 +67,11 @@ pub fn binary(
     ensures refused { IfErr result (IsRefusedFor config u.old u.new) }
 {
     match Program::new(alloc, config, u) {
-        Ok(program) => encoded(alloc, &program),
+        Ok(program) => {
+            let bytes = encoded(alloc, &program);
+            drop(program);
+            bytes
+        }
         Err(refusal) => Err(OutputFault::Refused(refusal)),
     }
 }
@@ -117,12 +121,19 @@ pub fn output(
 /// Writes `program` in the form of `manner`, with a count of its calls and of its iterations of
 /// loops if `manner` has one.
 fn counted(alloc: Global, mut program: Program, manner: Manner) -> Result<Vec<u8>, OutputFault> {
+    let bytes = written(alloc, &mut program, manner);
+    drop(program);
+    bytes
+}
+
+/// Adds the count of `manner` to `program`, if there is one, and writes it in the form of `manner`.
+fn written(alloc: Global, program: &mut Program, manner: Manner) -> Result<Vec<u8>, OutputFault> {
     if let Some(fuel) = manner.fuel {
-        count(alloc, &mut program, fuel)?;
+        count(alloc, program, fuel)?;
     }
     match manner.form {
-        Form::Binary => encoded(alloc, &program),
-        Form::Text => Ok(text(alloc, &program)?.into_bytes()),
+        Form::Binary => encoded(alloc, program),
+        Form::Text => Ok(text(alloc, program)?.into_bytes()),
     }
 }
 

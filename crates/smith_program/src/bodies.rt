@@ -200,8 +200,6 @@ fn joined(alloc: Global, params: &[ValType], locals: &[ValType]) -> Result<Items
     ensures memory { IfErr result (λ e. e ≡ Error.Memory) }
 {
     let mut joined = Items::from_slice(alloc, params)?;
-    for local in locals {
-        joined.push(*local)?;
-    }
+    joined.extend_from_slice(locals)?;
     Ok(joined)
 }

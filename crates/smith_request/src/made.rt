@@ -74,10 +74,11 @@ pub fn binary(alloc: Global, text: &[u8], input: &[u8]) -> Result<Vec<u8>, Refus
     ensures refused { IfErr result (λ refusal. IsRefusal text.now input.now refusal) }
 {
     match program(alloc, text, input) {
-        Ok(program) => match smith_program_binary::encode(alloc, &program) {
-            Ok(bytes) => Ok(bytes),
-            Err(fault) => Err(Refusal::Encoding(fault)),
-        },
+        Ok(program) => {
+            let bytes = smith_program_binary::encode(alloc, &program);
+            drop(program);
+            bytes.map_err(Refusal::Encoding)
+        }
         Err(refusal) => Err(refusal),
     }
 }
@@ -103,7 +104,11 @@ pub fn text(alloc: Global, text: &[u8], input: &[u8]) -> Result<String, Refusal>
     ensures short { IfErr result IsNotTooLong }
 {
     match program(alloc, text, input) {
-        Ok(program) => written(alloc, &program),
+        Ok(program) => {
+            let text = written(alloc, &program);
+            drop(program);
+            text
+        }
         Err(refusal) => Err(refusal),
     }
 }

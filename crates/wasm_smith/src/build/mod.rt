@@ -67,11 +67,18 @@ pub(crate) fn build(
     ensures left { KeepsPieces u.old u.new }
 {
     let mut config = Box::new(alloc, config)?;
-    let drawn = draw(alloc, config.as_ref(), distinct, u)?;
-    config.as_mut().available_imports = None;
-    Ok(Module {
-        config,
-        drawn,
-        fuel_globals: Items::new(alloc),
-    })
+    match draw(alloc, config.as_ref(), distinct, u) {
+        Ok(drawn) => {
+            config.as_mut().available_imports = None;
+            Ok(Module {
+                config,
+                drawn,
+                fuel_globals: Items::new(alloc),
+            })
+        }
+        Err(refusal) => {
+            drop(config);
+            Err(refusal)
+        }
+    }
 }

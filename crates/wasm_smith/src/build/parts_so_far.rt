@@ -139,6 +139,11 @@ pub(crate) fn draw(
     ensures left { KeepsPieces u.old u.new }
 {
     let mut drawn = Box::new(alloc, PartsSoFar::none(alloc))?;
-    draw_parts(alloc, config, distinct, drawn.as_mut(), u)?;
-    Ok(drawn)
+    match draw_parts(alloc, config, distinct, drawn.as_mut(), u) {
+        Ok(()) => Ok(drawn),
+        Err(refusal) => {
+            drop(drawn);
+            Err(refusal)
+        }
+    }
 }

@@ -15,33 +15,33 @@ kept P given boxed lent shown was read stands h =
     let first : P given boxed = subst (λ (config : Config). P config boxed) was same in
     subst (λ (config : Config). P given config) (sym stands) first
 
-pub returns-clause-config : goal.returns-clause-config
-returns-clause-config c = rw (c.as_mut.ensures.value, c.in_ok-config.ensures.ok) refl
+pub returns-in-Ok-clause-config : goal.returns-in-Ok-clause-config
+returns-in-Ok-clause-config c = rw (c.as_mut.ensures.value, c.in_ok-config.ensures.ok) refl
 
-pub returns-clause-exact : goal.returns-clause-exact
-returns-clause-exact c =
-    rw c.new-2.ensures (kept (λ given shown. module_at c.args.distinct given c.args.u.now ≡ Ok (as_drawn (parts_of shown c.in_ok-drawn.drawn.value), c.draw.new.u)) _ _ _ _ c.in_ok-config.ensures.ok c.as_ref.ensures c.as_mut.ensures.value c.in_ok-drawn.ensures.exact)
+pub returns-in-Ok-clause-exact : goal.returns-in-Ok-clause-exact
+returns-in-Ok-clause-exact c =
+    rw c.new-in-Ok.ensures (kept (λ given shown. module_at c.args.distinct given c.args.u.now ≡ Ok (as_drawn (parts_of shown c.in-Ok.drawn.value), c.draw.new.u)) _ _ _ _ c.in_ok-config.ensures.ok c.as_ref.ensures c.as_mut.ensures.value c.in-Ok.ensures.exact)
 
-pub returns-clause-valid : goal.returns-clause-valid
-returns-clause-valid c =
-    rw c.new-2.ensures (kept (λ given shown. IsValid (parts_of shown c.in_ok-drawn.drawn.value)) _ _ _ _ c.in_ok-config.ensures.ok c.as_ref.ensures c.as_mut.ensures.value c.in_ok-drawn.ensures.valid)
+pub returns-in-Ok-clause-valid : goal.returns-in-Ok-clause-valid
+returns-in-Ok-clause-valid c =
+    rw c.new-in-Ok.ensures (kept (λ given shown. IsValid (parts_of shown c.in-Ok.drawn.value)) _ _ _ _ c.in_ok-config.ensures.ok c.as_ref.ensures c.as_mut.ensures.value c.in-Ok.ensures.valid)
 
-pub returns-clause-bounds : goal.returns-clause-bounds
-returns-clause-bounds c =
-    rw c.new-2.ensures (kept (λ given shown. KeepsBounds given (parts_of shown c.in_ok-drawn.drawn.value)) _ _ _ _ c.in_ok-config.ensures.ok c.as_ref.ensures c.as_mut.ensures.value c.in_ok-drawn.ensures.bounds)
+pub returns-in-Ok-clause-bounds : goal.returns-in-Ok-clause-bounds
+returns-in-Ok-clause-bounds c =
+    rw c.new-in-Ok.ensures (kept (λ given shown. KeepsBounds given (parts_of shown c.in-Ok.drawn.value)) _ _ _ _ c.in_ok-config.ensures.ok c.as_ref.ensures c.as_mut.ensures.value c.in-Ok.ensures.bounds)
 
-pub returns-clause-minimums : goal.returns-clause-minimums
-returns-clause-minimums c =
-    rw c.new-2.ensures (kept (λ given shown. MeetsMinimums given (parts_of shown c.in_ok-drawn.drawn.value)) _ _ _ _ c.in_ok-config.ensures.ok c.as_ref.ensures c.as_mut.ensures.value c.in_ok-drawn.ensures.minimums)
+pub returns-in-Ok-clause-minimums : goal.returns-in-Ok-clause-minimums
+returns-in-Ok-clause-minimums c =
+    rw c.new-in-Ok.ensures (kept (λ given shown. MeetsMinimums given (parts_of shown c.in-Ok.drawn.value)) _ _ _ _ c.in_ok-config.ensures.ok c.as_ref.ensures c.as_mut.ensures.value c.in-Ok.ensures.minimums)
 
-pub returns-clause-shapes : goal.returns-clause-shapes
-returns-clause-shapes c =
-    rw c.new-2.ensures (kept (λ given shown. KeepsShapes given c.args.u.now (parts_of shown c.in_ok-drawn.drawn.value)) _ _ _ _ c.in_ok-config.ensures.ok c.as_ref.ensures c.as_mut.ensures.value c.in_ok-drawn.ensures.shapes)
+pub returns-in-Ok-clause-shapes : goal.returns-in-Ok-clause-shapes
+returns-in-Ok-clause-shapes c =
+    rw c.new-in-Ok.ensures (kept (λ given shown. KeepsShapes given c.args.u.now (parts_of shown c.in-Ok.drawn.value)) _ _ _ _ c.in_ok-config.ensures.ok c.as_ref.ensures c.as_mut.ensures.value c.in-Ok.ensures.shapes)
 
-pub returns-clause-promises : goal.returns-clause-promises
-returns-clause-promises c =
-    rw c.new-2.ensures (kept (λ given shown. KeepsPromises c.args.distinct given (parts_of shown c.in_ok-drawn.drawn.value)) _ _ _ _ c.in_ok-config.ensures.ok c.as_ref.ensures c.as_mut.ensures.value c.in_ok-drawn.ensures.promises)
+pub returns-in-Ok-clause-promises : goal.returns-in-Ok-clause-promises
+returns-in-Ok-clause-promises c =
+    rw c.new-in-Ok.ensures (kept (λ given shown. KeepsPromises c.args.distinct given (parts_of shown c.in-Ok.drawn.value)) _ _ _ _ c.in_ok-config.ensures.ok c.as_ref.ensures c.as_mut.ensures.value c.in-Ok.ensures.promises)
 
-pub returns-clause-interesting : goal.returns-clause-interesting
-returns-clause-interesting c =
-    rw c.new-2.ensures (kept (λ given shown. HasInterestingValues (parts_of shown c.in_ok-drawn.drawn.value)) _ _ _ _ c.in_ok-config.ensures.ok c.as_ref.ensures c.as_mut.ensures.value c.in_ok-drawn.ensures.interesting)
+pub returns-in-Ok-clause-interesting : goal.returns-in-Ok-clause-interesting
+returns-in-Ok-clause-interesting c =
+    rw c.new-in-Ok.ensures (kept (λ given shown. HasInterestingValues (parts_of shown c.in-Ok.drawn.value)) _ _ _ _ c.in_ok-config.ensures.ok c.as_ref.ensures c.as_mut.ensures.value c.in-Ok.ensures.interesting)
