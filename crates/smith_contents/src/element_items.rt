@@ -248,10 +248,12 @@ fn draw_each_expression(
     spaces: &Spaces<'_>,
     ty: RefType,
     most: usize,
+    kept: &mut KeptOffers,
     u: &mut Unstructured<'_>,
 ) -> Result<Items<Items<ConstInstr>>, Error>
     requires references { IsTrue config.now.reference_types_enabled }
     requires may { MayHoldItems config.now spaces.now ty }
+    requires kept { AreKeptOffers (seen_by config.now spaces.now true) kept.old }
     ensures exact { IfOk result (λ drawn.
         drawn_expressions_at config.now (seen_by config.now spaces.now true) ty most u.old
         ≡ (drawn, u.new)) }
@@ -262,13 +264,12 @@ fn draw_each_expression(
         (MayRefuseConstExpr config.now (standing_in config.now spaces.now) (Ref ty)) }
     ensures left { KeepsPieces u.old u.new }
 {
-    let mut kept = KeptOffers::new();
     let mut items = Items::new(alloc);
     for made in 0..most {
         if !goes_on(u, made, config.min_elements) {
             return Ok(items);
         }
-        items.push(draw_expression_item(alloc, config, spaces, ty, &mut kept, u)?)?;
+        items.push(draw_expression_item(alloc, config, spaces, ty, kept, u)?)?;
     }
     Ok(items)
 }
@@ -294,7 +295,10 @@ fn draw_expressions(
     ensures left { KeepsPieces u.old u.new }
 {
     ask_enough(config, most)?;
-    draw_each_expression(alloc, config, spaces, ty, most, u)
+    let mut kept = KeptOffers::new();
+    let drawn = draw_each_expression(alloc, config, spaces, ty, most, &mut kept, u);
+    drop(kept);
+    drawn
 }
 
 /// Draws at most `most` items of a segment of the type `ty`.

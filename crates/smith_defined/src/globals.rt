@@ -15,7 +15,7 @@ ghost use Rattle.smith_draw.specs.KeptOffers.{AreKeptOffers};
 ghost use Rattle.smith_config.specs.Granted.{HasGroundedValue};
 ghost use Rattle.smith_defined.specs.Defined.{IsFilled, AreAdded, MayInitialise, MayRefuseDrawn};
 ghost use Rattle.smith_defined.specs.Defined.{AreGlobalsDefined, drawn_over};
-ghost use Rattle.smith_defined.specs.Definitions.{scope_among, initialised_at, globals_at};
+ghost use Rattle.smith_defined.specs.Definitions.{scope_among, global_scope, initialised_at, globals_at};
 ghost use Rattle.smith_defined.specs.NumberedGlobals.{SpellsGlobals};
 
 use crate::past_maximum::discard_past_maximum;
@@ -80,6 +80,7 @@ fn push_globals<'a>(
     standing: &Standing<'_>,
     globals: &mut Items<GlobalType>,
     initials: &mut Items<(u32, Items<ConstInstr>)>,
+    kept: &mut KeptOffers,
     u: &mut Unstructured<'_>,
 ) -> Result<(), Error>
     requires may { MayInitialise config.now types.now
@@ -89,6 +90,8 @@ fn push_globals<'a>(
     requires valid { All (IsGlobalValid (features_of config.now) types.now.types) globals.old }
     requires imported { imported_globals ≤ length globals.old }
     requires few { length globals.old < 2 ^ 32 }
+    requires kept { AreKeptOffers (global_scope config.now (scope_among types.now.types funcs.now
+        imported_funcs imported_globals globals.old) globals.old) kept.old }
 
     // The draw.
     ensures exact { OnOk result (globals_at config.now (scope_among types.now.types funcs.now
@@ -124,7 +127,6 @@ fn push_globals<'a>(
 {
     let before = globals.len();
     let least = config.min_globals.saturating_sub(before);
-    let mut kept = KeptOffers::new();
     for made in 0..config.max_globals.saturating_sub(before) {
         if !goes_on(u, made, least) {
             return Ok(());
@@ -141,7 +143,7 @@ fn push_globals<'a>(
             config,
             &Spaces { types, entities },
             standing,
-            &mut kept,
+            kept,
             u,
         )?;
         globals.push(global)?;
@@ -210,7 +212,8 @@ pub(crate) fn define_globals<'a>(
         (scope_among types.now.types funcs.now imported_funcs imported_globals globals.old))) }
     ensures left { KeepsPieces u.old u.new }
 {
-    push_globals(
+    let mut kept = KeptOffers::new();
+    let pushed = push_globals(
         alloc,
         config,
         types,
@@ -220,6 +223,9 @@ pub(crate) fn define_globals<'a>(
         standing,
         globals,
         initials,
+        &mut kept,
         u,
-    )
+    );
+    drop(kept);
+    pushed
 }

@@ -90,6 +90,7 @@ fn push_exports(
     shape: &Shape,
     types: &mut TypeSpace,
     spaces: &mut EntitySpaces,
+    kept: &mut KeptOffers,
     definitions: &mut Definitions,
     u: &mut Unstructured<'_>,
 ) -> Result<Items<(Name, ExportKind, u32)>, Error>
@@ -97,6 +98,8 @@ fn push_exports(
     requires may { MayDefineMore config.now types.old (spaces_in spaces.old) definitions.old
         (length shape.now.exports) }
     requires room { length types.old.types + length shape.now.exports < 2 ^ 32 }
+    requires kept { AreKeptOffers (scope_beside config.now types.old.types
+        (spaces_in spaces.old) definitions.old true) kept.old }
     ensures exact { Returns is_memory
         (λ exports. (standing_with types.new (spaces_in spaces.new) definitions.new exports, u.new))
         result (required_at own_types config.now shape.now types.old
@@ -109,7 +112,6 @@ fn push_exports(
 {
     let imported = imported_spaces_of(alloc, shape.imports.as_slice())?;
     let mut exports = Items::with_capacity(alloc, shape.exports.len())?;
-    let mut kept = KeptOffers::new();
     for one in shape.exports.as_slice() {
         let made = make_export(
             alloc,
@@ -120,7 +122,7 @@ fn push_exports(
             one,
             types,
             spaces,
-            &mut kept,
+            kept,
             definitions,
             u,
         )?;
@@ -204,7 +206,20 @@ pub fn make_required_exports(
         → IfErr result (λ e. e ≡ Error.Memory) }
     ensures left { KeepsPieces u.old u.new }
 {
-    push_exports(alloc, config, true, shape, types, spaces, definitions, u)
+    let mut kept = KeptOffers::new();
+    let made = push_exports(
+        alloc,
+        config,
+        true,
+        shape,
+        types,
+        spaces,
+        &mut kept,
+        definitions,
+        u,
+    );
+    drop(kept);
+    made
 }
 
 /// Makes the exports of the module shape `shape`, and defines for each an entity of the same type.
@@ -261,5 +276,18 @@ pub fn make_shape_exports(
         → IfErr result (λ e. e ≡ Error.Memory) }
     ensures left { KeepsPieces u.old u.new }
 {
-    push_exports(alloc, config, false, shape, types, spaces, definitions, u)
+    let mut kept = KeptOffers::new();
+    let made = push_exports(
+        alloc,
+        config,
+        false,
+        shape,
+        types,
+        spaces,
+        &mut kept,
+        definitions,
+        u,
+    );
+    drop(kept);
+    made
 }

@@ -58,12 +58,14 @@ fn push_tables(
     standing: &Standing<'_>,
     tables: &mut Items<TableType>,
     initials: &mut Items<Option<Items<ConstInstr>>>,
+    kept: &mut KeptOffers,
     u: &mut Unstructured<'_>,
 ) -> Result<(), Error>
     requires may { MayInitialise config.now spaces.now.types.now (scope_of_spaces spaces.now) }
     requires standing { standing.now ≡ drawn_over config.now (scope_of_spaces spaces.now) }
     requires imported_globals { spaces.now.entities.imported_globals
         ≡ length spaces.now.entities.globals.now }
+    requires kept { AreKeptOffers (seen_by config.now spaces.now false) kept.old }
     ensures exact { OnOk result
         (tables_at config.now (scope_of_spaces spaces.now) tables.old initials.old u.old
         ≡ ((tables.new, initials.new), u.new)) }
@@ -76,14 +78,11 @@ fn push_tables(
     let before = tables.len();
     let least = (config.min_tables as usize).saturating_sub(before);
     let most = config.max_tables.saturating_sub(before);
-    let mut kept = KeptOffers::new();
     for made in 0..most {
         if !goes_on(u, made, least) {
             return Ok(());
         }
-        let (table, initial) = draw_initialised_table(
-            alloc, config, spaces, standing, &mut kept, u,
-        )?;
+        let (table, initial) = draw_initialised_table(alloc, config, spaces, standing, kept, u)?;
         tables.push(table)?;
         initials.push(initial)?;
     }
@@ -137,5 +136,10 @@ pub(crate) fn define_tables(
         (MayRefuseDrawn config.now (drawn_over config.now (scope_of_spaces spaces.now))) }
     ensures left { KeepsPieces u.old u.new }
 {
-    push_tables(alloc, config, spaces, standing, tables, initials, u)
+    let mut kept = KeptOffers::new();
+    let pushed = push_tables(
+        alloc, config, spaces, standing, tables, initials, &mut kept, u,
+    );
+    drop(kept);
+    pushed
 }

@@ -26,6 +26,7 @@ fn passing(alloc: Global, config: &Config) -> Result<Option<Config>, Error>
     let mut own = config.clone(alloc)?;
     own.sanitize();
     if own.check().is_err() {
+        drop(own);
         return Ok(None);
     }
     Ok(Some(own))
@@ -110,5 +111,7 @@ pub fn spell(
     let Some(own) = passing(alloc, config)? else {
         return Ok(None);
     };
-    spell_in_family(alloc, &own, groups, funcs)
+    let bytes = spell_in_family(alloc, &own, groups, funcs);
+    drop(own);
+    bytes
 }

@@ -18,7 +18,7 @@ loop-made-init c =
       growing = record { len = refl; so_far = rw all refl; left = λ whole h. h };
       typed = All-nil (IsConstExpr context (Ref c.args.ty));
       floats = λ calm. All-nil (All GivesNoFloat);
-      kept = c.new-kept.ensures context;
+      kept = c.requires.kept;
     })
 
 pub returns-then-not-goes_on-clause-exact : goal.returns-then-not-goes_on-clause-exact

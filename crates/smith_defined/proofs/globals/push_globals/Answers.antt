@@ -2,7 +2,7 @@ use Rattle.std.proofs.Common.{arith}
 use Rattle.std.proofs.Math.Bool.{and-true}
 use Rattle.std.proofs.lemmas.List.{length-take-le}
 use Rattle.smith_bytes.specs.declared.error.Count.TheVariants as counts
-use Rattle.smith_defined.specs.Definitions.{scope_among, global_scope}
+use Rattle.smith_defined.specs.Definitions.{scope_among}
 use Rattle.smith_defined.proofs.KeptOfferLemmas.{kept_pushed}
 use Rattle.smith_defined.proofs.GlobalsLoop.{none_made, define_more, define_stop, define_full, count_is, globals_added}
 use Rattle.smith_defined.proofs.globals.push_globals.Goals as goal
@@ -12,7 +12,7 @@ loop-made-init c =
     let standing = scope_among c.args.types.now.types c.args.funcs.now c.args.imported_funcs c.args.imported_globals c.args.globals.now in
     record {
       defining = none_made c.args.config.now standing c.args.globals.now c.args.initials.now c.args.u.now c.requires.valid;
-      kept = c.new-kept.ensures (global_scope c.args.config.now standing c.args.globals.now);
+      kept = c.requires.kept;
     }
 
 pub returns-then-not-goes_on-clause-exact : goal.returns-then-not-goes_on-clause-exact

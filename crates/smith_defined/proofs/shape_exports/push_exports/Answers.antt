@@ -1,15 +1,15 @@
-use Rattle.std.proofs.Common.{arith, true, [], ◌∷◌, ◌++◌}
+use Rattle.std.proofs.Common.{arith, [], ◌∷◌, ◌++◌}
 use Rattle.smith_types.specs.EntitySpaces.{spaces_in}
 use Rattle.smith_draw.proofs.ConstStepLemmas.{passed_on}
 use Rattle.smith_rules.specs.ExportedItems.{Export}
-use Rattle.smith_defined.specs.RequiredExports.{scope_beside, standing_with}
+use Rattle.smith_defined.specs.RequiredExports.{standing_with}
 use Rattle.smith_defined.proofs.RequiredExportsLoop.{none_required, one_stands, room_for_one, required_more, required_refused, required_full, all_required, refused_for, refused_by}
 use Rattle.smith_defined.proofs.shape_exports.push_exports.Goals as goal
 
 pub loop-one-init : goal.loop-one-init
 loop-one-init c = record {
   requiring = rw c.in_ok-exports.ensures.ok (none_required c.args.own_types c.args.config.now c.args.shape.now c.args.types.now (spaces_in c.args.spaces.now) c.args.definitions.now c.args.u.now c.requires.shape c.requires.may);
-  kept = c.new-kept.ensures (scope_beside c.args.config.now c.args.types.now.types (spaces_in c.args.spaces.now) c.args.definitions.now true);
+  kept = c.requires.kept;
 }
 
 pub make_export-requires-clause-stands : goal.make_export-requires-clause-stands

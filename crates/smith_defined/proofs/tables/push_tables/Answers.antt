@@ -1,5 +1,3 @@
-use Rattle.std.proofs.Common.{false}
-use Rattle.smith_draw.specs.ConstScopes.{seen_by}
 use Rattle.smith_defined.specs.Defined.{scope_of_spaces}
 use Rattle.smith_defined.proofs.DefinedTablesLoop.{tables_start, tables_go, tables_stop, tables_full}
 use Rattle.smith_defined.proofs.tables.push_tables.Goals as goal
@@ -7,7 +5,7 @@ use Rattle.smith_defined.proofs.tables.push_tables.Goals as goal
 pub loop-made-init : goal.loop-made-init
 loop-made-init c = record {
   defining = tables_start c.args.config.now (scope_of_spaces c.args.spaces.now) c.args.tables.now c.args.initials.now c.args.u.now;
-  kept = c.new-kept.ensures (seen_by c.args.config.now c.args.spaces.now false);
+  kept = c.requires.kept;
 }
 
 pub returns-then-not-goes_on-clause-exact : goal.returns-then-not-goes_on-clause-exact

@@ -11,8 +11,8 @@ returns-then-not-asks_for_nothing c =
     asked_in_vain (sanitized c.args.config.now) c.args.groups.now c.args.funcs.now
     (λ asks. let never : false ≡ true = sym c.if-not-asks_for_nothing.true ∙ c.asks_for_nothing.ensures.1 asks in cc never)
 
-pub spell_in_family-requires : goal.spell_in_family-requires
-spell_in_family-requires c =
+pub spell_in_family-bytes-requires : goal.spell_in_family-bytes-requires
+spell_in_family-bytes-requires c =
     let found = rw c.in-Some.is at c.in_ok-own.ensures.found in
     subst (λ (own : Config). own.max_types ≤ 2 ^ 31) (sym found.0) (found.1.few counts.Types)
 
@@ -26,5 +26,5 @@ returns-in_err-own c =
 pub returns : goal.returns
 returns c =
     let found = rw c.in-Some.is at c.in_ok-own.ensures.found in
-    answered c.args.config.now c.args.groups.now c.args.funcs.now (c.asks_for_nothing.ensures.0 c.if-not-asks_for_nothing.false) found.1 c.spell_in_family.result
-    (rw found.0 at c.spell_in_family.ensures.found) c.spell_in_family.ensures.memory (rw found.0 at c.spell_in_family.ensures.allowed)
+    answered c.args.config.now c.args.groups.now c.args.funcs.now (c.asks_for_nothing.ensures.0 c.if-not-asks_for_nothing.false) found.1 c.spell_in_family-bytes.result
+    (rw found.0 at c.spell_in_family-bytes.ensures.found) c.spell_in_family-bytes.ensures.memory (rw found.0 at c.spell_in_family-bytes.ensures.allowed)
