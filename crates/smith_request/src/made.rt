@@ -74,11 +74,16 @@ pub fn binary(alloc: Global, text: &[u8], input: &[u8]) -> Result<Vec<u8>, Refus
     ensures refused { IfErr result (λ refusal. IsRefusal text.now input.now refusal) }
 {
     match program(alloc, text, input) {
-        Ok(program) => {
-            let bytes = smith_program_binary::encode(alloc, &program);
-            drop(program);
-            bytes.map_err(Refusal::Encoding)
-        }
+        Ok(program) => match smith_program_binary::encode(alloc, &program) {
+            Ok(bytes) => {
+                drop(program);
+                Ok(bytes)
+            }
+            Err(fault) => {
+                drop(program);
+                Err(Refusal::Encoding(fault))
+            }
+        },
         Err(refusal) => Err(refusal),
     }
 }
