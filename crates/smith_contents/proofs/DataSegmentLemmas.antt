@@ -18,7 +18,7 @@ use Rattle.smith_types.specs.declared.value_type.ValType.{ValType}
 use Rattle.smith_types.specs.declared.value_type.ValType.TheVariants.{I32, I64, F32, F64, V128, Ref}
 use Rattle.smith_config.specs.declared.config.Config.{Config}
 use Rattle.smith_draw.specs.Choices.{chosen_at}
-use Rattle.smith_draw.specs.ConstScopes.{IsReadable}
+use Rattle.smith_const_expr.specs.ConstScopes.{IsReadable}
 use Rattle.smith_draw.proofs.FloatLemmas.{stands_in}
 use Rattle.smith_draw.proofs.SupertypeLemmas.{chosen_of}
 use Rattle.smith_draw.proofs.ValueTypeLemmas.{drawn_is}

@@ -26,8 +26,9 @@ use Rattle.smith_config.specs.Faults.{Passes}
 use Rattle.smith_config.specs.Features.{features_of}
 use Rattle.smith_config.specs.Sanitized.{IsSanitized}
 use Rattle.smith_config.specs.Granted.{IsUngrounded, HasGroundedItems}
-use Rattle.smith_draw.specs.ConstBounds.{HoldsUngroundedField, MayLack}
-use Rattle.smith_draw.specs.ConstScopes.{AreSpacesValid}
+use Rattle.smith_const_expr.specs.ConstBounds.{MayLack}
+use Rattle.smith_draw.specs.HeldFields.{HoldsUngroundedField}
+use Rattle.smith_const_expr.specs.ConstScopes.{AreSpacesValid}
 use Rattle.smith_draw.specs.Grounding.{without_globals}
 use Rattle.smith_draw.specs.declared.spaces.Spaces.{Spaces}
 use Rattle.smith_rules.specs.Held.{HasItems, expressions_of}

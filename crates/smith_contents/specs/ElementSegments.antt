@@ -27,8 +27,8 @@ use Rattle.smith_types.specs.declared.value_type.RefType.{RefType}
 use Rattle.smith_types.specs.declared.value_type.ValType.TheVariants.{Ref}
 use Rattle.smith_config.specs.declared.config.Config.{Config}
 use Rattle.smith_draw.specs.Choices.{chosen_at}
-use Rattle.smith_draw.specs.ConstExprs.{const_expr_at}
-use Rattle.smith_draw.specs.ConstOffers.{readable_globals}
+use Rattle.smith_const_expr.specs.ConstExprs.{const_expr_at}
+use Rattle.smith_const_expr.specs.ConstOffers.{readable_globals}
 use Rattle.smith_draw.specs.Grounding.{without_globals}
 use Rattle.smith_draw.specs.MatchingTypes.{matching_ref_type_at}
 use Rattle.smith_draw.specs.Offsets.{offset_at}

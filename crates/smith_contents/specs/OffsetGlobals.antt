@@ -3,7 +3,7 @@ use Rattle.std.specs.Prelude.{◌≡◌, ℕ, ◌<◌, ◌≤◌, ◌^◌, Bool,
 use Rattle.smith_types.specs.declared.entity_type.GlobalType.{GlobalType}
 use Rattle.smith_types.specs.declared.value_type.ValType.{ValType}
 use Rattle.smith_types.specs.declared.value_type.ValType.TheVariants.{I32, I64}
-use Rattle.smith_draw.specs.ConstOffers.{each_from, offered_if}
+use Rattle.smith_const_expr.specs.ConstOffers.{each_from, offered_if}
 
 -- whether a type is that of the addresses of this width
 abbrev pub is_address : Bool → ValType → Bool

@@ -10,7 +10,7 @@ ghost use Rattle.smith_types.specs.Segments.{IsOffsetInside};
 ghost use Rattle.smith_types.specs.declared.entity_type.MemoryType.{MemoryType};
 ghost use Rattle.smith_config.specs.Faults.{Passes};
 ghost use Rattle.smith_config.specs.Features.{features_of};
-ghost use Rattle.smith_draw.specs.ConstScopes.{AreSpacesValid, seen_by};
+ghost use Rattle.smith_const_expr.specs.ConstScopes.{AreSpacesValid, seen_by};
 ghost use Rattle.smith_draw.specs.Drawing.{AlwaysDraws, Draws};
 ghost use Rattle.smith_bytes.specs.Steps.{ReturnsWhy};
 ghost use Rattle.smith_contents.specs.DataSegments.{HasPages, least_bytes, last_address};

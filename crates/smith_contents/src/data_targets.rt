@@ -1,7 +1,7 @@
 ghost use Rattle.std.specs.Prelude.{◌≡◌, [], ◌<◌, ◌^◌, ◌↔◌, true, length, IsTrue, IfOk, IfErr, All};
 ghost use Rattle.smith_bytes.specs.Source.{KeepsPieces};
 ghost use Rattle.smith_draw.specs.Choices.{chosen_at};
-ghost use Rattle.smith_draw.specs.ConstScopes.{AreSpacesValid, seen_by};
+ghost use Rattle.smith_const_expr.specs.ConstScopes.{AreSpacesValid, seen_by};
 ghost use Rattle.smith_draw.specs.Drawing.{AlwaysDraws};
 ghost use Rattle.smith_contents.specs.DataSegments.{may_hold_data_at, counting_at, globals_for};
 ghost use Rattle.smith_contents.specs.DataSegments.{no_memory, targets_of};

@@ -9,10 +9,10 @@ ghost use Rattle.smith_types.specs.declared.value_type.RefType.{RefType};
 ghost use Rattle.smith_types.specs.declared.value_type.ValType.TheVariants.{Ref};
 ghost use Rattle.smith_draw.specs.Grounding.{standing_in};
 ghost use Rattle.smith_config.specs.Granted.{IsUngrounded};
-ghost use Rattle.smith_draw.specs.ConstBounds.{MayRefuseConstExpr};
-ghost use Rattle.smith_draw.specs.ConstScopes.{AreSpacesValid, seen_by};
+ghost use Rattle.smith_const_expr.specs.ConstBounds.{MayRefuseConstExpr};
+ghost use Rattle.smith_const_expr.specs.ConstScopes.{AreSpacesValid, seen_by};
 ghost use Rattle.smith_draw.specs.Drawing.{AlwaysDraws, Draws};
-ghost use Rattle.smith_draw.specs.KeptOffers.{AreKeptOffers};
+ghost use Rattle.smith_const_expr.specs.KeptOffers.{AreKeptOffers};
 ghost use Rattle.smith_bytes.specs.Steps.{ReturnsWhy};
 ghost use Rattle.smith_contents.specs.DrawnElements.{IsKindOffered, FitsTable, AreItemsFit};
 ghost use Rattle.smith_contents.specs.DrawnElements.{MayDrawElements, MayHoldItems};
@@ -36,9 +36,8 @@ use crate::element_kinds::{KindChoice, is_funcref};
 use crate::offered_indices::OfferedIndices;
 use smith_bytes::{Count, Error, Unstructured, Why, goes_on};
 use smith_config::Config;
-use smith_draw::{
-    KeptOffers, Spaces, Standing, draw_const_expr, draw_matching_ref_type, draw_ref_type,
-};
+use smith_const_expr::{KeptOffers, draw_const_expr};
+use smith_draw::{Spaces, Standing, draw_matching_ref_type, draw_ref_type};
 use smith_types::{ConstInstr, Elements, Items, RefType, SubType, ValType};
 use std::alloc::Global;
 

@@ -2,7 +2,7 @@ ghost use Rattle.std.specs.Prelude.{◌≡◌, ◌+◌, ◌-◌, ◌<◌, ◌≤
 ghost use Rattle.smith_types.specs.Entities.{most_elements};
 ghost use Rattle.smith_types.specs.Expressions.{Context};
 ghost use Rattle.smith_types.specs.Segments.{IsOffsetValid, IsOffsetInside};
-ghost use Rattle.smith_draw.specs.ConstScopes.{AreSpacesValid, seen_by};
+ghost use Rattle.smith_const_expr.specs.ConstScopes.{AreSpacesValid, seen_by};
 ghost use Rattle.smith_draw.specs.Drawing.{AlwaysDraws};
 ghost use Rattle.smith_contents.specs.DrawnElements.{FitsAddresses, IsPlaced, IsKindDrawn};
 ghost use Rattle.smith_contents.specs.ElementSegments.{most_offset, constant_offset, hint_at};

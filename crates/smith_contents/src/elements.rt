@@ -8,7 +8,7 @@ ghost use Rattle.smith_types.specs.Segments.{item_count, IsElementSegmentValid, 
 ghost use Rattle.smith_types.specs.declared.segments.ElementSegment.{ElementSegment};
 ghost use Rattle.smith_draw.specs.Grounding.{standing_in};
 ghost use Rattle.smith_draw.specs.KeptGrounds.{AreKeptGrounds};
-ghost use Rattle.smith_draw.specs.ConstScopes.{seen_by};
+ghost use Rattle.smith_const_expr.specs.ConstScopes.{seen_by};
 ghost use Rattle.smith_bytes.specs.Spelling.{SpellsEmpty};
 ghost use Rattle.smith_bytes.specs.Steps.{ReturnsWhy};
 ghost use Rattle.smith_rules.specs.Held.{HasItems, expressions_of};

@@ -1,7 +1,7 @@
 ghost use Rattle.std.specs.Prelude.{◌≡◌, ◌<◌, ◌≤◌, ◌^◌, [], true, Bool, length, slice_index_or};
 ghost use Rattle.std.specs.Prelude.{IsTrue};
 ghost use Rattle.smith_draw.specs.Choices.{chosen_at};
-ghost use Rattle.smith_draw.specs.ConstScopes.{AreSpacesValid, seen_by, visible_end};
+ghost use Rattle.smith_const_expr.specs.ConstScopes.{AreSpacesValid, seen_by, visible_end};
 ghost use Rattle.smith_draw.specs.Drawing.{AlwaysDraws};
 ghost use Rattle.smith_contents.specs.DataSegments.{offset_globals};
 ghost use Rattle.smith_contents.specs.DataTargets.{TellOffsets};

@@ -20,8 +20,8 @@ use Rattle.smith_config.specs.declared.config.Config.{Config}
 use Rattle.smith_config.specs.Features.{features_of}
 use Rattle.smith_config.specs.Sanitized.{IsSanitized}
 use Rattle.smith_config.specs.EntityBounds.{IsTableWithin}
-use Rattle.smith_draw.specs.ConstExprs.{table_init_at}
-use Rattle.smith_draw.specs.ConstScopes.{AreSpacesValid, seen_by}
+use Rattle.smith_const_expr.specs.ConstExprs.{table_init_at}
+use Rattle.smith_const_expr.specs.ConstScopes.{AreSpacesValid, seen_by}
 use Rattle.smith_draw.specs.TableTypes.{table_type_at}
 use Rattle.smith_draw.specs.declared.spaces.Spaces.{Spaces}
 use Rattle.smith_bytes.specs.Spelling.{SpellsEmpty}

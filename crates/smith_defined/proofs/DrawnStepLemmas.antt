@@ -16,7 +16,7 @@ use Rattle.smith_types.specs.declared.value_type.ValType.{ValType}
 use Rattle.smith_config.specs.declared.config.Config.{Config}
 use Rattle.smith_config.specs.Features.{features_of}
 use Rattle.smith_config.specs.Granted.{IsUngrounded}
-use Rattle.smith_draw.specs.ConstBounds.{MayRefuseConstExpr}
+use Rattle.smith_const_expr.specs.ConstBounds.{MayRefuseConstExpr}
 use Rattle.smith_draw.specs.Grounding.{function_context}
 use Rattle.smith_draw.specs.KeptGrounds.{AreKeptGrounds}
 use Rattle.smith_draw.specs.declared.kept_grounds.KeptGrounds.{KeptGrounds}

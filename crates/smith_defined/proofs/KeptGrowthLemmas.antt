@@ -15,16 +15,16 @@ use Rattle.smith_types.specs.declared.composite_type.SubType.{SubType}
 use Rattle.smith_types.specs.declared.entity_type.GlobalType.{GlobalType}
 use Rattle.smith_validity.proofs.ReferredTypeLemmas.{value_in_range}
 use Rattle.smith_draw.specs.Below.{is_val_below}
-use Rattle.smith_draw.specs.ConstOffers.{each_from, offered_if, global_offers, function_offers}
-use Rattle.smith_draw.specs.KeptOffers.{AreClasses, AreFewRead, AreFlags, AreItemsRead, AreKeptOffers, AreManyKept, AreRecorded, IsEntry, IsKeptOffer, is_offered, offered_before, readable}
-use Rattle.smith_draw.specs.declared.const_expr.classes.Classes.{Classes}
-use Rattle.smith_draw.specs.declared.const_expr.few_items.FewItems.{FewItems}
-use Rattle.smith_draw.specs.declared.const_expr.kept_offers.KeptOffer.{KeptOffer}
-use Rattle.smith_draw.specs.declared.const_expr.kept_offers.KeptOffers.{KeptOffers}
-use Rattle.smith_draw.specs.declared.const_expr.kept_offers.ManyItems.{ManyItems}
-use Rattle.smith_draw.specs.declared.const_expr.read_items.ReadItems.{ReadItems}
-use Rattle.smith_draw.proofs.BlockCountLemmas.{counted_alike}
-use Rattle.smith_draw.proofs.ClassLemmas.{get_within_front}
+use Rattle.smith_const_expr.specs.ConstOffers.{each_from, offered_if, global_offers, function_offers}
+use Rattle.smith_const_expr.specs.KeptOffers.{AreClasses, AreFewRead, AreFlags, AreItemsRead, AreKeptOffers, AreManyKept, AreRecorded, IsEntry, IsKeptOffer, is_offered, offered_before, readable}
+use Rattle.smith_const_expr.specs.declared.classes.Classes.{Classes}
+use Rattle.smith_const_expr.specs.declared.few_items.FewItems.{FewItems}
+use Rattle.smith_const_expr.specs.declared.kept_offers.KeptOffer.{KeptOffer}
+use Rattle.smith_const_expr.specs.declared.kept_offers.KeptOffers.{KeptOffers}
+use Rattle.smith_const_expr.specs.declared.kept_offers.ManyItems.{ManyItems}
+use Rattle.smith_const_expr.specs.declared.read_items.ReadItems.{ReadItems}
+use Rattle.smith_const_expr.proofs.BlockCountLemmas.{counted_alike}
+use Rattle.smith_const_expr.proofs.ClassLemmas.{get_within_front}
 use Rattle.smith_draw.proofs.GroundingLemmas.{within_reference}
 use Rattle.smith_defined.proofs.BelowGrowthLemmas.{value_longer, value_same}
 

@@ -14,9 +14,9 @@ use Rattle.smith_types.specs.declared.entity_type.EntityType.{EntityType}
 use Rattle.smith_types.specs.declared.entity_type.GlobalType.{GlobalType}
 use Rattle.smith_config.specs.declared.config.Config.{Config}
 use Rattle.smith_config.specs.Features.{features_of}
-use Rattle.smith_draw.specs.KeptOffers.{AreItemsRead, AreKeptOffers, IsEntry}
-use Rattle.smith_draw.specs.declared.const_expr.kept_offers.KeptOffers.{KeptOffers}
-use Rattle.smith_draw.specs.declared.const_expr.read_items.ReadItems.{ReadItems}
+use Rattle.smith_const_expr.specs.KeptOffers.{AreItemsRead, AreKeptOffers, IsEntry}
+use Rattle.smith_const_expr.specs.declared.kept_offers.KeptOffers.{KeptOffers}
+use Rattle.smith_const_expr.specs.declared.read_items.ReadItems.{ReadItems}
 use Rattle.smith_defined.specs.Definitions.{InitialiserScope, global_scope}
 use Rattle.smith_defined.specs.Required.{MayDefineMore, IsInitialised}
 use Rattle.smith_defined.specs.RequiredExports.{scope_beside}

@@ -19,7 +19,7 @@ use Rattle.smith_draw.specs.Grounding.{without_globals}
 use Rattle.smith_draw.specs.SpelledGlobals.{mutable_i32, SpellsMutableI32}
 use Rattle.smith_draw.specs.SpelledConstants.{SpellsConstExpr}
 use Rattle.smith_draw.proofs.GlobalTypeLemmas.{global_type_taken}
-use Rattle.smith_draw.proofs.SpelledConstExprLemmas.{constant_read, mutable_not_read}
+use Rattle.smith_const_expr.proofs.SpelledConstExprLemmas.{constant_read, mutable_not_read}
 use Rattle.smith_draw.specs.SpelledParts.{SpellsGlobal}
 use Rattle.smith_defined.specs.NumberedGlobals.{SpellsGlobals}
 use Rattle.smith_defined.specs.Definitions.{InitialiserScope, Global, globals_of, global_scope, initialised_at, global_at, globals_at}

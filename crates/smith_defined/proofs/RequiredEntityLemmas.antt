@@ -14,9 +14,9 @@ use Rattle.smith_types.specs.declared.entity_type.TableType.{TableType}
 use Rattle.smith_types.specs.declared.value_type.ValType.{ValType}
 use Rattle.smith_types.specs.declared.value_type.ValType.TheVariants.{Ref}
 use Rattle.smith_config.specs.declared.config.Config.{Config}
-use Rattle.smith_draw.specs.ConstBounds.{MayRefuseConstExpr}
-use Rattle.smith_draw.specs.ConstExprs.{const_expr_at, table_init_at}
-use Rattle.smith_draw.specs.ConstScopes.{seen_by}
+use Rattle.smith_const_expr.specs.ConstBounds.{MayRefuseConstExpr}
+use Rattle.smith_const_expr.specs.ConstExprs.{const_expr_at, table_init_at}
+use Rattle.smith_const_expr.specs.ConstScopes.{seen_by}
 use Rattle.smith_draw.specs.Grounding.{standing_in, without_globals}
 use Rattle.smith_draw.specs.declared.spaces.Spaces.{Spaces}
 use Rattle.smith_draw.proofs.NullableLemmas.{ungrounded_not_null}

@@ -38,8 +38,8 @@ use Rattle.smith_config.specs.declared.shape.Shape.{Shape}
 use Rattle.smith_config.specs.Features.{features_of}
 use Rattle.smith_config.specs.Shapes.{most_listed, space_of, shape_types, shape_spaces, shape_values, IsTypePlain, ArePlain}
 use Rattle.smith_config.specs.Granted.{IsNonNullable, IsUngrounded}
-use Rattle.smith_draw.specs.ConstBounds.{HoldsUngroundedField}
-use Rattle.smith_draw.specs.ConstScopes.{fields_of}
+use Rattle.smith_draw.specs.HeldFields.{HoldsUngroundedField}
+use Rattle.smith_draw.specs.HeldFields.{fields_of}
 use Rattle.smith_draw.specs.FuncSizes.{HasFewValues}
 use Rattle.smith_draw.proofs.FuncSizeLemmas.{shape_few}
 use Rattle.smith_rules.specs.Bounds.{counts_as}

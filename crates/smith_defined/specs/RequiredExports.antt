@@ -20,7 +20,7 @@ use Rattle.smith_config.specs.declared.config.Config.{Config}
 use Rattle.smith_config.specs.declared.shape.Shape.{Shape}
 use Rattle.smith_config.specs.Features.{features_of}
 use Rattle.smith_config.specs.Shapes.{shape_types, shape_spaces}
-use Rattle.smith_draw.specs.ConstExprs.{const_expr_at, table_init_at}
+use Rattle.smith_const_expr.specs.ConstExprs.{const_expr_at, table_init_at}
 use Rattle.smith_rules.specs.ExportedItems.{Export}
 use Rattle.smith_defined.specs.declared.definitions.Definitions.{Definitions}
 

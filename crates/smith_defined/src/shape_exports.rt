@@ -11,8 +11,8 @@ ghost use Rattle.smith_types.specs.Imports.{EntitySpaces as EntityLists, importe
 ghost use Rattle.smith_types.specs.EntitySpaces.{spaces_in};
 ghost use Rattle.smith_config.specs.Shapes.{most_listed, shape_imports, shape_spaces, shape_types};
 ghost use Rattle.smith_config.specs.Shapes.{IsShapeValid};
-ghost use Rattle.smith_draw.specs.ConstBounds.{HoldsUngroundedField};
-ghost use Rattle.smith_draw.specs.KeptOffers.{AreKeptOffers};
+ghost use Rattle.smith_draw.specs.HeldFields.{HoldsUngroundedField};
+ghost use Rattle.smith_const_expr.specs.KeptOffers.{AreKeptOffers};
 ghost use Rattle.smith_draw.specs.FuncSizes.{HasFewValues};
 ghost use Rattle.smith_rules.specs.Bounds.{items_of_exports};
 ghost use Rattle.smith_rules.specs.ShapeImports.{count_in};
@@ -32,7 +32,7 @@ use crate::required_types::entity_over;
 use crate::shape_entities::entity_of_shape;
 use smith_bytes::{Error, Unstructured};
 use smith_config::{Config, Shape};
-use smith_draw::KeptOffers;
+use smith_const_expr::KeptOffers;
 use smith_types::{EntitySpaces, ExportKind, Items, Name, TypeSpace, imported_spaces_of};
 use std::alloc::Global;
 

@@ -30,8 +30,8 @@ use Rattle.smith_draw.specs.declared.value_type.ValueClass.TheVariants.{I32, I64
 use Rattle.smith_draw.specs.Choices.{enabled, chosen_at}
 use Rattle.smith_draw.specs.Grounding.{over}
 use Rattle.smith_config.specs.Granted.{IsUngrounded}
-use Rattle.smith_draw.specs.ConstBounds.{HoldsUngroundedField}
-use Rattle.smith_draw.specs.ConstScopes.{fields_of}
+use Rattle.smith_draw.specs.HeldFields.{HoldsUngroundedField}
+use Rattle.smith_draw.specs.HeldFields.{fields_of}
 use Rattle.smith_draw.specs.ValueTypes.{value_classes, sharedness_at, ref_type_at, value_of_class_at, val_type_at}
 use Rattle.smith_draw.specs.FieldTypes.{storage_of_number_at, storage_type_at, field_type_at, fields_until_at}
 use Rattle.smith_draw.specs.CompositeTypes.{struct_type_at, inner_of_number_at, inner_number_at, composite_type_at}

@@ -17,8 +17,8 @@ use Rattle.smith_draw.specs.declared.value_type.ValueClass.{ValueClass}
 use Rattle.smith_draw.specs.declared.value_type.ValueClass.TheVariants.{I32, I64, F32, F64, V128, Reference}
 use Rattle.smith_draw.specs.Choices.{enabled, chosen_at}
 use Rattle.smith_config.specs.Granted.{IsNonNullable, IsUngrounded}
-use Rattle.smith_draw.specs.ConstBounds.{HoldsNonNullableField}
-use Rattle.smith_draw.specs.ConstScopes.{fields_of}
+use Rattle.smith_draw.specs.HeldFields.{HoldsNonNullableField}
+use Rattle.smith_draw.specs.HeldFields.{fields_of}
 use Rattle.smith_draw.specs.ValueTypes.{value_classes, ref_type_at, value_of_class_at, val_type_at}
 use Rattle.smith_draw.specs.GlobalTypes.{global_type_at}
 use Rattle.smith_draw.specs.RecGroups.{types_at}

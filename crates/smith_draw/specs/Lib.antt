@@ -1,9 +1,9 @@
 pub mod Drawing
 pub mod Callers
 pub mod Choices
+pub mod HeldFields
 pub mod Grounding
 pub mod KeptGrounds
-pub mod KeptOffers
 pub mod ValueTypes
 pub mod FieldTypes
 pub mod CompositeTypes
@@ -26,16 +26,6 @@ pub mod Spelling
 pub mod ExampleSpellings
 pub mod ExampleStanding
 pub mod Below
-pub mod ConstScopes
-pub mod ConstOffers
-pub mod Constants
-pub mod ConstNodes
-pub mod ConstExprs
-pub mod ConstBounds
-pub mod Putting
-pub mod ConstSteps
-pub mod ConstTasks
 pub mod SpelledConstants
 pub mod SpelledGlobals
-pub mod ExampleConstExprs
 pub mod SpelledParts

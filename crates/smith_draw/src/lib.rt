@@ -1,5 +1,4 @@
-//! Draws of types, entities and constant expressions over the types and index spaces defined so
-//! far.
+//! Draws of types and entities over the types and index spaces defined so far.
 //!
 //! A draw takes its bytes from `u`. A call that returns a `Result` fails only if an allocation
 //! fails, apart from the errors in its section `# Errors`.
@@ -8,7 +7,6 @@
 mod call_grounds;
 mod choice;
 mod composite_type;
-mod const_expr;
 mod each;
 mod early_grounds;
 mod enabled;
@@ -35,10 +33,6 @@ mod value_type;
 
 pub use choice::choose;
 pub use composite_type::{arbitrary_composite_type, arbitrary_func_type, arbitrary_struct_type};
-pub use const_expr::{
-    KeptOffers, arbitrary_const_expr, arbitrary_table_init, draw_const_expr, draw_table_init,
-    globals_for_const_expr,
-};
 pub use enabled::{choose_enabled, count_enabled};
 pub use entity_type::arbitrary_memtype;
 pub use field_type::{arbitrary_field_type, arbitrary_storage_type};

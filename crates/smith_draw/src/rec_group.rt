@@ -12,7 +12,7 @@ ghost use Rattle.smith_config.specs.Features.{features_of};
 ghost use Rattle.smith_config.specs.Sanitized.{IsSanitized};
 ghost use Rattle.smith_config.specs.Shapes.{space_of};
 ghost use Rattle.smith_draw.specs.Callers.{PassesButImports};
-ghost use Rattle.smith_draw.specs.ConstBounds.{HoldsNonNullableField, HoldsUngroundedField};
+ghost use Rattle.smith_draw.specs.HeldFields.{HoldsNonNullableField, HoldsUngroundedField};
 ghost use Rattle.smith_draw.specs.Drawing.{AlwaysDraws, Draws, DrawsInto};
 ghost use Rattle.smith_draw.specs.FuncSizes.{HasFewValues};
 ghost use Rattle.smith_config.specs.Granted.{AreTypesGranted};

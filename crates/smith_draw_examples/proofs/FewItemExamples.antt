@@ -4,8 +4,8 @@ use Rattle.std.specs.Prelude.{Option, Some, slice_get}
 use Rattle.smith_types.specs.Expressions.{Context}
 use Rattle.smith_types.specs.declared.entity_type.GlobalType.{GlobalType}
 use Rattle.smith_types.specs.declared.value_type.ValType.{ValType}
-use Rattle.smith_draw.specs.KeptOffers.{AreFewRead, readable}
-use Rattle.smith_draw.specs.declared.const_expr.few_items.FewItems.{FewItems}
+use Rattle.smith_const_expr.specs.KeptOffers.{AreFewRead, readable}
+use Rattle.smith_const_expr.specs.declared.few_items.FewItems.{FewItems}
 use Rattle.smith_draw_examples.specs.ExampleKeptOffers.{HasFew}
 
 pub global_at : (context : Context) (few : FewItems) (kinds : List (Option ValType)) (funcs : List ℕ) (i : ℕ) (global : GlobalType)

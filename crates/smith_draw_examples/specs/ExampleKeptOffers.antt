@@ -6,13 +6,13 @@ use Rattle.smith_types.specs.declared.value_type.AbstractHeapType.TheVariants as
 use Rattle.smith_types.specs.ExampleContexts.{context_types}
 use Rattle.smith_types.specs.ExampleEntities.{constant_global, variable_global}
 use Rattle.smith_types.specs.ExampleTypes.{plain, nullable}
-use Rattle.smith_draw.specs.KeptOffers.{AreClasses, AreRecorded, readable}
-use Rattle.smith_draw.specs.declared.const_expr.block_counts.BlockCounts.{BlockCounts}
-use Rattle.smith_draw.specs.declared.const_expr.classes.Classes.{Classes}
-use Rattle.smith_draw.specs.declared.const_expr.few_items.FewItems.{FewItems}
-use Rattle.smith_draw.specs.declared.const_expr.kept_offers.KeptOffer.{KeptOffer}
-use Rattle.smith_draw.specs.declared.const_expr.kept_offers.KeptOffers.{KeptOffers}
-use Rattle.smith_draw.specs.declared.const_expr.kept_offers.ManyItems.{ManyItems}
+use Rattle.smith_const_expr.specs.KeptOffers.{AreClasses, AreRecorded, readable}
+use Rattle.smith_const_expr.specs.declared.block_counts.BlockCounts.{BlockCounts}
+use Rattle.smith_const_expr.specs.declared.classes.Classes.{Classes}
+use Rattle.smith_const_expr.specs.declared.few_items.FewItems.{FewItems}
+use Rattle.smith_const_expr.specs.declared.kept_offers.KeptOffer.{KeptOffer}
+use Rattle.smith_const_expr.specs.declared.kept_offers.KeptOffers.{KeptOffers}
+use Rattle.smith_const_expr.specs.declared.kept_offers.ManyItems.{ManyItems}
 
 -- the counts of items read: all, those offered, and those offered before each block
 abbrev pub counts : ℕ → ℕ → List ℕ → BlockCounts

@@ -9,7 +9,7 @@ ghost use Rattle.smith_types.specs.ExampleTypes.{final_type, plain_func, giving}
 ghost use Rattle.smith_types.specs.declared.value_type.ValType.TheVariants.{I32, I64, V128, Ref};
 ghost use Rattle.smith_types.specs.declared.value_type.HeapType.TheVariants.{Abstract, Concrete};
 ghost use Rattle.smith_types.specs.declared.value_type.AbstractHeapType.TheVariants as heap;
-ghost use Rattle.smith_draw.specs.ExampleConstExprs.{context_of_types};
+ghost use Rattle.smith_const_expr.specs.ExampleConstExprs.{context_of_types};
 ghost use Rattle.smith_config.specs.Config.{default_config};
 ghost use Rattle.smith_draw.specs.Choices.{chosen_at};
 ghost use Rattle.smith_draw.specs.ExampleStanding.{of_each_kind};

@@ -9,7 +9,7 @@ ghost use Rattle.smith_types.specs.declared.composite_type.StorageType.TheVarian
 ghost use Rattle.smith_types.specs.ExampleTypes.{open_type, plain_func, struct_and_below, plain};
 ghost use Rattle.smith_types.specs.ExampleTypes.{nullable, not_null, anyref, eqref, constant};
 ghost use Rattle.smith_types.specs.ExampleTypes.{variable};
-ghost use Rattle.smith_draw.specs.ExampleConstExprs.{context_of_types};
+ghost use Rattle.smith_const_expr.specs.ExampleConstExprs.{context_of_types};
 ghost use Rattle.smith_config.specs.Config.{default_config};
 ghost use Rattle.smith_draw.specs.Offered.{subtypes_offered, supertypes_offered, AncestorsAreAll};
 ghost use Rattle.smith_draw.specs.MatchingTypes.{matching_heap_type_at, matching_ref_type_at};

@@ -14,8 +14,8 @@ ghost use Rattle.smith_types.specs.declared.composite_type.StorageType.TheVarian
 ghost use Rattle.smith_types.specs.ExampleContexts.{context_of};
 ghost use Rattle.smith_config.specs.Config.{default_config};
 ghost use Rattle.smith_config.specs.Granted.{IsUngrounded, IsGranted, HasGranted, AreTypesGranted};
-ghost use Rattle.smith_draw.specs.ConstBounds.{HoldsUngroundedField};
-ghost use Rattle.smith_draw.specs.ExampleConstExprs.{context_of_types};
+ghost use Rattle.smith_draw.specs.HeldFields.{HoldsUngroundedField};
+ghost use Rattle.smith_const_expr.specs.ExampleConstExprs.{context_of_types};
 ghost use Rattle.smith_draw.specs.Grounding.{is_grounded};
 ghost use Rattle.smith_draw.specs.ValueTypes.{granted_at, ref_type_at};
 ghost use Rattle.smith_draw.specs.MatchingTypes.{references_offered, matching_ref_type_at};

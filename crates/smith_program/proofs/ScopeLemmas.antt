@@ -23,7 +23,7 @@ use Rattle.smith_types.specs.declared.segments.ElementSegment.{ElementSegment}
 use Rattle.smith_types.specs.declared.value_type.ValType.{ValType}
 use Rattle.smith_types.proofs.ValidityLemmas.{ends_within, group_at}
 use Rattle.smith_types.proofs.EntityGrowthLemmas.{IsValTypeValid-later}
-use Rattle.smith_draw.proofs.ConstScopeLemmas.{fields_valid}
+use Rattle.smith_const_expr.proofs.ConstScopeLemmas.{fields_valid}
 use Rattle.smith_rules.specs.Held.{IsRaw}
 use Rattle.smith_rules.specs.Module.{ModuleParts, IsValid, module_features, module_imports, module_types, segment_context}
 use Rattle.smith_instr.specs.Enabled.{IsEnabled}

@@ -21,7 +21,7 @@ use Rattle.smith_config.specs.declared.shape.Shape.{Shape}
 use Rattle.smith_config.specs.Features.{features_of}
 use Rattle.smith_config.specs.InUse.{FixesImports}
 use Rattle.smith_config.specs.Shapes.{most_listed, shape_spaces, shape_types, space_of}
-use Rattle.smith_draw.specs.ConstBounds.{HoldsUngroundedField}
+use Rattle.smith_draw.specs.HeldFields.{HoldsUngroundedField}
 use Rattle.smith_draw.specs.FuncSizes.{HasFewValues, IsSmall}
 use Rattle.smith_config.specs.Granted.{AreTypesGranted, HasGranted, HasGroundedElements, HasGroundedValue}
 use Rattle.smith_draw.specs.Grounding.{over}

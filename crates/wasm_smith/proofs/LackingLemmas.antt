@@ -32,7 +32,7 @@ use Rattle.smith_config.specs.declared.config.Config.{Config}
 use Rattle.smith_config.specs.declared.shape.Shape.{Shape}
 use Rattle.smith_config.specs.Shapes.{shape_imports, shape_spaces, shape_types, shape_values}
 use Rattle.smith_config.specs.Granted.{IsNonNullable, IsUngrounded, HasGranted, IsGranted, HasGroundedElements, HasGroundedValue}
-use Rattle.smith_draw.specs.ConstScopes.{fields_of}
+use Rattle.smith_draw.specs.HeldFields.{fields_of}
 use Rattle.smith_draw.specs.Grounding.{over}
 use Rattle.smith_draw.proofs.FilledLemmas.{any_weaker}
 use Rattle.smith_draw.proofs.NullableLemmas.{ungrounded_not_null}

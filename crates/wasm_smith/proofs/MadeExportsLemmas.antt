@@ -22,7 +22,7 @@ use Rattle.smith_config.specs.Faults.{Passes}
 use Rattle.smith_config.specs.InUse.{FixesExports}
 use Rattle.smith_config.specs.Sanitized.{IsSanitized}
 use Rattle.smith_config.specs.Shapes.{IsShapeValid, most_listed, shape_spaces, shape_types}
-use Rattle.smith_draw.specs.ConstBounds.{HoldsUngroundedField}
+use Rattle.smith_draw.specs.HeldFields.{HoldsUngroundedField}
 use Rattle.smith_draw.specs.FuncSizes.{HasFewValues}
 use Rattle.smith_config.specs.Granted.{HasGranted, HasGroundedElements, HasGroundedValue}
 use Rattle.smith_draw.proofs.FilledLemmas.{ungrounded_before}

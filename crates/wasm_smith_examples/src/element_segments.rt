@@ -11,7 +11,7 @@ ghost use Rattle.smith_types.specs.declared.segments.Offset.TheVariants.{Const32
 ghost use Rattle.smith_types.specs.declared.segments.ElementKind.TheVariants as element_kind;
 ghost use Rattle.smith_types.specs.declared.segments.Elements.TheVariants.{Functions, Expressions};
 ghost use Rattle.smith_types.specs.declared.value_type.AbstractHeapType.TheVariants as heap;
-ghost use Rattle.smith_draw.specs.ExampleConstExprs.{context_of_types};
+ghost use Rattle.smith_const_expr.specs.ExampleConstExprs.{context_of_types};
 ghost use Rattle.smith_config.specs.Config.{default_config};
 ghost use Rattle.smith_config.specs.ExampleMembers.{final, plain_function};
 ghost use Rattle.smith_defined.specs.Definitions.{table_scope};

@@ -5,7 +5,7 @@ ghost use Rattle.smith_types.specs.ValidTypes.{AreTypesValid};
 ghost use Rattle.smith_config.specs.Faults.{Passes};
 ghost use Rattle.smith_config.specs.Features.{features_of};
 ghost use Rattle.smith_config.specs.Sanitized.{IsSanitized};
-ghost use Rattle.smith_draw.specs.ConstBounds.{HoldsUngroundedField};
+ghost use Rattle.smith_draw.specs.HeldFields.{HoldsUngroundedField};
 ghost use Rattle.smith_draw.specs.Drawing.{DrawsInto};
 ghost use Rattle.smith_draw.specs.FuncSizes.{HasFewValues};
 ghost use Rattle.smith_config.specs.Granted.{AreTypesGranted};

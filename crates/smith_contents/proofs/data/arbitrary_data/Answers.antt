@@ -1,6 +1,6 @@
 use Rattle.smith_bytes.specs.declared.error.Count.TheVariants.{DataSegments}
 use Rattle.std.proofs.Common.{true}
-use Rattle.smith_draw.specs.ConstScopes.{seen_by}
+use Rattle.smith_const_expr.specs.ConstScopes.{seen_by}
 use Rattle.smith_contents.proofs.PassiveDataLemmas.{data_taken}
 use Rattle.smith_contents.proofs.data.arbitrary_data.Goals as goal
 

@@ -5,7 +5,7 @@ use Rattle.smith_bytes.proofs.GrowingLoop.{grow_go, grow_stop, grow_full}
 use Rattle.smith_types.specs.Expressions.{IsConstExpr}
 use Rattle.smith_types.specs.declared.value_type.ValType.TheVariants.{Ref}
 use Rattle.smith_types.specs.Floats.{GivesNoFloat}
-use Rattle.smith_draw.specs.ConstScopes.{seen_by}
+use Rattle.smith_const_expr.specs.ConstScopes.{seen_by}
 use Rattle.smith_contents.specs.ElementSegments.{drawn_expressions_at}
 use Rattle.smith_contents.proofs.element_items.draw_each_expression.Goals as goal
 

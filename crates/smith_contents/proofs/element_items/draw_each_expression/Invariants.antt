@@ -4,8 +4,8 @@ use Rattle.smith_bytes.proofs.GrowingLoop.{IsGrowing}
 use Rattle.smith_types.specs.Expressions.{IsConstExpr}
 use Rattle.smith_types.specs.Floats.{HasNoFloat, GivesNoFloat}
 use Rattle.smith_types.specs.declared.value_type.ValType.TheVariants.{Ref}
-use Rattle.smith_draw.specs.ConstScopes.{seen_by}
-use Rattle.smith_draw.specs.KeptOffers.{AreKeptOffers}
+use Rattle.smith_const_expr.specs.ConstScopes.{seen_by}
+use Rattle.smith_const_expr.specs.KeptOffers.{AreKeptOffers}
 use Rattle.smith_contents.specs.ElementSegments.{expression_item_at, drawn_expressions_at}
 use Rattle.smith_contents.proofs.element_items.draw_each_expression.Given as goal
 

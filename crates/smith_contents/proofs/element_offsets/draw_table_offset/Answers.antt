@@ -1,5 +1,5 @@
 use Rattle.std.proofs.Common.{true}
-use Rattle.smith_draw.specs.ConstScopes.{seen_by}
+use Rattle.smith_const_expr.specs.ConstScopes.{seen_by}
 use Rattle.smith_contents.proofs.ElementOffsetLemmas.{global_placed}
 use Rattle.smith_contents.proofs.element_offsets.draw_table_offset.Goals as goal
 

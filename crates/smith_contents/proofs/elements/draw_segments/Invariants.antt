@@ -1,6 +1,6 @@
 use Rattle.std.proofs.Common.{true, []}
 use Rattle.std.specs.Prelude.{All}
-use Rattle.smith_draw.specs.ConstScopes.{seen_by}
+use Rattle.smith_const_expr.specs.ConstScopes.{seen_by}
 use Rattle.smith_contents.specs.DrawnElements.{IsElementFit}
 use Rattle.smith_contents.specs.ElementSegments.{element_segments_at}
 use Rattle.smith_contents.proofs.ElementsLoop.{AreSegmentsMade}

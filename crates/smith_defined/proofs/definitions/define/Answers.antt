@@ -3,7 +3,7 @@ use Rattle.smith_types.specs.EntitySpaces.{spaces_in}
 use Rattle.smith_config.specs.Features.{features_of}
 use Rattle.smith_draw.specs.Grounding.{function_context}
 use Rattle.smith_draw.specs.KeptGrounds.{AreKeptGrounds}
-use Rattle.smith_draw.proofs.ConstStepLemmas.{passed_on}
+use Rattle.smith_const_expr.proofs.ConstStepLemmas.{passed_on}
 use Rattle.smith_defined.proofs.DrawnStepLemmas.{functions_noted, may_initialise, refused_before}
 use Rattle.smith_defined.proofs.DefinedGrowthLemmas.{defined_more, still_imported}
 use Rattle.smith_defined.proofs.definitions.define.Goals as goal

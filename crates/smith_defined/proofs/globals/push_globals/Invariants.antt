@@ -1,4 +1,4 @@
-use Rattle.smith_draw.specs.KeptOffers.{AreKeptOffers}
+use Rattle.smith_const_expr.specs.KeptOffers.{AreKeptOffers}
 use Rattle.smith_defined.specs.Definitions.{scope_among, global_scope}
 use Rattle.smith_defined.proofs.GlobalsLoop.{AreDefining}
 use Rattle.smith_defined.proofs.globals.push_globals.Given as goal

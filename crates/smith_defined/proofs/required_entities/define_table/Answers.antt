@@ -4,8 +4,8 @@ use Rattle.smith_types.specs.EntitySpaces.{spaces_in}
 use Rattle.smith_types.specs.declared.value_type.ValType.TheVariants.{Ref}
 use Rattle.smith_types.specs.Expressions.{Context}
 use Rattle.smith_draw.specs.Grounding.{standing_in}
-use Rattle.smith_draw.specs.KeptOffers.{AreKeptOffers}
-use Rattle.smith_draw.proofs.ConstStepLemmas.{passed_on}
+use Rattle.smith_const_expr.specs.KeptOffers.{AreKeptOffers}
+use Rattle.smith_const_expr.proofs.ConstStepLemmas.{passed_on}
 use Rattle.smith_defined.proofs.RequiredEntityLemmas.{answered, refused_initial, refused_beside, table_lacking, table_made}
 use Rattle.smith_defined.proofs.required_entities.define_table.Goals as goal
 

@@ -1,6 +1,6 @@
 use Rattle.std.proofs.Common.{arith, [], ◌∷◌, ◌++◌}
 use Rattle.smith_types.specs.EntitySpaces.{spaces_in}
-use Rattle.smith_draw.proofs.ConstStepLemmas.{passed_on}
+use Rattle.smith_const_expr.proofs.ConstStepLemmas.{passed_on}
 use Rattle.smith_rules.specs.ExportedItems.{Export}
 use Rattle.smith_defined.specs.RequiredExports.{standing_with}
 use Rattle.smith_defined.proofs.RequiredExportsLoop.{none_required, one_stands, room_for_one, required_more, required_refused, required_full, all_required, refused_for, refused_by}

@@ -1,6 +1,6 @@
 use Rattle.std.specs.Prelude.{true}
 use Rattle.smith_types.specs.EntitySpaces.{spaces_in}
-use Rattle.smith_draw.specs.KeptOffers.{AreKeptOffers}
+use Rattle.smith_const_expr.specs.KeptOffers.{AreKeptOffers}
 use Rattle.smith_defined.specs.RequiredExports.{scope_beside}
 use Rattle.smith_defined.proofs.RequiredExportsLoop.{AreRequiring}
 use Rattle.smith_defined.proofs.shape_exports.push_exports.Given as goal

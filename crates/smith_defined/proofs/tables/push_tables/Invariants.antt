@@ -1,6 +1,6 @@
 use Rattle.std.specs.Prelude.{false}
-use Rattle.smith_draw.specs.ConstScopes.{seen_by}
-use Rattle.smith_draw.specs.KeptOffers.{AreKeptOffers}
+use Rattle.smith_const_expr.specs.ConstScopes.{seen_by}
+use Rattle.smith_const_expr.specs.KeptOffers.{AreKeptOffers}
 use Rattle.smith_defined.specs.Defined.{scope_of_spaces}
 use Rattle.smith_defined.proofs.DefinedTablesLoop.{IsDefiningTables}
 use Rattle.smith_defined.proofs.tables.push_tables.Given as goal

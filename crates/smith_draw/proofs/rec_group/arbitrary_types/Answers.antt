@@ -8,7 +8,7 @@ use Rattle.smith_types.specs.ValidTypes.{AreTypesValid}
 use Rattle.smith_config.specs.Features.{features_of}
 use Rattle.smith_draw.proofs.DrawingLemmas.{of_state}
 use Rattle.smith_draw.proofs.RecGroupLemmas.{types_valid, types_most, types_least}
-use Rattle.smith_draw.specs.ConstBounds.{HoldsNonNullableField, HoldsUngroundedField}
+use Rattle.smith_draw.specs.HeldFields.{HoldsNonNullableField, HoldsUngroundedField}
 use Rattle.smith_draw.specs.Grounding.{functions_in, over}
 use Rattle.smith_config.specs.Granted.{AreTypesGranted}
 use Rattle.smith_draw.proofs.FilledLemmas.{types_grounded}

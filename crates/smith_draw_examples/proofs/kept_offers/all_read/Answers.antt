@@ -6,9 +6,9 @@ use Rattle.smith_types.specs.ExampleFeatures.{usual_features}
 use Rattle.smith_types.specs.declared.value_type.ValType.TheVariants.{I32}
 use Rattle.smith_draw.specs.Below.{is_heap_below}
 use Rattle.smith_draw.specs.Offered.{ancestors}
-use Rattle.smith_draw.specs.KeptOffers.{AreAllRead, IsWhole, IsWholeAt}
-use Rattle.smith_draw.specs.declared.const_expr.kept_offers.KeptOffer.{KeptOffer}
-use Rattle.smith_draw.specs.declared.const_expr.kept_offers.ManyItems.{ManyItems}
+use Rattle.smith_const_expr.specs.KeptOffers.{AreAllRead, IsWhole, IsWholeAt}
+use Rattle.smith_const_expr.specs.declared.kept_offers.KeptOffer.{KeptOffer}
+use Rattle.smith_const_expr.specs.declared.kept_offers.ManyItems.{ManyItems}
 use Rattle.smith_draw_examples.specs.ExampleKeptOffers.{numbers}
 use Rattle.smith_draw_examples.proofs.kept_offers.all_read.Goals as goal
 

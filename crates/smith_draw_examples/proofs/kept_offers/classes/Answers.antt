@@ -8,8 +8,8 @@ use Rattle.smith_types.specs.Subtyping.{IsValInRange}
 use Rattle.smith_types.specs.declared.entity_type.GlobalType.{GlobalType}
 use Rattle.smith_types.specs.declared.value_type.ValType.{ValType}
 use Rattle.smith_types.specs.declared.value_type.ValType.TheVariants.{I32, I64}
-use Rattle.smith_draw.specs.KeptOffers.{readable}
-use Rattle.smith_draw.specs.declared.const_expr.classes.Classes.{Classes}
+use Rattle.smith_const_expr.specs.KeptOffers.{readable}
+use Rattle.smith_const_expr.specs.declared.classes.Classes.{Classes}
 use Rattle.smith_draw_examples.specs.ExampleKeptOffers.{AreGlobalClasses, HasClasses}
 use Rattle.smith_draw_examples.proofs.kept_offers.classes.Goals as goal
 

@@ -13,7 +13,7 @@ use Rattle.smith_types.proofs.GroundedLemmas.{grounded_at}
 use Rattle.smith_config.specs.Config.{default_config}
 use Rattle.smith_config.specs.declared.config.Config.{Config}
 use Rattle.smith_config.specs.Granted.{IsGranted, HasGranted}
-use Rattle.smith_draw.specs.ExampleConstExprs.{context_of_types}
+use Rattle.smith_const_expr.specs.ExampleConstExprs.{context_of_types}
 use Rattle.smith_draw_examples.proofs.references.granted_types.Goals as goal
 
 abbrev not_nullable : Config

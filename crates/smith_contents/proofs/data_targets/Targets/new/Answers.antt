@@ -1,5 +1,5 @@
 use Rattle.std.proofs.Common.{true}
-use Rattle.smith_draw.specs.ConstScopes.{seen_by}
+use Rattle.smith_const_expr.specs.ConstScopes.{seen_by}
 use Rattle.smith_contents.proofs.DataSegmentLemmas.{both_tell, both_none}
 use Rattle.smith_contents.proofs.DataTargetsLoop.{indexed_stand}
 use Rattle.smith_contents.proofs.data_targets.Targets.new.Goals as goal

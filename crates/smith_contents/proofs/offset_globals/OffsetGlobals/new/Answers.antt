@@ -1,5 +1,5 @@
 use Rattle.std.proofs.Common.{true, refl, ◌∙◌}
-use Rattle.smith_draw.specs.ConstScopes.{seen_by}
+use Rattle.smith_const_expr.specs.ConstScopes.{seen_by}
 use Rattle.smith_contents.proofs.OffsetGlobalLemmas.{offset_tell}
 use Rattle.smith_contents.proofs.offset_globals.OffsetGlobals.new.Goals as goal
 

@@ -5,7 +5,7 @@ use Rattle.smith_types.specs.GroupedTypes.{GroupedTypes}
 use Rattle.smith_types.proofs.GroupsAddedLemmas.{valid_following}
 use Rattle.smith_config.specs.Features.{features_of}
 use Rattle.smith_config.specs.Shapes.{shape_imports, space_of}
-use Rattle.smith_draw.proofs.ConstStepLemmas.{passed_on}
+use Rattle.smith_const_expr.proofs.ConstStepLemmas.{passed_on}
 use Rattle.smith_rules.specs.ExportedItems.{Export}
 use Rattle.smith_rules.specs.ShapeImports.{count_in, kept_groups}
 use Rattle.wasm_smith.specs.FirstParts.{ModuleSoFar, first_parts_by_module_at}

@@ -1,0 +1,17 @@
+pub mod BlockCountLemmas
+pub mod KeptOfferLemmas
+pub mod ClassLemmas
+pub mod KnownLemmas
+pub mod WiderOfferLemmas
+pub mod ReadableLemmas
+pub mod ConstScopeLemmas
+pub mod ConstOfferLemmas
+pub mod ConstFoundLemmas
+pub mod ConstNodeLemmas
+pub mod PuttingLemmas
+pub mod ExtendedLemmas
+pub mod ConstStepLemmas
+pub mod ConstExprLemmas
+pub mod ConstTaskLemmas
+pub mod ConstFloatLemmas
+pub mod SpelledConstExprLemmas

@@ -1,0 +1,10 @@
+use Rattle.std.proofs.Common.{◌≡◌, length}
+use Rattle.smith_const_expr.specs.ConstScopes.{context_of}
+use Rattle.smith_const_expr.specs.KeptOffers.{AreRecorded}
+use Rattle.smith_draw.proofs.const_expr.few_items.record_funcs.Given as goal
+
+abbrev pub invariant-loop-index : goal.invariant-loop-index
+invariant-loop-index l = record {
+  read : AreRecorded (λ function index. index) (context_of l.scope).funcs l.funcs.items;
+  here : length l.funcs.items ≡ l.index;
+}

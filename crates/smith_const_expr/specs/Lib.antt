@@ -1,0 +1,11 @@
+pub mod KeptOffers
+pub mod ConstScopes
+pub mod ConstOffers
+pub mod Constants
+pub mod ConstNodes
+pub mod ConstExprs
+pub mod ConstBounds
+pub mod Putting
+pub mod ConstSteps
+pub mod ConstTasks
+pub mod ExampleConstExprs

@@ -1,8 +1,0 @@
-use Rattle.std.proofs.Common.{◌≡◌, ◌++◌, map, drop}
-use Rattle.smith_types.specs.Expressions.{field_values}
-use Rattle.smith_draw.specs.ConstScopes.{fields_of}
-use Rattle.smith_draw.specs.declared.const_expr.node.Operand.TheVariants.{Value}
-use Rattle.smith_draw.proofs.const_expr.node.push_fields_of.Given as goal
-
-abbrev pub invariant-loop-field : goal.invariant-loop-field
-invariant-loop-field l = l.operands ++ map Value (field_values (drop l.field-index l.field-items)) ≡ l.fn.operands ++ map Value (field_values (fields_of l.fn.inner))
