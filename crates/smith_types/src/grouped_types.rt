@@ -3,11 +3,9 @@ ghost use Rattle.std.specs.Prelude.{MatchBool, MatchOption};
 ghost use Rattle.std.specs.List.{flat_map};
 ghost use Rattle.smith_types.specs.Groups.{space_of, AreFollowing};
 
-use crate::clone_in::CloneIn;
-use crate::composite_type::SubType;
-use crate::list::Items;
 use crate::type_space::TypeSpace;
 use smith_bytes::Error;
+use smith_data::{CloneIn, Items, SubType};
 use std::alloc::Global;
 
 /// Creates the type space of `groups`. Requires `groups` to have fewer than 2^32 - 1 types in

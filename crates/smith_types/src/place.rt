@@ -3,9 +3,9 @@ ghost use Rattle.smith_types.specs.Types.{IsOrderly};
 ghost use Rattle.smith_types.specs.GroupedTypes.{MayFollow};
 ghost use Rattle.smith_types.specs.Places.{last_counts, IsPlace, ArePlaces, IsLonger, IsRowAtEnd};
 
-use crate::composite_type::SubType;
 use crate::kind_counts::{KindCounts, no_counts};
 use smith_bytes::Error;
+use smith_data::SubType;
 
 // The entry of a type in a type space: its row in the table of rows, its depth, and the counts up
 // to it.
