@@ -211,7 +211,9 @@ pub fn arbitrary_func_type(
     orderly(spaces);
     let call = CallGrounds::over(alloc, config, spaces)?;
     let standing = call.standing();
-    draw_func_type(alloc, config, &standing, must_share, limit, u)
+    let drawn = draw_func_type(alloc, config, &standing, must_share, limit, u);
+    drop(call);
+    drawn
 }
 
 /// Draws a struct type with at most 20 fields. See the standard, section Structure, Composite
@@ -256,7 +258,9 @@ pub fn arbitrary_struct_type(
     orderly(spaces);
     let call = CallGrounds::over(alloc, config, spaces)?;
     let standing = call.standing();
-    draw_struct_type(alloc, config, &standing, must_share, limit, u)
+    let drawn = draw_struct_type(alloc, config, &standing, must_share, limit, u);
+    drop(call);
+    drawn
 }
 
 /// Draws a composite type: an array, a function or a struct type with garbage collection, otherwise
@@ -300,5 +304,7 @@ pub fn arbitrary_composite_type(
     orderly(spaces);
     let call = CallGrounds::over(alloc, config, spaces)?;
     let standing = call.standing();
-    draw_composite_type(alloc, config, &standing, limit, u)
+    let drawn = draw_composite_type(alloc, config, &standing, limit, u);
+    drop(call);
+    drawn
 }

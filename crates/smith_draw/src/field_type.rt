@@ -99,7 +99,9 @@ pub fn arbitrary_storage_type(
     orderly(spaces);
     let call = CallGrounds::unread(config, spaces);
     let standing = call.standing();
-    Ok(draw_storage_type(config, &standing, must_share, limit, u))
+    let drawn = draw_storage_type(config, &standing, must_share, limit, u);
+    drop(call);
+    Ok(drawn)
 }
 
 /// Draws a field type: a storage type, and whether the field is mutable. See the standard, section
@@ -146,5 +148,7 @@ pub fn arbitrary_field_type(
     orderly(spaces);
     let call = CallGrounds::unread(config, spaces);
     let standing = call.standing();
-    Ok(draw_field_type(config, &standing, must_share, limit, u))
+    let drawn = draw_field_type(config, &standing, must_share, limit, u);
+    drop(call);
+    Ok(drawn)
 }

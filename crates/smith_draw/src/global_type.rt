@@ -121,5 +121,7 @@ pub fn arbitrary_global_type(
 {
     let call = CallGrounds::unread(config, spaces);
     let standing = call.standing();
-    Ok(draw_global_type(config, &standing, u))
+    let drawn = draw_global_type(config, &standing, u);
+    drop(call);
+    Ok(drawn)
 }

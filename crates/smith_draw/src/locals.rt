@@ -61,5 +61,7 @@ pub fn arbitrary_locals(
     orderly(spaces);
     let call = CallGrounds::over(alloc, config, spaces)?;
     let standing = call.standing();
-    draw_locals(alloc, config, &standing, u)
+    let drawn = draw_locals(alloc, config, &standing, u);
+    drop(call);
+    drawn
 }

@@ -411,7 +411,9 @@ pub fn arbitrary_matching_ref_type(
     orderly(spaces);
     let call = CallGrounds::over(alloc, config, spaces)?;
     let standing = call.standing();
-    draw_matching_ref_type(alloc, config, &standing, ty, u)
+    let drawn = draw_matching_ref_type(alloc, config, &standing, ty, u);
+    drop(call);
+    drawn
 }
 
 /// Draws a value type that is a subtype of `ty` over the types of `spaces`. For a number or a
@@ -445,7 +447,9 @@ pub fn arbitrary_matching_val_type(
     orderly(spaces);
     let call = CallGrounds::over(alloc, config, spaces)?;
     let standing = call.standing();
-    draw_matching_val_type(alloc, config, &standing, ty, u)
+    let drawn = draw_matching_val_type(alloc, config, &standing, ty, u);
+    drop(call);
+    drawn
 }
 
 /// Draws a storage type that matches `ty` over the types of `spaces`. For a packed type this is
@@ -481,7 +485,9 @@ pub fn arbitrary_matching_storage_type(
     orderly(spaces);
     let call = CallGrounds::over(alloc, config, spaces)?;
     let standing = call.standing();
-    draw_matching_storage_type(alloc, config, &standing, ty, u)
+    let drawn = draw_matching_storage_type(alloc, config, &standing, ty, u);
+    drop(call);
+    drawn
 }
 
 /// Draws a field type that matches `field` over the types of `spaces`. For a mutable field this is
@@ -518,7 +524,9 @@ pub fn arbitrary_matching_field_type(
     orderly(spaces);
     let call = CallGrounds::over(alloc, config, spaces)?;
     let standing = call.standing();
-    draw_matching_field_type(alloc, config, &standing, field, u)
+    let drawn = draw_matching_field_type(alloc, config, &standing, field, u);
+    drop(call);
+    drawn
 }
 
 /// Draws a function type that matches `function` over the types of `spaces`: supertypes of its
@@ -555,5 +563,7 @@ pub fn arbitrary_matching_func_type(
     orderly(spaces);
     let call = CallGrounds::over(alloc, config, spaces)?;
     let standing = call.standing();
-    draw_matching_func_type(alloc, config, &standing, function, u)
+    let drawn = draw_matching_func_type(alloc, config, &standing, function, u);
+    drop(call);
+    drawn
 }

@@ -140,5 +140,9 @@ pub fn arbitrary_matching_struct_type(
     orderly(spaces);
     let call = CallGrounds::over(alloc, config, spaces)?;
     let standing = call.standing();
-    draw_matching_struct_type(alloc, config, &standing, structure, must_share, limit, u)
+    let drawn = draw_matching_struct_type(
+        alloc, config, &standing, structure, must_share, limit, u,
+    );
+    drop(call);
+    drawn
 }

@@ -220,5 +220,7 @@ pub fn arbitrary_sub_type_of_super_type(
     let indices = supertypes(spaces.types);
     let call = CallGrounds::over(alloc, config, spaces)?;
     let standing = call.standing();
-    draw_sub_type_of(alloc, config, &standing, limit, indices, u)
+    let drawn = draw_sub_type_of(alloc, config, &standing, limit, indices, u);
+    drop(call);
+    drawn
 }

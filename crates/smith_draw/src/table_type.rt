@@ -106,5 +106,7 @@ pub fn arbitrary_table_type(
 {
     let call = CallGrounds::unread(config, spaces);
     let standing = call.standing();
-    Ok(draw_table_type(config, &standing, u))
+    let drawn = draw_table_type(config, &standing, u);
+    drop(call);
+    Ok(drawn)
 }

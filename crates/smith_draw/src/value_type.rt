@@ -369,7 +369,9 @@ pub fn arbitrary_ref_type(
     orderly(spaces);
     let call = CallGrounds::unread(config, spaces);
     let standing = call.standing();
-    Ok(draw_ref_type(config, &standing, must_share, limit, u))
+    let drawn = draw_ref_type(config, &standing, must_share, limit, u);
+    drop(call);
+    Ok(drawn)
 }
 
 /// Draws a value type that `config` enables. See the standard, section Structure, Value Types.
@@ -411,5 +413,7 @@ pub fn arbitrary_valtype(
     orderly(spaces);
     let call = CallGrounds::unread(config, spaces);
     let standing = call.standing();
-    Ok(draw_val_type(config, &standing, must_share, limit, u))
+    let drawn = draw_val_type(config, &standing, must_share, limit, u);
+    drop(call);
+    Ok(drawn)
 }

@@ -10,7 +10,7 @@ use Rattle.smith_draw.proofs.composite_type.arbitrary_composite_type.Goals as go
 
 pub returns : goal.returns
 returns c =
-    let draws = rw (c.standing-standing.ensures, c.in_ok-call.ensures.exact) at c.draw_composite_type.ensures in
+    let draws = rw (c.standing-standing.ensures, c.in_ok-call.ensures.exact) at c.draw_composite_type-drawn.ensures in
     let drawn = composite_type_drawn c.args.config.now (standing_in c.args.config.now c.args.spaces.now) c.args.limit c.args.u.now c.requires.sanitized in
     record {
       draws = draws;
@@ -20,5 +20,5 @@ returns c =
       valid = of_drawn _ draws (values_valid _ _ _ _ _ drawn.inner.values);
       stands = of_drawn _ draws drawn.inner.stands;
       shared = of_drawn _ draws (λ must. values_shared _ _ _ _ _ must drawn.inner.values);
-      reach = IfOk-weaker c.draw_composite_type.result _ _ (λ _ e. composite_type_taken c.args.config.now (standing_in c.args.config.now c.args.spaces.now) refl _ _ _ _ c.orderly.ensures e) draws.exact;
+      reach = IfOk-weaker c.draw_composite_type-drawn.result _ _ (λ _ e. composite_type_taken c.args.config.now (standing_in c.args.config.now c.args.spaces.now) refl _ _ _ _ c.orderly.ensures e) draws.exact;
     }

@@ -14,12 +14,12 @@ pub returns : goal.returns
 returns c =
     let types = c.args.spaces.now.types.now.types in
     let config = c.args.config.now in
-    let exact = rw (c.standing-standing.ensures, c.unread-call.ensures) at c.draw_field_type.ensures.exact in
+    let exact = rw (c.standing-standing.ensures, c.unread-call.ensures) at c.draw_field_type-drawn.ensures.exact in
     let drawn = drawn_is (λ (ty : FieldType). IsFieldDrawn config types c.args.must_share c.args.limit ty) _ (field_type_drawn _ _ _ _ _ c.requires.sanitized c.requires.may_share) exact in
-    let values = values_of_storage c.draw_field_type.result.element_type in
+    let values = values_of_storage c.draw_field_type-drawn.result.element_type in
     record {
       ok = refl;
-      draws = record { exact = exact; memory = tt; left = c.draw_field_type.ensures.left };
+      draws = record { exact = exact; memory = tt; left = c.draw_field_type-drawn.ensures.left };
       granted = drawn_is (λ (ty : FieldType). All (IsGranted config (standing_in config c.args.spaces.now)) (values_of_storage ty.element_type)) _ (field_granted _ _ c.orderly.ensures _ _ _) exact;
       valid = values_valid config types c.args.must_share c.args.limit values drawn.values;
       stands = drawn.stands;

@@ -6,14 +6,14 @@ use Rattle.smith_draw.proofs.SubTypeLemmas.{sub_type_of_valid, sub_type_of_follo
 use Rattle.smith_draw.proofs.DrawingLemmas.{of_drawn}
 use Rattle.smith_draw.proofs.sub_type.arbitrary_sub_type_of_super_type.Goals as goal
 
-pub draw_sub_type_of-requires : goal.draw_sub_type_of-requires
-draw_sub_type_of-requires c = rw c.supertypes-indices.ensures (some_listed _ c.orderly.ensures c.requires.some)
+pub draw_sub_type_of-drawn-requires : goal.draw_sub_type_of-drawn-requires
+draw_sub_type_of-drawn-requires c = rw c.supertypes-indices.ensures (some_listed _ c.orderly.ensures c.requires.some)
 
 pub returns : goal.returns
 returns c =
     let types = c.args.spaces.now.types.now.types in
     let some = some_listed types c.orderly.ensures c.requires.some in
-    let draws = rw (c.standing-standing.ensures, c.in_ok-call.ensures.exact, c.supertypes-indices.ensures) at c.draw_sub_type_of.ensures in
+    let draws = rw (c.standing-standing.ensures, c.in_ok-call.ensures.exact, c.supertypes-indices.ensures) at c.draw_sub_type_of-drawn.ensures in
     record {
       draws = draws;
       below = of_drawn _ draws (sub_type_of_some _ _ _ _ some);
