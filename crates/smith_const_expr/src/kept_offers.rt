@@ -103,7 +103,7 @@ impl KeptOffers {
                 self.few.read(scope);
                 return Ok(0);
             }
-            self.many = Some(ManyItems::new(alloc));
+            drop(self.many.replace(ManyItems::new(alloc)));
         }
         match &mut self.many {
             Some(many) => many.look(alloc, scope, &self.few, wanted),

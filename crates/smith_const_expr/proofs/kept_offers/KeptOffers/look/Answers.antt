@@ -1,10 +1,11 @@
 use Rattle.std.proofs.Common.{subst, sym}
-use Rattle.std.specs.Prelude.{IfSome}
+use Rattle.std.specs.Prelude.{Option, IfSome}
 use Rattle.smith_const_expr.specs.ConstScopes.{context_of}
 use Rattle.smith_const_expr.specs.KeptOffers.{AreManyKept}
 use Rattle.smith_const_expr.specs.declared.kept_offers.KeptOffers.{KeptOffers}
+use Rattle.smith_const_expr.specs.declared.kept_offers.ManyItems.{ManyItems}
 use Rattle.smith_const_expr.proofs.kept_offers.KeptOffers.look.Goals as goal
-use Rattle.smith_const_expr.proofs.kept_offers.KeptOffers.look.Goals.{then-is_none+else-scope-entities-le-MOST+in-Some-1, then-is_none+else-scope-entities-le-MOST+in-None-1, else-is_none, In-Some}
+use Rattle.smith_const_expr.proofs.kept_offers.KeptOffers.look.Goals.{then-is_none+else-scope-entities-le-MOST, else-is_none, In-Some}
 
 -- the classes and counts are correct, whether they were there or are begun
 right : (c : In-Some) → IfSome c.if-is_none.self.many (AreManyKept (context_of c.args.scope.now))
@@ -12,8 +13,8 @@ right c =
     let context = context_of c.args.scope.now in
     let Right : KeptOffers → Type 0 = λ kept. IfSome kept.many (AreManyKept context) in
     elim c.if-is_none.branch [
-      | then-is_none+else-scope-entities-le-MOST+in-Some-1 w ↦ subst Right (sym w.self-is) (w.new.ensures context)
-      | then-is_none+else-scope-entities-le-MOST+in-None-1 w ↦ subst Right (sym w.self-is) (w.new.ensures context)
+      | then-is_none+else-scope-entities-le-MOST w ↦ subst Right (sym w.self-is)
+        (subst (λ (many : Option ManyItems). IfSome many (AreManyKept context)) (sym w.replace.ensures.after) (w.new.ensures context))
       | else-is_none w ↦ subst Right (sym w.self-is) c.requires.kept.many
     ]
 
