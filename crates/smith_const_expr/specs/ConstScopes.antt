@@ -15,6 +15,7 @@ use Rattle.smith_types.specs.declared.composite_type.SubType.{SubType}
 use Rattle.smith_types.specs.declared.entity_type.GlobalType.{GlobalType}
 use Rattle.smith_types.specs.Expressions.{IsStructAt, field_values}
 use Rattle.smith_config.specs.Features.{features_of}
+use Rattle.smith_draw.specs.HeldFields.{fields_of}
 use Rattle.smith_const_expr.specs.declared.scope.Scope.{Scope}
 
 -- the context of a scope (Validation, Contexts)

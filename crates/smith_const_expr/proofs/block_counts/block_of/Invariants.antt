@@ -1,5 +1,5 @@
 use Rattle.std.proofs.Common.{◌-◌, ◌≤◌, ◌<◌, get_or, length}
-use Rattle.smith_draw.proofs.const_expr.block_counts.block_of.Given as goal
+use Rattle.smith_const_expr.proofs.block_counts.block_of.Given as goal
 
 abbrev pub invariant-loop-end : goal.invariant-loop-end
 invariant-loop-end l = record {

@@ -3,7 +3,7 @@ use Rattle.smith_const_expr.specs.ConstScopes.{context_of}
 use Rattle.smith_const_expr.specs.ConstExprs.{state_of}
 use Rattle.smith_const_expr.proofs.ConstStepLemmas.{ok_both}
 use Rattle.smith_const_expr.proofs.ConstTaskLemmas.{length_step}
-use Rattle.smith_draw.proofs.const_expr.drawn.carry_out.Goals as goal
+use Rattle.smith_const_expr.proofs.drawn.carry_out.Goals as goal
 
 pub returns-then-scope-clause-step : goal.returns-then-scope-clause-step
 returns-then-scope-clause-step c =

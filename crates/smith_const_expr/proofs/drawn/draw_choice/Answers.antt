@@ -7,7 +7,7 @@ use Rattle.smith_const_expr.specs.declared.node.Operand.TheVariants.{Value}
 use Rattle.smith_const_expr.specs.declared.task.Task.TheVariants.{Draw}
 use Rattle.smith_const_expr.proofs.ConstStepLemmas.{passed_on, node_made}
 use Rattle.smith_const_expr.proofs.ConstTaskLemmas.{choice_refused, extended_step, leaf_step, node_step, not_empty, step_grown}
-use Rattle.smith_draw.proofs.const_expr.drawn.draw_choice.Goals as goal
+use Rattle.smith_const_expr.proofs.drawn.draw_choice.Goals as goal
 
 pub returns-in_err-choice-clause-refusal : goal.returns-in_err-choice-clause-refusal
 returns-in_err-choice-clause-refusal c =

@@ -4,7 +4,7 @@ use Rattle.smith_const_expr.specs.ConstScopes.{context_of}
 use Rattle.smith_const_expr.specs.ConstExprs.{state_of}
 use Rattle.smith_const_expr.specs.declared.task.Task.{Task}
 use Rattle.smith_const_expr.proofs.ConstTaskLemmas.{popped, nothing_left, ahead, carrying_begun, carrying_more, carrying_done, refusal_read, step_less}
-use Rattle.smith_draw.proofs.const_expr.drawn.draw_expression.Goals as goal
+use Rattle.smith_const_expr.proofs.drawn.draw_expression.Goals as goal
 
 pub loop-task-init : goal.loop-task-init
 loop-task-init c = record {

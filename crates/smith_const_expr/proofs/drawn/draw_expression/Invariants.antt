@@ -4,7 +4,7 @@ use Rattle.smith_const_expr.specs.ConstScopes.{context_of}
 use Rattle.smith_const_expr.specs.ConstExprs.{state_of}
 use Rattle.smith_const_expr.specs.KeptOffers.{AreKeptOffers}
 use Rattle.smith_const_expr.proofs.ConstTaskLemmas.{IsCarrying, ahead}
-use Rattle.smith_draw.proofs.const_expr.drawn.draw_expression.Given as goal
+use Rattle.smith_const_expr.proofs.drawn.draw_expression.Given as goal
 
 abbrev pub invariant-loop-task : goal.invariant-loop-task
 invariant-loop-task l = record {

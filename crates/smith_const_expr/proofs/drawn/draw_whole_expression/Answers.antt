@@ -2,7 +2,7 @@ use Rattle.smith_const_expr.specs.ConstScopes.{context_of}
 use Rattle.smith_const_expr.proofs.ConstStepLemmas.{passed_on}
 use Rattle.smith_const_expr.proofs.ConstScopeLemmas.{whole_typed, whole_short}
 use Rattle.smith_const_expr.proofs.ConstExprLemmas.{whole_read, whole_refused}
-use Rattle.smith_draw.proofs.const_expr.drawn.draw_whole_expression.Goals as goal
+use Rattle.smith_const_expr.proofs.drawn.draw_whole_expression.Goals as goal
 
 pub returns-clause-typed : goal.returns-clause-typed
 returns-clause-typed c = whole_typed _ _ _ _ _ (rw c.new-drawn.ensures at c.in_ok-draw_expression.ensures.drawn)

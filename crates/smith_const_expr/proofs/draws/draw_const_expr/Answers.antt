@@ -4,7 +4,7 @@ use Rattle.smith_const_expr.specs.ConstScopes.{seen_by}
 use Rattle.smith_const_expr.proofs.SpelledConstExprLemmas.{constant_taken}
 use Rattle.smith_const_expr.proofs.ConstScopeLemmas.{scope_of}
 use Rattle.smith_const_expr.proofs.ConstFloatLemmas.{const_expr_no_float}
-use Rattle.smith_draw.proofs.const_expr.draw_const_expr.Goals as goal
+use Rattle.smith_const_expr.proofs.draws.draw_const_expr.Goals as goal
 
 pub draw_whole_expression-requires-clause-scope : goal.draw_whole_expression-requires-clause-scope
 draw_whole_expression-requires-clause-scope c = rw c.visible_end-visible.ensures (scope_of c.args.config.now c.args.spaces.now c.args.allow_defined c.requires.standing c.types-types.ensures.sound.orderly c.types-types.ensures.sound.few)

@@ -1,6 +1,6 @@
 use Rattle.smith_const_expr.specs.ConstScopes.{seen_by}
 use Rattle.smith_const_expr.proofs.ReadableLemmas.{listed_readable}
-use Rattle.smith_draw.proofs.const_expr.globals_for_const_expr.Goals as goal
+use Rattle.smith_const_expr.proofs.draws.globals_for_const_expr.Goals as goal
 
 pub returns-clause-readable : goal.returns-clause-readable
 returns-clause-readable c =

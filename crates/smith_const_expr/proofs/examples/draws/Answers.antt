@@ -4,7 +4,7 @@ use Rattle.smith_const_expr.specs.Constants.{constant_at, extended_at, extended_
 use Rattle.smith_const_expr.specs.ConstOffers.{offers}
 use Rattle.smith_const_expr.specs.ConstNodes.{node_at}
 use Rattle.smith_const_expr.specs.ConstExprs.{expression_at, expression_alone_at}
-use Rattle.smith_draw.proofs.examples.const_exprs.draws.Goals as goal
+use Rattle.smith_const_expr.proofs.examples.draws.Goals as goal
 
 pub returns-clause-a_sum : goal.returns-clause-a_sum
 unfolding expression_alone_at expression_at node_at constant_at extended_at extended_within operator_at offers choose_at range_at whole_at digit_count

@@ -1,6 +1,6 @@
 use Rattle.std.proofs.Common.{arith, refl}
 use Rattle.smith_const_expr.proofs.SpelledConstExprLemmas.{mutable_not_read}
-use Rattle.smith_draw.proofs.examples.const_exprs.globals.Goals as goal
+use Rattle.smith_const_expr.proofs.examples.globals.Goals as goal
 
 pub returns-clause-mutable_ones_are_not_read : goal.returns-clause-mutable_ones_are_not_read
 returns-clause-mutable_ones_are_not_read c = mutable_not_read

@@ -4,7 +4,7 @@ use Rattle.smith_types.specs.Entities.{IsGlobalValid}
 use Rattle.smith_types.specs.ExampleEntities.{constant_global}
 use Rattle.smith_types.specs.declared.value_type.ValType.TheVariants.{V128}
 use Rattle.smith_config.specs.Features.{features_of}
-use Rattle.smith_draw.proofs.examples.const_exprs.spaces.Goals as goal
+use Rattle.smith_const_expr.proofs.examples.spaces.Goals as goal
 
 pub returns-clause-a_global_without_its_feature : goal.returns-clause-a_global_without_its_feature
 returns-clause-a_global_without_its_feature c = λ config spaces off one h.

@@ -1,7 +1,7 @@
 use Rattle.std.proofs.Common.{◌≡◌, ℕ, List, [], ◌∷◌, ap, refl, ◌∙◌}
 use Rattle.smith_bytes.specs.Draws.{range_at, digit_count}
 use Rattle.smith_bytes.proofs.SpelledLemmas.{number_read}
-use Rattle.smith_draw.proofs.examples.const_exprs.spelled_constants.Goals as goal
+use Rattle.smith_const_expr.proofs.examples.spelled_constants.Goals as goal
 
 pub returns-clause-behind_a_choice : goal.returns-clause-behind_a_choice
 unfolding digit_count

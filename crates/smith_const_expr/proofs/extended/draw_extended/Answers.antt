@@ -1,6 +1,6 @@
 use Rattle.std.proofs.Common.{arith}
 use Rattle.smith_const_expr.proofs.ExtendedLemmas.{extending_constant, extending_operator, extending_done, extending_adds}
-use Rattle.smith_draw.proofs.const_expr.extended.draw_extended.Goals as goal
+use Rattle.smith_const_expr.proofs.extended.draw_extended.Goals as goal
 
 pub loop-needed-preserved-in-None : goal.loop-needed-preserved-in-None
 loop-needed-preserved-in-None c =

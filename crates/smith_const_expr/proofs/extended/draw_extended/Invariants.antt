@@ -1,6 +1,6 @@
 use Rattle.std.proofs.Common.{◌-◌, length}
 use Rattle.smith_const_expr.proofs.ExtendedLemmas.{IsExtending}
-use Rattle.smith_draw.proofs.const_expr.extended.draw_extended.Given as goal
+use Rattle.smith_const_expr.proofs.extended.draw_extended.Given as goal
 
 abbrev pub invariant-loop-needed : goal.invariant-loop-needed
 invariant-loop-needed l = IsExtending l.wanted l.wide l.needed l.drawn l.fn.u l.u

@@ -1,6 +1,6 @@
 use Rattle.std.proofs.lemmas.Result.{on_ok_weaker}
 use Rattle.smith_const_expr.proofs.PuttingLemmas.{puts_adds}
-use Rattle.smith_draw.proofs.const_expr.extended.draw_extended_constant.Goals as goal
+use Rattle.smith_const_expr.proofs.extended.draw_extended_constant.Goals as goal
 
 pub returns-clause-puts : goal.returns-clause-puts
 returns-clause-puts c = λ context on. on_ok_weaker c.push_reversed.result

@@ -3,7 +3,7 @@ use Rattle.std.specs.Prelude.{Some, slice_get}
 use Rattle.std.proofs.lemmas.Option.{slice_get-get_or}
 use Rattle.smith_const_expr.specs.ConstScopes.{context_of}
 use Rattle.smith_const_expr.proofs.KnownLemmas.{one_recorded}
-use Rattle.smith_draw.proofs.const_expr.few_items.record_funcs.Goals as goal
+use Rattle.smith_const_expr.proofs.few_items.record_funcs.Goals as goal
 
 pub loop-index-preserved : goal.loop-index-preserved
 loop-index-preserved c =

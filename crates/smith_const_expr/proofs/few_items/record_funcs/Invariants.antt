@@ -1,7 +1,7 @@
 use Rattle.std.proofs.Common.{◌≡◌, length}
 use Rattle.smith_const_expr.specs.ConstScopes.{context_of}
 use Rattle.smith_const_expr.specs.KeptOffers.{AreRecorded}
-use Rattle.smith_draw.proofs.const_expr.few_items.record_funcs.Given as goal
+use Rattle.smith_const_expr.proofs.few_items.record_funcs.Given as goal
 
 abbrev pub invariant-loop-index : goal.invariant-loop-index
 invariant-loop-index l = record {

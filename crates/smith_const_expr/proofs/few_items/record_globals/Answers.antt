@@ -6,7 +6,7 @@ use Rattle.smith_types.specs.declared.value_type.ValType.TheVariants.{I32}
 use Rattle.smith_const_expr.specs.ConstScopes.{context_of}
 use Rattle.smith_const_expr.specs.KeptOffers.{readable}
 use Rattle.smith_const_expr.proofs.KnownLemmas.{one_recorded}
-use Rattle.smith_draw.proofs.const_expr.few_items.record_globals.Goals as goal
+use Rattle.smith_const_expr.proofs.few_items.record_globals.Goals as goal
 
 pub loop-index-preserved : goal.loop-index-preserved
 loop-index-preserved c =

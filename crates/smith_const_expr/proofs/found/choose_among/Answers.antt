@@ -3,7 +3,7 @@ use Rattle.smith_const_expr.specs.ConstScopes.{context_of}
 use Rattle.smith_const_expr.proofs.ConstFoundLemmas.{past_inside, found_chosen}
 use Rattle.smith_const_expr.proofs.ConstOfferLemmas.{nothing_offered, chosen_fits}
 use Rattle.smith_const_expr.proofs.ConstExprLemmas.{none_at}
-use Rattle.smith_draw.proofs.const_expr.found.choose_among.Goals as goal
+use Rattle.smith_const_expr.proofs.found.choose_among.Goals as goal
 
 pub returns-then-count-eq0-clause-none : goal.returns-then-count-eq0-clause-none
 returns-then-count-eq0-clause-none c = (refl, none_at _ _ _ refl (sym c.count_offers-count.ensures ∙ c.if-count-eq0.true))

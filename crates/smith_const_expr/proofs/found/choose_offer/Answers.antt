@@ -1,5 +1,5 @@
 use Rattle.smith_const_expr.specs.ConstScopes.{context_of}
-use Rattle.smith_draw.proofs.const_expr.found.choose_offer.Goals as goal
+use Rattle.smith_const_expr.proofs.found.choose_offer.Goals as goal
 
 pub known-requires : goal.known-requires
 known-requires c = (context_of c.args.scope.now, c.args.wanted, c.in_ok-place.ensures.all)

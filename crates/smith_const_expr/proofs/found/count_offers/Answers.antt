@@ -1,7 +1,7 @@
 use Rattle.std.proofs.Common.{arith, sym, ◌∙◌}
 use Rattle.smith_const_expr.specs.ConstScopes.{context_of}
 use Rattle.smith_const_expr.proofs.ConstFoundLemmas.{counted, not_found, offers_few}
-use Rattle.smith_draw.proofs.const_expr.found.count_offers.Goals as goal
+use Rattle.smith_const_expr.proofs.found.count_offers.Goals as goal
 
 pub returns-in-Ok : goal.returns-in-Ok
 returns-in-Ok c =

@@ -3,7 +3,7 @@ use Rattle.std.proofs.lemmas.Bool.{both_ways, cases_lt}
 use Rattle.std.proofs.lemmas.List.{get_or_default}
 use Rattle.smith_const_expr.specs.KeptOffers.{IsFor}
 use Rattle.smith_const_expr.proofs.KeptOfferLemmas.{kept_there}
-use Rattle.smith_draw.proofs.const_expr.kept_offers.find.Goals as goal
+use Rattle.smith_const_expr.proofs.kept_offers.find.Goals as goal
 
 pub returns-then-is_for-clause-found : goal.returns-then-is_for-clause-found
 returns-then-is_for-clause-found c = kept_there c.args.kept.now c.loop-place.place _ c.index-kept-place.result c.args.wanted c.args.visible c.loop-place-test.true c.index-kept-place.is (c.is_for.ensures.0 c.if-is_for.true)

@@ -4,7 +4,7 @@ use Rattle.std.proofs.lemmas.List.{length-append}
 use Rattle.std.proofs.lemmas.Option.{slice_get-get_or}
 use Rattle.smith_types.specs.declared.value_type.ValType.{ValType}
 use Rattle.smith_const_expr.proofs.ClassLemmas.{flag_pushed}
-use Rattle.smith_draw.proofs.const_expr.kept_offers.test_kinds.Goals as goal
+use Rattle.smith_const_expr.proofs.kept_offers.test_kinds.Goals as goal
 
 pub loop-index-preserved : goal.loop-index-preserved
 loop-index-preserved c =

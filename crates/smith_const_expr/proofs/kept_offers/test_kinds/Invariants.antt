@@ -1,6 +1,6 @@
 use Rattle.std.proofs.Common.{◌≡◌, length}
 use Rattle.smith_const_expr.specs.KeptOffers.{AreFlags}
-use Rattle.smith_draw.proofs.const_expr.kept_offers.test_kinds.Given as goal
+use Rattle.smith_const_expr.proofs.kept_offers.test_kinds.Given as goal
 
 abbrev pub invariant-loop-index : goal.invariant-loop-index
 invariant-loop-index l = record {

@@ -7,8 +7,8 @@ use Rattle.smith_const_expr.specs.ConstScopes.{context_of}
 use Rattle.smith_const_expr.specs.KeptOffers.{AreAllRead, IsFewWhole}
 use Rattle.smith_const_expr.proofs.ClassLemmas.{same_element}
 use Rattle.smith_const_expr.proofs.KnownLemmas.{class_exists}
-use Rattle.smith_draw.proofs.const_expr.known.kind_of_function.Goals as goal
-use Rattle.smith_draw.proofs.const_expr.known.kind_of_function.Goals.{In-Few, In-Many}
+use Rattle.smith_const_expr.proofs.known.kind_of_function.Goals as goal
+use Rattle.smith_const_expr.proofs.known.kind_of_function.Goals.{In-Few, In-Many}
 
 few : (c : In-Few) → IsFewWhole (context_of c.args.scope.now) c.in-Few.items.now
 few c = rw c.in-Few.is at c.requires.known

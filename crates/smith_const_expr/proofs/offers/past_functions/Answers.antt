@@ -4,8 +4,8 @@ use Rattle.smith_const_expr.specs.ConstScopes.{context_of}
 use Rattle.smith_const_expr.specs.KeptOffers.{IsWhole, offered_before}
 use Rattle.smith_const_expr.proofs.KeptOfferLemmas.{past_from}
 use Rattle.smith_const_expr.proofs.KnownLemmas.{counts_whole}
-use Rattle.smith_draw.proofs.const_expr.offers.past_functions.Goals as goal
-use Rattle.smith_draw.proofs.const_expr.offers.past_functions.Goals.{In-Some}
+use Rattle.smith_const_expr.proofs.offers.past_functions.Goals as goal
+use Rattle.smith_const_expr.proofs.offers.past_functions.Goals.{In-Some}
 
 -- the counts are of all that is offered
 all : (c : In-Some) → IsWhole (context_of c.args.scope.now) c.args.wanted c.in-Some.kept.now

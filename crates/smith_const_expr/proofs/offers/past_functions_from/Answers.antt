@@ -4,7 +4,7 @@ use Rattle.smith_const_expr.specs.ConstScopes.{context_of}
 use Rattle.smith_const_expr.specs.declared.node_choice.Choice.{Choice}
 use Rattle.smith_const_expr.proofs.ConstFoundLemmas.{turn_on, turn_found}
 use Rattle.smith_const_expr.proofs.KnownLemmas.{function_kind_exists, function_offered}
-use Rattle.smith_draw.proofs.const_expr.offers.past_functions_from.Goals as goal
+use Rattle.smith_const_expr.proofs.offers.past_functions_from.Goals as goal
 
 pub is_offered-offered-requires-clause-lower : goal.is_offered-offered-requires-clause-lower
 is_offered-offered-requires-clause-lower c = function_kind_exists (context_of c.args.scope.now) c.requires.scope c.loop-index.index c.kind_of_function-kind.result c.loop-index-test.true c.kind_of_function-kind.ensures

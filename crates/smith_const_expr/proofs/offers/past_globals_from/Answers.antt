@@ -7,7 +7,7 @@ use Rattle.smith_const_expr.specs.ConstScopes.{context_of}
 use Rattle.smith_const_expr.specs.declared.node_choice.Choice.{Choice}
 use Rattle.smith_const_expr.proofs.ConstFoundLemmas.{turn_on, turn_found}
 use Rattle.smith_const_expr.proofs.KnownLemmas.{global_kind_exists, global_offered}
-use Rattle.smith_draw.proofs.const_expr.offers.past_globals_from.Goals as goal
+use Rattle.smith_const_expr.proofs.offers.past_globals_from.Goals as goal
 
 abbrev d : GlobalType
 d = record { val_type = I32; mutable = false; shared = false }

@@ -1,6 +1,6 @@
 use Rattle.smith_const_expr.specs.ConstOffers.{offers}
 use Rattle.smith_const_expr.proofs.ConstFoundLemmas.{found_first, found_next}
-use Rattle.smith_draw.proofs.const_expr.offers.past_offers.Goals as goal
+use Rattle.smith_const_expr.proofs.offers.past_offers.Goals as goal
 
 pub returns-in_err-place : goal.returns-in_err-place
 unfolding offers

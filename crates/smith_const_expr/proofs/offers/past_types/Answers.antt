@@ -2,7 +2,7 @@ use Rattle.smith_types.specs.declared.composite_type.SubType.{SubType}
 use Rattle.smith_const_expr.specs.ConstOffers.{type_offers}
 use Rattle.smith_const_expr.specs.ConstScopes.{context_of}
 use Rattle.smith_const_expr.proofs.ConstFoundLemmas.{turn_on, turn_found}
-use Rattle.smith_draw.proofs.const_expr.offers.past_types.Goals as goal
+use Rattle.smith_const_expr.proofs.offers.past_types.Goals as goal
 
 pub returns-in_err-rest : goal.returns-in_err-rest
 returns-in_err-rest c =

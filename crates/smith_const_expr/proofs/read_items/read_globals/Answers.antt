@@ -9,7 +9,7 @@ use Rattle.smith_const_expr.specs.ConstScopes.{context_of}
 use Rattle.smith_const_expr.specs.KeptOffers.{readable}
 use Rattle.smith_const_expr.proofs.ClassLemmas.{classes_noted, flags_noted, one_noted}
 use Rattle.smith_const_expr.proofs.KnownLemmas.{global_kind_exists}
-use Rattle.smith_draw.proofs.const_expr.read_items.read_globals.Goals as goal
+use Rattle.smith_const_expr.proofs.read_items.read_globals.Goals as goal
 
 pub loop-index-preserved : goal.loop-index-preserved
 loop-index-preserved c =

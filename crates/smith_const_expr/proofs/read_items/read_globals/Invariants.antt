@@ -3,7 +3,7 @@ use Rattle.smith_types.specs.declared.composite_type.SubType.{SubType}
 use Rattle.smith_types.specs.declared.value_type.ValType.{ValType}
 use Rattle.smith_const_expr.specs.ConstScopes.{context_of}
 use Rattle.smith_const_expr.specs.KeptOffers.{AreClasses, AreFlags, readable}
-use Rattle.smith_draw.proofs.const_expr.read_items.read_globals.Given as goal
+use Rattle.smith_const_expr.proofs.read_items.read_globals.Given as goal
 
 abbrev pub invariant-loop-index : goal.invariant-loop-index
 invariant-loop-index l = record {

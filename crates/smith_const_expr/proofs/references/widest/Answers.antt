@@ -1,5 +1,5 @@
 use Rattle.std.proofs.Common.{◌∙◌, sym}
-use Rattle.smith_draw.proofs.const_expr.references.widest.Goals as goal
+use Rattle.smith_const_expr.proofs.references.widest.Goals as goal
 
 pub is_below-requires-clause-upper : goal.is_below-requires-clause-upper
 is_below-requires-clause-upper c = c.nullable-wider.ensures c.args.types.now.types

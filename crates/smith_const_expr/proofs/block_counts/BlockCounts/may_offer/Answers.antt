@@ -2,7 +2,7 @@ use Rattle.std.proofs.Common.{◌≡◌, ◌∙◌, ◌*◌, ◌/◌, inl, inr, 
 use Rattle.std.specs.Prelude.{not}
 use Rattle.std.proofs.lemmas.Bool.Decides.{eqb_tells}
 use Rattle.smith_const_expr.proofs.BlockCountLemmas.{none_near}
-use Rattle.smith_draw.proofs.const_expr.block_counts.BlockCounts.may_offer.Goals as goal
+use Rattle.smith_const_expr.proofs.block_counts.BlockCounts.may_offer.Goals as goal
 
 pub returns-clause-none : goal.returns-clause-none
 returns-clause-none c = λ before counted rising no.

@@ -1,8 +1,8 @@
 use Rattle.std.proofs.Common.{◌≡◌, ◌≢◌, ◌⊎◌, ◌%◌, ◌∷◌, ◌++◌, [], ◌∙◌, inl, inr, ap, arith}
 use Rattle.smith_const_expr.specs.declared.block_counts.BlockCounts.{BlockCounts}
 use Rattle.smith_const_expr.proofs.BlockCountLemmas.{counted_next}
-use Rattle.smith_draw.proofs.const_expr.block_counts.BlockCounts.read_to.Goals as goal
-use Rattle.smith_draw.proofs.const_expr.block_counts.BlockCounts.read_to.Goals.{then-self-eq0+in_ok-push, else-self-eq0}
+use Rattle.smith_const_expr.proofs.block_counts.BlockCounts.read_to.Goals as goal
+use Rattle.smith_const_expr.proofs.block_counts.BlockCounts.read_to.Goals.{then-self-eq0+in_ok-push, else-self-eq0}
 
 pub returns-clause-counted : goal.returns-clause-counted
 returns-clause-counted c = λ before counted next.

@@ -1,6 +1,6 @@
 use Rattle.std.proofs.Common.{◌≡◌, ◌*◌, ◌∙◌, ap, arith, get_or, length, List, ℕ}
 use Rattle.smith_const_expr.proofs.BlockCountLemmas.{block_counted, blocks_counted, first_start, some_block}
-use Rattle.smith_draw.proofs.const_expr.block_counts.BlockCounts.search_from.Goals as goal
+use Rattle.smith_const_expr.proofs.block_counts.BlockCounts.search_from.Goals as goal
 
 pub block_of-block-requires-clause-some : goal.block_of-block-requires-clause-some
 block_of-block-requires-clause-some c =

@@ -1,6 +1,6 @@
 use Rattle.std.proofs.Common.{◌∙◌, ap, arith, get_or, length}
 use Rattle.smith_const_expr.proofs.BlockCountLemmas.{all_counted, start_counted}
-use Rattle.smith_draw.proofs.const_expr.block_counts.BlockCounts.start_of.Goals as goal
+use Rattle.smith_const_expr.proofs.block_counts.BlockCounts.start_of.Goals as goal
 
 pub returns-then-block-starts : goal.returns-then-block-starts
 returns-then-block-starts c = λ before counted.

@@ -1,6 +1,6 @@
 use Rattle.std.proofs.Common.{◌≡◌, ◌+◌, ◌≤◌, ℕ}
 use Rattle.smith_const_expr.specs.KeptOffers.{IsTally}
-use Rattle.smith_draw.proofs.const_expr.classes.Classes.count.Given as goal
+use Rattle.smith_const_expr.proofs.classes.Classes.count.Given as goal
 
 abbrev pub invariant-loop-index : goal.invariant-loop-index
 invariant-loop-index l = record {

@@ -4,7 +4,7 @@ use Rattle.std.proofs.lemmas.Option.{get_or_from_slice_get}
 use Rattle.smith_types.specs.Expressions.{function_reference}
 use Rattle.smith_types.specs.declared.value_type.ValType.{ValType}
 use Rattle.smith_const_expr.specs.ConstScopes.{context_of}
-use Rattle.smith_draw.proofs.const_expr.few_items.FewItems.recorded_function.Goals as goal
+use Rattle.smith_const_expr.proofs.few_items.FewItems.recorded_function.Goals as goal
 
 pub returns : goal.returns
 returns c = λ type at.

@@ -3,7 +3,7 @@ use Rattle.smith_const_expr.specs.ConstOffers.{global_offers}
 use Rattle.smith_const_expr.specs.KeptOffers.{IsTally, offered_before}
 use Rattle.smith_const_expr.proofs.ClassLemmas.{tally_globals}
 use Rattle.smith_const_expr.proofs.WiderOfferLemmas.{excluded}
-use Rattle.smith_draw.proofs.const_expr.kept_offers.KeptOffer.count_globals.Goals as goal
+use Rattle.smith_const_expr.proofs.kept_offers.KeptOffer.count_globals.Goals as goal
 
 pub returns-then-not-may_offer : goal.returns-then-not-may_offer
 returns-then-not-may_offer c = λ context orderly read entry wider.

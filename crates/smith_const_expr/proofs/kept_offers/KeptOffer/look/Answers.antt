@@ -2,8 +2,8 @@ use Rattle.std.proofs.Common.{◌≡◌, ◌∙◌, ap, arith}
 use Rattle.smith_const_expr.specs.ConstScopes.{context_of}
 use Rattle.smith_const_expr.specs.declared.block_counts.BlockCounts.{BlockCounts}
 use Rattle.smith_const_expr.proofs.KeptOfferLemmas.{whole_for}
-use Rattle.smith_draw.proofs.const_expr.kept_offers.KeptOffer.look.Goals as goal
-use Rattle.smith_draw.proofs.const_expr.kept_offers.KeptOffer.look.Goals.{In_ok-look_at_funcs}
+use Rattle.smith_const_expr.proofs.kept_offers.KeptOffer.look.Goals as goal
+use Rattle.smith_const_expr.proofs.kept_offers.KeptOffer.look.Goals.{In_ok-look_at_funcs}
 
 wanted : (c : In_ok-look_at_funcs) → c.look_at_funcs.new.self.wanted ≡ c.args.self.now.wanted
 wanted c = c.in_ok-look_at_funcs.ensures.wanted ∙ c.in_ok-look_at_globals.ensures.wanted ∙ c.in_ok-test.ensures.wanted

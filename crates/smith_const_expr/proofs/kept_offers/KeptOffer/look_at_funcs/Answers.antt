@@ -6,8 +6,8 @@ use Rattle.smith_const_expr.specs.KeptOffers.{IsTally, offered_before}
 use Rattle.smith_const_expr.specs.ConstOffers.{function_offers}
 use Rattle.smith_const_expr.proofs.ClassLemmas.{flag_of_each, tally_functions}
 use Rattle.smith_const_expr.proofs.KeptOfferLemmas.{few_functions}
-use Rattle.smith_draw.proofs.const_expr.kept_offers.KeptOffer.look_at_funcs.Goals as goal
-use Rattle.smith_draw.proofs.const_expr.kept_offers.KeptOffer.look_at_funcs.Goals.{After-count-offered}
+use Rattle.smith_const_expr.proofs.kept_offers.KeptOffer.look_at_funcs.Goals as goal
+use Rattle.smith_const_expr.proofs.kept_offers.KeptOffer.look_at_funcs.Goals.{After-count-offered}
 
 -- the functions are counted
 counted : (c : After-count-offered) → offered_before (function_offers (context_of c.args.scope.now) c.loop-self.self.wanted) (context_of c.args.scope.now).funcs c.min-end.result

@@ -6,7 +6,7 @@ use Rattle.smith_const_expr.specs.KeptOffers.{offered_before, readable}
 use Rattle.smith_const_expr.specs.ConstOffers.{global_offers}
 use Rattle.smith_const_expr.proofs.ClassLemmas.{flag_of_each}
 use Rattle.smith_const_expr.proofs.KeptOfferLemmas.{few_globals}
-use Rattle.smith_draw.proofs.const_expr.kept_offers.KeptOffer.look_at_globals.Goals as goal
+use Rattle.smith_const_expr.proofs.kept_offers.KeptOffer.look_at_globals.Goals as goal
 
 pub count_globals-offered-requires-clause-flags : goal.count_globals-offered-requires-clause-flags
 count_globals-offered-requires-clause-flags c =

@@ -1,7 +1,7 @@
 use Rattle.std.proofs.Common.{◌≡◌, ◌≤◌, ◌-◌, max}
 use Rattle.smith_const_expr.specs.ConstScopes.{context_of}
 use Rattle.smith_const_expr.specs.KeptOffers.{IsEntry, IsTested}
-use Rattle.smith_draw.proofs.const_expr.kept_offers.KeptOffer.look_at_globals.Given as goal
+use Rattle.smith_const_expr.proofs.kept_offers.KeptOffer.look_at_globals.Given as goal
 
 abbrev pub invariant-loop-self : goal.invariant-loop-self
 invariant-loop-self l = record {

@@ -2,7 +2,7 @@ use Rattle.std.proofs.Common.{arith, refl}
 use Rattle.smith_const_expr.specs.ConstOffers.{function_offers, global_offers}
 use Rattle.smith_const_expr.specs.KeptOffers.{offered_before}
 use Rattle.smith_const_expr.proofs.ClassLemmas.{no_flags}
-use Rattle.smith_draw.proofs.const_expr.kept_offers.KeptOffer.new.Goals as goal
+use Rattle.smith_const_expr.proofs.kept_offers.KeptOffer.new.Goals as goal
 
 pub returns-clause-kept : goal.returns-clause-kept
 returns-clause-kept c = λ context items valid. record {

@@ -1,7 +1,7 @@
 use Rattle.std.proofs.Common.{arith}
 use Rattle.std.proofs.lemmas.Option.{slice_get_within}
 use Rattle.smith_const_expr.proofs.KeptOfferLemmas.{whole_there}
-use Rattle.smith_draw.proofs.const_expr.kept_offers.KeptOffers.known.Goals as goal
+use Rattle.smith_const_expr.proofs.kept_offers.KeptOffers.known.Goals as goal
 
 pub index-requires : goal.index-requires
 index-requires c =

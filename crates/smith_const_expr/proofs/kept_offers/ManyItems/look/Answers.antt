@@ -5,8 +5,8 @@ use Rattle.smith_const_expr.specs.ConstScopes.{context_of}
 use Rattle.smith_const_expr.specs.KeptOffers.{AreManyKept}
 use Rattle.smith_const_expr.proofs.ClassLemmas.{entries_read}
 use Rattle.smith_const_expr.proofs.KeptOfferLemmas.{offer_there, whole_for}
-use Rattle.smith_draw.proofs.const_expr.kept_offers.ManyItems.look.Goals as goal
-use Rattle.smith_draw.proofs.const_expr.kept_offers.ManyItems.look.Goals.{In_ok-read}
+use Rattle.smith_const_expr.proofs.kept_offers.ManyItems.look.Goals as goal
+use Rattle.smith_const_expr.proofs.kept_offers.ManyItems.look.Goals.{In_ok-read}
 
 read : (c : In_ok-read) → AreManyKept (context_of c.args.scope.now) (record { kept = c.place_of.new.self.kept; items = c.read.new.self })
 read c =

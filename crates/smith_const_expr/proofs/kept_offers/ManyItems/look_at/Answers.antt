@@ -6,8 +6,8 @@ use Rattle.smith_const_expr.specs.ConstScopes.{context_of}
 use Rattle.smith_const_expr.specs.KeptOffers.{AreAllRead, IsEntry, IsFor, IsWhole}
 use Rattle.smith_const_expr.specs.declared.kept_offers.KeptOffer.{KeptOffer}
 use Rattle.smith_const_expr.proofs.KeptOfferLemmas.{HasEntries, entry_replaced, for_there, kept_within, offer_there, whole_again}
-use Rattle.smith_draw.proofs.const_expr.kept_offers.ManyItems.look_at.Goals as goal
-use Rattle.smith_draw.proofs.const_expr.kept_offers.ManyItems.look_at.Goals.{In_ok-look-2, After-replace-offer}
+use Rattle.smith_const_expr.proofs.kept_offers.ManyItems.look_at.Goals as goal
+use Rattle.smith_const_expr.proofs.kept_offers.ManyItems.look_at.Goals.{In_ok-look-2, After-replace-offer}
 
 -- the entry for the wider type is read
 looked : (c : In_ok-look-2) → HasEntries (context_of c.args.scope.now) c.place_of.new.self.items (set c.place_of.new.self.kept.items c.in_ok-source.source c.look-2.new.self) c.in_ok-source.source c.in-Some.wider c.args.place c.args.wanted

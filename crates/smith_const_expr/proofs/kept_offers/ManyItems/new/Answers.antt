@@ -3,7 +3,7 @@ use Rattle.std.specs.Prelude.{All}
 use Rattle.std.proofs.lemmas.List.Elements.{All-nil}
 use Rattle.smith_const_expr.specs.KeptOffers.{IsEntry}
 use Rattle.smith_const_expr.specs.declared.kept_offers.KeptOffer.{KeptOffer}
-use Rattle.smith_draw.proofs.const_expr.kept_offers.ManyItems.new.Goals as goal
+use Rattle.smith_const_expr.proofs.kept_offers.ManyItems.new.Goals as goal
 
 pub returns : goal.returns
 returns c = λ context. record {

@@ -4,7 +4,7 @@ use Rattle.std.proofs.lemmas.List.Elements.{All-push}
 use Rattle.smith_const_expr.specs.KeptOffers.{IsEntry}
 use Rattle.smith_const_expr.specs.declared.kept_offers.KeptOffer.{KeptOffer}
 use Rattle.smith_const_expr.proofs.ClassLemmas.{get_front, get_last}
-use Rattle.smith_draw.proofs.const_expr.kept_offers.ManyItems.place_of.Goals as goal
+use Rattle.smith_const_expr.proofs.kept_offers.ManyItems.place_of.Goals as goal
 
 pub returns-clause-kept : goal.returns-clause-kept
 returns-clause-kept c = λ context valid kept. record {

@@ -2,7 +2,7 @@ use Rattle.std.specs.Prelude.{Some}
 use Rattle.smith_types.specs.Expressions.{function_reference}
 use Rattle.smith_const_expr.specs.KeptOffers.{readable}
 use Rattle.smith_const_expr.proofs.ClassLemmas.{no_classes}
-use Rattle.smith_draw.proofs.const_expr.read_items.ReadItems.new.Goals as goal
+use Rattle.smith_const_expr.proofs.read_items.ReadItems.new.Goals as goal
 
 pub returns : goal.returns
 returns c = λ context. record {
