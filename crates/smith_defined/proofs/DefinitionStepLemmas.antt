@@ -6,11 +6,11 @@ use Rattle.smith_bytes.specs.declared.error.Error.TheVariants as errors
 use Rattle.smith_bytes.specs.declared.error.Why.{Why}
 use Rattle.smith_bytes.specs.Steps.{ReturnsWhy}
 use Rattle.smith_types.specs.Imports.{EntitySpaces}
-use Rattle.smith_types.specs.declared.composite_type.SubType.{SubType}
-use Rattle.smith_types.specs.declared.const_instr.ConstInstr.{ConstInstr}
-use Rattle.smith_types.specs.declared.entity_type.GlobalType.{GlobalType}
-use Rattle.smith_types.specs.declared.entity_type.MemoryType.{MemoryType}
-use Rattle.smith_types.specs.declared.entity_type.TableType.{TableType}
+use Rattle.smith_data.specs.declared.composite_type.SubType.{SubType}
+use Rattle.smith_data.specs.declared.const_instr.ConstInstr.{ConstInstr}
+use Rattle.smith_data.specs.declared.entity_type.GlobalType.{GlobalType}
+use Rattle.smith_data.specs.declared.entity_type.MemoryType.{MemoryType}
+use Rattle.smith_data.specs.declared.entity_type.TableType.{TableType}
 use Rattle.smith_config.specs.declared.config.Config.{Config}
 use Rattle.smith_defined.specs.Definitions.{InitialiserScope, scope_among, tags_at, funcs_at, tables_at, memories_at, globals_at, definitions_at, defined_in}
 use Rattle.smith_defined.specs.declared.definitions.Definitions.{Definitions}

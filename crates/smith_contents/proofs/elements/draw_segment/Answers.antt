@@ -1,5 +1,5 @@
 use Rattle.std.proofs.Common.{true, arith}
-use Rattle.smith_types.specs.declared.segments.Elements.{Elements}
+use Rattle.smith_data.specs.declared.segments.Elements.{Elements}
 use Rattle.smith_const_expr.specs.ConstScopes.{seen_by}
 use Rattle.smith_const_expr.proofs.ConstStepLemmas.{passed_on}
 use Rattle.smith_draw.specs.Grounding.{standing_in}
