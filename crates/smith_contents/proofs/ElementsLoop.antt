@@ -1,5 +1,5 @@
 -- One iteration of the loop that draws element segments.
-use Rattle.std.proofs.Common.{◌≡◌, ◌∙◌, ℕ, suc, ◌+◌, ◌-◌, ◌≤◌, ◌<◌, Bool, true, false, Result, Ok, Err, List, [], ◌∷◌, ◌++◌, length, nat_lt, refl, sym, subst, ap, arith, length-append}
+use Rattle.std.proofs.Common.{◌≡◌, ◌∙◌, ℕ, suc, ◌+◌, ◌-◌, ◌≤◌, ◌<◌, Bool, true, false, Result, Ok, Err, List, [], ◌∷◌, ◌++◌, length, nat_lt, Option, refl, sym, subst, ap, arith, length-append}
 use Rattle.std.specs.Prelude.{IsErrAnd}
 use Rattle.std.proofs.lemmas.List.Sums.{sum_by_push}
 use Rattle.smith_bytes.specs.declared.error.Why.{Why}
@@ -9,10 +9,31 @@ use Rattle.smith_bytes.specs.Growth.{goes_at}
 use Rattle.smith_bytes.specs.Source.{KeepsPieces}
 use Rattle.smith_types.specs.Expressions.{Context}
 use Rattle.smith_types.specs.Segments.{item_count}
+use Rattle.smith_data.specs.declared.segments.ElementKind.{ElementKind}
+use Rattle.smith_data.specs.declared.segments.Elements.{Elements}
 use Rattle.smith_data.specs.declared.segments.ElementSegment.{ElementSegment}
+use Rattle.smith_data.specs.declared.value_type.RefType.{RefType}
 use Rattle.smith_config.specs.declared.config.Config.{Config}
 use Rattle.smith_bytes.specs.Steps.{◌>>=◌, ReturnsWhy}
-use Rattle.smith_contents.specs.ElementSegments.{KindChoice, items_in, element_segment_at, element_segments_at}
+use Rattle.smith_draw.specs.Choices.{chosen_at}
+use Rattle.smith_draw.specs.Grounding.{without_globals}
+use Rattle.smith_contents.specs.declared.element_kinds.KindChoice.TheVariants as choice
+use Rattle.smith_contents.specs.ElementSegments.{KindChoice, most_items, items_in, element_kind_at, item_type_at, items_at, element_segment_at, element_segments_at}
+
+module _ (config : Config) (context : Context) (kinds : List KindChoice) (total : ℕ) (bytes : List ℕ) {one : KindChoice} {kind : ElementKind × Option ℕ} {ty : RefType} {most : ℕ} {first second third : List ℕ} where
+  -- a segment is drawn or refused with its items, after its kind and the type of its items
+  segment_turn : chosen_at choice.Passive kinds bytes ≡ (one, first) → element_kind_at config context one first ≡ (kind, second) → item_type_at config (without_globals context) one second ≡ (ty, third) → most ≡ most_items config kind.1 total
+      → element_segment_at config context kinds total bytes ≡ (items_at config context ty most third >>= (λ items. Ok (record { kind = kind.0; ty = ty; items = items.0 }, items.1)))
+  unfolding element_segment_at
+  segment_turn chosen placed typed limit = rw (chosen, placed, typed, limit) refl
+
+  pub segment_drawn : {items : Elements} {after : List ℕ} → chosen_at choice.Passive kinds bytes ≡ (one, first) → element_kind_at config context one first ≡ (kind, second) → item_type_at config (without_globals context) one second ≡ (ty, third) → most ≡ most_items config kind.1 total
+      → items_at config context ty most third ≡ Ok (items, after) → element_segment_at config context kinds total bytes ≡ Ok (record { kind = kind.0; ty = ty; items = items }, after)
+  segment_drawn chosen placed typed limit drawn = segment_turn chosen placed typed limit ∙ rw drawn refl
+
+  pub segment_not_drawn : {why : Why} → chosen_at choice.Passive kinds bytes ≡ (one, first) → element_kind_at config context one first ≡ (kind, second) → item_type_at config (without_globals context) one second ≡ (ty, third) → most ≡ most_items config kind.1 total
+      → items_at config context ty most third ≡ Err why → element_segment_at config context kinds total bytes ≡ Err why
+  segment_not_drawn chosen placed typed limit drawn = segment_turn chosen placed typed limit ∙ rw drawn refl
 
 -- n segments are made, with `total` items together, and the draws from here on complete the whole
 pub record AreSegmentsMade (config : Config) (context : Context) (kinds : List KindChoice) (n : ℕ) (made : List ElementSegment) (total : ℕ) (start bytes : List ℕ) (whole : Result (List ElementSegment × List ℕ) Why) : Type 0 where
@@ -83,3 +104,8 @@ pub refused_by : {X Y A B : Type 0} (of_part : X → A) (of_whole : Y → B) (e 
     → IsErrAnd result (λ y. y ≡ e) → ReturnsWhy of_whole result whole
 refused_by of_part of_whole e part whole (Ok y) given passes h = absurd h
 refused_by {X = X} of_part of_whole e part whole (Err own) given passes h = refused_part of_part of_whole own part whole (subst (λ (one : Error). ReturnsWhy of_part (Err one) part) (sym h) given) passes
+
+-- lack of memory is left open
+pub memory_lacks : {Y B : Type 0} (of_whole : Y → B) (e : Error) (whole : Result B Why) (result : Result Y Error) → e ≡ errors.Memory → IsErrAnd result (λ y. y ≡ e) → ReturnsWhy of_whole result whole
+memory_lacks of_whole e whole (Ok y) memory h = absurd h
+memory_lacks of_whole e whole (Err own) memory h = subst (λ (one : Error). ReturnsWhy of_whole (Err one) whole) (sym (h ∙ memory)) tt

@@ -45,7 +45,6 @@ fn most_items(config: &Config, hint: Option<u64>, total: usize) -> usize
 }
 
 /// Draws a segment of one of `kinds`, after segments of `total` items.
-#[tactic(auto, unfolding(crate::specs::ElementSegments::element_segment_at), using(crate::proofs::ElementItemLemmas::segment_refused))]
 fn draw_segment(
     alloc: Global,
     config: &Config,

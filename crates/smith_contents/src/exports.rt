@@ -1,5 +1,6 @@
 ghost use Rattle.std.specs.Prelude.{◌≡◌, ◌<◌, ◌≤◌, ◌+◌, ◌-◌, ◌^◌, ◌++◌, ◌∷◌, [], false, nat_lt};
 ghost use Rattle.std.specs.Prelude.{length, List, IsTrue, IfOk, IfErr};
+ghost use Rattle.std.specs.HashSet.{IsEmpty};
 ghost use Rattle.smith_bytes.specs.Source.{KeepsPieces};
 ghost use Rattle.smith_bytes.specs.Takes.{Takes};
 ghost use Rattle.smith_types.specs.Exports.{AreExportsValid};
@@ -64,16 +65,18 @@ fn draw_export(
 }
 
 /// Draws exports of items of `spaces`, until there is no room, a drawn bool ends them, or no item
-/// may be exported.
+/// may be exported. Adds their names to `names`, which has none.
 fn push_exports(
     alloc: Global,
     config: &Config,
     types: &TypeSpace,
     spaces: &EntitySpaces,
     imports_size: u32,
+    names: &mut HashSet<String>,
     u: &mut Unstructured<'_>,
 ) -> Result<Exports, Error>
     requires may { MayExportFreely config.now types.now.types (spaces_in spaces.now) imports_size }
+    requires none { IsEmpty names.old }
     ensures exact { IfOk result (λ made. exports_from config.now types.now.types
         (spaces_in spaces.now) imports_size config.now.max_exports [] u.old
         ≡ (made.exports, u.new)) }
@@ -87,7 +90,6 @@ fn push_exports(
     ensures left { KeepsPieces u.old u.new }
 {
     let mut exports = Items::new(alloc);
-    let mut names = HashSet::new(alloc);
     let mut type_size = imports_size;
     let most = most_of_funcs(types, spaces.funcs.as_slice());
     for made in 0..config.max_exports {
@@ -98,7 +100,7 @@ fn push_exports(
         if !has_candidates(types, spaces, most, left) {
             return Ok(Exports { exports, type_size });
         }
-        let one = draw_export(alloc, types, spaces, most, left, &mut names, u)?;
+        let one = draw_export(alloc, types, spaces, most, left, names, u)?;
         type_size += item_size(types, spaces, one.1, one.2) + 1;
         exports.push(one)?;
     }
@@ -123,7 +125,10 @@ fn draw_exports(
     ensures refusal { IfErr result (MayRefuseFree config.now) }
     ensures left { KeepsPieces u.old u.new }
 {
-    let drawn = push_exports(alloc, config, types, spaces, imports_size, u)?;
+    let mut names = HashSet::new(alloc);
+    let pushed = push_exports(alloc, config, types, spaces, imports_size, &mut names, u);
+    drop(names);
+    let drawn = pushed?;
     if drawn.exports.len() < config.min_exports {
         return Err(Error::IncorrectFormat(Why::Unmet(Count::Exports)));
     }

@@ -1,6 +1,7 @@
 pub mod ExtensionLemmas
 pub mod FuncRefusalLemmas
 pub mod DrawnStepLemmas
+pub mod DefinitionStepLemmas
 pub mod DefinedLoop
 pub mod DefinedLemmas
 pub mod TypedLemmas

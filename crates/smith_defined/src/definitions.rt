@@ -107,24 +107,11 @@ pub fn define(
     note_defined(config, types, func_types, funcs_before, grounds);
     let scope = standing(types, func_types, imported_funcs, &[], 0);
     let drawn = grounds.standing(config, &scope);
-    let all_globals = spaces.globals.as_slice();
-    let imported = standing_imported(
-        types,
-        func_types,
-        imported_funcs,
-        all_globals,
-        imported_globals,
-    );
+    let globals = spaces.globals.as_slice();
+    let imported = standing_imported(types, func_types, imported_funcs, globals, imported_globals);
     let initials = &mut definitions.tables;
-    define_tables(
-        alloc,
-        config,
-        &imported,
-        &drawn,
-        &mut spaces.tables,
-        initials,
-        u,
-    )?;
+    let tables = &mut spaces.tables;
+    define_tables(alloc, config, &imported, &drawn, tables, initials, u)?;
     define_memories(config, &mut spaces.memories, u)?;
     define_globals(
         alloc,

@@ -1,9 +1,10 @@
-ghost use Rattle.std.specs.Prelude.{◌≡◌, [], IfOk, IfErr};
+ghost use Rattle.std.specs.Prelude.{◌≡◌, [], IfOk, IfErr, OnOk};
 ghost use Rattle.smith_bytes.specs.Source.{KeepsPieces};
 ghost use Rattle.smith_bytes.specs.declared.error.Which.TheVariants.{AvailableImports};
 ghost use Rattle.smith_types.specs.Groups.{space_of};
 ghost use Rattle.smith_types.specs.Imports.{flattened};
 ghost use Rattle.smith_config.specs.Shapes.{IsShapeValid, shape_types, shape_imports};
+ghost use Rattle.smith_imports.specs.Imported.{HasNoImports};
 ghost use Rattle.smith_given_imports.specs.AvailableImports.{available_at, IsTaken};
 ghost use Rattle.smith_rules.specs.ShapeImports.{taken_from};
 
@@ -17,12 +18,39 @@ use smith_imports::Imported;
 use smith_types::TypeSpace;
 use std::alloc::Global;
 
+/// Takes those imports of `shape` that fit and for which a drawn bool is true into `imported`, which
+/// has none. Puts them into groups of drawn kinds. `types` are those of `shape`.
+#[tactic(auto, unfolding(crate::specs::AvailableImports::available_at))]
+fn take_into(
+    alloc: Global,
+    config: &Config,
+    shape: &Shape,
+    types: &TypeSpace,
+    imported: &mut Imported,
+    u: &mut Unstructured<'_>,
+) -> Result<(), Error>
+    requires valid { IsShapeValid AvailableImports config.now shape.now }
+    requires types { types.now ≡ space_of shape.now.groups }
+    requires none { HasNoImports imported.old }
+    ensures exact { OnOk result
+        (available_at config.now shape.now u.old ≡ (imported.new.groups, u.new)) }
+    ensures kept { OnOk result (flattened imported.new.groups
+        ≡ taken_from config.now (shape_types shape.now) u.old 0 [] (shape_imports shape.now)) }
+    ensures taken { OnOk result (IsTaken config.now shape.now imported.new) }
+    ensures memory { IfErr result (λ e. e ≡ Error.Memory) }
+    ensures left { KeepsPieces u.old u.new }
+{
+    let offered = flat_imports(alloc, shape.imports.as_slice())?;
+    let taken = take_imports(alloc, config, types, imported, offered.as_slice(), u)?;
+    imported.groups = group_imports(alloc, config, taken.as_slice(), u)?;
+    Ok(())
+}
+
 /// Takes the types of `shape`, and those of its imports that fit and for which a drawn bool is
 /// true. Puts the imports taken into groups of drawn kinds.
 ///
 /// An import fits if it stays within the maximums and the type size of `config`. A tag also needs
 /// exceptions. Requires `shape` to pass [`Shape::check`] as available imports for `config`.
-#[tactic(auto, unfolding(crate::specs::AvailableImports::available_at))]
 pub fn take_available_imports(
     alloc: Global,
     config: &Config,
@@ -46,9 +74,6 @@ pub fn take_available_imports(
     ensures left { KeepsPieces u.old u.new }
 {
     let types = types_of_shape(alloc, shape)?;
-    let offered = flat_imports(alloc, shape.imports.as_slice())?;
     let mut imported = Imported::new(alloc);
-    let taken = take_imports(alloc, config, &types, &mut imported, offered.as_slice(), u)?;
-    imported.groups = group_imports(alloc, config, taken.as_slice(), u)?;
-    Ok((types, imported))
+    take_into(alloc, config, shape, &types, &mut imported, u).and(Ok((types, imported)))
 }

@@ -1,6 +1,7 @@
 -- The abstract heap types that are listed are those that are drawn.
-use Rattle.std.proofs.Common.{◌≡◌, zero, suc, Bool, true, false, List, [], ◌∷◌, refl, ap, arith}
-use Rattle.std.specs.Prelude.{IsTrue}
+use Rattle.std.proofs.Common.{◌≡◌, ℕ, zero, suc, ◌+◌, Bool, true, false, Some, List, [], ◌∷◌, refl, ap, arith}
+use Rattle.std.specs.Prelude.{IsTrue, slice_get}
+use mir.Val.{bool_byte}
 use Rattle.std.specs.List.{Contains, AllByRecursion as ByRecursion}
 use Rattle.std.proofs.lemmas.List.Elements.{All-contains, All-from_recursion}
 use Rattle.smith_data.specs.declared.value_type.AbstractHeapType.{AbstractHeapType}
@@ -41,3 +42,17 @@ listed_from_offered config Struct h = row_enabled (abstract_heap_types config) S
 listed_from_offered config Array h = row_enabled (abstract_heap_types config) Array (9, omega arith, ap (λ on. (Array, on)) h)
 listed_from_offered config I31 h = row_enabled (abstract_heap_types config) I31 (10, omega arith, ap (λ on. (I31, on)) h)
 listed_from_offered config NoExn h = absurd h
+
+-- the abstract heap types with garbage collection, in order
+abbrev pub collected : List AbstractHeapType
+collected = Any ∷ None ∷ NoExtern ∷ NoFunc ∷ Eq ∷ Struct ∷ Array ∷ I31 ∷ []
+
+-- in the table they are after two rows, and that of exceptions if it is enabled
+row_at : (exceptions gc : Bool) (k place : ℕ) (ty : AbstractHeapType) → IsTrue gc → slice_get collected k ≡ Some ty → place ≡ 2 + bool_byte exceptions + k
+    → slice_get (enabled ((Func, true) ∷ (Extern, true) ∷ (Exn, exceptions) ∷ (Any, gc) ∷ (None, gc) ∷ (NoExtern, gc) ∷ (NoFunc, gc) ∷ (Eq, gc) ∷ (Struct, gc) ∷ (Array, gc) ∷ (I31, gc) ∷ [])) place ≡ Some ty
+row_at true true k place ty on at is = let same : place ≡ suc (suc (suc k)) = omega arith in rw same at
+row_at false true k place ty on at is = let same : place ≡ suc (suc k) = omega arith in rw same at
+row_at exceptions false k place ty on at is = cc
+
+pub collected_at : (config : Config) (k place : ℕ) (ty : AbstractHeapType) → IsTrue config.gc_enabled → slice_get collected k ≡ Some ty → place ≡ 2 + bool_byte config.exceptions_enabled + k → slice_get (enabled (abstract_heap_types config)) place ≡ Some ty
+collected_at config k place ty on at is = row_at config.exceptions_enabled config.gc_enabled k place ty on at is

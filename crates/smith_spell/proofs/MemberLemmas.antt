@@ -1,7 +1,8 @@
 -- Types one after another are members if each is, and lists of the family by their parts.
-use Rattle.std.proofs.Common.{◌≡◌, ℕ, zero, suc, ◌+◌, ◌<◌, List, [], ◌∷◌, ◌++◌, Some, length, take, drop, get_or, refl, sym, subst, rules, arith, add-one, drop-cons, append_assoc, append-nil}
+use Rattle.std.proofs.Common.{◌≡◌, ℕ, zero, suc, ◌+◌, ◌<◌, List, [], ◌∷◌, ◌++◌, Some, length, take, drop, get_or, refl, sym, ap, ◌∙◌, subst, rules, arith, add-one, drop-cons, append_assoc, append-nil}
 use Rattle.std.specs.Prelude.{◌≤◌, ◌↔◌, slice_get, All}
 use Rattle.std.specs.List.{flat_map}
+use Rattle.std.proofs.lemmas.List.{take_more}
 use Rattle.std.proofs.lemmas.Option.{same_Some}
 use Rattle.smith_data.specs.declared.composite_type.SubType.{SubType}
 use Rattle.smith_config.specs.declared.config.Config.{Config}
@@ -18,8 +19,18 @@ all_types groups = flat_map (λ (group : List SubType). group) groups
 pub from_place : (groups : List (List SubType)) (i : ℕ) (group other : List SubType) → i < length groups → group ≡ get_or groups i other → all_types (drop i groups) ≡ group ++ all_types (drop (i + 1) groups)
 from_place groups i group other inside read = rw (read, add-one, drop-cons groups i other)
 
+-- the types of a list from a place on are the one there, then the others
+type_left : (group : List SubType) (i : ℕ) (t other : SubType) → i < length group → t ≡ get_or group i other → drop i group ≡ t ∷ drop (i + 1) group
+type_left group i t other inside read = rw (read, add-one) (drop-cons group i other inside)
+
+-- the types of a list up to a place, with the one there
+pub type_taken : (before group : List SubType) (i : ℕ) (t other : SubType) → i < length group → t ≡ get_or group i other → (before ++ take i group) ++ t ∷ [] ≡ before ++ take (i + 1) group
+type_taken before group i t other inside read =
+    append_assoc before (take i group) (t ∷ [])
+    ∙ ap (λ (types : List SubType). before ++ types) (ap (λ (u : SubType). take i group ++ u ∷ []) read ∙ sym (take_more group i other inside))
+
 module _ (config : Config) where
-  after_same : (types : List SubType) {before other : List SubType} → before ≡ other → AreMembersAfter config before types → AreMembersAfter config other types
+  pub after_same : (types : List SubType) {before other : List SubType} → before ≡ other → AreMembersAfter config before types → AreMembersAfter config other types
   after_same types same h = subst (λ (list : List SubType). AreMembersAfter config list types) same h
 
   -- if joined types are members, so are those of each part
@@ -49,6 +60,20 @@ module _ (config : Config) where
   group_among groups i group other inside read h =
       let before = all_types (take i groups) in
       (members_apart before group (all_types (drop (i + 1) groups)) (subst (AreMembersAfter config before) (from_place groups i group other inside read) h)).0
+
+  -- the types of a list are members if those from a place on are, and so on after the one there
+  pub type_turn : (before group : List SubType) (i : ℕ) (t other : SubType) (Whole : Type 0) → i < length group → t ≡ get_or group i other → IsMemberType config (before ++ take i group) t
+      → AreMembersAfter config (before ++ take i group) (drop i group) ↔ Whole → AreMembersAfter config (before ++ take (i + 1) group) (drop (i + 1) group) ↔ Whole
+  type_turn before group i t other Whole inside read here (to, back) =
+      let rest = drop (i + 1) group in
+      let same = type_left group i t other inside read in
+      let next = type_taken before group i t other inside read in (
+        λ more. to (subst (AreMembersAfter config (before ++ take i group)) (sym same) (here, after_same rest (sym next) more)),
+        λ whole. after_same rest next (subst (AreMembersAfter config (before ++ take i group)) same (back whole)).1,
+      )
+
+  pub type_among : (before group : List SubType) (i : ℕ) (t other : SubType) → i < length group → t ≡ get_or group i other → AreMembersAfter config (before ++ take i group) (drop i group) → IsMemberType config (before ++ take i group) t
+  type_among before group i t other inside read h = (subst (AreMembersAfter config (before ++ take i group)) (type_left group i t other inside read) h).0
 
   -- each is a member after those before it
   each_after : (before types : List SubType) → AreMembersAfter config before types → (i : ℕ) (t : SubType) → slice_get types i ≡ Some t → IsMemberType config (before ++ take i types) t

@@ -1,15 +1,18 @@
 -- Value types, written by their parts.
-use Rattle.std.proofs.Common.{◌≡◌, ℕ, ◌-◌, ◌≤◌, Bool, true, false, Some, List, [], ◌∷◌, length, refl, arith}
+use Rattle.std.proofs.Common.{◌≡◌, ℕ, ◌-◌, ◌<◌, ◌≤◌, Bool, true, false, nat_lt, Some, List, [], ◌∷◌, length, refl, arith}
 use Rattle.std.specs.Prelude.{IsTrue, slice_get}
+use Rattle.std.proofs.lemmas.Bool.{lt-ltb}
 use Rattle.std.proofs.lemmas.Option.{slice_get_within}
 use Rattle.smith_bytes.specs.Spelling.{SpellsNumber}
+use Rattle.smith_data.specs.declared.value_type.AbstractHeapType.{AbstractHeapType}
+use Rattle.smith_data.specs.declared.value_type.HeapType.TheVariants.{Abstract, Concrete}
 use Rattle.smith_data.specs.declared.value_type.RefType.{RefType}
 use Rattle.smith_data.specs.declared.value_type.ValType.{ValType}
 use Rattle.smith_data.specs.declared.value_type.ValType.TheVariants as vals
 use Rattle.smith_config.specs.declared.config.Config.{Config}
 use Rattle.smith_draw.specs.Choices.{enabled}
-use Rattle.smith_draw.specs.ValueTypes.{value_classes}
-use Rattle.smith_draw.specs.Spelling.{SpellsPlace, SpellsHeapType, SpellsNullable, SpellsRefType, SpellsBehindClass, SpellsValType, class_of}
+use Rattle.smith_draw.specs.ValueTypes.{value_classes, abstract_heap_types}
+use Rattle.smith_draw.specs.Spelling.{SpellsPlace, SpellsConcrete, SpellsUnshared, SpellsHeapType, SpellsNullable, SpellsRefType, SpellsBehindClass, SpellsValType, class_of}
 use Rattle.smith_spell.specs.Written.{Writes}
 use Rattle.smith_spell.proofs.WrittenLemmas.{nothing_written, joined_written, written_as}
 
@@ -29,6 +32,18 @@ place_within items place item stands = omega (arith, slice_get_within items plac
 -- a number that is the place of an item
 pub place_written : {A : Type 0} {items : List A} {item : A} {old new : List ℕ} (place : ℕ) → slice_get items place ≡ Some item → Writes (SpellsNumber place 0 (length items - 1)) old new → Writes (SpellsPlace items item) old new
 place_written place stands = written_as (λ piece number. record { place = place; stands = stands; number = number })
+
+-- an abstract heap type: that it is not concrete, that it is unshared, and its place
+pub abstract_written : (config : Config) (limit : ℕ) (shared : Bool) (ty : AbstractHeapType) {old between later new : List ℕ} → shared ≡ false → Writes (SpellsConcrete config limit false) old between → Writes (SpellsUnshared config) between later
+    → Writes (SpellsPlace (enabled (abstract_heap_types config)) ty) later new → Writes (SpellsHeapType config limit (Abstract shared ty)) old new
+abstract_written config limit shared ty unshared concrete sharing place = written_as (λ piece form. (unshared, form)) (joined_written concrete (joined_written sharing place))
+
+-- a concrete heap type: that it is concrete, and its index
+pub index_written : (config : Config) (limit index : ℕ) {old between new : List ℕ} → IsTrue config.gc_enabled → index < limit → Writes (SpellsConcrete config limit true) old between → Writes (SpellsNumber index 0 (limit - 1)) between new
+    → Writes (SpellsHeapType config limit (Concrete index)) old new
+index_written config limit index on inside concrete number =
+    let low : nat_lt index limit ≡ true = lt-ltb index limit inside in
+    written_as (λ piece form. (rw (on, low) refl, form)) (joined_written concrete number)
 
 -- a reference type: its heap type, then whether it is non-nullable
 pub ref_type_written : (config : Config) (limit : ℕ) (reference : RefType) {old between new : List ℕ} → IsTrue config.reference_types_enabled → Writes (SpellsHeapType config limit reference.heap_type) old between

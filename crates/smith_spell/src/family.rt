@@ -119,11 +119,12 @@ fn known_after(
         AreMembersAfter config.now before group.now × IsKnown (before ++ group.now) after) }
 {
     for place in 0..group.len() {
+        let ty = &group[place];
         let earlier = Earlier::new(groups, &group[..place], known);
-        if !is_member_type(config, &earlier, &group[place]) {
+        if !is_member_type(config, &earlier, ty) {
             return None;
         }
-        known = known.with(&group[place]);
+        known = known.with(ty);
     }
     Some(known)
 }

@@ -4,7 +4,7 @@ use Rattle.smith_contents.proofs.ExportsLoop.{none_exported, export_stop, export
 use Rattle.smith_contents.proofs.exports.push_exports.Goals as goal
 
 pub loop-made-init : goal.loop-made-init
-loop-made-init c = rw c.new-exports.ensures (none_exported c.args.config.now c.args.types.now.types (spaces_in c.args.spaces.now) c.args.imports_size c.args.u.now c.requires.may.within c.new-names.ensures.empty)
+loop-made-init c = rw c.new-exports.ensures (none_exported c.args.config.now c.args.types.now.types (spaces_in c.args.spaces.now) c.args.imports_size c.args.u.now c.requires.may.within c.requires.none)
 
 pub returns-then-not-goes_on-clause-exact : goal.returns-then-not-goes_on-clause-exact
 returns-then-not-goes_on-clause-exact c = export_stop c.loop-made.invariant c.loop-made-test.true c.goes_on.ensures.exact c.if-not-goes_on.true
