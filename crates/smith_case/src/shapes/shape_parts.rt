@@ -35,35 +35,34 @@ pub(crate) fn add_part(alloc: Global, part: &str, shape: &mut Shape) -> Result<(
         "items" => push(&mut shape.imports, items_of(alloc, rest)),
         "names" => push(&mut shape.imports, names_of(alloc, rest)),
         "export" => push(&mut shape.exports, export_of(alloc, rest)),
-        "group" => push(
-            &mut shape.groups,
-            with_parts(alloc, rest, ';', Items::new(alloc)),
-        ),
-        "exports" | "chain" | "cycle" | "wide" | "fan" => {
-            add_counted(alloc, word, known(number(rest))?, shape)
-        }
-        _ => add_entity(known(entity_of(part))?, shape),
+        _ => add_definition(alloc, part, shape),
     }
 }
 
-// Adds to `shape` the exports or the group that `word` names, with `count` items.
-fn add_counted(alloc: Global, word: &str, count: u32, shape: &mut Shape) -> Result<(), Fault> {
-    match word {
-        "exports" => export_many(alloc, count, &mut shape.exports),
-        _ => push(&mut shape.groups, counted_group(alloc, word, count)),
+// Reads the group of types of a part that begins with `word`.
+fn group_of(alloc: Global, word: &str, rest: &str) -> Result<Items<SubType>, Fault> {
+    if word == "group" {
+        return with_parts(alloc, rest, ';', Items::new(alloc));
     }
-}
-
-// Returns a group of `count` types of the sort that `word` names.
-fn counted_group(alloc: Global, word: &str, count: u32) -> Result<Items<SubType>, Fault> {
+    let count = known(number(rest))?;
     let mut types = Items::new(alloc);
-    let added = match word {
-        "chain" => add_chain(alloc, count, &mut types),
-        "cycle" => add_cycle(alloc, count, &mut types),
-        "wide" => add_wide(alloc, count, &mut types),
-        _ => add_fan(alloc, count, &mut types),
-    };
-    added.and(Ok(types))
+    add_counted(alloc, word, count, &mut types).and(Ok(types))
+}
+
+// Adds `count` types of the sort that `word` names to `types`.
+fn add_counted(
+    alloc: Global,
+    word: &str,
+    count: u32,
+    types: &mut Items<SubType>,
+) -> Result<(), Fault> {
+    match word {
+        "chain" => add_chain(alloc, count, types),
+        "cycle" => add_cycle(alloc, count, types),
+        "wide" => add_wide(alloc, count, types),
+        "fan" => add_fan(alloc, count, types),
+        _ => Err(Fault::UnknownShape),
+    }
 }
 
 // Returns the first word of `text`, and the text after the blank that follows it.
@@ -235,15 +234,25 @@ fn global_of(text: &str) -> Option<EntityType> {
     }))
 }
 
-// Adds the definition of `entity` to `shape`.
-fn add_entity(entity: EntityType, shape: &mut Shape) -> Result<(), Fault> {
-    match entity {
-        EntityType::Func(index) => push(&mut shape.funcs, Ok(index)),
-        EntityType::Tag(index) => push(&mut shape.tags, Ok(index)),
-        EntityType::Table(table) => push(&mut shape.tables, Ok(table)),
-        EntityType::Memory(memory) => push(&mut shape.memories, Ok(memory)),
-        EntityType::Global(global) => push(&mut shape.globals, Ok(global)),
+// Adds to `shape` the entity that `part` denotes, or else the parts that it counts or lists.
+fn add_definition(alloc: Global, part: &str, shape: &mut Shape) -> Result<(), Fault> {
+    match entity_of(part) {
+        Some(EntityType::Func(index)) => push(&mut shape.funcs, Ok(index)),
+        Some(EntityType::Tag(index)) => push(&mut shape.tags, Ok(index)),
+        Some(EntityType::Table(table)) => push(&mut shape.tables, Ok(table)),
+        Some(EntityType::Memory(memory)) => push(&mut shape.memories, Ok(memory)),
+        Some(EntityType::Global(global)) => push(&mut shape.globals, Ok(global)),
+        None => add_many(alloc, part, shape),
     }
+}
+
+// Adds to `shape` the exports or the group that `part` denotes.
+fn add_many(alloc: Global, part: &str, shape: &mut Shape) -> Result<(), Fault> {
+    let (word, rest) = split_word(part);
+    if word == "exports" {
+        return export_many(alloc, known(number(rest))?, &mut shape.exports);
+    }
+    push(&mut shape.groups, group_of(alloc, word, rest))
 }
 
 fn export_of(alloc: Global, text: &str) -> Result<(Name, ExportKind, u32), Fault> {
