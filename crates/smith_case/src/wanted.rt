@@ -158,19 +158,19 @@ fn other_line_among<'a>(answer: &'a str, wanted: &'a [String]) -> Option<Differe
         if wanted == ANYTHING {
             return None;
         }
-        let difference = compared(place, line.trim(), wanted);
-        if difference.is_some() {
-            return difference;
+        let given = line.trim();
+        if given != wanted {
+            return Some(Difference::Line {
+                place,
+                wanted,
+                given,
+            });
         }
         left = others;
         place = place.saturating_add(1);
     }
-    compared(place, "", next_line(left).0)
-}
-
-// Returns the difference of the line `given`, at `place`, from the line `wanted`.
-fn compared<'a>(place: usize, given: &'a str, wanted: &'a str) -> Option<Difference<'a>> {
-    if given == wanted {
+    let (wanted, given) = (next_line(left).0, "");
+    if wanted.is_empty() {
         return None;
     }
     Some(Difference::Line {

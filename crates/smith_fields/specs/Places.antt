@@ -1,5 +1,5 @@
 -- The fields by their names in the code.
-use Rattle.std.specs.Prelude.{ℕ, Bool, List, map}
+use Rattle.std.specs.Prelude.{ℕ, ◌-◌, ◌^◌, Bool, List, map}
 use Rattle.std.specs.Borrow.{Bor, MutBor, Fml, Lends, usize, u32, u64, bool}
 use Rattle.smith_config.specs.contracts.config.Config.{the_row}
 use Rattle.smith_config.specs.declared.config.Config.{Config}
@@ -8,12 +8,14 @@ use Rattle.smith_fields.specs.declared.place.Size.{Size}
 use Rattle.smith_fields.specs.declared.place.Word.{Word}
 use Rattle.smith_fields.specs.declared.place.Long.{Long}
 use Rattle.smith_fields.specs.declared.place.Flag.{Flag}
+use Rattle.smith_fields.specs.declared.place.Number.{Number}
 use Rattle.smith_fields.specs.declared.place.Place.TheVariants as place
+use Rattle.smith_fields.specs.declared.place.Number.TheVariants as number
 use Rattle.smith_fields.specs.declared.place.Size.TheVariants.{MinTypes, MaxTypes, MinImports, MaxImports, MinTags, MaxTags, MinFuncs, MaxFuncs, MinGlobals, MaxGlobals, MinExports, MaxExports, MinElementSegments, MaxElementSegments, MinElements, MaxElements, MinDataSegments, MaxDataSegments, MaxMemories, MaxTables, MaxInstructions, MaxAliases, MaxComponents, MaxInstances, MaxModules, MaxNestingDepth, MaxValues}
 use Rattle.smith_fields.specs.declared.place.Word.TheVariants.{MinMemories, MinTables, MaxTypeSize, ConstExprFuel}
 use Rattle.smith_fields.specs.declared.place.Long.TheVariants.{MaxMemory32Bytes, MaxTableElements}
 use Rattle.smith_fields.specs.declared.place.Flag.TheVariants.{MemoryMaxSizeRequired, TableMaxSizeRequired, LimitArraysInConstExprs, AllowStartExport, ExportEverything, AllowFloats, DisallowTraps, AllowInvalidFuncs, ReferenceTypesEnabled, GcEnabled, CustomDescriptorsEnabled, MultiValueEnabled, BulkMemoryEnabled, SimdEnabled, ExceptionsEnabled, ThreadsEnabled, SharedEverythingThreadsEnabled, Memory64Enabled, CustomPageSizesEnabled, ExtendedConstEnabled, CompactImportsEnabled, RelaxedSimdEnabled, SaturatingFloatToIntEnabled, SignExtensionOpsEnabled, TailCallEnabled, WideArithmeticEnabled, AcquireReleaseAtomicsEnabled, MultibyteArrayAccessEnabled, NonNullableEnabled, CanonicalizeNans, GenerateCustomSections}
-use Rattle.smith_fields.specs.Fields.{Setter, Table, Field, byte, word, long, size, wide, truth, kinds, choices, file}
+use Rattle.smith_fields.specs.Fields.{Setter, Table, Field, whole, truth, kinds, choices, file}
 
 -- a configuration with a number of type `usize` set
 abbrev pub with_size : Size → Setter ℕ
@@ -107,13 +109,25 @@ LendsLong config l r = Lends the_row u64 config r (with_long l config.now)
 abbrev pub LendsFlag : MutBor Config → Flag → MutBor Bool → Fml
 LendsFlag config f r = Lends the_row bool config r (with_flag f config.now)
 
+-- a configuration with a whole number set
+abbrev pub with_number : Number → Setter ℕ
+with_number (number.Size s) = with_size s
+with_number (number.Word w) = with_word w
+with_number (number.Long l) = with_long l
+with_number number.MinUlebSize = λ config n. record config { min_uleb_size = n }
+with_number number.MaxMemory64Bytes = λ config n. record config { max_memory64_bytes = n }
+
+-- the greatest number that a field takes
+abbrev pub most_of : Number → ℕ
+most_of (number.Size s) = 2 ^ 64 - 1
+most_of (number.Word w) = 2 ^ 32 - 1
+most_of (number.Long l) = 2 ^ 64 - 1
+most_of number.MinUlebSize = 2 ^ 8 - 1
+most_of number.MaxMemory64Bytes = 2 ^ 128 - 1
+
 -- the field at a place
 abbrev pub field_of : Place → Field
-field_of (place.Size s) = size (with_size s)
-field_of (place.Word w) = word (with_word w)
-field_of (place.Long l) = long (with_long l)
-field_of place.MinUlebSize = byte (λ config n. record config { min_uleb_size = n })
-field_of place.MaxMemory64Bytes = wide (λ config n. record config { max_memory64_bytes = n })
+field_of (place.Number n) = whole (most_of n) (with_number n)
 field_of (place.Flag f) = truth (with_flag f)
 field_of place.AllowedInstructions = kinds (λ config k. record config { allowed_instructions = k })
 field_of place.MemoryOffsetChoices = choices (λ config c. record config { memory_offset_choices = c })

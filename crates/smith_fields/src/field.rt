@@ -2,7 +2,7 @@ ghost use Rattle.std.specs.Prelude.{◌≡◌, option_map};
 ghost use Rattle.smith_fields.specs.Fields.{AreOfKind, HasKind, named, field_named};
 ghost use Rattle.smith_fields.specs.Places.{field_of, fields_in};
 
-use crate::place::{Flag, Long, Place, Size, Word};
+use crate::place::{Flag, Long, Number, Place, Size, Word};
 use std::fmt;
 
 /// The kind of value that a field takes. Each field also takes `null`, which leaves it unchanged.
@@ -165,8 +165,20 @@ macro_rules! fields {
 
 /// The row of a field for its place.
 macro_rules! place {
-    ($name:literal, $place:ident $(($part:ident))?, $about:literal) => {
-        ($name, Place::$place $(($place::$part))?)
+    ($name:literal, Flag($flag:ident), $about:literal) => {
+        ($name, Place::Flag(Flag::$flag))
+    };
+    ($name:literal, $number:ident($part:ident), $about:literal) => {
+        ($name, Place::Number(Number::$number($number::$part)))
+    };
+    ($name:literal, MinUlebSize, $about:literal) => {
+        ($name, Place::Number(Number::MinUlebSize))
+    };
+    ($name:literal, MaxMemory64Bytes, $about:literal) => {
+        ($name, Place::Number(Number::MaxMemory64Bytes))
+    };
+    ($name:literal, $place:ident, $about:literal) => {
+        ($name, Place::$place)
     };
 }
 
@@ -206,10 +218,10 @@ fn kind_at(place: Place) -> FieldKind
     ensures { HasKind (field_of place) result }
 {
     match place {
-        Place::Size(_) | Place::Long(_) => FieldKind::Whole(64),
-        Place::Word(_) => FieldKind::Whole(32),
-        Place::MinUlebSize => FieldKind::Whole(8),
-        Place::MaxMemory64Bytes => FieldKind::Whole(128),
+        Place::Number(Number::Size(_) | Number::Long(_)) => FieldKind::Whole(64),
+        Place::Number(Number::Word(_)) => FieldKind::Whole(32),
+        Place::Number(Number::MinUlebSize) => FieldKind::Whole(8),
+        Place::Number(Number::MaxMemory64Bytes) => FieldKind::Whole(128),
         Place::Flag(_) => FieldKind::Flag,
         Place::AllowedInstructions => FieldKind::InstructionKinds,
         Place::MemoryOffsetChoices => FieldKind::OffsetChoices,

@@ -82,14 +82,20 @@ pub(crate) enum Flag {
     GenerateCustomSections,
 }
 
-/// A field of a configuration.
+/// A field that is a whole number.
 #[derive(Clone, Copy)]
-pub(crate) enum Place {
+pub(crate) enum Number {
     Size(Size),
     Word(Word),
     Long(Long),
     MinUlebSize,
     MaxMemory64Bytes,
+}
+
+/// A field of a configuration.
+#[derive(Clone, Copy)]
+pub(crate) enum Place {
+    Number(Number),
     Flag(Flag),
     AllowedInstructions,
     MemoryOffsetChoices,

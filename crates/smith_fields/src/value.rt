@@ -3,7 +3,7 @@ ghost use Rattle.std.specs.List.{list_all};
 ghost use Rattle.std.specs.Char.{is_ascii_digit};
 ghost use Rattle.json.specs.Reads.{token_of};
 ghost use Rattle.smith_fields.specs.Fields.{field_named};
-ghost use Rattle.smith_fields.specs.Places.{field_of};
+ghost use Rattle.smith_fields.specs.Places.{field_of, most_of, with_number};
 ghost use Rattle.smith_fields.specs.Values.{
   first,
   unwanted,
@@ -22,7 +22,7 @@ ghost use Rattle.smith_fields.specs.Sets.{Sets, outcome};
 use crate::fault::Fault;
 use crate::field::place_named;
 use crate::lend::{flag_at, long_at, size_at, word_at};
-use crate::place::{Flag, Long, Place, Size, Word};
+use crate::place::{Flag, Number, Place};
 use bitflags::Flags;
 use json::{Reader, Token};
 use smith_config::{Config, MemoryOffsetChoices};
@@ -190,11 +190,7 @@ pub fn set_field(config: &mut Config, name: &str, reader: &mut Reader<'_>) -> Re
     ensures shorter { length reader.new ≤ length reader.old }
 {
     match place_named(name) {
-        Some(Place::Size(size)) => read_size(config, size, reader),
-        Some(Place::Word(word)) => read_word(config, word, reader),
-        Some(Place::Long(long)) => read_long(config, long, reader),
-        Some(Place::MinUlebSize) => read_uleb_size(config, reader),
-        Some(Place::MaxMemory64Bytes) => read_memory64_bytes(config, reader),
+        Some(Place::Number(number)) => read_number(config, number, reader),
         Some(Place::Flag(flag)) => read_flag(config, flag, reader),
         Some(Place::AllowedInstructions) => read_instructions(config, reader),
         Some(Place::MemoryOffsetChoices) => read_choices(config, reader),
@@ -203,67 +199,42 @@ pub fn set_field(config: &mut Config, name: &str, reader: &mut Reader<'_>) -> Re
     }
 }
 
-/// Reads and sets a field of type `usize`.
-fn read_size(config: &mut Config, size: Size, reader: &mut Reader<'_>) -> Result<(), Fault>
-    ensures exact { Sets (Some (field_of (Place.Size size))) config.old reader.old
-        (outcome result config.new reader.new) }
-    ensures unchanged { IfErr result (λ fault. config.new ≡ config.old) }
-    ensures shorter { length reader.new ≤ length reader.old }
+/// Returns the greatest number that a field takes.
+fn most_of(number: Number) -> u128
+    ensures { result ≡ most_of number }
 {
-    if let Some(value) = whole(reader, usize::MAX as u128)? {
-        *size_at(config, size) = value as usize;
+    match number {
+        Number::Size(_) => usize::MAX as u128,
+        Number::Word(_) => u32::MAX as u128,
+        Number::Long(_) => u64::MAX as u128,
+        Number::MinUlebSize => u8::MAX as u128,
+        Number::MaxMemory64Bytes => u128::MAX,
     }
-    Ok(())
 }
 
-/// Reads and sets a field of type `u32`.
-fn read_word(config: &mut Config, word: Word, reader: &mut Reader<'_>) -> Result<(), Fault>
-    ensures exact { Sets (Some (field_of (Place.Word word))) config.old reader.old
-        (outcome result config.new reader.new) }
-    ensures unchanged { IfErr result (λ fault. config.new ≡ config.old) }
-    ensures shorter { length reader.new ≤ length reader.old }
+/// Sets a field to a number that it takes.
+fn set_number(config: &mut Config, number: Number, value: u128)
+    requires { value ≤ most_of number }
+    ensures { config.new ≡ with_number number config.old value }
 {
-    if let Some(value) = whole(reader, u32::MAX as u128)? {
-        *word_at(config, word) = value as u32;
+    match number {
+        Number::Size(size) => *size_at(config, size) = value as usize,
+        Number::Word(word) => *word_at(config, word) = value as u32,
+        Number::Long(long) => *long_at(config, long) = value as u64,
+        Number::MinUlebSize => config.min_uleb_size = value as u8,
+        Number::MaxMemory64Bytes => config.max_memory64_bytes = value,
     }
-    Ok(())
 }
 
-/// Reads and sets a field of type `u64`.
-fn read_long(config: &mut Config, long: Long, reader: &mut Reader<'_>) -> Result<(), Fault>
-    ensures exact { Sets (Some (field_of (Place.Long long))) config.old reader.old
+/// Reads and sets a field that is a whole number.
+fn read_number(config: &mut Config, number: Number, reader: &mut Reader<'_>) -> Result<(), Fault>
+    ensures exact { Sets (Some (field_of (Place.Number number))) config.old reader.old
         (outcome result config.new reader.new) }
     ensures unchanged { IfErr result (λ fault. config.new ≡ config.old) }
     ensures shorter { length reader.new ≤ length reader.old }
 {
-    if let Some(value) = whole(reader, u64::MAX as u128)? {
-        *long_at(config, long) = value as u64;
-    }
-    Ok(())
-}
-
-/// Reads and sets the field of type `u8`.
-fn read_uleb_size(config: &mut Config, reader: &mut Reader<'_>) -> Result<(), Fault>
-    ensures exact { Sets (Some (field_of Place.MinUlebSize)) config.old reader.old
-        (outcome result config.new reader.new) }
-    ensures unchanged { IfErr result (λ fault. config.new ≡ config.old) }
-    ensures shorter { length reader.new ≤ length reader.old }
-{
-    if let Some(value) = whole(reader, u8::MAX as u128)? {
-        config.min_uleb_size = value as u8;
-    }
-    Ok(())
-}
-
-/// Reads and sets the field of type `u128`.
-fn read_memory64_bytes(config: &mut Config, reader: &mut Reader<'_>) -> Result<(), Fault>
-    ensures exact { Sets (Some (field_of Place.MaxMemory64Bytes)) config.old reader.old
-        (outcome result config.new reader.new) }
-    ensures unchanged { IfErr result (λ fault. config.new ≡ config.old) }
-    ensures shorter { length reader.new ≤ length reader.old }
-{
-    if let Some(value) = whole(reader, u128::MAX)? {
-        config.max_memory64_bytes = value;
+    if let Some(value) = whole(reader, most_of(number))? {
+        set_number(config, number, value);
     }
     Ok(())
 }

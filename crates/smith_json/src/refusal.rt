@@ -2,7 +2,7 @@ ghost use Rattle.std.specs.Prelude.{◌≡◌, take};
 ghost use Rattle.std.specs.String.{string_bytes};
 ghost use Rattle.smith_json.specs.Lines.{line_of, column_of};
 
-use smith_fields::{Fault, kind_of};
+use smith_fields::{Fault, FieldKind, kind_of};
 use std::error::Error;
 use std::fmt;
 
@@ -82,27 +82,44 @@ fn column_of(before: &[u8]) -> usize
     characters + 1
 }
 
+/// Returns the text of a fault before the name of the member at fault, and the text after it, which
+/// is empty if the name is not written.
+fn around_name(fault: Fault, has_name: bool) -> (&'static str, &'static str) {
+    match fault {
+        Fault::NotAnObject if has_name => ("the value of `", "` is not JSON"),
+        Fault::NotAnObject => ("not a JSON object", ""),
+        Fault::UnknownField => ("there is no field `", "`"),
+        Fault::RepeatedField => ("the field `", "` occurs twice"),
+        Fault::WrongType => ("the value of `", "` has the wrong type"),
+        Fault::OutOfRange => ("the value of `", "` is out of range"),
+        Fault::TextAfter => ("text follows the object", ""),
+        Fault::OutOfMemory => ("out of memory", ""),
+    }
+}
+
+impl ConfigRefusal {
+    /// Returns the kind of values that the member takes, if its value is at fault.
+    fn wanted_kind(&self) -> Option<FieldKind> {
+        match self.fault {
+            Fault::WrongType | Fault::OutOfRange => kind_of(self.field.as_str()),
+            _ => None,
+        }
+    }
+}
+
 impl fmt::Display for ConfigRefusal {
     fn fmt<W: fmt::Write>(&self, f: &mut fmt::Formatter<W>) -> fmt::Result {
         let field = self.field.as_str();
-        let (before, name, after) = match self.fault {
-            Fault::NotAnObject if field.is_empty() => ("not a JSON object", "", ""),
-            Fault::NotAnObject => ("the value of `", field, "` is not JSON"),
-            Fault::UnknownField => ("there is no field `", field, "`"),
-            Fault::RepeatedField => ("the field `", field, "` occurs twice"),
-            Fault::WrongType => ("the value of `", field, "` has the wrong type"),
-            Fault::OutOfRange => ("the value of `", field, "` is out of range"),
-            Fault::TextAfter => ("text follows the object", "", ""),
-            Fault::OutOfMemory => ("out of memory", "", ""),
-        };
+        let (before, after) = around_name(self.fault, !field.is_empty());
+        let name = if after.is_empty() { "" } else { field };
         write!(
             f,
             "line {}, column {}: {before}{name}{after}",
             self.line, self.column
         )?;
-        match (self.fault, kind_of(field)) {
-            (Fault::WrongType | Fault::OutOfRange, Some(kind)) => write!(f, "; it takes {kind}"),
-            _ => Ok(()),
+        match self.wanted_kind() {
+            Some(kind) => write!(f, "; it takes {kind}"),
+            None => Ok(()),
         }
     }
 }

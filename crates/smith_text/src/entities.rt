@@ -6,38 +6,18 @@ use crate::text_form::TextForm;
 use smith_types::{EntityType, ExportKind, GlobalType, MemoryType, TableType};
 use std::fmt;
 
-// An initial size, and its maximum.
-#[derive(Drop)]
-struct Limits {
-    minimum: u64,
-    maximum: Option<u64>,
-}
-
-/// The section Text Format, Limits.
-impl TextForm for Limits {
-    fn write_text<S: Sink>(&self, sink: &mut S) -> fmt::Result {
-        match self.maximum {
-            Some(maximum) => (self.minimum, " ", maximum).write_text(sink),
-            None => self.minimum.write_text(sink),
-        }
-    }
-}
-
 // Returns the address type of 64 bits, with a space after it, or nothing for the address type of 32
 // bits, which is left out.
 fn address_type(is_wide: bool) -> &'static str {
     if is_wide { "i64 " } else { "" }
 }
 
-/// The section Text Format, Table Types; shared tables as the shared-everything-threads proposal
-/// writes them.
+/// The sections Text Format, Table Types and Limits; shared tables as the shared-everything-threads
+/// proposal writes them.
 impl TextForm for TableType {
     fn write_text<S: Sink>(&self, sink: &mut S) -> fmt::Result {
         let shared = if self.shared { "shared " } else { "" };
-        let limits = Limits {
-            minimum: self.minimum,
-            maximum: self.maximum,
-        };
+        let limits = (self.minimum, self.maximum.as_slice());
         let address = address_type(self.table64);
         ((shared, address), limits, (" ", &self.element_type)).write_text(sink)
     }
@@ -56,14 +36,11 @@ fn write_page_size<S: Sink>(log2: u32, sink: &mut S) -> fmt::Result
     }
 }
 
-/// The section Text Format, Memory Types; shared memories as the threads proposal, page sizes as
-/// the custom page sizes proposal writes them.
+/// The sections Text Format, Memory Types and Limits; shared memories as the threads proposal, page
+/// sizes as the custom page sizes proposal writes them.
 impl TextForm for MemoryType {
     fn write_text<S: Sink>(&self, sink: &mut S) -> fmt::Result {
-        let limits = Limits {
-            minimum: self.minimum,
-            maximum: self.maximum,
-        };
+        let limits = (self.minimum, self.maximum.as_slice());
         let shared = if self.shared { " shared" } else { "" };
         (address_type(self.memory64), limits, shared).write_text(sink)?;
         match self.page_size_log2 {
@@ -140,12 +117,12 @@ impl TextForm for Indexed<'_> {
 /// The keyword of the section Text Format, Exports.
 impl TextForm for ExportKind {
     fn write_text<S: Sink>(&self, sink: &mut S) -> fmt::Result {
-        match self {
-            ExportKind::Func => sink.write_str("func"),
-            ExportKind::Table => sink.write_str("table"),
-            ExportKind::Memory => sink.write_str("memory"),
-            ExportKind::Global => sink.write_str("global"),
-            ExportKind::Tag => sink.write_str("tag"),
-        }
+        sink.write_str(match self {
+            ExportKind::Func => "func",
+            ExportKind::Table => "table",
+            ExportKind::Memory => "memory",
+            ExportKind::Global => "global",
+            ExportKind::Tag => "tag",
+        })
     }
 }

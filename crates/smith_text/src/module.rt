@@ -15,6 +15,13 @@ use std::alloc::Global;
 use std::fmt;
 use wasm_smith::Module;
 
+/// Returns the number of items that a module imports, and those of `all` that it defines, which are
+/// the last `defined`.
+pub(crate) fn split_defined<T>(all: &[T], defined: usize) -> (usize, &[T]) {
+    let imported = all.len().saturating_sub(defined);
+    (imported, all.get(imported..).unwrap_or(&[]))
+}
+
 // Writes those of `tables` that a module defines, which are the last, with their initialisers. The
 // section Text Format, Tables. A table without an initialiser has null references.
 fn write_tables<S: Sink>(
@@ -26,10 +33,10 @@ fn write_tables<S: Sink>(
     ensures fault { S.failed sink.new ≡ is_err result }
     ensures keeps { OnOk result (Keeps S.has sink.old sink.new) }
 {
-    let imported = tables.len().saturating_sub(initialisers.len());
-    let defined = tables.iter().enumerate().skip(imported);
-    for ((index, table), initialiser) in defined.zip(initialisers) {
-        let opening = ("  (table (;", index, ";) ");
+    let (imported, defined) = split_defined(tables, initialisers.len());
+    for (place, table) in defined.iter().enumerate() {
+        let opening = ("  (table (;", imported.saturating_add(place), ";) ");
+        let initialiser = initialisers.get(place);
         (opening, table, (initialiser, ")\n")).write_text(sink)?;
     }
     Ok(())
@@ -42,9 +49,9 @@ fn write_memories<S: Sink>(memories: &[MemoryType], defined: usize, sink: &mut S
     ensures fault { S.failed sink.new ≡ is_err result }
     ensures keeps { OnOk result (Keeps S.has sink.old sink.new) }
 {
-    let imported = memories.len().saturating_sub(defined);
-    for (index, memory) in memories.iter().enumerate().skip(imported) {
-        let opening = ("  (memory (;", index, ";) ");
+    let (imported, defined) = split_defined(memories, defined);
+    for (place, memory) in defined.iter().enumerate() {
+        let opening = ("  (memory (;", imported.saturating_add(place), ";) ");
         (opening, memory, ")\n").write_text(sink)?;
     }
     Ok(())
@@ -56,9 +63,9 @@ fn write_tags<S: Sink>(tags: &[u32], defined: usize, sink: &mut S) -> fmt::Resul
     ensures fault { S.failed sink.new ≡ is_err result }
     ensures keeps { OnOk result (Keeps S.has sink.old sink.new) }
 {
-    let imported = tags.len().saturating_sub(defined);
-    for (index, ty) in tags.iter().enumerate().skip(imported) {
-        let opening = ("  (tag (;", index, ";) (type ");
+    let (imported, defined) = split_defined(tags, defined);
+    for (place, ty) in defined.iter().enumerate() {
+        let opening = ("  (tag (;", imported.saturating_add(place), ";) (type ");
         (opening, ty, "))\n").write_text(sink)?;
     }
     Ok(())
@@ -75,9 +82,8 @@ fn write_globals<S: Sink>(
     ensures fault { S.failed sink.new ≡ is_err result }
     ensures keeps { OnOk result (Keeps S.has sink.old sink.new) }
 {
-    let imported = globals.len().saturating_sub(initialisers.len());
-    let defined = globals.iter().skip(imported);
-    for (global, (index, initialiser)) in defined.zip(initialisers) {
+    let (_, defined) = split_defined(globals, initialisers.len());
+    for (global, (index, initialiser)) in defined.iter().zip(initialisers) {
         let opening = ("  (global (;", index, ";) ");
         (opening, global, (initialiser, ")\n")).write_text(sink)?;
     }

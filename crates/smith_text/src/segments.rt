@@ -3,7 +3,7 @@ ghost use Rattle.smith_text.specs.Written.{Keeps};
 
 use crate::sink::Sink;
 use crate::strings::write_string;
-use crate::text_form::TextForm;
+use crate::text_form::{Listed, TextForm};
 use smith_types::{
     AbstractHeapType, ConstInstr, DataSegment, DataSegmentKind, ElementKind, ElementSegment,
     Elements, HeapType, Items, Offset, RefType,
@@ -37,14 +37,9 @@ impl TextForm for ElementKind {
         match self {
             ElementKind::Passive => Ok(()),
             ElementKind::Declared => sink.write_str("declare "),
-            ElementKind::Active {
-                table: None,
-                offset,
-            } => (offset, " ").write_text(sink),
-            ElementKind::Active {
-                table: Some(table),
-                offset,
-            } => (("(table ", table, ") "), offset, " ").write_text(sink),
+            ElementKind::Active { table, offset } => {
+                (Listed("(table", table.as_slice(), ") "), offset, " ").write_text(sink)
+            }
         }
     }
 }

@@ -86,16 +86,9 @@ impl TextForm for SubType {
         if self.is_final && self.supertype.is_none() {
             return self.composite_type.write_text(sink);
         }
-        let opening = if self.is_final {
-            "(sub final "
-        } else {
-            "(sub "
-        };
-        let body = (&self.composite_type, ")");
-        match self.supertype {
-            Some(index) => ((opening, index), " ", body).write_text(sink),
-            None => (opening, body).write_text(sink),
-        }
+        let opening = if self.is_final { "(sub final" } else { "(sub" };
+        let body = (" ", &self.composite_type, ")");
+        (opening, self.supertype.as_slice(), body).write_text(sink)
     }
 }
 

@@ -74,13 +74,14 @@ impl TextForm for RefType {
 /// The section Text Format, Value Types.
 impl TextForm for ValType {
     fn write_text<S: Sink>(&self, sink: &mut S) -> fmt::Result {
-        match self {
-            ValType::I32 => sink.write_str("i32"),
-            ValType::I64 => sink.write_str("i64"),
-            ValType::F32 => sink.write_str("f32"),
-            ValType::F64 => sink.write_str("f64"),
-            ValType::V128 => sink.write_str("v128"),
-            ValType::Ref(reference) => reference.write_text(sink),
-        }
+        let keyword = match self {
+            ValType::I32 => "i32",
+            ValType::I64 => "i64",
+            ValType::F32 => "f32",
+            ValType::F64 => "f64",
+            ValType::V128 => "v128",
+            ValType::Ref(reference) => return reference.write_text(sink),
+        };
+        sink.write_str(keyword)
     }
 }

@@ -105,11 +105,10 @@ fn add_groups(
 // Adds a group of the types `members` to `types`.
 fn add_group(alloc: Global, members: &[SubType], types: &mut TypeSpace) -> Result<(), Fault> {
     for member in members {
-        let added = member.clone(alloc)?;
-        if !types.may_follow(&added) {
+        if !types.may_follow(member) {
             return Err(Fault::NotCallable(Obstacle::MisplacedType));
         }
-        let _index = types.push_type(added)?;
+        let _index = types.push_type(member.clone(alloc)?)?;
     }
     or_memory(types.push_group())
 }

@@ -169,11 +169,10 @@ fn push_group(
     answer: &mut String,
 ) -> Result<(), Fault> {
     for ty in group {
-        let added = ty.clone(alloc)?;
-        if !types.may_follow(&added) {
+        if !types.may_follow(ty) {
             return Err(Fault::NotCallable(Obstacle::MisplacedType));
         }
-        tell_pair("index", push(call, types, added)?, answer)?;
+        tell_pair("index", push(call, types, ty.clone(alloc)?)?, answer)?;
     }
     or_memory(types.push_group())
 }

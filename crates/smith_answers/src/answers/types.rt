@@ -1,5 +1,5 @@
-ghost use Rattle.smith_config.specs.Faults.{Passes};
 ghost use Rattle.smith_config.specs.Sanitized.{IsSanitized};
+ghost use Rattle.smith_draw.specs.Callers.{PassesButImports};
 
 use crate::told::{tell_line, tell_refusal, tell_types};
 use smith_bytes::Unstructured;
@@ -12,7 +12,6 @@ use smith_types::TypeSpace;
 use std::alloc::Global;
 
 /// Appends `types` with the types that `call` draws after them.
-#[tactic(auto, using(smith_draw::proofs::CallerLemmas::passes_but_imports))]
 pub(crate) fn answer_types(
     alloc: Global,
     case: &Case,
@@ -22,7 +21,7 @@ pub(crate) fn answer_types(
     u: &mut Unstructured<'_>,
     answer: &mut String,
 ) -> Result<(), Fault>
-    requires passes { Passes config.now }
+    requires passes { PassesButImports config.now }
     requires sanitized { IsSanitized config.now }
 {
     match call {
@@ -46,7 +45,7 @@ fn draw_groups(
     types: &mut TypeSpace,
     u: &mut Unstructured<'_>,
 ) -> Result<(), Fault>
-    requires passes { Passes config.now }
+    requires passes { PassesButImports config.now }
     requires sanitized { IsSanitized config.now }
 {
     if case.args().is_empty() {
@@ -59,7 +58,6 @@ fn draw_groups(
 }
 
 // Adds a group to `types`.
-#[tactic(auto, using(smith_draw::proofs::CallerLemmas::passes_but_imports))]
 fn draw_group(
     alloc: Global,
     allow_empty: bool,
@@ -67,7 +65,7 @@ fn draw_group(
     types: &mut TypeSpace,
     u: &mut Unstructured<'_>,
 ) -> Result<(), Fault>
-    requires passes { Passes config.now }
+    requires passes { PassesButImports config.now }
     requires sanitized { IsSanitized config.now }
 {
     if types.types().len() >= config.max_types {
@@ -77,7 +75,6 @@ fn draw_group(
 }
 
 // Adds a clone of one of the groups, which may be empty, to `types`. Appends whether it is cloned.
-#[tactic(auto, using(smith_draw::proofs::CallerLemmas::passes_but_imports))]
 fn draw_clone(
     alloc: Global,
     config: &Config,
@@ -85,7 +82,7 @@ fn draw_clone(
     u: &mut Unstructured<'_>,
     answer: &mut String,
 ) -> Result<(), Fault>
-    requires { Passes config.now }
+    requires { PassesButImports config.now }
 {
     if types.types().len() >= config.max_types || types.rec_groups().is_empty() {
         return Err(Fault::NotCallable(Obstacle::NothingToClone));

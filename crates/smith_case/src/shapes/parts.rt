@@ -89,6 +89,15 @@ pub(crate) fn known<T: Drop>(value: Option<T>) -> Result<T, Fault> {
     value.ok_or(Fault::UnknownShape)
 }
 
+/// Returns both values that were read, or the first fault.
+pub(crate) fn both<A: Drop, B: Drop>(
+    first: Result<A, Fault>,
+    second: Result<B, Fault>,
+) -> Result<(A, B), Fault> {
+    let first = first?;
+    Ok((first, second?))
+}
+
 /// Returns the name `text`.
 pub(crate) fn name_of(alloc: Global, text: &str) -> Result<Name, Fault> {
     Ok(Name::from_text(alloc, text)?)

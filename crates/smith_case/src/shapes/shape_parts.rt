@@ -1,6 +1,6 @@
 use crate::fault::Fault;
 use crate::shapes::large_parts::{add_chain, add_cycle, add_fan, add_wide, export_many};
-use crate::shapes::parts::{known, name_of, push, with_parts};
+use crate::shapes::parts::{both, known, name_of, push, with_parts};
 use crate::shapes::type_names::{field_type_of, ref_type_of, take_word, val_type_of};
 use smith_config::Shape;
 use smith_types::{
@@ -124,17 +124,19 @@ pub fn function_of(alloc: Global, text: &str) -> Result<FuncType, Fault> {
     let Some((params, results)) = text.split_once("->") else {
         return Err(Fault::UnknownShape);
     };
-    Ok(FuncType {
-        params: with_parts(alloc, params, ',', Items::new(alloc))?,
-        results: with_parts(alloc, results, ',', Items::new(alloc))?,
-    })
+    let (params, results) = both(
+        with_parts(alloc, params, ',', Items::new(alloc)),
+        with_parts(alloc, results, ',', Items::new(alloc)),
+    )?;
+    Ok(FuncType { params, results })
 }
 
 fn import_of(alloc: Global, text: &str) -> Result<Imports, Fault> {
     let (module, item) = split_word(text);
-    let ImportItem { name, entity_type } = item_of(alloc, item)?;
+    let (item, module) = both(item_of(alloc, item), name_of(alloc, module))?;
+    let ImportItem { name, entity_type } = item;
     Ok(Imports::Single(Import {
-        module: name_of(alloc, module)?,
+        module,
         name,
         entity_type,
     }))
@@ -152,20 +154,25 @@ pub(crate) fn item_of(alloc: Global, text: &str) -> Result<ImportItem, Fault> {
 
 fn items_of(alloc: Global, text: &str) -> Result<Imports, Fault> {
     let (module, items) = split_word(text);
-    Ok(Imports::Compact1 {
-        module: name_of(alloc, module)?,
-        items: with_parts(alloc, items, ';', Items::new(alloc))?,
-    })
+    let (module, items) = both(
+        name_of(alloc, module),
+        with_parts(alloc, items, ';', Items::new(alloc)),
+    )?;
+    Ok(Imports::Compact1 { module, items })
 }
 
 fn names_of(alloc: Global, text: &str) -> Result<Imports, Fault> {
     let (module, rest) = split_word(text);
     let (names, entity) = split_word(rest);
     let entity_type = known(entity_of(entity))?;
+    let (module, names) = both(
+        name_of(alloc, module),
+        with_parts(alloc, names, ',', Items::new(alloc)),
+    )?;
     Ok(Imports::Compact2 {
-        module: name_of(alloc, module)?,
+        module,
         entity_type,
-        names: with_parts(alloc, names, ',', Items::new(alloc))?,
+        names,
     })
 }
 
