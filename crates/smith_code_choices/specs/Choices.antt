@@ -29,7 +29,7 @@ use Rattle.smith_code_control.specs.TryChoices.{any_try_at, try_at}
 use Rattle.smith_code_control.specs.declared.outcomes.Outcome.TheVariants as outcome
 use Rattle.smith_code_control.specs.BlockChoices.{any_block_at, block_at}
 use Rattle.smith_code_control.specs.BranchChoices.{branch_at, leaving_at, table_at}
-use Rattle.smith_code_casts.specs.CastBranchChoices.{cast_branch_at, cast_value_at}
+use Rattle.smith_code_reference_branches.specs.CastBranchChoices.{cast_branch_at, cast_value_at}
 use Rattle.smith_code_casts.specs.CastChoices.{cast_choice_at}
 use Rattle.smith_code_aggregates.specs.CreationChoices.{creation_at}
 use Rattle.smith_code_aggregates.specs.FieldChoices.{field_read_at, field_write_at}

@@ -14,12 +14,14 @@ ghost use Rattle.smith_code_nodes.specs.Traps.{IsNoStop};
 use crate::families::{StatementFamily, ValueFamily, statement_families, value_families};
 use smith_bytes::{Error, Unstructured};
 use smith_code_aggregates::{choose_creation, choose_field_read, choose_field_write};
-use smith_code_casts::{choose_cast, choose_cast_branch, choose_kept_cast};
+use smith_code_calls::{
+    choose_any_by_reference, choose_any_indirect, choose_any_tail_call, choose_by_reference,
+    choose_indirect, choose_tail_call,
+};
+use smith_code_casts::choose_cast;
 use smith_code_control::{
-    Outcome, choose_any_block, choose_any_by_reference, choose_any_indirect, choose_any_tail_call,
-    choose_any_throw, choose_any_try, choose_block, choose_branch, choose_by_reference,
-    choose_indirect, choose_kept, choose_leaving, choose_null_branch, choose_table,
-    choose_tail_call, choose_throw_statement, choose_try,
+    Outcome, choose_any_block, choose_any_throw, choose_any_try, choose_block, choose_branch,
+    choose_leaving, choose_table, choose_throw_statement, choose_try,
 };
 use smith_code_memory::{
     choose_atomic, choose_atomic_store, choose_load, choose_memory, choose_store,
@@ -29,6 +31,9 @@ use smith_code_nodes::{
     Draft, Node, Scope, choose_callable, choose_local, choose_mutable, choose_numeric,
     choose_reference_value, choose_select, choose_select_typed, function_of, indexed,
     is_node_allowed, plain, setter,
+};
+use smith_code_reference_branches::{
+    choose_cast_branch, choose_kept, choose_kept_cast, choose_null_branch,
 };
 use smith_code_tables::{choose_bulk, choose_table_change, choose_table_value};
 use smith_draw::choose;
