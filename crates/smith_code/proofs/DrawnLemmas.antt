@@ -19,6 +19,7 @@ use Rattle.smith_instr.specs.declared.instr.Instr.{Instr}
 use Rattle.smith_instr.specs.declared.instr.Instr.TheVariants as instr
 use Rattle.smith_instr.proofs.SequenceLemmas.{below_themselves}
 use Rattle.smith_code_nodes.specs.Scopes.{context_of, bare, where_stands, widest, most, AreLabels, IsAllowedIn}
+use Rattle.smith_code_nodes.specs.Traps.{IsNoStop}
 use Rattle.smith_code_nodes.specs.Nodes.{block_cost, IsNode, HasHeadType, MayOpen, head_sets, head_instruction, opened, label_of, taken_by}
 use Rattle.smith_code.specs.DraftSteps.{IsDrawn, IsWritten, IsOpened, IsEnded}
 use Rattle.smith_code_leaves.specs.Laws.{HasNoOther}

@@ -15,3 +15,4 @@ mod unary;
 
 pub use leaf::{Leaf, only, write_instructions, write_spare};
 pub use single::draw_any_leaf;
+pub use unary::Unary;

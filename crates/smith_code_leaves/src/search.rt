@@ -1,6 +1,6 @@
 ghost use Rattle.std.specs.Prelude.{◌≡◌, IfSome};
 ghost use Rattle.smith_instr.specs.Contexts.{IsValid};
-ghost use Rattle.smith_code_leaves.specs.Leaves.{conversion_to, created_leaf, i31_leaf, i31_number};
+ghost use Rattle.smith_code_leaves.specs.Leaves.{created_leaf, i31_leaf, i31_number};
 ghost use Rattle.smith_code_leaves.specs.Leaves.{leaf_within, created_over, unary_leaf, value_over};
 ghost use Rattle.smith_code_nodes.specs.Scopes.{IsScope, bare, where_stands};
 
@@ -56,7 +56,8 @@ fn unary_leaf(
     if let Some(leaf) = i31_leaf(scope, wanted, draft) {
         return Some(leaf);
     }
-    if let Some(leaf) = converted_leaf(scope, wanted, more, search, draft) {
+    let conversion = conversion_to(scope, wanted);
+    if let Some(leaf) = value_over(scope, conversion, more, search, draft) {
         return Some(leaf);
     }
     created_leaf(scope, wanted, more, search, draft)
@@ -87,27 +88,6 @@ fn i31_number(scope: &Scope<'_>, draft: &Draft) -> Option<Instr>
         return Some(zero);
     }
     first_single(scope, ValType::I32, draft)
-}
-
-/// Returns a converted reference that matches `wanted`, if its conversion is allowed and its operand
-/// is found within `more` instructions.
-#[cycle(search)]
-fn converted_leaf(
-    scope: &Scope<'_>,
-    wanted: ValType,
-    more: u32,
-    search: bool,
-    draft: &Draft,
-) -> Option<Leaf>
-    requires scope { IsScope (bare scope.now) }
-    requires wanted { IsValid (bare scope.now) wanted }
-    ensures { result ≡ value_over
-        (leaf_within scope.now.config.now (where_stands scope.now draft.now) draft.now.set.items
-        more search)
-        (conversion_to scope.now.config.now (where_stands scope.now draft.now) wanted) }
-{
-    let conversion = conversion_to(scope, wanted)?;
-    value_over(scope, conversion, more, search, draft)
 }
 
 /// Returns the first allowed struct of one field that matches `wanted` and whose field is found
@@ -157,29 +137,30 @@ fn created_over(
         (leaf_within scope.now.config.now (where_stands scope.now draft.now) draft.now.set.items
         more search) wanted ty }
 {
-    let creation = creation_of(scope, wanted, ty)?;
+    let creation = creation_of(scope, wanted, ty);
     value_over(scope, creation, more, search, draft)
 }
 
-/// Returns the value of `unary`, if its operand is found within `more` instructions.
+/// Returns the value of `unary`, if there is one and its operand is found within `more`
+/// instructions.
 #[cycle(search)]
 fn value_over(
     scope: &Scope<'_>,
-    unary: Unary,
+    unary: Option<Unary>,
     more: u32,
     search: bool,
     draft: &Draft,
 ) -> Option<Leaf>
     requires scope { IsScope (bare scope.now) }
-    requires operand { IsValid (bare scope.now) unary.operand }
+    requires operand { IfSome unary (λ unary. IsValid (bare scope.now) unary.operand) }
     ensures { result ≡ value_over
         (leaf_within scope.now.config.now (where_stands scope.now draft.now) draft.now.set.items
-        more search) (Some unary) }
+        more search) unary }
 {
     let Unary {
         instruction,
         operand,
-    } = unary;
+    } = unary?;
     let leaf = leaf_within(scope, operand, more, search, draft)?;
     Some(with_last(instruction, leaf))
 }

@@ -13,10 +13,10 @@ use smith_types::{AbstractHeapType, FieldType, HeapType, RefType, ValType, unpac
 
 /// An instruction that takes one operand.
 #[derive(Drop)]
-pub(crate) struct Unary {
-    pub(crate) instruction: Instr,
+pub struct Unary {
+    pub instruction: Instr,
     /// The type of the operand.
-    pub(crate) operand: ValType,
+    pub operand: ValType,
 }
 
 /// Returns the creation of an i31 that matches `wanted`, if it is allowed.

@@ -12,9 +12,6 @@ decreases-value_over l = 5 * l.more + 1
 abbrev pub decreases-created_over : goal.decreases-created_over
 decreases-created_over l = 5 * l.more + 2
 
-abbrev pub decreases-converted_leaf : goal.decreases-converted_leaf
-decreases-converted_leaf l = 5 * l.more + 2
-
 abbrev pub decreases-created_leaf : goal.decreases-created_leaf
 decreases-created_leaf l = 5 * l.more + 3
 
