@@ -39,7 +39,8 @@ use Rattle.smith_code_leaves.proofs.LeafLemmas.{array_leaf, global_leaf, i31_ove
 use Rattle.smith_code_leaves.proofs.OtherLemmas.{first_passes}
 use Rattle.smith_code_leaves.proofs.ReferenceLemmas.{reference_there}
 use Rattle.smith_code_leaves.proofs.SearchLemmas.{or_some, tried_each}
-use Rattle.smith_code.proofs.StopLemmas.{in_turn, permitted_goes_on}
+use Rattle.smith_code_nodes.proofs.StopLemmas.{permitted_goes_on}
+use Rattle.smith_code.proofs.StopLemmas.{in_turn}
 
 -- the first of the offered items
 offered_first : (test : ℕ → Bool) (size : ℕ) (P : ℕ → Type 0) (o : Option ℕ) → slice_get (offered test size) 0 ≡ o → ((index : ℕ) → test index ≡ true → P index) → IfSome o P
