@@ -7,12 +7,12 @@ use Rattle.smith_bytes.specs.Draws.{choose_at}
 use Rattle.smith_config.specs.declared.config.Config.{Config}
 use Rattle.smith_types.specs.Expressions.{IsStructAt, field_values, unpacked}
 use Rattle.smith_types.specs.Types.{IsOrderly}
-use Rattle.smith_types.specs.declared.composite_type.FieldType.{FieldType}
-use Rattle.smith_types.specs.declared.composite_type.StructType.{StructType}
-use Rattle.smith_types.specs.declared.composite_type.SubType.{SubType}
-use Rattle.smith_types.specs.declared.value_type.HeapType.{HeapType}
-use Rattle.smith_types.specs.declared.value_type.ValType.{ValType}
-use Rattle.smith_types.specs.declared.value_type.ValType.TheVariants.{I32, I64, F32, F64, V128, Ref}
+use Rattle.smith_data.specs.declared.composite_type.FieldType.{FieldType}
+use Rattle.smith_data.specs.declared.composite_type.StructType.{StructType}
+use Rattle.smith_data.specs.declared.composite_type.SubType.{SubType}
+use Rattle.smith_data.specs.declared.value_type.HeapType.{HeapType}
+use Rattle.smith_data.specs.declared.value_type.ValType.{ValType}
+use Rattle.smith_data.specs.declared.value_type.ValType.TheVariants.{I32, I64, F32, F64, V128, Ref}
 use Rattle.smith_draw.specs.Below.{is_val_below}
 use Rattle.smith_instr.specs.Contexts.{BodyContext, AreValid, IsValid, created_reference}
 use Rattle.smith_instr.specs.Sequences.{stacked}

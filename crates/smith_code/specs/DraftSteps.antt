@@ -1,6 +1,6 @@
 -- The additions of each step of drawing a body to the instructions so far.
 use Rattle.std.specs.Prelude.{◌≡◌, ℕ, ◌+◌, ◌*◌, ◌≤◌, Option, List, [], ◌∷◌, ◌++◌, length, take, option_to_list, All}
-use Rattle.smith_types.specs.declared.value_type.ValType.{ValType}
+use Rattle.smith_data.specs.declared.value_type.ValType.{ValType}
 use Rattle.smith_instr.specs.Contexts.{AreValid}
 use Rattle.smith_instr.specs.Sequences.{stacked}
 use Rattle.smith_instr.specs.declared.instr.Instr.{Instr}

@@ -8,16 +8,16 @@ use Rattle.smith_types.specs.Expressions.{IsArrayAt, IsDefaultable, IsStructAt, 
 use Rattle.smith_types.specs.Grounded.{are_defaultable, is_defaultable}
 use Rattle.smith_types.specs.Matching.{IsStorageMatch}
 use Rattle.smith_types.specs.Types.{IsOrderly}
-use Rattle.smith_types.specs.declared.value_type.HeapType.TheVariants.{Concrete}
-use Rattle.smith_types.specs.declared.value_type.ValType.{ValType}
-use Rattle.smith_types.specs.declared.value_type.ValType.TheVariants.{I32, I64, F32, F64, V128, Ref}
-use Rattle.smith_types.specs.declared.composite_type.CompositeInnerType.{CompositeInnerType}
-use Rattle.smith_types.specs.declared.composite_type.CompositeInnerType.TheVariants as inner
-use Rattle.smith_types.specs.declared.composite_type.FieldType.{FieldType}
-use Rattle.smith_types.specs.declared.composite_type.StorageType.{StorageType}
-use Rattle.smith_types.specs.declared.composite_type.StorageType.TheVariants as storage
-use Rattle.smith_types.specs.declared.composite_type.StructType.{StructType}
-use Rattle.smith_types.specs.declared.composite_type.SubType.{SubType}
+use Rattle.smith_data.specs.declared.value_type.HeapType.TheVariants.{Concrete}
+use Rattle.smith_data.specs.declared.value_type.ValType.{ValType}
+use Rattle.smith_data.specs.declared.value_type.ValType.TheVariants.{I32, I64, F32, F64, V128, Ref}
+use Rattle.smith_data.specs.declared.composite_type.CompositeInnerType.{CompositeInnerType}
+use Rattle.smith_data.specs.declared.composite_type.CompositeInnerType.TheVariants as inner
+use Rattle.smith_data.specs.declared.composite_type.FieldType.{FieldType}
+use Rattle.smith_data.specs.declared.composite_type.StorageType.{StorageType}
+use Rattle.smith_data.specs.declared.composite_type.StorageType.TheVariants as storage
+use Rattle.smith_data.specs.declared.composite_type.StructType.{StructType}
+use Rattle.smith_data.specs.declared.composite_type.SubType.{SubType}
 use Rattle.smith_types.proofs.GroundedLemmas.{defaults_each, default_for}
 use Rattle.smith_draw.specs.HeldFields.{fields_of}
 use Rattle.smith_bytes.specs.Draws.{choose_at}

@@ -5,10 +5,10 @@ use Rattle.std.proofs.Math.Nat.{zero-mod}
 use Rattle.std.proofs.Math.Seq.{take-nil}
 use Rattle.smith_bytes.specs.Draws.{choose_at, range_at}
 use Rattle.smith_types.specs.Expressions.{IsArrayAt}
-use Rattle.smith_types.specs.declared.composite_type.CompositeInnerType.{CompositeInnerType}
-use Rattle.smith_types.specs.declared.composite_type.FieldType.{FieldType}
-use Rattle.smith_types.specs.declared.composite_type.SubType.{SubType}
-use Rattle.smith_types.specs.declared.value_type.ValType.{ValType}
+use Rattle.smith_data.specs.declared.composite_type.CompositeInnerType.{CompositeInnerType}
+use Rattle.smith_data.specs.declared.composite_type.FieldType.{FieldType}
+use Rattle.smith_data.specs.declared.composite_type.SubType.{SubType}
+use Rattle.smith_data.specs.declared.value_type.ValType.{ValType}
 use Rattle.smith_instr.specs.Contexts.{BodyContext}
 use Rattle.smith_code_aggregates.specs.Aggregates.{first_offered, is_array, is_created_below, is_created_empty}
 use Rattle.smith_code_aggregates.specs.Fields.{element_in, element_of, is_usable_in}

@@ -1,17 +1,17 @@
 -- The uses of fields of structs and of elements of arrays.
 use Rattle.std.specs.Prelude.{ℕ, Bool, true, false, ◌&&◌, Option, Some, None, List, length}
 use Rattle.smith_types.specs.Expressions.{field_values, unpacked}
-use Rattle.smith_types.specs.Features.{Features}
+use Rattle.smith_data.specs.Features.{Features}
 use Rattle.smith_types.specs.Grounded.{is_defaultable}
 use Rattle.smith_types.specs.ValidTypes.{IsValTypeValid}
-use Rattle.smith_types.specs.declared.value_type.ValType.TheVariants.{Ref}
-use Rattle.smith_types.specs.declared.composite_type.CompositeInnerType.{CompositeInnerType}
-use Rattle.smith_types.specs.declared.composite_type.CompositeInnerType.TheVariants as inner
-use Rattle.smith_types.specs.declared.composite_type.FieldType.{FieldType}
-use Rattle.smith_types.specs.declared.composite_type.StorageType.{StorageType}
-use Rattle.smith_types.specs.declared.composite_type.StorageType.TheVariants as storage
-use Rattle.smith_types.specs.declared.composite_type.StructType.{StructType}
-use Rattle.smith_types.specs.declared.composite_type.SubType.{SubType}
+use Rattle.smith_data.specs.declared.value_type.ValType.TheVariants.{Ref}
+use Rattle.smith_data.specs.declared.composite_type.CompositeInnerType.{CompositeInnerType}
+use Rattle.smith_data.specs.declared.composite_type.CompositeInnerType.TheVariants as inner
+use Rattle.smith_data.specs.declared.composite_type.FieldType.{FieldType}
+use Rattle.smith_data.specs.declared.composite_type.StorageType.{StorageType}
+use Rattle.smith_data.specs.declared.composite_type.StorageType.TheVariants as storage
+use Rattle.smith_data.specs.declared.composite_type.StructType.{StructType}
+use Rattle.smith_data.specs.declared.composite_type.SubType.{SubType}
 use Rattle.smith_draw.specs.Below.{is_val_below}
 use Rattle.smith_instr.specs.AggregateTypes.{value_of}
 use Rattle.smith_instr.specs.Contexts.{BodyContext, AreValid}

@@ -1,7 +1,7 @@
 ghost use Rattle.std.specs.Prelude.{◌≡◌, true, [], ◌∷◌, IfOk, IfErr};
 ghost use Rattle.smith_bytes.specs.Source.{KeepsPieces};
 ghost use Rattle.smith_types.specs.Expressions.{IsArrayAt};
-ghost use Rattle.smith_types.specs.declared.value_type.ValType.TheVariants.{Ref};
+ghost use Rattle.smith_data.specs.declared.value_type.ValType.TheVariants.{Ref};
 ghost use Rattle.smith_instr.specs.AggregateTypes.{value_of};
 ghost use Rattle.smith_instr.specs.Contexts.{IsValid};
 ghost use Rattle.smith_code_aggregates.specs.Aggregates.{created_array_at, is_created_below};

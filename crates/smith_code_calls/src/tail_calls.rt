@@ -1,6 +1,6 @@
 ghost use Rattle.std.specs.Prelude.{◌≡◌, ◌<◌, true, List, [], length, IfOk, IfErr, IfSome};
 ghost use Rattle.smith_bytes.specs.Source.{KeepsPieces};
-ghost use Rattle.smith_types.specs.declared.value_type.ValType.{ValType as Val};
+ghost use Rattle.smith_data.specs.declared.value_type.ValType.{ValType as Val};
 ghost use Rattle.smith_instr.specs.Contexts.{AreValid};
 ghost use Rattle.smith_code_control.specs.CallChoices.{is_returnable, return_call_at, tail_call_at};
 ghost use Rattle.smith_code_nodes.specs.Chosen.{or_nop};

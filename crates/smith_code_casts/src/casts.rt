@@ -2,7 +2,7 @@ ghost use Rattle.std.specs.Prelude.{◌≡◌, false, true, Some, unwrap_or, [],
 ghost use Rattle.std.specs.Prelude.{IfSome};
 ghost use Rattle.smith_bytes.specs.Source.{KeepsPieces};
 ghost use Rattle.smith_types.specs.Subtyping.{IsRefBelow};
-ghost use Rattle.smith_types.specs.declared.value_type.ValType.TheVariants.{I32, Ref};
+ghost use Rattle.smith_data.specs.declared.value_type.ValType.TheVariants.{I32, Ref};
 ghost use Rattle.smith_instr.specs.Contexts.{IsValid, nullable_to};
 ghost use Rattle.smith_code_aggregates.specs.Aggregates.{names_types};
 ghost use Rattle.smith_code_casts.specs.CastChoices.{above_at, cast_at, cast_choice_at};
@@ -87,7 +87,7 @@ struct AboveOffer<'a> {
 
 impl<'a> Offer for AboveOffer<'a> {
     ghost use Rattle.std.specs.Prelude.{length};
-    ghost use Rattle.smith_types.specs.declared.value_type.ValType.TheVariants.{Ref};
+    ghost use Rattle.smith_data.specs.declared.value_type.ValType.TheVariants.{Ref};
     ghost use Rattle.smith_instr.specs.Contexts.{IsValid};
     ghost use Rattle.smith_code_casts.specs.CastChoices.{is_above};
     ghost use Rattle.smith_code_nodes.specs.Scopes.{IsScope, bare, indexed};

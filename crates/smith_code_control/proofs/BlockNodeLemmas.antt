@@ -3,12 +3,12 @@ use Rattle.std.specs.Prelude.{IfSome, if◌then◌else◌}
 use Rattle.std.specs.Cmp.Lexicographic.{pointwise}
 use Rattle.std.proofs.Common.{◌≡◌, ℕ, ◌+◌, ◌≤◌, Bool, true, false, List, [], ◌∷◌, ◌++◌, Option, Some, None, length, length-append, refl, arith}
 use Rattle.std.proofs.lemmas.List.Elements.{All-push}
-use Rattle.smith_types.specs.Same.{exact_items, exact_val}
+use Rattle.smith_data.specs.Same.{exact_items, exact_val}
 use Rattle.smith_types.specs.Entities.{IsFuncAt}
-use Rattle.smith_types.specs.contracts.value_type.ValTypePartialEq.TheImpl.{ghosts as val_same}
-use Rattle.smith_types.specs.declared.value_type.ValType.{ValType}
-use Rattle.smith_types.specs.declared.value_type.ValType.TheVariants.{I32}
-use Rattle.smith_types.specs.declared.composite_type.FuncType.{FuncType}
+use Rattle.smith_data.specs.contracts.value_type.ValTypePartialEq.TheImpl.{ghosts as val_same}
+use Rattle.smith_data.specs.declared.value_type.ValType.{ValType}
+use Rattle.smith_data.specs.declared.value_type.ValType.TheVariants.{I32}
+use Rattle.smith_data.specs.declared.composite_type.FuncType.{FuncType}
 use Rattle.smith_types.proofs.GrowthLemmas.{IsValBelow-refl}
 use Rattle.smith_instr.specs.Contexts.{BodyContext, IsValid, AreValid, AreBelow, IsBlockType}
 use Rattle.smith_instr.specs.declared.control.BlockType.{BlockType}

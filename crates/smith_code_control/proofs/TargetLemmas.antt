@@ -5,7 +5,7 @@ use Rattle.std.proofs.lemmas.List.{append-nil}
 use Rattle.std.proofs.lemmas.Option.{slice_get-get_or}
 use Rattle.smith_bytes.specs.Draws.{choose_at, range_at}
 use Rattle.smith_bytes.proofs.DrawnLemmas.{range_within}
-use Rattle.smith_types.specs.declared.value_type.ValType.{ValType}
+use Rattle.smith_data.specs.declared.value_type.ValType.{ValType}
 use Rattle.smith_instr.specs.Contexts.{BodyContext}
 use Rattle.smith_code_control.specs.BranchChoices.{some_targets_at, targets_at}
 use Rattle.smith_code_nodes.specs.Offered.{is_target, label_count, offered}

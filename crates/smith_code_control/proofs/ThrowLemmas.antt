@@ -5,10 +5,10 @@ use Rattle.std.proofs.lemmas.List.{append-nil}
 use Rattle.std.proofs.lemmas.Option.{same_Some, slice_get_within, get_or_from_slice_get}
 use Rattle.smith_bytes.specs.Draws.{bool_at, range_at}
 use Rattle.smith_types.specs.Entities.{IsFuncAt, IsTagValid}
-use Rattle.smith_types.specs.declared.value_type.ValType.{ValType}
-use Rattle.smith_types.specs.declared.composite_type.CompositeInnerType.TheVariants.{Func}
-use Rattle.smith_types.specs.declared.composite_type.FuncType.{FuncType}
-use Rattle.smith_types.specs.declared.composite_type.SubType.{SubType}
+use Rattle.smith_data.specs.declared.value_type.ValType.{ValType}
+use Rattle.smith_data.specs.declared.composite_type.CompositeInnerType.TheVariants.{Func}
+use Rattle.smith_data.specs.declared.composite_type.FuncType.{FuncType}
+use Rattle.smith_data.specs.declared.composite_type.SubType.{SubType}
 use Rattle.smith_instr.specs.Contexts.{BodyContext, AreValid, IsTag, nullable_to}
 use Rattle.smith_instr.specs.declared.instr.Instr.TheVariants as instr
 use Rattle.smith_instr.proofs.SequenceLemmas.{below_themselves}

@@ -6,9 +6,9 @@ use Rattle.std.proofs.lemmas.List.Elements.{All-push}
 use Rattle.smith_bytes.specs.Draws.{bool_at, choose_at, range_at}
 use Rattle.smith_types.specs.Entities.{IsFuncAt}
 use Rattle.smith_types.specs.Expressions.{reference_to}
-use Rattle.smith_types.specs.Features.{Features}
-use Rattle.smith_types.specs.declared.value_type.ValType.{ValType}
-use Rattle.smith_types.specs.declared.composite_type.FuncType.{FuncType}
+use Rattle.smith_data.specs.Features.{Features}
+use Rattle.smith_data.specs.declared.value_type.ValType.{ValType}
+use Rattle.smith_data.specs.declared.composite_type.FuncType.{FuncType}
 use Rattle.smith_types.proofs.GrowthLemmas.{IsValBelow-refl}
 use Rattle.smith_instr.specs.Contexts.{BodyContext, IsValid, AreBelow, AreValid, IsBlockType}
 use Rattle.smith_instr.specs.InstrTypes.{IsCatch, IsTaken}

@@ -2,16 +2,16 @@
 -- their order and their weights are rules of this project.
 use Rattle.std.specs.Prelude.{◌≡◌, ℕ, ◌-◌, ◌==◌, ◌&&◌, ◌||◌, Bool, true, false, Option, Some, None, option_map, List, [], ◌∷◌, ◌++◌, length, slice_get, All, if◌then◌else◌}
 use Rattle.smith_bytes.specs.Draws.{range_at}
-use Rattle.smith_types.specs.Features.{Features}
+use Rattle.smith_data.specs.Features.{Features}
 use Rattle.smith_types.specs.ValidTypes.{IsValTypeValid}
-use Rattle.smith_types.specs.declared.value_type.AbstractHeapType.TheVariants as abstract
-use Rattle.smith_types.specs.declared.value_type.HeapType.TheVariants.{Abstract, Concrete}
-use Rattle.smith_types.specs.declared.value_type.RefType.{RefType}
-use Rattle.smith_types.specs.declared.value_type.ValType.{ValType}
-use Rattle.smith_types.specs.declared.value_type.ValType.TheVariants.{Ref}
-use Rattle.smith_types.specs.declared.composite_type.FuncType.{FuncType}
-use Rattle.smith_types.specs.declared.composite_type.SubType.{SubType}
-use Rattle.smith_types.specs.declared.entity_type.TableType.{TableType}
+use Rattle.smith_data.specs.declared.value_type.AbstractHeapType.TheVariants as abstract
+use Rattle.smith_data.specs.declared.value_type.HeapType.TheVariants.{Abstract, Concrete}
+use Rattle.smith_data.specs.declared.value_type.RefType.{RefType}
+use Rattle.smith_data.specs.declared.value_type.ValType.{ValType}
+use Rattle.smith_data.specs.declared.value_type.ValType.TheVariants.{Ref}
+use Rattle.smith_data.specs.declared.composite_type.FuncType.{FuncType}
+use Rattle.smith_data.specs.declared.composite_type.SubType.{SubType}
+use Rattle.smith_data.specs.declared.entity_type.TableType.{TableType}
 use Rattle.smith_draw.specs.Below.{is_val_below}
 use Rattle.smith_instr.specs.Contexts.{BodyContext, address, nullable_to}
 use Rattle.smith_instr.specs.declared.instr.Instr.{Instr}

@@ -2,10 +2,10 @@
 -- this project.
 use Rattle.std.specs.Prelude.{ℕ, ◌+◌, ◌-◌, nat_le, Bool, false, Option, Some, None, option_map, is_some, List, [], ◌∷◌, ◌++◌, length, slice_get, take, if◌then◌else◌}
 use Rattle.smith_bytes.specs.Draws.{bool_at, choose_at}
-use Rattle.smith_types.specs.declared.value_type.HeapType.{HeapType}
-use Rattle.smith_types.specs.declared.value_type.RefType.{RefType}
-use Rattle.smith_types.specs.declared.value_type.ValType.{ValType}
-use Rattle.smith_types.specs.declared.value_type.ValType.TheVariants.{Ref}
+use Rattle.smith_data.specs.declared.value_type.HeapType.{HeapType}
+use Rattle.smith_data.specs.declared.value_type.RefType.{RefType}
+use Rattle.smith_data.specs.declared.value_type.ValType.{ValType}
+use Rattle.smith_data.specs.declared.value_type.ValType.TheVariants.{Ref}
 use Rattle.smith_instr.specs.Contexts.{BodyContext, nullable_to}
 use Rattle.smith_instr.specs.declared.instr.Instr.TheVariants as instr
 use Rattle.smith_code_nodes.specs.Chosen.{Chosen, giving}

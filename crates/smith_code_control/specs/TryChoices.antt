@@ -3,9 +3,9 @@
 use Rattle.std.specs.Prelude.{◌≡◌, ℕ, zero, suc, ◌&&◌, Bool, true, false, Option, Some, None, option_map, option_to_list, List, [], ◌∷◌, ◌++◌, length, slice_get, if◌then◌else◌}
 use Rattle.smith_bytes.specs.Draws.{bool_at, choose_at, range_at}
 use Rattle.smith_types.specs.Expressions.{reference_to}
-use Rattle.smith_types.specs.Features.{Features}
-use Rattle.smith_types.specs.declared.value_type.ValType.{ValType}
-use Rattle.smith_types.specs.declared.composite_type.FuncType.{FuncType}
+use Rattle.smith_data.specs.Features.{Features}
+use Rattle.smith_data.specs.declared.value_type.ValType.{ValType}
+use Rattle.smith_data.specs.declared.composite_type.FuncType.{FuncType}
 use Rattle.smith_instr.specs.Contexts.{BodyContext, IsTag}
 use Rattle.smith_instr.specs.declared.control.BlockType.TheVariants as block
 use Rattle.smith_instr.specs.declared.control.Catch.{Catch}

@@ -1,13 +1,13 @@
 ghost use Rattle.std.specs.Prelude.{◌≡◌, [], ◌∷◌, ◌++◌, false, true, pos};
 ghost use Rattle.smith_types.specs.ExampleFeatures.{usual_features};
-ghost use Rattle.smith_types.specs.Instructions.{every_kind, kind_bits, kinds_bits, no_kind};
-ghost use Rattle.smith_types.specs.Instructions.{union_of};
-ghost use Rattle.smith_types.specs.declared.instruction_kind.InstructionKind.TheVariants as kind;
-ghost use Rattle.smith_types.specs.declared.instruction_kind.InstructionKind.TheVariants.{Control};
-ghost use Rattle.smith_types.specs.declared.instruction_kind.InstructionKind.TheVariants.{
+ghost use Rattle.smith_data.specs.Instructions.{every_kind, kind_bits, kinds_bits, no_kind};
+ghost use Rattle.smith_data.specs.Instructions.{union_of};
+ghost use Rattle.smith_data.specs.declared.instruction_kind.InstructionKind.TheVariants as kind;
+ghost use Rattle.smith_data.specs.declared.instruction_kind.InstructionKind.TheVariants.{Control};
+ghost use Rattle.smith_data.specs.declared.instruction_kind.InstructionKind.TheVariants.{
   NumericInt,
 };
-ghost use Rattle.smith_types.specs.declared.value_type.ValType.TheVariants.{I32, I64, F32};
+ghost use Rattle.smith_data.specs.declared.value_type.ValType.TheVariants.{I32, I64, F32};
 ghost use Rattle.smith_config.specs.Config.{default_config};
 ghost use Rattle.smith_config.specs.ExampleMembers.{without_floats};
 ghost use Rattle.smith_instr.specs.declared.instr.Instr.TheVariants as instr;

@@ -2,7 +2,7 @@
 
 ghost use Rattle.std.specs.Prelude.{◌≡◌, Some, None, [], ◌∷◌};
 ghost use Rattle.smith_types.specs.Flags.{funcref};
-ghost use Rattle.smith_types.specs.declared.value_type.ValType.TheVariants.{I32, I64, F32, Ref};
+ghost use Rattle.smith_data.specs.declared.value_type.ValType.TheVariants.{I32, I64, F32, Ref};
 ghost use Rattle.smith_instr.specs.declared.aggregate.AggregateInstr.TheVariants as aggregate;
 ghost use Rattle.smith_instr.specs.declared.aggregate.Extension.TheVariants as extension;
 ghost use Rattle.smith_code_aggregates.specs.CreationChoices.{aggregate_of};

@@ -1,7 +1,7 @@
 ghost use Rattle.std.specs.Prelude.{◌≡◌, ◌-◌, ◌^◌, [], ◌∷◌, replicate};
 ghost use Rattle.smith_types.specs.ExampleTypes.{final_type, plain_func, struct};
-ghost use Rattle.smith_types.specs.declared.composite_type.CompositeInnerType.TheVariants.{Func};
-ghost use Rattle.smith_types.specs.declared.value_type.ValType.TheVariants.{I32, I64};
+ghost use Rattle.smith_data.specs.declared.composite_type.CompositeInnerType.TheVariants.{Func};
+ghost use Rattle.smith_data.specs.declared.value_type.ValType.TheVariants.{I32, I64};
 ghost use Rattle.smith_code_nodes.specs.Scopes.{func_size, indexed, most, widest};
 
 fn indices()

@@ -2,13 +2,13 @@
 use Rattle.std.proofs.Common.{◌≡◌, inl, inr, ℕ, List, Some, subst, sym}
 use Rattle.std.specs.Prelude.{nat_le, slice_get, if◌then◌else◌}
 use Rattle.smith_types.specs.Expressions.{Context, function_reference, reference_to}
-use Rattle.smith_types.specs.Features.{Features}
+use Rattle.smith_data.specs.Features.{Features}
 use Rattle.smith_types.specs.Grounded.{IsGrounded, IsGroundedByFuncs, IsGroundedByStructs}
 use Rattle.smith_types.specs.Subtyping.{IsValBelow}
-use Rattle.smith_types.specs.declared.composite_type.SubType.{SubType}
-use Rattle.smith_types.specs.declared.value_type.HeapType.{HeapType}
-use Rattle.smith_types.specs.declared.value_type.HeapType.TheVariants.{Concrete, Exact}
-use Rattle.smith_types.specs.declared.value_type.ValType.{ValType}
+use Rattle.smith_data.specs.declared.composite_type.SubType.{SubType}
+use Rattle.smith_data.specs.declared.value_type.HeapType.{HeapType}
+use Rattle.smith_data.specs.declared.value_type.HeapType.TheVariants.{Concrete, Exact}
+use Rattle.smith_data.specs.declared.value_type.ValType.{ValType}
 use Rattle.smith_instr.specs.Contexts.{BodyContext, reference_to_function}
 use Rattle.smith_code_law.specs.Barren.{IsBarren}
 use Rattle.smith_code_law.specs.Unnamed.{AreOfOneModule, IsGroundedByUnnamed}

@@ -1,10 +1,10 @@
 ghost use Rattle.std.specs.Prelude.{[], ◌∷◌};
 ghost use Rattle.smith_types.specs.ExampleTypes.{constant, empty_struct, final_type, not_null};
 ghost use Rattle.smith_types.specs.ExampleTypes.{nullable, plain, plain_func, struct};
-ghost use Rattle.smith_types.specs.declared.composite_type.StorageType.TheVariants.{Val};
-ghost use Rattle.smith_types.specs.declared.value_type.AbstractHeapType.TheVariants as heap;
-ghost use Rattle.smith_types.specs.declared.value_type.HeapType.TheVariants.{Concrete};
-ghost use Rattle.smith_types.specs.declared.value_type.ValType.TheVariants.{I32, Ref};
+ghost use Rattle.smith_data.specs.declared.composite_type.StorageType.TheVariants.{Val};
+ghost use Rattle.smith_data.specs.declared.value_type.AbstractHeapType.TheVariants as heap;
+ghost use Rattle.smith_data.specs.declared.value_type.HeapType.TheVariants.{Concrete};
+ghost use Rattle.smith_data.specs.declared.value_type.ValType.TheVariants.{I32, Ref};
 ghost use Rattle.smith_code_law.specs.ExampleContexts.{naming, outside, with_type};
 ghost use Rattle.smith_code_law.specs.Barren.{IsBarrenReference};
 ghost use Rattle.smith_code_law.specs.Unnamed.{AreOfOneModule, IsGroundedByUnnamed};

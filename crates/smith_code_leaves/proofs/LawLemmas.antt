@@ -5,18 +5,18 @@ use Rattle.std.proofs.lemmas.Option.{get_or_from_slice_get, slice_get-get_or, sl
 use Rattle.smith_bytes.specs.Draws.{choose_at}
 use Rattle.smith_config.specs.declared.config.Config.{Config}
 use Rattle.smith_types.specs.Expressions.{IsStructAt, field_values, unpacked}
-use Rattle.smith_types.specs.Features.{Features}
+use Rattle.smith_data.specs.Features.{Features}
 use Rattle.smith_types.specs.Subtyping.{IsValBelow}
 use Rattle.smith_types.specs.Types.{IsOrderly}
-use Rattle.smith_types.specs.declared.composite_type.CompositeInnerType.{CompositeInnerType}
-use Rattle.smith_types.specs.declared.composite_type.FieldType.{FieldType}
-use Rattle.smith_types.specs.declared.composite_type.StructType.{StructType}
-use Rattle.smith_types.specs.declared.composite_type.SubType.{SubType}
-use Rattle.smith_types.specs.declared.value_type.AbstractHeapType.TheVariants as abstract
-use Rattle.smith_types.specs.declared.value_type.HeapType.{HeapType}
-use Rattle.smith_types.specs.declared.value_type.HeapType.TheVariants.{Abstract}
-use Rattle.smith_types.specs.declared.value_type.ValType.{ValType}
-use Rattle.smith_types.specs.declared.value_type.ValType.TheVariants.{I32, I64, F32, F64, V128, Ref}
+use Rattle.smith_data.specs.declared.composite_type.CompositeInnerType.{CompositeInnerType}
+use Rattle.smith_data.specs.declared.composite_type.FieldType.{FieldType}
+use Rattle.smith_data.specs.declared.composite_type.StructType.{StructType}
+use Rattle.smith_data.specs.declared.composite_type.SubType.{SubType}
+use Rattle.smith_data.specs.declared.value_type.AbstractHeapType.TheVariants as abstract
+use Rattle.smith_data.specs.declared.value_type.HeapType.{HeapType}
+use Rattle.smith_data.specs.declared.value_type.HeapType.TheVariants.{Abstract}
+use Rattle.smith_data.specs.declared.value_type.ValType.{ValType}
+use Rattle.smith_data.specs.declared.value_type.ValType.TheVariants.{I32, I64, F32, F64, V128, Ref}
 use Rattle.smith_draw.specs.Below.{is_val_below}
 use Rattle.smith_instr.specs.AggregateTypes.{external, internal}
 use Rattle.smith_instr.specs.Contexts.{BodyContext, created_reference, nullable_to, reference_to_function}

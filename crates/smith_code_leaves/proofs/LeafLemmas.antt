@@ -4,9 +4,9 @@ use Rattle.std.specs.Prelude.{◌||◌, not, slice_get}
 use Rattle.smith_config.specs.declared.config.Config.{Config}
 use Rattle.smith_types.specs.Types.{IsOrderly}
 use Rattle.smith_types.specs.Subtyping.{itself}
-use Rattle.smith_types.specs.declared.value_type.RefType.{RefType}
-use Rattle.smith_types.specs.declared.value_type.ValType.{ValType}
-use Rattle.smith_types.specs.declared.value_type.ValType.TheVariants.{I32, Ref}
+use Rattle.smith_data.specs.declared.value_type.RefType.{RefType}
+use Rattle.smith_data.specs.declared.value_type.ValType.{ValType}
+use Rattle.smith_data.specs.declared.value_type.ValType.TheVariants.{I32, Ref}
 use Rattle.smith_types.proofs.GrowthLemmas.{IsValBelow-refl}
 use Rattle.smith_draw.specs.Below.{is_val_below}
 use Rattle.smith_instr.specs.AggregateTypes.{external, internal}

@@ -4,7 +4,7 @@ use Rattle.std.specs.Prelude.{IfSome, is_some}
 use Rattle.std.specs.Option.{option_or}
 use Rattle.std.proofs.lemmas.Bool.{cases_lt, false≢true}
 use Rattle.smith_config.specs.declared.config.Config.{Config}
-use Rattle.smith_types.specs.declared.value_type.ValType.{ValType}
+use Rattle.smith_data.specs.declared.value_type.ValType.{ValType}
 use Rattle.smith_instr.specs.Contexts.{BodyContext}
 use Rattle.smith_instr.specs.declared.instr.Instr.{Instr}
 use Rattle.smith_code_leaves.specs.Laws.{IsTriedBy}

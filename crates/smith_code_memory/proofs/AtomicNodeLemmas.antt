@@ -2,9 +2,9 @@
 use Rattle.std.proofs.Common.{rules, ◌≡◌, ℕ, ◌<◌, ◌≤◌, Bool, true, List, [], ◌∷◌, length, get_or, refl, subst, arith}
 use Rattle.std.specs.Cmp.Lexicographic.{pointwise}
 use Rattle.std.specs.List.{list_all}
-use Rattle.smith_types.specs.contracts.value_type.ValTypePartialEq.TheImpl.{ghosts as val_same}
-use Rattle.smith_types.specs.declared.value_type.ValType.{ValType}
-use Rattle.smith_types.specs.declared.value_type.ValType.TheVariants.{I32, I64, F32, F64, V128, Ref}
+use Rattle.smith_data.specs.contracts.value_type.ValTypePartialEq.TheImpl.{ghosts as val_same}
+use Rattle.smith_data.specs.declared.value_type.ValType.{ValType}
+use Rattle.smith_data.specs.declared.value_type.ValType.TheVariants.{I32, I64, F32, F64, V128, Ref}
 use Rattle.smith_instr.specs.Contexts.{BodyContext, IsValid, AreValid, address}
 use Rattle.smith_instr.specs.MemoryTypes.{HasAtomicType, IsAccess, atomic_width}
 use Rattle.smith_instr.specs.declared.atomic.AtomicAccess.{AtomicAccess}

@@ -2,7 +2,7 @@
 use Rattle.std.specs.Prelude.{ℕ, ◌+◌, ◌-◌, ◌*◌, ◌^◌, min, max, nat_lt, Option, Some, None, option_map, List, length, slice_get, if◌then◌else◌}
 use Rattle.smith_bytes.specs.Draws.{range_at}
 use Rattle.smith_types.specs.Entities.{addresses, page_log2}
-use Rattle.smith_types.specs.declared.entity_type.MemoryType.{MemoryType}
+use Rattle.smith_data.specs.declared.entity_type.MemoryType.{MemoryType}
 use Rattle.smith_config.specs.declared.config.Config.{Config}
 use Rattle.smith_config.specs.declared.offset_choices.MemoryOffsetChoices.{MemoryOffsetChoices}
 use Rattle.smith_code_nodes.specs.Scopes.{indexed}

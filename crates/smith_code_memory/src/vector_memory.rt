@@ -1,6 +1,6 @@
 ghost use Rattle.std.specs.Prelude.{◌≡◌, ◌-◌, ◌<◌, ◌≤◌, ◌^◌, [], ◌∷◌, IfOk, IfErr, IfSome, IsTrue};
 ghost use Rattle.smith_bytes.specs.Source.{KeepsPieces};
-ghost use Rattle.smith_types.specs.declared.value_type.ValType.TheVariants.{V128};
+ghost use Rattle.smith_data.specs.declared.value_type.ValType.TheVariants.{V128};
 ghost use Rattle.smith_instr.specs.MemoryTypes.{IsAccess, IsLane, vector_bytes};
 ghost use Rattle.smith_code_nodes.specs.Chosen.{or_nop};
 ghost use Rattle.smith_code_nodes.specs.Nodes.{IsNode, IsOffer};

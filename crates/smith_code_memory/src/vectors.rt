@@ -1,6 +1,6 @@
 ghost use Rattle.std.specs.Prelude.{◌≡◌, ◌-◌, ◌<◌, ℕ, All, [], ◌∷◌, IfOk, IfErr, IsTrue};
 ghost use Rattle.smith_bytes.specs.Source.{KeepsPieces};
-ghost use Rattle.smith_types.specs.declared.value_type.ValType.TheVariants.{V128};
+ghost use Rattle.smith_data.specs.declared.value_type.ValType.TheVariants.{V128};
 ghost use Rattle.smith_instr.specs.Contexts.{IsValid};
 ghost use Rattle.smith_instr.specs.VectorTypes.{HasVectorType, extracted, lanes};
 ghost use Rattle.smith_code_nodes.specs.Nodes.{IsOffer};

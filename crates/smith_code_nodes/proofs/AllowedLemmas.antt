@@ -3,9 +3,9 @@ use Rattle.std.specs.Prelude.{◌&&◌, ◌||◌, not, IsTrue, All}
 use Rattle.std.proofs.Common.{◌≡◌, Bool, true, false, List, refl, ◌<◌, length, sym, ◌∙◌}
 use Rattle.std.proofs.lemmas.Bool.{false≢true}
 use Rattle.std.proofs.lemmas.List.Elements.{All-weaker}
-use Rattle.smith_types.specs.FeatureBits.{features_in}
-use Rattle.smith_types.specs.Features.{Features}
-use Rattle.smith_types.specs.declared.instruction_kind.InstructionKind.TheVariants as kind
+use Rattle.smith_data.specs.FeatureBits.{features_in}
+use Rattle.smith_data.specs.Features.{Features}
+use Rattle.smith_data.specs.declared.instruction_kind.InstructionKind.TheVariants as kind
 use Rattle.smith_config.specs.declared.config.Config.{Config}
 use Rattle.smith_instr.specs.Enabled.{is_enabled, IsEnabled, is_allowed, is_block_enabled}
 use Rattle.smith_instr.specs.declared.instr.Instr.{Instr}

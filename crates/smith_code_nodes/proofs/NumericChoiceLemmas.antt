@@ -1,7 +1,7 @@
 -- The chosen numeric instruction, by the drawn place.
 use Rattle.std.proofs.Common.{◌≡◌, ℕ, ◌-◌, ◌<◌, List, Option, Some, None, length, get_or, sym, subst, ap, ◌∙◌}
 use Rattle.smith_bytes.specs.Draws.{choose_at, range_at}
-use Rattle.smith_types.specs.declared.value_type.ValType.{ValType}
+use Rattle.smith_data.specs.declared.value_type.ValType.{ValType}
 use Rattle.smith_instr.specs.NumericTypes.{signature}
 use Rattle.smith_instr.specs.declared.instr.Instr.TheVariants as instr
 use Rattle.smith_instr.specs.declared.numeric.NumericInstr.{NumericInstr}

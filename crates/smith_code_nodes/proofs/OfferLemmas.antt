@@ -9,14 +9,14 @@ use Rattle.smith_types.specs.Subtyping.{IsValBelow}
 use Rattle.smith_types.specs.Types.{IsOrderly}
 use Rattle.smith_types.specs.Entities.{IsFuncAt}
 use Rattle.smith_types.specs.Expressions.{IsDefaultable}
-use Rattle.smith_types.specs.declared.value_type.ValType.{ValType}
-use Rattle.smith_types.specs.declared.value_type.ValType.TheVariants.{I32, I64, F32, F64, V128, Ref}
-use Rattle.smith_types.specs.declared.composite_type.CompositeInnerType.{CompositeInnerType}
-use Rattle.smith_types.specs.declared.composite_type.CompositeInnerType.TheVariants.{Array, Func, Struct}
-use Rattle.smith_types.specs.declared.composite_type.FuncType.{FuncType}
-use Rattle.smith_types.specs.declared.composite_type.SubType.{SubType}
-use Rattle.smith_types.specs.declared.entity_type.GlobalType.{GlobalType}
-use Rattle.smith_types.specs.declared.entity_type.MemoryType.{MemoryType}
+use Rattle.smith_data.specs.declared.value_type.ValType.{ValType}
+use Rattle.smith_data.specs.declared.value_type.ValType.TheVariants.{I32, I64, F32, F64, V128, Ref}
+use Rattle.smith_data.specs.declared.composite_type.CompositeInnerType.{CompositeInnerType}
+use Rattle.smith_data.specs.declared.composite_type.CompositeInnerType.TheVariants.{Array, Func, Struct}
+use Rattle.smith_data.specs.declared.composite_type.FuncType.{FuncType}
+use Rattle.smith_data.specs.declared.composite_type.SubType.{SubType}
+use Rattle.smith_data.specs.declared.entity_type.GlobalType.{GlobalType}
+use Rattle.smith_data.specs.declared.entity_type.MemoryType.{MemoryType}
 use Rattle.smith_draw.specs.Below.{is_val_below}
 use Rattle.smith_draw.proofs.BelowLemmas.{val_decides}
 use Rattle.smith_instr.specs.Contexts.{BodyContext, IsFunction, address}

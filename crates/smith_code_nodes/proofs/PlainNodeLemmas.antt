@@ -5,9 +5,9 @@ use Rattle.std.specs.List.{list_all}
 use Rattle.std.proofs.lemmas.List.{append-nil}
 use Rattle.std.proofs.lemmas.List.Sums.{AllPass-from_list_all}
 use Rattle.smith_bytes.specs.Draws.{choose_at, range_at}
-use Rattle.smith_types.specs.Same.{exact_items, exact_val}
-use Rattle.smith_types.specs.contracts.value_type.ValTypePartialEq.TheImpl.{ghosts as val_same}
-use Rattle.smith_types.specs.declared.value_type.ValType.{ValType}
+use Rattle.smith_data.specs.Same.{exact_items, exact_val}
+use Rattle.smith_data.specs.contracts.value_type.ValTypePartialEq.TheImpl.{ghosts as val_same}
+use Rattle.smith_data.specs.declared.value_type.ValType.{ValType}
 use Rattle.smith_instr.specs.Contexts.{BodyContext, AreValid}
 use Rattle.smith_instr.specs.InstrTypes.{sets, HasInstrType}
 use Rattle.smith_instr.specs.declared.instr.Instr.{Instr}

@@ -1,7 +1,7 @@
 -- With `disallow_traps`, what is allowed has no `unreachable`.
 use Rattle.std.proofs.Common.{◌≡◌, Bool, true, false, subst}
 use Rattle.std.specs.Prelude.{◌||◌, not}
-use Rattle.smith_types.specs.Features.{Features}
+use Rattle.smith_data.specs.Features.{Features}
 use Rattle.smith_config.specs.declared.config.Config.{Config}
 use Rattle.smith_instr.specs.Enabled.{is_enabled}
 use Rattle.smith_instr.specs.declared.instr.Instr.{Instr}

@@ -2,8 +2,8 @@
 -- rules of this project.
 use Rattle.std.specs.Prelude.{ℕ, ◌-◌, Bool, true, false, Option, Some, None, List, [], ◌∷◌, length, if◌then◌else◌}
 use Rattle.smith_bytes.specs.Draws.{choose_at}
-use Rattle.smith_types.specs.declared.value_type.ValType.{ValType}
-use Rattle.smith_types.specs.declared.value_type.ValType.TheVariants.{I32, Ref}
+use Rattle.smith_data.specs.declared.value_type.ValType.{ValType}
+use Rattle.smith_data.specs.declared.value_type.ValType.TheVariants.{I32, Ref}
 use Rattle.smith_instr.specs.NumericTypes.{signature}
 use Rattle.smith_instr.specs.declared.instr.Instr.TheVariants as instr
 use Rattle.smith_instr.specs.declared.numeric.NumericInstr.{NumericInstr}

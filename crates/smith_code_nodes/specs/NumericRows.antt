@@ -1,7 +1,7 @@
 -- The numeric instructions by the type of their first result.
 use Rattle.std.specs.Prelude.{List, [], ◌∷◌}
-use Rattle.smith_types.specs.declared.value_type.ValType.{ValType}
-use Rattle.smith_types.specs.declared.value_type.ValType.TheVariants as value
+use Rattle.smith_data.specs.declared.value_type.ValType.{ValType}
+use Rattle.smith_data.specs.declared.value_type.ValType.TheVariants as value
 use Rattle.smith_instr.specs.declared.numeric.IntUnary.TheVariants as int_unary
 use Rattle.smith_instr.specs.declared.numeric.IntBinary.TheVariants as int_binary
 use Rattle.smith_instr.specs.declared.numeric.IntCompare.TheVariants as int_compare

@@ -1,20 +1,20 @@
 -- The context in which a body is drawn.
 use Rattle.std.specs.Prelude.{◌≡◌, ℕ, ◌+◌, ◌*◌, ◌≤◌, ◌-◌, ◌^◌, ◌&&◌, ◌||◌, not, Bool, IsTrue, min, max, List, [], ◌∷◌, length, slice_get, Some, All, bit_and, if◌then◌else◌}
-use Rattle.smith_types.specs.FeatureBits.{features_in}
-use Rattle.smith_types.specs.Features.{Features}
-use Rattle.smith_types.specs.Instructions.{float_bits, kinds_bits}
+use Rattle.smith_data.specs.FeatureBits.{features_in}
+use Rattle.smith_data.specs.Features.{Features}
+use Rattle.smith_data.specs.Instructions.{float_bits, kinds_bits}
 use Rattle.smith_types.specs.Types.{IsOrderly}
 use Rattle.smith_types.specs.Entities.{IsFuncAt, IsFuncTypeIndex, IsMemoryValid, IsTagValid}
 use Rattle.smith_types.specs.Expressions.{field_values}
 use Rattle.smith_types.specs.ValidTypes.{IsValTypeValid}
-use Rattle.smith_types.specs.declared.value_type.ValType.{ValType}
-use Rattle.smith_types.specs.declared.composite_type.CompositeInnerType.{CompositeInnerType}
-use Rattle.smith_types.specs.declared.composite_type.CompositeInnerType.TheVariants as inner
-use Rattle.smith_types.specs.declared.composite_type.FuncType.{FuncType}
-use Rattle.smith_types.specs.declared.composite_type.SubType.{SubType}
-use Rattle.smith_types.specs.declared.entity_type.GlobalType.{GlobalType}
-use Rattle.smith_types.specs.declared.entity_type.TableType.{TableType}
-use Rattle.smith_types.specs.declared.instruction_kind.InstructionKinds.{InstructionKinds}
+use Rattle.smith_data.specs.declared.value_type.ValType.{ValType}
+use Rattle.smith_data.specs.declared.composite_type.CompositeInnerType.{CompositeInnerType}
+use Rattle.smith_data.specs.declared.composite_type.CompositeInnerType.TheVariants as inner
+use Rattle.smith_data.specs.declared.composite_type.FuncType.{FuncType}
+use Rattle.smith_data.specs.declared.composite_type.SubType.{SubType}
+use Rattle.smith_data.specs.declared.entity_type.GlobalType.{GlobalType}
+use Rattle.smith_data.specs.declared.entity_type.TableType.{TableType}
+use Rattle.smith_data.specs.declared.instruction_kind.InstructionKinds.{InstructionKinds}
 use Rattle.smith_config.specs.declared.config.Config.{Config}
 use Rattle.smith_draw.specs.HeldFields.{fields_of}
 use Rattle.smith_instr.specs.Contexts.{BodyContext, AreValid, IsRefValid}

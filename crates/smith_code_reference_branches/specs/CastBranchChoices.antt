@@ -2,9 +2,9 @@
 -- of this project.
 use Rattle.std.specs.Prelude.{ℕ, ◌-◌, min, Option, Some, None, option_map, option_and_then, unwrap_or, List, [], ◌∷◌, ◌++◌, length, slice_get, take, if◌then◌else◌}
 use Rattle.smith_bytes.specs.Draws.{bool_at, choose_at}
-use Rattle.smith_types.specs.declared.value_type.RefType.{RefType}
-use Rattle.smith_types.specs.declared.value_type.ValType.{ValType}
-use Rattle.smith_types.specs.declared.value_type.ValType.TheVariants.{Ref}
+use Rattle.smith_data.specs.declared.value_type.RefType.{RefType}
+use Rattle.smith_data.specs.declared.value_type.ValType.{ValType}
+use Rattle.smith_data.specs.declared.value_type.ValType.TheVariants.{Ref}
 use Rattle.smith_instr.specs.Contexts.{BodyContext}
 use Rattle.smith_instr.specs.declared.control.BranchCast.{BranchCast}
 use Rattle.smith_instr.specs.declared.instr.Instr.{Instr}

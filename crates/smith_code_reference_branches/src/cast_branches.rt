@@ -1,7 +1,7 @@
 ghost use Rattle.std.specs.Prelude.{◌≡◌, ◌<◌, true, [], ◌∷◌, Some, length, IfOk, IfErr, IfSome};
 ghost use Rattle.smith_bytes.specs.Source.{KeepsPieces};
 ghost use Rattle.smith_types.specs.Subtyping.{IsRefBelow};
-ghost use Rattle.smith_types.specs.declared.value_type.ValType.TheVariants.{Ref};
+ghost use Rattle.smith_data.specs.declared.value_type.ValType.TheVariants.{Ref};
 ghost use Rattle.smith_instr.specs.Contexts.{IsValid};
 ghost use Rattle.smith_code_reference_branches.specs.CastBranchChoices.{below_at, br_on_cast_at};
 ghost use Rattle.smith_code_reference_branches.specs.CastBranchChoices.{br_on_cast_fail_at, cast_branch_at};

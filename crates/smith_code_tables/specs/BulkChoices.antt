@@ -1,8 +1,8 @@
 -- The instruction on several bytes of a memory that the bytes choose. The choices, their order and
 -- their weights are rules of this project.
 use Rattle.std.specs.Prelude.{ℕ, Option, Some, List, [], ◌∷◌}
-use Rattle.smith_types.specs.declared.entity_type.MemoryType.{MemoryType}
-use Rattle.smith_types.specs.declared.value_type.ValType.TheVariants.{I32}
+use Rattle.smith_data.specs.declared.entity_type.MemoryType.{MemoryType}
+use Rattle.smith_data.specs.declared.value_type.ValType.TheVariants.{I32}
 use Rattle.smith_draw.specs.Choices.{chosen_at}
 use Rattle.smith_instr.specs.Contexts.{BodyContext, address}
 use Rattle.smith_instr.specs.ReferenceTypes.{narrower}

@@ -2,8 +2,8 @@ ghost use Rattle.std.specs.Prelude.{◌≡◌, ◌<◌, true, IsTrue, [], ◌∷
 ghost use Rattle.std.specs.Prelude.{IfErr, IfSome};
 ghost use Rattle.smith_bytes.specs.Source.{KeepsPieces};
 ghost use Rattle.smith_types.specs.Subtyping.{IsValInRange};
-ghost use Rattle.smith_types.specs.declared.entity_type.TableType.{TableType as Table};
-ghost use Rattle.smith_types.specs.declared.value_type.ValType.TheVariants.{Ref};
+ghost use Rattle.smith_data.specs.declared.entity_type.TableType.{TableType as Table};
+ghost use Rattle.smith_data.specs.declared.value_type.ValType.TheVariants.{Ref};
 ghost use Rattle.smith_instr.specs.Contexts.{IsValid};
 ghost use Rattle.smith_code_nodes.specs.Chosen.{or_nop};
 ghost use Rattle.smith_code_nodes.specs.Chosen.{giving};

@@ -9,10 +9,10 @@ use Rattle.std.proofs.Math.ListN.{get_or-append}
 use Rattle.std.proofs.Math.Seq.{get_or-append_seam}
 use Rattle.smith_types.specs.Expressions.{Context, function_reference}
 use Rattle.smith_types.specs.Subtyping.{IsValInRange}
-use Rattle.smith_types.specs.declared.composite_type.SubType.{SubType}
-use Rattle.smith_types.specs.declared.entity_type.GlobalType.{GlobalType}
-use Rattle.smith_types.specs.declared.value_type.ValType.{ValType}
-use Rattle.smith_types.specs.declared.value_type.ValType.TheVariants.{I32}
+use Rattle.smith_data.specs.declared.composite_type.SubType.{SubType}
+use Rattle.smith_data.specs.declared.entity_type.GlobalType.{GlobalType}
+use Rattle.smith_data.specs.declared.value_type.ValType.{ValType}
+use Rattle.smith_data.specs.declared.value_type.ValType.TheVariants.{I32}
 use Rattle.smith_draw.specs.Below.{is_val_below}
 use Rattle.smith_const_expr.specs.ConstOffers.{offered_if, global_offers, function_offers}
 use Rattle.smith_const_expr.specs.KeptOffers.{AreClasses, AreFlags, IsEntry, IsNoted, IsTally, is_offered, offered_before, readable}

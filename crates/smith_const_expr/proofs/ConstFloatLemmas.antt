@@ -12,18 +12,18 @@ use Rattle.smith_bytes.proofs.GrownLemmas.{cond_both}
 use Rattle.smith_types.specs.Expressions.{Context, field_values, unpacked}
 use Rattle.smith_types.specs.Floats.{IsNoFloat, HasNoFloat, GivesNoFloat}
 use Rattle.smith_types.specs.ValidTypes.{values_of, values_of_storage}
-use Rattle.smith_types.specs.declared.value_type.AbstractHeapType.{AbstractHeapType}
-use Rattle.smith_types.specs.declared.value_type.AbstractHeapType.TheVariants as heap
-use Rattle.smith_types.specs.declared.value_type.ValType.{ValType}
-use Rattle.smith_types.specs.declared.value_type.ValType.TheVariants.{I32, I64, F32, F64, V128, Ref}
-use Rattle.smith_types.specs.declared.composite_type.StorageType.{StorageType}
-use Rattle.smith_types.specs.declared.composite_type.StorageType.TheVariants.{I8, I16, Val}
-use Rattle.smith_types.specs.declared.composite_type.FieldType.{FieldType}
-use Rattle.smith_types.specs.declared.composite_type.CompositeInnerType.{CompositeInnerType}
-use Rattle.smith_types.specs.declared.composite_type.CompositeInnerType.TheVariants.{Array, Func, Struct}
-use Rattle.smith_types.specs.declared.composite_type.SubType.{SubType}
-use Rattle.smith_types.specs.declared.const_instr.ConstInstr.{ConstInstr}
-use Rattle.smith_types.specs.declared.const_instr.ConstInstr.TheVariants as instr
+use Rattle.smith_data.specs.declared.value_type.AbstractHeapType.{AbstractHeapType}
+use Rattle.smith_data.specs.declared.value_type.AbstractHeapType.TheVariants as heap
+use Rattle.smith_data.specs.declared.value_type.ValType.{ValType}
+use Rattle.smith_data.specs.declared.value_type.ValType.TheVariants.{I32, I64, F32, F64, V128, Ref}
+use Rattle.smith_data.specs.declared.composite_type.StorageType.{StorageType}
+use Rattle.smith_data.specs.declared.composite_type.StorageType.TheVariants.{I8, I16, Val}
+use Rattle.smith_data.specs.declared.composite_type.FieldType.{FieldType}
+use Rattle.smith_data.specs.declared.composite_type.CompositeInnerType.{CompositeInnerType}
+use Rattle.smith_data.specs.declared.composite_type.CompositeInnerType.TheVariants.{Array, Func, Struct}
+use Rattle.smith_data.specs.declared.composite_type.SubType.{SubType}
+use Rattle.smith_data.specs.declared.const_instr.ConstInstr.{ConstInstr}
+use Rattle.smith_data.specs.declared.const_instr.ConstInstr.TheVariants as instr
 use Rattle.smith_config.specs.declared.config.Config.{Config}
 use Rattle.smith_const_expr.specs.Constants.{constant_at, is_wide, operation, operator_at, extended_by, extended_within, extended_at}
 use Rattle.smith_draw.specs.HeldFields.{fields_of}

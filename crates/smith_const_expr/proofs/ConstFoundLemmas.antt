@@ -5,16 +5,16 @@ use Rattle.std.proofs.lemmas.List.{drop_more}
 use Rattle.std.specs.Result.{result_unwrap_or}
 use Rattle.smith_bytes.specs.Draws.{range_at, choose_at}
 use Rattle.smith_types.specs.Expressions.{Context, reference_to, function_reference}
-use Rattle.smith_types.specs.declared.value_type.AbstractHeapType.TheVariants as heap
-use Rattle.smith_types.specs.declared.value_type.HeapType.TheVariants.{Abstract}
+use Rattle.smith_data.specs.declared.value_type.AbstractHeapType.TheVariants as heap
+use Rattle.smith_data.specs.declared.value_type.HeapType.TheVariants.{Abstract}
 use Rattle.smith_config.specs.declared.config.Config.{Config}
 use Rattle.smith_draw.specs.Below.{is_val_below}
-use Rattle.smith_types.specs.declared.value_type.HeapType.{HeapType}
-use Rattle.smith_types.specs.declared.value_type.RefType.{RefType}
-use Rattle.smith_types.specs.declared.value_type.ValType.{ValType}
-use Rattle.smith_types.specs.declared.value_type.ValType.TheVariants.{I32, I64, F32, F64, V128, Ref}
-use Rattle.smith_types.specs.declared.composite_type.CompositeInnerType.{CompositeInnerType}
-use Rattle.smith_types.specs.declared.composite_type.SubType.{SubType}
+use Rattle.smith_data.specs.declared.value_type.HeapType.{HeapType}
+use Rattle.smith_data.specs.declared.value_type.RefType.{RefType}
+use Rattle.smith_data.specs.declared.value_type.ValType.{ValType}
+use Rattle.smith_data.specs.declared.value_type.ValType.TheVariants.{I32, I64, F32, F64, V128, Ref}
+use Rattle.smith_data.specs.declared.composite_type.CompositeInnerType.{CompositeInnerType}
+use Rattle.smith_data.specs.declared.composite_type.SubType.{SubType}
 use Rattle.smith_const_expr.specs.ConstScopes.{IsScope}
 use Rattle.smith_const_expr.specs.ConstOffers.{past, each_from, offered_if, is_integer, global_offers, function_offers, type_offers, types_offers, conversions_to, conversions, other_offers, created_offers, reference_offers, offers}
 use Rattle.smith_types.specs.Grounded.{is_defaultable}

@@ -7,9 +7,9 @@ use Rattle.smith_bytes.specs.Spelling.{SpellsNumber, Where}
 use Rattle.smith_bytes.specs.Takes.{Takes}
 use Rattle.smith_bytes.proofs.SpelledLemmas.{joined_parts, number_read}
 use Rattle.smith_types.specs.Expressions.{Context}
-use Rattle.smith_types.specs.declared.value_type.ValType.TheVariants.{I32}
-use Rattle.smith_types.specs.declared.entity_type.GlobalType.{GlobalType}
-use Rattle.smith_types.specs.declared.const_instr.ConstInstr.{ConstInstr}
+use Rattle.smith_data.specs.declared.value_type.ValType.TheVariants.{I32}
+use Rattle.smith_data.specs.declared.entity_type.GlobalType.{GlobalType}
+use Rattle.smith_data.specs.declared.const_instr.ConstInstr.{ConstInstr}
 use Rattle.smith_config.specs.declared.config.Config.{Config}
 use Rattle.smith_const_expr.specs.Constants.{constant_at}
 use Rattle.smith_const_expr.specs.ConstOffers.{each_from, offered_if, global_offers, readable_globals, offers}
@@ -22,7 +22,7 @@ use Rattle.std.specs.List.{AllByRecursion as Each}
 use Rattle.std.proofs.lemmas.List.Elements.{recursion_from_All}
 use Rattle.smith_const_expr.specs.ExampleConstExprs.{MutableGlobalsAreNotRead}
 use Rattle.smith_const_expr.specs.declared.node_choice.Choice.{Choice}
-use Rattle.smith_types.specs.declared.value_type.ValType.{ValType}
+use Rattle.smith_data.specs.declared.value_type.ValType.{ValType}
 use Rattle.smith_const_expr.specs.declared.node_choice.Choice.TheVariants as choice
 
 -- if no global may be read, none is offered

@@ -3,10 +3,10 @@
 use Rattle.std.specs.Prelude.{◌≡◌, ◌⊎◌, ℕ, ◌+◌, ◌*◌, max, List, [], ◌∷◌, length}
 use Rattle.std.specs.List.{Any}
 use Rattle.smith_types.specs.Expressions.{Context, field_values}
-use Rattle.smith_types.specs.declared.value_type.ValType.{ValType}
-use Rattle.smith_types.specs.declared.composite_type.CompositeInnerType.{CompositeInnerType}
-use Rattle.smith_types.specs.declared.composite_type.CompositeInnerType.TheVariants.{Struct}
-use Rattle.smith_types.specs.declared.composite_type.SubType.{SubType}
+use Rattle.smith_data.specs.declared.value_type.ValType.{ValType}
+use Rattle.smith_data.specs.declared.composite_type.CompositeInnerType.{CompositeInnerType}
+use Rattle.smith_data.specs.declared.composite_type.CompositeInnerType.TheVariants.{Struct}
+use Rattle.smith_data.specs.declared.composite_type.SubType.{SubType}
 use Rattle.smith_bytes.specs.declared.error.Error.{Error}
 use Rattle.smith_bytes.specs.declared.error.Error.TheVariants.{Memory, EmptyChoose}
 use Rattle.smith_config.specs.declared.config.Config.{Config}

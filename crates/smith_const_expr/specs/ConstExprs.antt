@@ -4,11 +4,11 @@ use Rattle.std.specs.Option.{option_map}
 use Rattle.std.specs.Int.{cast_signed, w32}
 use Rattle.smith_bytes.specs.Draws.{bool_at, range_at, choose_at}
 use Rattle.smith_types.specs.Expressions.{Context}
-use Rattle.smith_types.specs.declared.value_type.ValType.{ValType}
-use Rattle.smith_types.specs.declared.value_type.ValType.TheVariants.{I32, Ref}
-use Rattle.smith_types.specs.declared.const_instr.ConstInstr.{ConstInstr}
-use Rattle.smith_types.specs.declared.const_instr.ConstInstr.TheVariants as instr
-use Rattle.smith_types.specs.declared.value_type.RefType.{RefType}
+use Rattle.smith_data.specs.declared.value_type.ValType.{ValType}
+use Rattle.smith_data.specs.declared.value_type.ValType.TheVariants.{I32, Ref}
+use Rattle.smith_data.specs.declared.const_instr.ConstInstr.{ConstInstr}
+use Rattle.smith_data.specs.declared.const_instr.ConstInstr.TheVariants as instr
+use Rattle.smith_data.specs.declared.value_type.RefType.{RefType}
 use Rattle.smith_config.specs.declared.config.Config.{Config}
 use Rattle.smith_const_expr.specs.Constants.{extended_at}
 use Rattle.smith_const_expr.specs.ConstOffers.{offers}

@@ -4,9 +4,9 @@ use Rattle.smith_types.specs.Expressions.{Context, HasType}
 use Rattle.smith_types.specs.Flags.{IsInstrEnabled}
 use Rattle.smith_types.specs.Subtyping.{IsValBelow}
 use Rattle.smith_types.specs.ValidTypes.{IsValTypeValid}
-use Rattle.smith_types.specs.declared.value_type.ValType.{ValType}
-use Rattle.smith_types.specs.declared.value_type.ValType.TheVariants.{I32, I64}
-use Rattle.smith_types.specs.declared.const_instr.ConstInstr.{ConstInstr}
+use Rattle.smith_data.specs.declared.value_type.ValType.{ValType}
+use Rattle.smith_data.specs.declared.value_type.ValType.TheVariants.{I32, I64}
+use Rattle.smith_data.specs.declared.const_instr.ConstInstr.{ConstInstr}
 use Rattle.smith_bytes.specs.declared.error.Error.{Error}
 use Rattle.smith_bytes.specs.declared.error.Error.TheVariants as errors
 use Rattle.smith_config.specs.declared.config.Config.{Config}

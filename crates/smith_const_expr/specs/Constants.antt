@@ -2,10 +2,10 @@
 use Rattle.std.specs.Prelude.{ℕ, zero, suc, ◌||◌, Bool, true, false, nat_lt, ◌==◌, Option, Some, None, List, [], ◌∷◌, length, if◌then◌else◌}
 use Rattle.std.specs.Int.{cast_signed, w32, w64, w128}
 use Rattle.smith_bytes.specs.Draws.{whole_at, range_at}
-use Rattle.smith_types.specs.declared.value_type.ValType.{ValType}
-use Rattle.smith_types.specs.declared.value_type.ValType.TheVariants.{I32, I64, F32, F64, V128, Ref}
-use Rattle.smith_types.specs.declared.const_instr.ConstInstr.{ConstInstr}
-use Rattle.smith_types.specs.declared.const_instr.ConstInstr.TheVariants as instr
+use Rattle.smith_data.specs.declared.value_type.ValType.{ValType}
+use Rattle.smith_data.specs.declared.value_type.ValType.TheVariants.{I32, I64, F32, F64, V128, Ref}
+use Rattle.smith_data.specs.declared.const_instr.ConstInstr.{ConstInstr}
+use Rattle.smith_data.specs.declared.const_instr.ConstInstr.TheVariants as instr
 use Rattle.smith_const_expr.specs.declared.extended.Operator.{Operator}
 use Rattle.smith_const_expr.specs.declared.extended.Operator.TheVariants.{Add, Sub, Mul}
 

@@ -1,13 +1,13 @@
 -- Contexts of constant expressions, and laws about them, used by the examples.
 use Rattle.std.specs.Prelude.{◌≡◌, true, false, List, [], ◌∷◌, All}
 use Rattle.smith_types.specs.Expressions.{Context}
-use Rattle.smith_types.specs.declared.value_type.ValType.{ValType}
-use Rattle.smith_types.specs.declared.composite_type.StorageType.TheVariants.{I8}
-use Rattle.smith_types.specs.declared.composite_type.SubType.{SubType}
-use Rattle.smith_types.specs.declared.entity_type.GlobalType.{GlobalType}
+use Rattle.smith_data.specs.declared.value_type.ValType.{ValType}
+use Rattle.smith_data.specs.declared.composite_type.StorageType.TheVariants.{I8}
+use Rattle.smith_data.specs.declared.composite_type.SubType.{SubType}
+use Rattle.smith_data.specs.declared.entity_type.GlobalType.{GlobalType}
 use Rattle.smith_types.specs.ExampleFeatures.{usual_features}
 use Rattle.smith_types.specs.ExampleTypes.{final_type, struct, array, constant}
-use Rattle.smith_types.specs.declared.value_type.ValType.TheVariants.{V128}
+use Rattle.smith_data.specs.declared.value_type.ValType.TheVariants.{V128}
 use Rattle.smith_types.specs.ExampleEntities.{constant_global}
 use Rattle.smith_config.specs.declared.config.Config.{Config}
 use Rattle.smith_draw.specs.declared.spaces.Spaces.{Spaces}

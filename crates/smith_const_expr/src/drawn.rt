@@ -2,7 +2,7 @@ ghost use Rattle.std.specs.Prelude.{◌≡◌, ◌≤◌, ◌<◌, ◌++◌, ◌
 ghost use Rattle.std.specs.Prelude.{reverse, length, IfOk, IfErr, OnOk};
 ghost use Rattle.smith_bytes.specs.Source.{KeepsPieces};
 ghost use Rattle.smith_types.specs.ValidTypes.{IsValTypeValid};
-ghost use Rattle.smith_types.specs.declared.value_type.ValType.TheVariants.{I32};
+ghost use Rattle.smith_data.specs.declared.value_type.ValType.TheVariants.{I32};
 ghost use Rattle.smith_types.specs.Expressions.{Context, IsConstExpr};
 ghost use Rattle.smith_const_expr.specs.ConstScopes.{context_of, IsScope};
 ghost use Rattle.smith_const_expr.specs.ConstExprs.{state_of, length_at, expression_alone_at};

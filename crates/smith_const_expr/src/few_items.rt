@@ -1,7 +1,7 @@
 ghost use Rattle.std.specs.Prelude.{◌≡◌, ◌+◌, ◌<◌, ◌≤◌, ℕ, [], Some, length};
 ghost use Rattle.std.specs.Prelude.{slice_get};
 ghost use Rattle.smith_types.specs.Expressions.{function_reference};
-ghost use Rattle.smith_types.specs.declared.entity_type.GlobalType.{GlobalType};
+ghost use Rattle.smith_data.specs.declared.entity_type.GlobalType.{GlobalType};
 ghost use Rattle.smith_const_expr.specs.ConstScopes.{context_of, IsScope};
 ghost use Rattle.smith_const_expr.specs.KeptOffers.{AreFewRead, AreRecorded, IsFewWhole, readable};
 

@@ -5,7 +5,7 @@ ghost use Rattle.smith_const_expr.specs.ConstNodes.{fields_there, field_operands
 ghost use Rattle.smith_const_expr.specs.ConstNodes.{is_shared_heap, converted, node_of, node_at};
 ghost use Rattle.smith_draw.specs.HeldFields.{fields_of};
 ghost use Rattle.smith_types.specs.Expressions.{field_values};
-ghost use Rattle.smith_types.specs.declared.value_type.ValType.TheVariants.{I32};
+ghost use Rattle.smith_data.specs.declared.value_type.ValType.TheVariants.{I32};
 ghost use Rattle.smith_const_expr.specs.declared.node.Operand.TheVariants.{Value};
 
 use crate::constant::draw_constant;

@@ -1,7 +1,7 @@
 ghost use Rattle.std.specs.Prelude.{◌≡◌, ◌≤◌, OnOk, IfErr, List, Bool, Some, length};
 ghost use Rattle.smith_types.specs.Expressions.{Context, function_reference};
-ghost use Rattle.smith_types.specs.declared.composite_type.SubType.{SubType};
-ghost use Rattle.smith_types.specs.declared.value_type.ValType.{ValType as Wanted};
+ghost use Rattle.smith_data.specs.declared.composite_type.SubType.{SubType};
+ghost use Rattle.smith_data.specs.declared.value_type.ValType.{ValType as Wanted};
 ghost use Rattle.smith_const_expr.specs.ConstScopes.{context_of, IsScope};
 ghost use Rattle.smith_const_expr.specs.KeptOffers.{AreAllRead, AreClasses, AreFewRead, AreFlags};
 ghost use Rattle.smith_const_expr.specs.KeptOffers.{AreItemsRead, readable};

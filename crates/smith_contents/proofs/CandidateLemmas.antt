@@ -8,10 +8,10 @@ use Rattle.std.proofs.lemmas.List.Elements.{All-nil, All-weaker, All-from_recurs
 use Rattle.smith_types.specs.Entities.{IsFuncTypeIndex}
 use Rattle.smith_types.specs.Imports.{EntitySpaces}
 use Rattle.smith_types.specs.Sizes.{size_in}
-use Rattle.smith_types.specs.declared.composite_type.SubType.{SubType}
-use Rattle.smith_types.specs.declared.entity_type.EntityType.TheVariants as entity
-use Rattle.smith_types.specs.declared.entity_type.ExportKind.{ExportKind}
-use Rattle.smith_types.specs.declared.entity_type.ExportKind.TheVariants as kind
+use Rattle.smith_data.specs.declared.composite_type.SubType.{SubType}
+use Rattle.smith_data.specs.declared.entity_type.EntityType.TheVariants as entity
+use Rattle.smith_data.specs.declared.entity_type.ExportKind.{ExportKind}
+use Rattle.smith_data.specs.declared.entity_type.ExportKind.TheVariants as kind
 use Rattle.smith_draw.specs.Choices.{chosen_at}
 use Rattle.smith_draw.specs.TypeUses.{places_from}
 use Rattle.smith_draw.proofs.EnabledLemmas.{enabled_all}

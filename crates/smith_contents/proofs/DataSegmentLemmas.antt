@@ -7,15 +7,15 @@ use Rattle.std.proofs.lemmas.List.Elements.{All-contains_itself, All-weaker}
 use Rattle.smith_bytes.proofs.GrownLemmas.{grow_most, grow_least}
 use Rattle.smith_types.specs.Entities.{IsMemoryValid, page_log2}
 use Rattle.smith_types.specs.Expressions.{Context, IsVisible}
-use Rattle.smith_types.specs.Features.{Features}
+use Rattle.smith_data.specs.Features.{Features}
 use Rattle.smith_types.specs.Segments.{IsOffsetValid, IsOffsetInside, address_type}
 use Rattle.smith_types.specs.Subtyping.{IsValBelow}
-use Rattle.smith_types.specs.declared.composite_type.SubType.{SubType}
-use Rattle.smith_types.specs.declared.entity_type.MemoryType.{MemoryType}
-use Rattle.smith_types.specs.declared.segments.DataSegmentKind.TheVariants.{Passive, Active}
-use Rattle.smith_types.specs.declared.segments.Offset.{Offset}
-use Rattle.smith_types.specs.declared.value_type.ValType.{ValType}
-use Rattle.smith_types.specs.declared.value_type.ValType.TheVariants.{I32, I64, F32, F64, V128, Ref}
+use Rattle.smith_data.specs.declared.composite_type.SubType.{SubType}
+use Rattle.smith_data.specs.declared.entity_type.MemoryType.{MemoryType}
+use Rattle.smith_data.specs.declared.segments.DataSegmentKind.TheVariants.{Passive, Active}
+use Rattle.smith_data.specs.declared.segments.Offset.{Offset}
+use Rattle.smith_data.specs.declared.value_type.ValType.{ValType}
+use Rattle.smith_data.specs.declared.value_type.ValType.TheVariants.{I32, I64, F32, F64, V128, Ref}
 use Rattle.smith_config.specs.declared.config.Config.{Config}
 use Rattle.smith_draw.specs.Choices.{chosen_at}
 use Rattle.smith_const_expr.specs.ConstScopes.{IsReadable}

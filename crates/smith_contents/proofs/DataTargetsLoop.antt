@@ -9,7 +9,7 @@ use Rattle.smith_bytes.specs.Draws.{range_at}
 use Rattle.smith_bytes.specs.Source.{KeepsPieces}
 use Rattle.smith_draw.specs.Choices.{chosen_at}
 use Rattle.smith_contents.specs.OfferedIndices.{Indices}
-use Rattle.smith_types.specs.declared.entity_type.MemoryType.{MemoryType}
+use Rattle.smith_data.specs.declared.entity_type.MemoryType.{MemoryType}
 use Rattle.smith_const_expr.specs.ConstOffers.{offered_if}
 use Rattle.smith_contents.specs.DataSegments.{Indexed, no_memory, may_hold_data_at, counting_at}
 use Rattle.smith_contents.specs.DataTargets.{StandsIn, indexed}

@@ -11,8 +11,8 @@ use Rattle.smith_bytes.specs.Spelling.{SpellsBool, SpellsNone}
 use Rattle.smith_bytes.specs.Takes.{Takes}
 use Rattle.smith_bytes.proofs.SpelledLemmas.{bool_read}
 use Rattle.smith_types.specs.Expressions.{Context}
-use Rattle.smith_types.specs.declared.entity_type.TableType.{TableType}
-use Rattle.smith_types.specs.declared.segments.ElementSegment.{ElementSegment}
+use Rattle.smith_data.specs.declared.entity_type.TableType.{TableType}
+use Rattle.smith_data.specs.declared.segments.ElementSegment.{ElementSegment}
 use Rattle.smith_config.specs.declared.config.Config.{Config}
 use Rattle.smith_bytes.specs.Spelling.{SpellsEmpty}
 use Rattle.smith_contents.specs.ElementSegments.{KindChoice, table_kinds_at, element_kinds_at, element_segments_at, all_element_segments_at}

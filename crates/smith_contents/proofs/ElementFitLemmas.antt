@@ -10,17 +10,17 @@ use Rattle.smith_types.specs.Expressions.{Context, IsConstExpr}
 use Rattle.smith_types.specs.Floats.{HasNoFloat, GivesNoFloat}
 use Rattle.smith_types.specs.Segments.{item_count, IsOffsetInside, IsElementKindValid, AreElementsInside}
 use Rattle.smith_types.specs.Subtyping.{IsRefBelow}
-use Rattle.smith_types.specs.declared.const_instr.ConstInstr.{ConstInstr}
-use Rattle.smith_types.specs.declared.entity_type.TableType.{TableType}
-use Rattle.smith_types.specs.declared.segments.ElementKind.{ElementKind}
-use Rattle.smith_types.specs.declared.segments.ElementKind.TheVariants as element_kind
-use Rattle.smith_types.specs.declared.segments.Elements.{Elements}
-use Rattle.smith_types.specs.declared.segments.Elements.TheVariants.{Expressions}
-use Rattle.smith_types.specs.declared.segments.ElementSegment.{ElementSegment}
-use Rattle.smith_types.specs.declared.segments.Offset.{Offset}
-use Rattle.smith_types.specs.declared.segments.Offset.TheVariants.{Const32, Const64, Global}
-use Rattle.smith_types.specs.declared.value_type.RefType.{RefType}
-use Rattle.smith_types.specs.declared.value_type.ValType.TheVariants.{Ref}
+use Rattle.smith_data.specs.declared.const_instr.ConstInstr.{ConstInstr}
+use Rattle.smith_data.specs.declared.entity_type.TableType.{TableType}
+use Rattle.smith_data.specs.declared.segments.ElementKind.{ElementKind}
+use Rattle.smith_data.specs.declared.segments.ElementKind.TheVariants as element_kind
+use Rattle.smith_data.specs.declared.segments.Elements.{Elements}
+use Rattle.smith_data.specs.declared.segments.Elements.TheVariants.{Expressions}
+use Rattle.smith_data.specs.declared.segments.ElementSegment.{ElementSegment}
+use Rattle.smith_data.specs.declared.segments.Offset.{Offset}
+use Rattle.smith_data.specs.declared.segments.Offset.TheVariants.{Const32, Const64, Global}
+use Rattle.smith_data.specs.declared.value_type.RefType.{RefType}
+use Rattle.smith_data.specs.declared.value_type.ValType.TheVariants.{Ref}
 use Rattle.smith_validity.proofs.HeldValueLemmas.{all_of_parts}
 use Rattle.smith_config.specs.declared.config.Config.{Config}
 use Rattle.smith_config.specs.Granted.{IsUngrounded}

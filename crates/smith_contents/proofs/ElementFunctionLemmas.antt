@@ -10,17 +10,17 @@ use Rattle.smith_bytes.proofs.GrownLemmas.{grow_all, grow_least}
 use Rattle.smith_types.specs.Entities.{IsFuncTypeIndex}
 use Rattle.smith_types.specs.Expressions.{Context, created, reference_to, function_reference}
 use Rattle.smith_types.specs.Flags.{IsElementTypeEnabled, funcref}
-use Rattle.smith_types.specs.Kinds.{kind_of, shared}
+use Rattle.smith_data.specs.Kinds.{kind_of, shared}
 use Rattle.smith_types.specs.Segments.{IsItem}
 use Rattle.smith_types.specs.Subtyping.{IsBelow, itself, by_step, IsValBelow}
-use Rattle.smith_types.specs.declared.composite_type.SubType.{SubType}
-use Rattle.smith_types.specs.declared.segments.Elements.TheVariants.{Functions}
-use Rattle.smith_types.specs.declared.value_type.AbstractHeapType.TheVariants as heap
-use Rattle.smith_types.specs.declared.value_type.HeapType.{HeapType}
-use Rattle.smith_types.specs.declared.value_type.HeapType.TheVariants.{Abstract, Concrete, Exact}
-use Rattle.smith_types.specs.declared.value_type.RefType.{RefType}
-use Rattle.smith_types.specs.declared.value_type.ValType.{ValType}
-use Rattle.smith_types.specs.declared.value_type.ValType.TheVariants.{Ref}
+use Rattle.smith_data.specs.declared.composite_type.SubType.{SubType}
+use Rattle.smith_data.specs.declared.segments.Elements.TheVariants.{Functions}
+use Rattle.smith_data.specs.declared.value_type.AbstractHeapType.TheVariants as heap
+use Rattle.smith_data.specs.declared.value_type.HeapType.{HeapType}
+use Rattle.smith_data.specs.declared.value_type.HeapType.TheVariants.{Abstract, Concrete, Exact}
+use Rattle.smith_data.specs.declared.value_type.RefType.{RefType}
+use Rattle.smith_data.specs.declared.value_type.ValType.{ValType}
+use Rattle.smith_data.specs.declared.value_type.ValType.TheVariants.{Ref}
 use Rattle.smith_config.specs.declared.config.Config.{Config}
 use Rattle.smith_config.specs.Features.{features_of}
 use Rattle.smith_draw.specs.Choices.{chosen_at}

@@ -9,7 +9,7 @@ use Rattle.smith_bytes.specs.Growth.{goes_at}
 use Rattle.smith_bytes.specs.Source.{KeepsPieces}
 use Rattle.smith_types.specs.Expressions.{Context}
 use Rattle.smith_types.specs.Segments.{item_count}
-use Rattle.smith_types.specs.declared.segments.ElementSegment.{ElementSegment}
+use Rattle.smith_data.specs.declared.segments.ElementSegment.{ElementSegment}
 use Rattle.smith_config.specs.declared.config.Config.{Config}
 use Rattle.smith_bytes.specs.Steps.{◌>>=◌, ReturnsWhy}
 use Rattle.smith_contents.specs.ElementSegments.{KindChoice, items_in, element_segment_at, element_segments_at}

@@ -8,7 +8,7 @@ use Rattle.std.proofs.lemmas.List.{map-append, length-map, get_or-map, get_or-ap
 use Rattle.std.proofs.lemmas.List.Elements.{All-nil, All-head, All-push}
 use Rattle.std.proofs.lemmas.Option.{get_or_from_slice_get, slice_get-get_or}
 use Rattle.smith_bytes.specs.Source.{KeepsPieces}
-use Rattle.smith_types.specs.declared.entity_type.TableType.{TableType}
+use Rattle.smith_data.specs.declared.entity_type.TableType.{TableType}
 use Rattle.smith_config.specs.declared.config.Config.{Config}
 use Rattle.smith_contents.specs.ElementSegments.{KindChoice, is_funcref, is_offered_at, with_unnamed, with_named, table_kinds_at, kept_kinds, element_kinds_at}
 use Rattle.smith_contents.specs.OfferedIndices.{Indices}

@@ -3,9 +3,9 @@ use Rattle.std.proofs.Common.{◌+◌, ◌<◌, ◌^◌, List, arith}
 use Rattle.std.specs.Prelude.{All}
 use Rattle.std.proofs.lemmas.List.Elements.{All-weaker}
 use Rattle.smith_types.specs.Sizes.{value_count}
-use Rattle.smith_types.specs.declared.composite_type.CompositeInnerType.{CompositeInnerType}
-use Rattle.smith_types.specs.declared.composite_type.CompositeInnerType.TheVariants as inners
-use Rattle.smith_types.specs.declared.composite_type.SubType.{SubType}
+use Rattle.smith_data.specs.declared.composite_type.CompositeInnerType.{CompositeInnerType}
+use Rattle.smith_data.specs.declared.composite_type.CompositeInnerType.TheVariants as inners
+use Rattle.smith_data.specs.declared.composite_type.SubType.{SubType}
 use Rattle.smith_config.specs.Shapes.{most_listed}
 use Rattle.smith_draw.specs.FuncSizes.{HasFewValues, IsInnerWithin, IsSmall, IsSmallInner}
 use Rattle.smith_contents.specs.Exported.{HasSizeIn32Bits}

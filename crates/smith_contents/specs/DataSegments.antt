@@ -10,11 +10,11 @@ use Rattle.smith_bytes.specs.Growth.{grow_at}
 use Rattle.smith_types.specs.Entities.{page_log2, addresses}
 use Rattle.smith_types.specs.Expressions.{Context}
 use Rattle.smith_types.specs.Segments.{address_type}
-use Rattle.smith_types.specs.declared.entity_type.MemoryType.{MemoryType}
-use Rattle.smith_types.specs.declared.segments.DataSegment.{DataSegment}
-use Rattle.smith_types.specs.declared.segments.DataSegmentKind.TheVariants.{Passive, Active}
-use Rattle.smith_types.specs.declared.segments.Offset.{Offset}
-use Rattle.smith_types.specs.declared.segments.Offset.TheVariants.{Const32, Const64, Global}
+use Rattle.smith_data.specs.declared.entity_type.MemoryType.{MemoryType}
+use Rattle.smith_data.specs.declared.segments.DataSegment.{DataSegment}
+use Rattle.smith_data.specs.declared.segments.DataSegmentKind.TheVariants.{Passive, Active}
+use Rattle.smith_data.specs.declared.segments.Offset.{Offset}
+use Rattle.smith_data.specs.declared.segments.Offset.TheVariants.{Const32, Const64, Global}
 use Rattle.smith_config.specs.declared.config.Config.{Config}
 use Rattle.smith_draw.specs.Choices.{chosen_at}
 use Rattle.smith_const_expr.specs.ConstOffers.{offered_if, readable_globals}

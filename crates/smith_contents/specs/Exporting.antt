@@ -13,10 +13,10 @@ use Rattle.smith_bytes.specs.Growth.{goes_at}
 use Rattle.smith_bytes.specs.Names.{text_at, new_name}
 use Rattle.smith_types.specs.Imports.{EntitySpaces}
 use Rattle.smith_types.specs.Sizes.{size_in}
-use Rattle.smith_types.specs.declared.composite_type.SubType.{SubType}
-use Rattle.smith_types.specs.declared.entity_type.EntityType.TheVariants as entity
-use Rattle.smith_types.specs.declared.entity_type.ExportKind.{ExportKind}
-use Rattle.smith_types.specs.declared.entity_type.ExportKind.TheVariants as kind
+use Rattle.smith_data.specs.declared.composite_type.SubType.{SubType}
+use Rattle.smith_data.specs.declared.entity_type.EntityType.TheVariants as entity
+use Rattle.smith_data.specs.declared.entity_type.ExportKind.{ExportKind}
+use Rattle.smith_data.specs.declared.entity_type.ExportKind.TheVariants as kind
 use Rattle.smith_config.specs.declared.config.Config.{Config}
 use Rattle.smith_rules.specs.ExportedItems.{Export, exported_size}
 use Rattle.smith_draw.specs.Choices.{enabled, chosen_at}

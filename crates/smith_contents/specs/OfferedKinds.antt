@@ -2,7 +2,7 @@
 -- project.
 use Rattle.std.specs.Prelude.{ℕ, zero, Bool, true, false, ◌&&◌, Some, None, List, [], ◌∷◌, ◌++◌, map, slice_index_or, if◌then◌else◌}
 use Rattle.smith_types.specs.Flags.{funcref}
-use Rattle.smith_types.specs.declared.entity_type.TableType.{TableType}
+use Rattle.smith_data.specs.declared.entity_type.TableType.{TableType}
 use Rattle.smith_config.specs.declared.config.Config.{Config}
 use Rattle.smith_contents.specs.ElementSegments.{KindChoice, is_funcref, kept_kinds}
 use Rattle.smith_contents.specs.declared.element_kinds.KindChoice.TheVariants as choice

@@ -1,7 +1,7 @@
 -- The number of memories after the step that defines them, and the bytes that no memory takes.
 use Rattle.std.proofs.Common.{◌≡◌, ℕ, ◌≤◌, ◌<◌, true, nat_lt, List, [], ◌++◌, length, refl}
 use Rattle.std.proofs.lemmas.Bool.{ltb-false}
-use Rattle.smith_types.specs.declared.entity_type.MemoryType.{MemoryType}
+use Rattle.smith_data.specs.declared.entity_type.MemoryType.{MemoryType}
 use Rattle.smith_config.specs.declared.config.Config.{Config}
 use Rattle.smith_draw.specs.Memories.{memtype_at}
 use Rattle.smith_bytes.specs.Spelling.{SpellsEmpty}

@@ -11,10 +11,10 @@ use Rattle.smith_bytes.proofs.SpelledLemmas.{takes_by}
 use Rattle.smith_types.specs.Entities.{IsTableValid}
 use Rattle.smith_types.specs.Expressions.{IsConstExpr}
 use Rattle.smith_types.specs.Floats.{HasNoFloat, GivesNoFloat}
-use Rattle.smith_types.specs.declared.const_instr.ConstInstr.{ConstInstr}
-use Rattle.smith_types.specs.declared.entity_type.TableType.{TableType}
-use Rattle.smith_types.specs.declared.value_type.ValType.TheVariants.{Ref}
-use Rattle.smith_types.specs.declared.value_type.RefType.{RefType}
+use Rattle.smith_data.specs.declared.const_instr.ConstInstr.{ConstInstr}
+use Rattle.smith_data.specs.declared.entity_type.TableType.{TableType}
+use Rattle.smith_data.specs.declared.value_type.ValType.TheVariants.{Ref}
+use Rattle.smith_data.specs.declared.value_type.RefType.{RefType}
 use Rattle.smith_validity.proofs.HeldValueLemmas.{all_of_parts}
 use Rattle.smith_config.specs.declared.config.Config.{Config}
 use Rattle.smith_config.specs.Features.{features_of}

@@ -1,7 +1,7 @@
 -- The number of globals after the defined ones are drawn.
 use Rattle.std.proofs.Common.{◌≡◌, ℕ, ◌≤◌, List, subst, ap}
-use Rattle.smith_types.specs.declared.entity_type.GlobalType.{GlobalType}
-use Rattle.smith_types.specs.declared.const_instr.ConstInstr.{ConstInstr}
+use Rattle.smith_data.specs.declared.entity_type.GlobalType.{GlobalType}
+use Rattle.smith_data.specs.declared.const_instr.ConstInstr.{ConstInstr}
 use Rattle.smith_config.specs.declared.config.Config.{Config}
 use Rattle.smith_defined.specs.Definitions.{InitialiserScope, Global, global_at, globals_at}
 use Rattle.smith_defined.specs.Defined.{IsFilled}

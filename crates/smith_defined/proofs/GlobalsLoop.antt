@@ -11,8 +11,8 @@ use Rattle.smith_types.specs.Entities.{IsGlobalValid}
 use Rattle.smith_types.specs.Expressions.{Context, IsConstExpr}
 use Rattle.smith_types.specs.Floats.{HasNoFloat, IsNoFloat, GivesNoFloat}
 use Rattle.smith_types.specs.Grown.{IsContextGrown}
-use Rattle.smith_types.specs.declared.entity_type.GlobalType.{GlobalType}
-use Rattle.smith_types.specs.declared.const_instr.ConstInstr.{ConstInstr}
+use Rattle.smith_data.specs.declared.entity_type.GlobalType.{GlobalType}
+use Rattle.smith_data.specs.declared.const_instr.ConstInstr.{ConstInstr}
 use Rattle.smith_types.proofs.ListLemmas.{slice_get-grown, slice_get-last, slice_get-push}
 use Rattle.smith_types.proofs.ExpressionGrowthLemmas.{IsConstExpr-grown}
 use Rattle.smith_config.specs.declared.config.Config.{Config}

@@ -9,10 +9,10 @@ use Rattle.smith_types.specs.Expressions.{Context, reference_to, function_refere
 use Rattle.smith_types.specs.Grown.{Extends}
 use Rattle.smith_types.specs.Subtyping.{IsValInRange}
 use Rattle.smith_types.specs.Types.{IsOrderly}
-use Rattle.smith_types.specs.declared.value_type.HeapType.TheVariants.{Concrete, Exact}
-use Rattle.smith_types.specs.declared.value_type.ValType.{ValType}
-use Rattle.smith_types.specs.declared.composite_type.SubType.{SubType}
-use Rattle.smith_types.specs.declared.entity_type.GlobalType.{GlobalType}
+use Rattle.smith_data.specs.declared.value_type.HeapType.TheVariants.{Concrete, Exact}
+use Rattle.smith_data.specs.declared.value_type.ValType.{ValType}
+use Rattle.smith_data.specs.declared.composite_type.SubType.{SubType}
+use Rattle.smith_data.specs.declared.entity_type.GlobalType.{GlobalType}
 use Rattle.smith_validity.proofs.ReferredTypeLemmas.{value_in_range}
 use Rattle.smith_draw.specs.Below.{is_val_below}
 use Rattle.smith_const_expr.specs.ConstOffers.{each_from, offered_if, global_offers, function_offers}

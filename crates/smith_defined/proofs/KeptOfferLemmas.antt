@@ -9,9 +9,9 @@ use Rattle.smith_types.specs.Imports.{EntitySpaces}
 use Rattle.smith_types.specs.EntitySpaces.{with_entity}
 use Rattle.smith_types.specs.GroupedTypes.{GroupedTypes}
 use Rattle.smith_types.specs.Types.{IsOrderly}
-use Rattle.smith_types.specs.declared.composite_type.SubType.{SubType}
-use Rattle.smith_types.specs.declared.entity_type.EntityType.{EntityType}
-use Rattle.smith_types.specs.declared.entity_type.GlobalType.{GlobalType}
+use Rattle.smith_data.specs.declared.composite_type.SubType.{SubType}
+use Rattle.smith_data.specs.declared.entity_type.EntityType.{EntityType}
+use Rattle.smith_data.specs.declared.entity_type.GlobalType.{GlobalType}
 use Rattle.smith_config.specs.declared.config.Config.{Config}
 use Rattle.smith_config.specs.Features.{features_of}
 use Rattle.smith_const_expr.specs.KeptOffers.{AreItemsRead, AreKeptOffers, IsEntry}

@@ -8,10 +8,10 @@ use Rattle.smith_bytes.specs.Growth.{grow_at}
 use Rattle.smith_bytes.specs.Spelling.{Listed}
 use Rattle.smith_bytes.specs.Takes.{Takes}
 use Rattle.smith_bytes.proofs.SpelledLemmas.{joined_parts, bool_read, takes_by}
-use Rattle.smith_types.specs.declared.entity_type.GlobalType.{GlobalType}
-use Rattle.smith_types.specs.declared.const_instr.ConstInstr.{ConstInstr}
-use Rattle.smith_types.specs.declared.const_instr.ConstInstr.TheVariants.{I32Const}
-use Rattle.smith_types.specs.declared.value_type.ValType.TheVariants.{I32}
+use Rattle.smith_data.specs.declared.entity_type.GlobalType.{GlobalType}
+use Rattle.smith_data.specs.declared.const_instr.ConstInstr.{ConstInstr}
+use Rattle.smith_data.specs.declared.const_instr.ConstInstr.TheVariants.{I32Const}
+use Rattle.smith_data.specs.declared.value_type.ValType.TheVariants.{I32}
 use Rattle.smith_config.specs.declared.config.Config.{Config}
 use Rattle.smith_types.specs.Expressions.{Context}
 use Rattle.smith_draw.specs.GlobalTypes.{global_type_at}

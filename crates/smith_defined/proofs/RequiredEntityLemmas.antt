@@ -5,14 +5,14 @@ use Rattle.smith_bytes.specs.declared.error.Error.{Error}
 use Rattle.smith_bytes.specs.declared.error.Error.TheVariants.{Memory, EmptyChoose}
 use Rattle.smith_types.specs.Expressions.{Context}
 use Rattle.smith_types.specs.Imports.{EntitySpaces}
-use Rattle.smith_types.specs.declared.composite_type.SubType.{SubType}
-use Rattle.smith_types.specs.declared.const_instr.ConstInstr.{ConstInstr}
-use Rattle.smith_types.specs.declared.entity_type.EntityType.{EntityType}
-use Rattle.smith_types.specs.declared.entity_type.EntityType.TheVariants as entity
-use Rattle.smith_types.specs.declared.entity_type.GlobalType.{GlobalType}
-use Rattle.smith_types.specs.declared.entity_type.TableType.{TableType}
-use Rattle.smith_types.specs.declared.value_type.ValType.{ValType}
-use Rattle.smith_types.specs.declared.value_type.ValType.TheVariants.{Ref}
+use Rattle.smith_data.specs.declared.composite_type.SubType.{SubType}
+use Rattle.smith_data.specs.declared.const_instr.ConstInstr.{ConstInstr}
+use Rattle.smith_data.specs.declared.entity_type.EntityType.{EntityType}
+use Rattle.smith_data.specs.declared.entity_type.EntityType.TheVariants as entity
+use Rattle.smith_data.specs.declared.entity_type.GlobalType.{GlobalType}
+use Rattle.smith_data.specs.declared.entity_type.TableType.{TableType}
+use Rattle.smith_data.specs.declared.value_type.ValType.{ValType}
+use Rattle.smith_data.specs.declared.value_type.ValType.TheVariants.{Ref}
 use Rattle.smith_config.specs.declared.config.Config.{Config}
 use Rattle.smith_const_expr.specs.ConstBounds.{MayRefuseConstExpr}
 use Rattle.smith_const_expr.specs.ConstExprs.{const_expr_at, table_init_at}

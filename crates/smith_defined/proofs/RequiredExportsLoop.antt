@@ -17,9 +17,9 @@ use Rattle.smith_types.specs.Expressions.{Context}
 use Rattle.smith_types.specs.Grown.{Extends, AreSpacesGrown}
 use Rattle.smith_types.specs.Imports.{EntitySpaces}
 use Rattle.smith_types.specs.GroupedTypes.{GroupedTypes}
-use Rattle.smith_types.specs.declared.composite_type.SubType.{SubType}
-use Rattle.smith_types.specs.declared.entity_type.EntityType.{EntityType}
-use Rattle.smith_types.specs.declared.entity_type.EntityType.TheVariants as entity
+use Rattle.smith_data.specs.declared.composite_type.SubType.{SubType}
+use Rattle.smith_data.specs.declared.entity_type.EntityType.{EntityType}
+use Rattle.smith_data.specs.declared.entity_type.EntityType.TheVariants as entity
 use Rattle.smith_types.proofs.ExportGrowthLemmas.{IsEntityAt-grown}
 use Rattle.smith_types.proofs.ListLemmas.{slice_get-grown, AllZip-weaker}
 use Rattle.smith_config.specs.declared.config.Config.{Config}

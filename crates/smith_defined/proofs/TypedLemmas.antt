@@ -10,7 +10,7 @@ use Rattle.smith_bytes.specs.declared.error.Why.{Why}
 use Rattle.smith_bytes.specs.declared.error.Count.TheVariants as counts
 use Rattle.smith_bytes.specs.declared.error.Error.{Error}
 use Rattle.smith_types.specs.Entities.{IsTagValid, IsFuncTypeIndex}
-use Rattle.smith_types.specs.declared.composite_type.SubType.{SubType}
+use Rattle.smith_data.specs.declared.composite_type.SubType.{SubType}
 use Rattle.smith_config.specs.declared.config.Config.{Config}
 use Rattle.smith_draw.specs.Choices.{chosen_at}
 use Rattle.smith_draw.specs.Spelling.{SpellsPlace}

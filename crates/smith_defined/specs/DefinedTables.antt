@@ -3,8 +3,8 @@
 use Rattle.std.specs.Prelude.{◌≡◌, Option, List, ◌++◌, map, All}
 use Rattle.smith_types.specs.Entities.{IsTableValid}
 use Rattle.smith_types.specs.Floats.{HasNoFloat, GivesNoFloat}
-use Rattle.smith_types.specs.declared.const_instr.ConstInstr.{ConstInstr}
-use Rattle.smith_types.specs.declared.entity_type.TableType.{TableType}
+use Rattle.smith_data.specs.declared.const_instr.ConstInstr.{ConstInstr}
+use Rattle.smith_data.specs.declared.entity_type.TableType.{TableType}
 use Rattle.smith_config.specs.declared.config.Config.{Config}
 use Rattle.smith_config.specs.Features.{features_of}
 use Rattle.smith_config.specs.EntityBounds.{IsTableWithin}

@@ -2,8 +2,8 @@
 // functions.
 
 ghost use Rattle.std.specs.Prelude.{◌≡◌, [], ◌∷◌, replicate, true, false, Some};
-ghost use Rattle.smith_types.specs.declared.composite_type.StorageType.TheVariants.{I8, I16};
-ghost use Rattle.smith_types.specs.declared.value_type.ValType.TheVariants.{I64};
+ghost use Rattle.smith_data.specs.declared.composite_type.StorageType.TheVariants.{I8, I16};
+ghost use Rattle.smith_data.specs.declared.value_type.ValType.TheVariants.{I64};
 ghost use Rattle.smith_types.specs.ExampleTypes.{constant, variable, empty_struct, struct, array};
 ghost use Rattle.smith_types.specs.ExampleTypes.{plain_func, open_type, final_type};
 ghost use Rattle.smith_types.specs.ExampleTypes.{struct_and_below};

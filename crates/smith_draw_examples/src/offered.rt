@@ -2,10 +2,10 @@
 // calls these functions.
 
 ghost use Rattle.std.specs.Prelude.{◌≡◌, [], ◌∷◌, true, false, None};
-ghost use Rattle.smith_types.specs.declared.value_type.AbstractHeapType.TheVariants as heap;
-ghost use Rattle.smith_types.specs.declared.value_type.HeapType.TheVariants.{Abstract, Concrete};
-ghost use Rattle.smith_types.specs.declared.value_type.HeapType.TheVariants.{Exact};
-ghost use Rattle.smith_types.specs.declared.composite_type.StorageType.TheVariants.{Val};
+ghost use Rattle.smith_data.specs.declared.value_type.AbstractHeapType.TheVariants as heap;
+ghost use Rattle.smith_data.specs.declared.value_type.HeapType.TheVariants.{Abstract, Concrete};
+ghost use Rattle.smith_data.specs.declared.value_type.HeapType.TheVariants.{Exact};
+ghost use Rattle.smith_data.specs.declared.composite_type.StorageType.TheVariants.{Val};
 ghost use Rattle.smith_types.specs.ExampleTypes.{open_type, plain_func, struct_and_below, plain};
 ghost use Rattle.smith_types.specs.ExampleTypes.{nullable, not_null, anyref, eqref, constant};
 ghost use Rattle.smith_types.specs.ExampleTypes.{variable};

@@ -1,8 +1,8 @@
 -- The modules of examples have few bytes.
 use Rattle.std.proofs.Common.{◌≡◌, ◌≤◌, inl, inr, List, [], ◌∷◌, get_or, length, sym, subst, ap, arith}
 use Rattle.smith_types.specs.ExampleTypes.{final_type, plain_func}
-use Rattle.smith_types.specs.declared.code.Instructions.TheVariants.{Unreachable}
-use Rattle.smith_types.specs.declared.composite_type.SubType.{SubType}
+use Rattle.smith_data.specs.declared.code.Instructions.TheVariants.{Unreachable}
+use Rattle.smith_data.specs.declared.composite_type.SubType.{SubType}
 use Rattle.smith_sections.specs.Types.{IsCompositeType, IsRecGroup, IsSubType, IsValType}
 use Rattle.smith_sections.specs.Instructions.{IsIndex}
 use Rattle.smith_sections.specs.Entities.{IsMemoryType, IsTagType}

@@ -7,7 +7,7 @@ use Rattle.std.proofs.lemmas.List.{length-map}
 use Rattle.smith_binary.specs.Numbers.{IsUnsigned}
 use Rattle.smith_binary.specs.Pieces.{Joined, Each, IsList, IsSection}
 use Rattle.smith_rules.specs.Module.{ModuleParts}
-use Rattle.smith_types.specs.declared.imports.Imports.{Imports}
+use Rattle.smith_data.specs.declared.imports.Imports.{Imports}
 use Rattle.smith_types.specs.Imports.{flattened}
 use Rattle.smith_sections.specs.Types.{IsRecGroup, group_at}
 use Rattle.smith_sections.specs.Instructions.{IsIndex}

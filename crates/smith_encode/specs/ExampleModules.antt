@@ -1,6 +1,6 @@
 -- Modules of examples.
 use Rattle.std.specs.Prelude.{false, None, [], ◌∷◌}
-use Rattle.smith_types.specs.declared.code.Code.{Code}
+use Rattle.smith_data.specs.declared.code.Code.{Code}
 use Rattle.smith_types.specs.ExampleTypes.{final_type, plain_func, range}
 use Rattle.smith_config.specs.Config.{default_config}
 use Rattle.smith_rules.specs.Module.{ModuleParts}

@@ -4,7 +4,7 @@ use Rattle.std.specs.Prelude.{ℕ, List, length}
 use Rattle.std.specs.List.{zip}
 use Rattle.smith_binary.specs.Numbers.{IsUnsigned}
 use Rattle.smith_binary.specs.Pieces.{Joined, IsList}
-use Rattle.smith_types.specs.declared.code.Code.{Code}
+use Rattle.smith_data.specs.declared.code.Code.{Code}
 use Rattle.smith_rules.specs.Module.{ModuleParts}
 use Rattle.smith_sections.specs.Types.{IsRecGroup}
 use Rattle.smith_sections.specs.Instructions.{IsIndex}

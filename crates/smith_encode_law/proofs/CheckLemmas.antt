@@ -5,7 +5,7 @@ use Rattle.smith_binary.specs.Pieces.{Joined}
 use Rattle.smith_binary.proofs.NumberLemmas.{positive_last}
 use Rattle.smith_binary.proofs.ShortestLemmas.{shortest_spelled}
 use Rattle.smith_sections.specs.Codes.{index_bytes, check_bytes, checks_bytes, body_bytes}
-use Rattle.smith_types.specs.declared.code.Instructions.TheVariants.{Unreachable}
+use Rattle.smith_data.specs.declared.code.Instructions.TheVariants.{Unreachable}
 use Rattle.smith_encode_law.specs.Checks.{IsGlobalGet, IsGlobalSet, IsTrapIf, IsOne, IsCheck, IsChecks, IsChecked}
 
 pub both : {A B : List ℕ → Type 0} (one other : List ℕ) → A one → B other → Joined A B (one ++ other)

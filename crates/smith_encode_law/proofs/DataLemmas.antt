@@ -3,7 +3,7 @@ use Rattle.std.proofs.Common.{◌≡◌, ℕ, List, ◌++◌, refl, sym, subst, 
 use Rattle.smith_binary.specs.Pieces.{IsByte, IsList}
 use Rattle.smith_binary.specs.Unambiguous.{Same, IsUnambiguous}
 use Rattle.smith_binary.proofs.UnambiguousLemmas.{unsigned_is_unambiguous, byte_is_unambiguous, list_is_unambiguous, first_same, joined_same}
-use Rattle.smith_types.specs.declared.const_instr.ConstInstr.{ConstInstr}
+use Rattle.smith_data.specs.declared.const_instr.ConstInstr.{ConstInstr}
 use Rattle.smith_sections.specs.Data.{Data, DataMode, DataForm, data_number, IsInDataForm, IsData}
 use Rattle.smith_sections.specs.Data.DataForm.{first_memory, no_memory, named_memory}
 use Rattle.smith_encode_law.proofs.InstructionLemmas.{expression_is_unambiguous}

@@ -3,8 +3,8 @@ use Rattle.std.proofs.Common.{◌≡◌, ℕ, List, ◌++◌, true, false, refl,
 use Rattle.std.specs.Prelude.{◌==◌, if◌then◌else◌}
 use Rattle.smith_binary.specs.Unambiguous.{Same, IsUnambiguous}
 use Rattle.smith_binary.proofs.UnambiguousLemmas.{unsigned_is_unambiguous, byte_is_unambiguous, list_is_unambiguous, first_same, joined_same}
-use Rattle.smith_types.specs.declared.value_type.RefType.{RefType}
-use Rattle.smith_types.specs.declared.const_instr.ConstInstr.{ConstInstr}
+use Rattle.smith_data.specs.declared.value_type.RefType.{RefType}
+use Rattle.smith_data.specs.declared.const_instr.ConstInstr.{ConstInstr}
 use Rattle.smith_sections.specs.Elements.{passive, declared, active, Elem, func_ref, func_items, Form, first_funcs, passive_funcs, table_funcs, declared_funcs, first_items, passive_items, table_items, declared_items, form_number, IsItems, IsKindFuncs, IsInForm, IsElem}
 use Rattle.smith_encode_law.proofs.TypeLemmas.{ref_is_unambiguous}
 use Rattle.smith_encode_law.proofs.InstructionLemmas.{expression_is_unambiguous}

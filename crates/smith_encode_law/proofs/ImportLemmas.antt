@@ -3,10 +3,10 @@ use Rattle.std.proofs.Common.{◌≡◌, ℕ, ◌≤◌, List, [], ◌++◌, ref
 use Rattle.smith_binary.specs.Pieces.{Joined, IsList, IsName}
 use Rattle.smith_binary.specs.Unambiguous.{Same, IsUnambiguous, IsUnambiguousWhole}
 use Rattle.smith_binary.proofs.UnambiguousLemmas.{byte_is_unambiguous, name_is_unambiguous, list_is_unambiguous, unambiguous_whole, first_same, joined_same}
-use Rattle.smith_types.specs.declared.entity_type.EntityType.{EntityType}
-use Rattle.smith_types.specs.declared.imports.Import.{Import}
-use Rattle.smith_types.specs.declared.imports.Imports.{Imports}
-use Rattle.smith_types.specs.declared.imports.Imports.TheVariants.{Single, Compact1, Compact2}
+use Rattle.smith_data.specs.declared.entity_type.EntityType.{EntityType}
+use Rattle.smith_data.specs.declared.imports.Import.{Import}
+use Rattle.smith_data.specs.declared.imports.Imports.{Imports}
+use Rattle.smith_data.specs.declared.imports.Imports.TheVariants.{Single, Compact1, Compact2}
 use Rattle.smith_types.specs.Imports.{flattened}
 use Rattle.smith_sections.specs.Entities.{IsExternType}
 use Rattle.smith_sections.specs.Imports.{IsImport, IsImportItem, IsGroupHead, IsImportGroup, IsImports}

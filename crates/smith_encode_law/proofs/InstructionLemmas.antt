@@ -5,8 +5,8 @@ use Rattle.std.proofs.lemmas.Bool.{false≢true}
 use Rattle.smith_binary.specs.Pieces.{IsByte, Joined, Each}
 use Rattle.smith_binary.specs.Unambiguous.{Same, IsUnambiguous}
 use Rattle.smith_binary.proofs.UnambiguousLemmas.{unsigned_is_unambiguous, signed_is_unambiguous, digits_is_unambiguous, vector_is_unambiguous, byte_is_unambiguous, first_same, joined_same, same_head, same_tail}
-use Rattle.smith_types.specs.declared.const_instr.ConstInstr.{ConstInstr}
-use Rattle.smith_types.specs.declared.const_instr.ConstInstr.TheVariants as instr
+use Rattle.smith_data.specs.declared.const_instr.ConstInstr.{ConstInstr}
+use Rattle.smith_data.specs.declared.const_instr.ConstInstr.TheVariants as instr
 use Rattle.smith_sections.specs.Instructions.{IsPrefixed, IsInstr, IsExpression}
 use Rattle.smith_encode_law.proofs.HeadLemmas.{Begins}
 use Rattle.smith_encode_law.proofs.TypeLemmas.{heap_is_unambiguous, one_byte}

@@ -3,31 +3,31 @@ use Rattle.std.proofs.Common.{◌≡◌, ℕ, Bool, true, false, cond, Some, Non
 use Rattle.std.specs.Prelude.{All, nat_le}
 use Rattle.std.proofs.lemmas.List.Elements.{All-map, All-weaker}
 use Rattle.smith_types.specs.Expressions.{Context, HasType, IsConstExpr, reference_to, function_reference}
-use Rattle.smith_types.specs.Features.{Features}
+use Rattle.smith_data.specs.Features.{Features}
 use Rattle.smith_types.specs.Flags.{funcref}
 use Rattle.smith_types.specs.Segments.{address_type, IsOffsetValid, IsItem, AreItemsValid, IsActiveElementSegment, IsElementKindValid, IsElementSegmentValid, IsDataKindValid, IsDataValid}
 use Rattle.smith_types.specs.Subtyping.{itself, IsInRange, IsRefBelow, IsValBelow}
 use Rattle.smith_types.specs.ValidTypes.{IsHeapTypeValid}
-use Rattle.smith_types.specs.declared.composite_type.SubType.{SubType}
-use Rattle.smith_types.specs.declared.const_instr.ConstInstr.{ConstInstr}
-use Rattle.smith_types.specs.declared.const_instr.ConstInstr.TheVariants.{I32Const, I64Const, GlobalGet, RefFunc}
-use Rattle.smith_types.specs.declared.entity_type.MemoryType.{MemoryType}
-use Rattle.smith_types.specs.declared.entity_type.TableType.{TableType}
-use Rattle.smith_types.specs.declared.segments.DataSegment.{DataSegment}
-use Rattle.smith_types.specs.declared.segments.DataSegmentKind.{DataSegmentKind}
-use Rattle.smith_types.specs.declared.segments.DataSegmentKind.TheVariants as data_kind
-use Rattle.smith_types.specs.declared.segments.Elements.{Elements}
-use Rattle.smith_types.specs.declared.segments.Elements.TheVariants.{Functions, Expressions}
-use Rattle.smith_types.specs.declared.segments.ElementKind.{ElementKind}
-use Rattle.smith_types.specs.declared.segments.ElementKind.TheVariants as kind
-use Rattle.smith_types.specs.declared.segments.ElementSegment.{ElementSegment}
-use Rattle.smith_types.specs.declared.segments.Offset.{Offset}
-use Rattle.smith_types.specs.declared.segments.Offset.TheVariants.{Const32, Const64, Global}
-use Rattle.smith_types.specs.declared.value_type.HeapType.{HeapType}
-use Rattle.smith_types.specs.declared.value_type.HeapType.TheVariants.{Abstract, Concrete, Exact}
-use Rattle.smith_types.specs.declared.value_type.RefType.{RefType}
-use Rattle.smith_types.specs.declared.value_type.ValType.{ValType}
-use Rattle.smith_types.specs.declared.value_type.ValType.TheVariants.{I32, I64, Ref}
+use Rattle.smith_data.specs.declared.composite_type.SubType.{SubType}
+use Rattle.smith_data.specs.declared.const_instr.ConstInstr.{ConstInstr}
+use Rattle.smith_data.specs.declared.const_instr.ConstInstr.TheVariants.{I32Const, I64Const, GlobalGet, RefFunc}
+use Rattle.smith_data.specs.declared.entity_type.MemoryType.{MemoryType}
+use Rattle.smith_data.specs.declared.entity_type.TableType.{TableType}
+use Rattle.smith_data.specs.declared.segments.DataSegment.{DataSegment}
+use Rattle.smith_data.specs.declared.segments.DataSegmentKind.{DataSegmentKind}
+use Rattle.smith_data.specs.declared.segments.DataSegmentKind.TheVariants as data_kind
+use Rattle.smith_data.specs.declared.segments.Elements.{Elements}
+use Rattle.smith_data.specs.declared.segments.Elements.TheVariants.{Functions, Expressions}
+use Rattle.smith_data.specs.declared.segments.ElementKind.{ElementKind}
+use Rattle.smith_data.specs.declared.segments.ElementKind.TheVariants as kind
+use Rattle.smith_data.specs.declared.segments.ElementSegment.{ElementSegment}
+use Rattle.smith_data.specs.declared.segments.Offset.{Offset}
+use Rattle.smith_data.specs.declared.segments.Offset.TheVariants.{Const32, Const64, Global}
+use Rattle.smith_data.specs.declared.value_type.HeapType.{HeapType}
+use Rattle.smith_data.specs.declared.value_type.HeapType.TheVariants.{Abstract, Concrete, Exact}
+use Rattle.smith_data.specs.declared.value_type.RefType.{RefType}
+use Rattle.smith_data.specs.declared.value_type.ValType.{ValType}
+use Rattle.smith_data.specs.declared.value_type.ValType.TheVariants.{I32, I64, Ref}
 use Rattle.smith_types.proofs.ConstStepLemmas.{one_step}
 use Rattle.smith_types.proofs.GrowthLemmas.{IsRefBelow-trans}
 use Rattle.smith_sections.specs.Elements.{func_ref, elem_type, elem_items, elem_mode, elem_of}

@@ -6,20 +6,20 @@ use Rattle.smith_binary.specs.Numbers.{IsUnsigned, IsSigned}
 use Rattle.smith_binary.specs.Pieces.{Is, IsByte, Joined, IsList}
 use Rattle.smith_binary.specs.Unambiguous.{Same, IsUnambiguous}
 use Rattle.smith_binary.proofs.UnambiguousLemmas.{unsigned_is_unambiguous, signed_is_unambiguous, byte_is_unambiguous, first_same, joined_same, list_is_unambiguous, same_head}
-use Rattle.smith_types.specs.declared.value_type.AbstractHeapType.{AbstractHeapType}
-use Rattle.smith_types.specs.declared.value_type.AbstractHeapType.TheVariants as abstract
-use Rattle.smith_types.specs.declared.value_type.HeapType.{HeapType}
-use Rattle.smith_types.specs.declared.value_type.HeapType.TheVariants.{Abstract, Concrete, Exact}
-use Rattle.smith_types.specs.declared.value_type.RefType.{RefType}
-use Rattle.smith_types.specs.declared.value_type.ValType.{ValType}
-use Rattle.smith_types.specs.declared.value_type.ValType.TheVariants.{I32, I64, F32, F64, V128, Ref}
-use Rattle.smith_types.specs.declared.composite_type.StorageType.{StorageType}
-use Rattle.smith_types.specs.declared.composite_type.StorageType.TheVariants as storage
-use Rattle.smith_types.specs.declared.composite_type.FieldType.{FieldType}
-use Rattle.smith_types.specs.declared.composite_type.CompositeInnerType.{CompositeInnerType}
-use Rattle.smith_types.specs.declared.composite_type.CompositeInnerType.TheVariants as inner
-use Rattle.smith_types.specs.declared.composite_type.CompositeType.{CompositeType}
-use Rattle.smith_types.specs.declared.composite_type.SubType.{SubType}
+use Rattle.smith_data.specs.declared.value_type.AbstractHeapType.{AbstractHeapType}
+use Rattle.smith_data.specs.declared.value_type.AbstractHeapType.TheVariants as abstract
+use Rattle.smith_data.specs.declared.value_type.HeapType.{HeapType}
+use Rattle.smith_data.specs.declared.value_type.HeapType.TheVariants.{Abstract, Concrete, Exact}
+use Rattle.smith_data.specs.declared.value_type.RefType.{RefType}
+use Rattle.smith_data.specs.declared.value_type.ValType.{ValType}
+use Rattle.smith_data.specs.declared.value_type.ValType.TheVariants.{I32, I64, F32, F64, V128, Ref}
+use Rattle.smith_data.specs.declared.composite_type.StorageType.{StorageType}
+use Rattle.smith_data.specs.declared.composite_type.StorageType.TheVariants as storage
+use Rattle.smith_data.specs.declared.composite_type.FieldType.{FieldType}
+use Rattle.smith_data.specs.declared.composite_type.CompositeInnerType.{CompositeInnerType}
+use Rattle.smith_data.specs.declared.composite_type.CompositeInnerType.TheVariants as inner
+use Rattle.smith_data.specs.declared.composite_type.CompositeType.{CompositeType}
+use Rattle.smith_data.specs.declared.composite_type.SubType.{SubType}
 use Rattle.smith_sections.specs.Types.{abstract_byte, null_byte, mutability_byte, shared_bytes, final_byte, IsHeapType, IsAbstractAlone, IsRefType, IsValType, IsStorageType, IsFieldType, IsFuncType, IsInnerType, IsCompositeType, IsSubType, IsRecGroup}
 use Rattle.smith_encode_law.proofs.HeadLemmas.{Begins, byte_begins, joined_begins, begins_as, apart, code_is_unambiguous}
 

@@ -2,12 +2,12 @@ ghost use Rattle.std.specs.Prelude.{◌≡◌, ◌<◌, ◌^◌, ℕ, List, All}
 ghost use Rattle.smith_types.specs.Expressions.{Context};
 ghost use Rattle.smith_types.specs.Segments.{IsElementSegmentValid, IsDataValid};
 ghost use Rattle.smith_types.specs.Subtyping.{IsRefBelow};
-ghost use Rattle.smith_types.specs.declared.code.Instructions.TheVariants.{Unreachable};
-ghost use Rattle.smith_types.specs.declared.composite_type.SubType.{SubType};
-ghost use Rattle.smith_types.specs.declared.entity_type.MemoryType.{MemoryType};
-ghost use Rattle.smith_types.specs.declared.entity_type.TableType.{TableType};
-ghost use Rattle.smith_types.specs.declared.segments.DataSegment.{DataSegment};
-ghost use Rattle.smith_types.specs.declared.segments.ElementSegment.{ElementSegment};
+ghost use Rattle.smith_data.specs.declared.code.Instructions.TheVariants.{Unreachable};
+ghost use Rattle.smith_data.specs.declared.composite_type.SubType.{SubType};
+ghost use Rattle.smith_data.specs.declared.entity_type.MemoryType.{MemoryType};
+ghost use Rattle.smith_data.specs.declared.entity_type.TableType.{TableType};
+ghost use Rattle.smith_data.specs.declared.segments.DataSegment.{DataSegment};
+ghost use Rattle.smith_data.specs.declared.segments.ElementSegment.{ElementSegment};
 ghost use Rattle.smith_sections.specs.Codes.{body_bytes};
 ghost use Rattle.smith_sections.specs.Data.{data_of};
 ghost use Rattle.smith_sections.specs.Elements.{elem_of};

@@ -1,7 +1,7 @@
 -- What a value makes of a configuration, as the value of one of its fields. Rules of this project.
 use Rattle.std.specs.Prelude.{◌≡◌, List, drop, Option, Some, None, Result, Ok, Err}
 use Rattle.json.specs.Token.{Token, begin_array, null}
-use Rattle.smith_types.specs.declared.instruction_kind.InstructionKinds.{InstructionKinds}
+use Rattle.smith_data.specs.declared.instruction_kind.InstructionKinds.{InstructionKinds}
 use Rattle.smith_config.specs.declared.config.Config.{Config}
 use Rattle.smith_config.specs.declared.offset_choices.MemoryOffsetChoices.{MemoryOffsetChoices}
 use Rattle.smith_fields.specs.declared.fault.Fault.{Fault}

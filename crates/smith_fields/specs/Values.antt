@@ -4,9 +4,9 @@ use Rattle.std.specs.List.{list_all}
 use Rattle.std.specs.Char.{is_ascii_digit}
 use Rattle.std.specs.Str.Parse.{digits_value}
 use Rattle.json.specs.Token.{Token, begin_object, end_object, begin_array, end_array, key, string, number, boolean, null, bad}
-use Rattle.smith_types.specs.Instructions.{kinds_bits, AreReadKinds}
-use Rattle.smith_types.specs.declared.instruction_kind.InstructionKinds.{InstructionKinds}
-use Rattle.smith_types.specs.declared.instruction_kind.UnknownKind.{UnknownKind}
+use Rattle.smith_data.specs.Instructions.{kinds_bits, AreReadKinds}
+use Rattle.smith_data.specs.declared.instruction_kind.InstructionKinds.{InstructionKinds}
+use Rattle.smith_data.specs.declared.instruction_kind.UnknownKind.{UnknownKind}
 use Rattle.smith_config.specs.declared.offset_choices.MemoryOffsetChoices.{MemoryOffsetChoices}
 use Rattle.smith_fields.specs.declared.fault.Fault.{Fault}
 use Rattle.smith_fields.specs.declared.fault.Fault.TheVariants.{NotAnObject, WrongType, OutOfRange}

@@ -8,12 +8,12 @@ use Rattle.std.proofs.lemmas.List.{map-append, take_more}
 use Rattle.std.proofs.lemmas.List.Elements.{All-nil, All-cons}
 use Rattle.smith_bytes.specs.declared.error.Which.TheVariants.{ModuleShape}
 use Rattle.smith_types.specs.Entities.{IsTagValid, IsFuncTypeIndex, IsTableValid, IsMemoryValid, IsGlobalValid, AreEntitiesValid, AreCountsEnabled}
-use Rattle.smith_types.specs.Features.{Features}
+use Rattle.smith_data.specs.Features.{Features}
 use Rattle.smith_types.specs.Flags.{IsImportsEnabled}
 use Rattle.smith_types.specs.Imports.{IsImportsValid, imports_of, flattened, imported_spaces}
-use Rattle.smith_types.specs.declared.imports.Import.{Import}
-use Rattle.smith_types.specs.declared.imports.Imports.{Imports}
-use Rattle.smith_types.specs.declared.imports.Imports.TheVariants.{Single, Compact1, Compact2}
+use Rattle.smith_data.specs.declared.imports.Import.{Import}
+use Rattle.smith_data.specs.declared.imports.Imports.{Imports}
+use Rattle.smith_data.specs.declared.imports.Imports.TheVariants.{Single, Compact1, Compact2}
 use Rattle.smith_validity.proofs.HeldValueLemmas.{all_apart}
 use Rattle.smith_config.specs.declared.config.Config.{Config}
 use Rattle.smith_config.specs.declared.shape.Shape.{Shape}

@@ -1,8 +1,8 @@
 ghost use Rattle.std.specs.Prelude.{◌≡◌, ◌<◌, ◌^◌, ◌++◌, map, length, IfOk, IfErr, OnOk};
 ghost use Rattle.smith_bytes.specs.declared.error.Which.TheVariants.{ModuleShape};
 ghost use Rattle.smith_types.specs.Imports.{flattened, imports_of, import_of};
-ghost use Rattle.smith_types.specs.declared.imports.ImportItem.{ImportItem as Item};
-ghost use Rattle.smith_types.specs.declared.imports.Imports.TheVariants.{Single};
+ghost use Rattle.smith_data.specs.declared.imports.ImportItem.{ImportItem as Item};
+ghost use Rattle.smith_data.specs.declared.imports.Imports.TheVariants.{Single};
 ghost use Rattle.smith_config.specs.Shapes.{IsShapeValid};
 ghost use Rattle.smith_given_imports.specs.KeptImports.{kept_of, AreKept};
 ghost use Rattle.smith_rules.specs.ShapeImports.{kept_groups};

@@ -13,7 +13,7 @@ use Rattle.std.proofs.lemmas.List.Folds.{list_any-append}
 use Rattle.std.proofs.lemmas.List.Sorted.{list_any-IsPermutation}
 use Rattle.smith_bytes.specs.Names.{text_at, with_copies, new_name, IsNewName}
 use Rattle.smith_bytes.proofs.NewNameLemmas.{new_name_is, new_by}
-use Rattle.smith_types.specs.declared.imports.Import.{Import}
+use Rattle.smith_data.specs.declared.imports.Import.{Import}
 use Rattle.smith_imports.specs.ImportNames.{has_names, is_taken, longest_name, import_name_at, is_pair, has_pair, HasPairs, AddsPair}
 
 -- the length of the longest name of a pair

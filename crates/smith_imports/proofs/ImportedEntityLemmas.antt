@@ -7,14 +7,14 @@ use Rattle.std.proofs.lemmas.List.Elements.{All-nil, All-cons, All-from_recursio
 use Rattle.smith_types.specs.Entities.{IsTagValid, IsFuncTypeIndex, IsTableValid, IsMemoryValid, IsGlobalValid}
 use Rattle.smith_types.specs.Imports.{EntitySpaces, table_of, global_of}
 use Rattle.smith_types.specs.GroupedTypes.{GroupedTypes}
-use Rattle.smith_types.specs.declared.composite_type.SubType.{SubType}
-use Rattle.smith_types.specs.declared.entity_type.EntityType.{EntityType}
-use Rattle.smith_types.specs.declared.entity_type.EntityType.TheVariants as entity
-use Rattle.smith_types.specs.declared.entity_type.ExportKind.{ExportKind}
-use Rattle.smith_types.specs.declared.entity_type.ExportKind.TheVariants as kind
-use Rattle.smith_types.specs.declared.entity_type.GlobalType.{GlobalType}
-use Rattle.smith_types.specs.declared.entity_type.MemoryType.{MemoryType}
-use Rattle.smith_types.specs.declared.entity_type.TableType.{TableType}
+use Rattle.smith_data.specs.declared.composite_type.SubType.{SubType}
+use Rattle.smith_data.specs.declared.entity_type.EntityType.{EntityType}
+use Rattle.smith_data.specs.declared.entity_type.EntityType.TheVariants as entity
+use Rattle.smith_data.specs.declared.entity_type.ExportKind.{ExportKind}
+use Rattle.smith_data.specs.declared.entity_type.ExportKind.TheVariants as kind
+use Rattle.smith_data.specs.declared.entity_type.GlobalType.{GlobalType}
+use Rattle.smith_data.specs.declared.entity_type.MemoryType.{MemoryType}
+use Rattle.smith_data.specs.declared.entity_type.TableType.{TableType}
 use Rattle.smith_config.specs.declared.config.Config.{Config}
 use Rattle.smith_config.specs.Features.{features_of}
 use Rattle.smith_config.specs.EntityBounds.{IsTableWithin, IsMemoryWithin}

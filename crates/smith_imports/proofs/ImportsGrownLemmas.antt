@@ -12,26 +12,26 @@ use Rattle.std.proofs.lemmas.Map.Keys.{any_passes_from_place}
 use Rattle.std.proofs.lemmas.Slice.Eq.{bytes_eq-Decides}
 use Rattle.smith_types.specs.Entities.{AreEntitiesValid, IsTagValid, IsFuncTypeIndex, IsTableValid, IsMemoryValid, IsGlobalValid}
 use Rattle.smith_types.specs.Exports.{entity_kind}
-use Rattle.smith_types.specs.Features.{Features}
+use Rattle.smith_data.specs.Features.{Features}
 use Rattle.smith_types.specs.Grown.{AreImportsGrown}
 use Rattle.smith_types.specs.Expressions.{Context}
-use Rattle.smith_types.specs.declared.entity_type.GlobalType.{GlobalType}
-use Rattle.smith_types.specs.declared.entity_type.TableType.{TableType}
-use Rattle.smith_types.specs.declared.value_type.ValType.{ValType}
-use Rattle.smith_types.specs.declared.value_type.ValType.TheVariants as vals
+use Rattle.smith_data.specs.declared.entity_type.GlobalType.{GlobalType}
+use Rattle.smith_data.specs.declared.entity_type.TableType.{TableType}
+use Rattle.smith_data.specs.declared.value_type.ValType.{ValType}
+use Rattle.smith_data.specs.declared.value_type.ValType.TheVariants as vals
 use Rattle.smith_types.proofs.GroundGrowthLemmas.{imports_grounded}
 use Rattle.smith_types.specs.Imports.{IsImportsValid, flattened, EntitySpaces, import_of, imports_of, imported, imported_spaces, tag_of, func_of, table_of, memory_of, global_of, entity_spaces}
 use Rattle.smith_types.specs.EntitySpaces.{with_entity}
 use Rattle.smith_types.specs.Sizes.{size_in}
-use Rattle.smith_types.specs.declared.composite_type.SubType.{SubType}
-use Rattle.smith_types.specs.declared.entity_type.EntityType.{EntityType}
-use Rattle.smith_types.specs.declared.entity_type.EntityType.TheVariants as entity
-use Rattle.smith_types.specs.declared.entity_type.ExportKind.{ExportKind}
-use Rattle.smith_types.specs.declared.entity_type.ExportKind.TheVariants as kind
-use Rattle.smith_types.specs.declared.imports.Import.{Import}
-use Rattle.smith_types.specs.declared.imports.ImportItem.{ImportItem}
-use Rattle.smith_types.specs.declared.imports.Imports.{Imports}
-use Rattle.smith_types.specs.declared.imports.Imports.TheVariants.{Single, Compact1, Compact2}
+use Rattle.smith_data.specs.declared.composite_type.SubType.{SubType}
+use Rattle.smith_data.specs.declared.entity_type.EntityType.{EntityType}
+use Rattle.smith_data.specs.declared.entity_type.EntityType.TheVariants as entity
+use Rattle.smith_data.specs.declared.entity_type.ExportKind.{ExportKind}
+use Rattle.smith_data.specs.declared.entity_type.ExportKind.TheVariants as kind
+use Rattle.smith_data.specs.declared.imports.Import.{Import}
+use Rattle.smith_data.specs.declared.imports.ImportItem.{ImportItem}
+use Rattle.smith_data.specs.declared.imports.Imports.{Imports}
+use Rattle.smith_data.specs.declared.imports.Imports.TheVariants.{Single, Compact1, Compact2}
 use Rattle.smith_types.proofs.ListLemmas.{mapped_at}
 use Rattle.smith_config.specs.declared.config.Config.{Config}
 use Rattle.smith_config.specs.Features.{features_of}

@@ -2,7 +2,7 @@
 -- Specification 3.0.
 use Rattle.std.specs.Prelude.{ℕ, List}
 use Rattle.smith_binary.specs.Pieces.{Joined, IsSized}
-use Rattle.smith_types.specs.declared.value_type.ValType.{ValType}
+use Rattle.smith_data.specs.declared.value_type.ValType.{ValType}
 use Rattle.smith_sections.specs.Codes.{IsLocals, IsLocalsWritten}
 use Rattle.smith_instr.specs.declared.instr.Instr.{Instr}
 use Rattle.smith_instr_binary.specs.Instructions.{IsExpr}

@@ -1,6 +1,6 @@
 -- Instructions and bodies that the binary format cannot express.
 use Rattle.std.specs.Prelude.{◌^◌, ◌≤◌, ◌⊎◌, List, Any}
-use Rattle.smith_types.specs.declared.value_type.ValType.{ValType}
+use Rattle.smith_data.specs.declared.value_type.ValType.{ValType}
 use Rattle.smith_sections.specs.Long.{IsLongContent, IsLongList, IsNeverLong}
 use Rattle.smith_instr.specs.declared.instr.Instr.{Instr}
 use Rattle.smith_instr.specs.declared.instr.Instr.TheVariants as instr

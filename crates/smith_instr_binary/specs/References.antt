@@ -2,7 +2,7 @@
 -- Instructions and Table Instructions, of the WebAssembly Core Specification 3.0.
 use Rattle.std.specs.Prelude.{ℕ, ◌+◌, Bool, true, false, List}
 use Rattle.smith_binary.specs.Pieces.{IsByte, Joined}
-use Rattle.smith_types.specs.declared.value_type.RefType.{RefType}
+use Rattle.smith_data.specs.declared.value_type.RefType.{RefType}
 use Rattle.smith_sections.specs.Types.{IsHeapType}
 use Rattle.smith_sections.specs.Instructions.{IsIndex, IsPrefixed}
 use Rattle.smith_instr.specs.declared.reference.ReferenceInstr.{ReferenceInstr}

@@ -4,9 +4,9 @@ use Rattle.std.specs.Prelude.{pos, ◌==◌, if◌then◌else◌}
 use Rattle.smith_binary.specs.Pieces.{IsByte, Joined, IsList}
 use Rattle.smith_binary.specs.Unambiguous.{Same, IsUnambiguous}
 use Rattle.smith_binary.proofs.UnambiguousLemmas.{unsigned_is_unambiguous, signed_is_unambiguous, byte_is_unambiguous, first_same, joined_same, list_is_unambiguous, same_front}
-use Rattle.smith_types.specs.declared.value_type.HeapType.{HeapType}
-use Rattle.smith_types.specs.declared.value_type.ValType.{ValType}
-use Rattle.smith_types.specs.declared.value_type.ValType.TheVariants.{I32, I64, F32, F64, V128, Ref}
+use Rattle.smith_data.specs.declared.value_type.HeapType.{HeapType}
+use Rattle.smith_data.specs.declared.value_type.ValType.{ValType}
+use Rattle.smith_data.specs.declared.value_type.ValType.TheVariants.{I32, I64, F32, F64, V128, Ref}
 use Rattle.smith_sections.specs.Types.{IsValType}
 use Rattle.smith_encode_law.proofs.HeadLemmas.{Begins, byte_begins, joined_begins, begins_as, apart, code_is_unambiguous}
 use Rattle.smith_encode_law.proofs.TypeLemmas.{heap_is_unambiguous, val_is_unambiguous, val_head, val_begins, positive_begins, one_byte}

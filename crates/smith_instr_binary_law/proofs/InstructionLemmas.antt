@@ -3,7 +3,7 @@ use Rattle.std.proofs.Common.{◌≡◌, ℕ, ◌≤◌, Bool, List, [], ◌∷�
 use Rattle.smith_binary.specs.Pieces.{Joined, Each}
 use Rattle.smith_binary.specs.Unambiguous.{Same, IsUnambiguous, IsUnambiguousWhole}
 use Rattle.smith_binary.proofs.UnambiguousLemmas.{first_same, same_tail, sized_is_unambiguous}
-use Rattle.smith_types.specs.declared.value_type.ValType.{ValType}
+use Rattle.smith_data.specs.declared.value_type.ValType.{ValType}
 use Rattle.smith_encode_law.proofs.HeadLemmas.{joined_begins, begins_as}
 use Rattle.smith_encode_law.proofs.ModuleLemmas.{locals_are_unambiguous}
 use Rattle.smith_instr.specs.declared.instr.Instr.{Instr}

@@ -1,7 +1,7 @@
 -- The tables of the opcodes of a prefix and a number, vectors aside.
 use Rattle.std.proofs.Common.{ℕ, Bool, true, false, List, [], ◌∷◌, ◌++◌}
-use Rattle.smith_types.specs.declared.value_type.HeapType.{HeapType}
-use Rattle.smith_types.specs.declared.value_type.RefType.{RefType}
+use Rattle.smith_data.specs.declared.value_type.HeapType.{HeapType}
+use Rattle.smith_data.specs.declared.value_type.RefType.{RefType}
 use Rattle.smith_numeric_binary.specs.Numeric.{saturating_number, wide_number}
 use Rattle.smith_instr_binary.specs.Atomic.{atomic_number}
 use Rattle.smith_instr_binary_law.proofs.RowLemmas.{rows_of}

@@ -5,8 +5,8 @@ use Rattle.smith_binary.specs.Numbers.{IsSigned, IsLittleEndian, IsVector}
 use Rattle.smith_binary.specs.Pieces.{Is, IsByte, Joined, IsList}
 use Rattle.smith_binary.specs.Unambiguous.{Same}
 use Rattle.smith_binary.proofs.UnambiguousLemmas.{unsigned_is_unambiguous, signed_is_unambiguous, digits_is_unambiguous, vector_is_unambiguous, byte_is_unambiguous, list_is_unambiguous}
-use Rattle.smith_types.specs.declared.value_type.HeapType.{HeapType}
-use Rattle.smith_types.specs.declared.value_type.ValType.{ValType}
+use Rattle.smith_data.specs.declared.value_type.HeapType.{HeapType}
+use Rattle.smith_data.specs.declared.value_type.ValType.{ValType}
 use Rattle.smith_sections.specs.Instructions.{IsIndex}
 use Rattle.smith_sections.specs.Types.{IsHeapType, IsValType}
 use Rattle.smith_encode_law.proofs.TypeLemmas.{heap_is_unambiguous, one_byte}

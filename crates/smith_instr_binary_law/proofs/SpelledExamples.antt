@@ -6,8 +6,8 @@ use Rattle.smith_binary.proofs.NumberLemmas.{unsigned_last, positive_last}
 use Rattle.smith_binary.proofs.UnambiguousLemmas.{unsigned_is_unambiguous}
 use Rattle.smith_binary.proofs.WrittenLemmas.{each_byte}
 use Rattle.smith_types.specs.ExampleTypes.{plain}
-use Rattle.smith_types.specs.declared.const_instr.ConstInstr.TheVariants.{I32Const, RefNull}
-use Rattle.smith_types.specs.declared.value_type.AbstractHeapType.TheVariants as heap
+use Rattle.smith_data.specs.declared.const_instr.ConstInstr.TheVariants.{I32Const, RefNull}
+use Rattle.smith_data.specs.declared.value_type.AbstractHeapType.TheVariants as heap
 use Rattle.smith_sections.specs.Elements.{IsFuncs}
 use Rattle.smith_sections.specs.Instructions.{IsExpression, IsIndex, IsInstr as IsConst, IsPrefixed, offset_of}
 use Rattle.smith_encode_law.proofs.CheckLemmas.{both}

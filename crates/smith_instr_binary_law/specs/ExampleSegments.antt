@@ -2,16 +2,16 @@
 use Rattle.std.specs.Prelude.{List, [], ◌∷◌, pos}
 use Rattle.smith_types.specs.ExampleTypes.{plain}
 use Rattle.smith_types.specs.Flags.{funcref}
-use Rattle.smith_types.specs.declared.const_instr.ConstInstr.{ConstInstr}
-use Rattle.smith_types.specs.declared.const_instr.ConstInstr.TheVariants.{RefNull}
-use Rattle.smith_types.specs.declared.segments.DataSegment.{DataSegment}
-use Rattle.smith_types.specs.declared.segments.DataSegmentKind.{DataSegmentKind}
-use Rattle.smith_types.specs.declared.segments.ElementKind.{ElementKind}
-use Rattle.smith_types.specs.declared.segments.ElementSegment.{ElementSegment}
-use Rattle.smith_types.specs.declared.segments.Elements.TheVariants.{Functions}
-use Rattle.smith_types.specs.declared.segments.Offset.{Offset}
-use Rattle.smith_types.specs.declared.segments.Offset.TheVariants.{Const32}
-use Rattle.smith_types.specs.declared.value_type.AbstractHeapType.TheVariants as heap
+use Rattle.smith_data.specs.declared.const_instr.ConstInstr.{ConstInstr}
+use Rattle.smith_data.specs.declared.const_instr.ConstInstr.TheVariants.{RefNull}
+use Rattle.smith_data.specs.declared.segments.DataSegment.{DataSegment}
+use Rattle.smith_data.specs.declared.segments.DataSegmentKind.{DataSegmentKind}
+use Rattle.smith_data.specs.declared.segments.ElementKind.{ElementKind}
+use Rattle.smith_data.specs.declared.segments.ElementSegment.{ElementSegment}
+use Rattle.smith_data.specs.declared.segments.Elements.TheVariants.{Functions}
+use Rattle.smith_data.specs.declared.segments.Offset.{Offset}
+use Rattle.smith_data.specs.declared.segments.Offset.TheVariants.{Const32}
+use Rattle.smith_data.specs.declared.value_type.AbstractHeapType.TheVariants as heap
 
 -- the offset of the start of a table or a memory
 abbrev pub start : Offset

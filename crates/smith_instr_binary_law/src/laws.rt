@@ -1,6 +1,6 @@
 ghost use Rattle.std.specs.Prelude.{◌≡◌, [], ◌++◌, ℕ, List};
 ghost use Rattle.smith_binary.specs.Unambiguous.{IsUnambiguous, Same};
-ghost use Rattle.smith_types.specs.declared.value_type.ValType.{ValType};
+ghost use Rattle.smith_data.specs.declared.value_type.ValType.{ValType};
 ghost use Rattle.smith_instr.specs.Contexts.{BodyContext};
 ghost use Rattle.smith_instr.specs.Sequences.{IsBodyTyped};
 ghost use Rattle.smith_instr.specs.declared.instr.Instr.{Instr};

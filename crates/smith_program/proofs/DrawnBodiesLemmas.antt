@@ -4,10 +4,10 @@ use Rattle.std.specs.Prelude.{slice_get}
 use Rattle.std.proofs.lemmas.List.{append-nil, drop_all}
 use Rattle.std.proofs.lemmas.Option.{get_or_from_slice_get}
 use Rattle.smith_types.proofs.ListLemmas.{slice_get-push}
-use Rattle.smith_types.specs.declared.code.Code.{Code}
-use Rattle.smith_types.specs.declared.code.Instructions.{Instructions}
-use Rattle.smith_types.specs.declared.code.Instructions.TheVariants.{Arbitrary, Unreachable}
-use Rattle.smith_types.specs.declared.composite_type.FuncType.{FuncType}
+use Rattle.smith_data.specs.declared.code.Code.{Code}
+use Rattle.smith_data.specs.declared.code.Instructions.{Instructions}
+use Rattle.smith_data.specs.declared.code.Instructions.TheVariants.{Arbitrary, Unreachable}
+use Rattle.smith_data.specs.declared.composite_type.FuncType.{FuncType}
 use Rattle.smith_rules.specs.Held.{IsRaw}
 use Rattle.smith_rules.specs.Module.{ModuleParts}
 use Rattle.smith_instr.specs.declared.instr.Instr.{Instr}

@@ -4,7 +4,7 @@ use Rattle.std.specs.Prelude.{Any, min}
 use Rattle.std.specs.List.{zip}
 use Rattle.std.proofs.Math.Nat.{min-le_left, min-le_right}
 use Rattle.std.proofs.lemmas.Slice.Zip.{get_or-zip, length-zip}
-use Rattle.smith_types.specs.declared.code.Code.{Code}
+use Rattle.smith_data.specs.declared.code.Code.{Code}
 use Rattle.smith_program.specs.declared.program.Body.{Body}
 
 -- a place of both lists

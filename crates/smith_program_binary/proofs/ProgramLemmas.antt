@@ -3,7 +3,7 @@ use Rattle.std.proofs.Common.{◌≡◌, ℕ, suc, Bool, true, false, List, [], 
 use Rattle.std.specs.List.{zip}
 use Rattle.smith_binary.specs.Numbers.{IsUnsigned}
 use Rattle.smith_binary.specs.Pieces.{Joined, Each}
-use Rattle.smith_types.specs.declared.code.Code.{Code}
+use Rattle.smith_data.specs.declared.code.Code.{Code}
 use Rattle.smith_rules.specs.Module.{ModuleParts}
 use Rattle.smith_sections.specs.Codes.{IsBody}
 use Rattle.smith_sections.specs.Data.{IsData}

@@ -3,7 +3,7 @@
 use Rattle.std.specs.Prelude.{ℕ, List}
 use Rattle.std.specs.List.{zip}
 use Rattle.smith_binary.specs.Pieces.{Is, Joined, IsList, IsSized}
-use Rattle.smith_types.specs.declared.code.Code.{Code}
+use Rattle.smith_data.specs.declared.code.Code.{Code}
 use Rattle.smith_sections.specs.Codes.{IsLocalsWritten, body_bytes}
 use Rattle.smith_instr_binary.specs.Instructions.{IsExpr}
 use Rattle.smith_program.specs.Counted.{counted}

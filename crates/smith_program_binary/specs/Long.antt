@@ -1,8 +1,8 @@
 -- Programs that are too long for the binary format.
 use Rattle.std.specs.Prelude.{ℕ, ◌⊎◌, List, Any}
 use Rattle.std.specs.List.{zip}
-use Rattle.smith_types.specs.declared.code.Code.{Code}
-use Rattle.smith_types.specs.declared.value_type.ValType.{ValType}
+use Rattle.smith_data.specs.declared.code.Code.{Code}
+use Rattle.smith_data.specs.declared.value_type.ValType.{ValType}
 use Rattle.smith_rules.specs.Module.{ModuleParts}
 use Rattle.smith_sections.specs.Codes.{body_of}
 use Rattle.smith_sections.specs.Long.{IsLongBody, IsLongContent, IsLongList, IsNeverLong}

@@ -1,6 +1,6 @@
 ghost use Rattle.std.specs.Prelude.{◌^◌, ◌≤◌, List, [], ◌∷◌, length};
-ghost use Rattle.smith_types.specs.declared.code.Instructions.TheVariants.{Unreachable};
-ghost use Rattle.smith_types.specs.declared.value_type.ValType.{ValType};
+ghost use Rattle.smith_data.specs.declared.code.Instructions.TheVariants.{Unreachable};
+ghost use Rattle.smith_data.specs.declared.value_type.ValType.{ValType};
 ghost use Rattle.smith_encode.specs.ExampleModules.{one_function};
 ghost use Rattle.smith_instr.specs.declared.instr.Instr.TheVariants as instr;
 ghost use Rattle.smith_program.specs.declared.program.Body.TheVariants as body;

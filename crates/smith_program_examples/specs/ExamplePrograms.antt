@@ -1,12 +1,12 @@
 -- Modules whose bodies the examples draw, and bodies that bytes produce.
 use Rattle.std.specs.Prelude.{ℕ, true, List, [], ◌∷◌}
 use Rattle.smith_types.specs.ExampleTypes.{final_type, giving, plain_func}
-use Rattle.smith_types.specs.declared.code.Code.{Code}
-use Rattle.smith_types.specs.declared.code.Instructions.TheVariants.{Arbitrary}
-use Rattle.smith_types.specs.declared.composite_type.CompositeInnerType.{CompositeInnerType}
-use Rattle.smith_types.specs.declared.entity_type.EntityType.TheVariants as entity
-use Rattle.smith_types.specs.declared.imports.Imports.TheVariants.{Single}
-use Rattle.smith_types.specs.declared.value_type.ValType.TheVariants.{I32}
+use Rattle.smith_data.specs.declared.code.Code.{Code}
+use Rattle.smith_data.specs.declared.code.Instructions.TheVariants.{Arbitrary}
+use Rattle.smith_data.specs.declared.composite_type.CompositeInnerType.{CompositeInnerType}
+use Rattle.smith_data.specs.declared.entity_type.EntityType.TheVariants as entity
+use Rattle.smith_data.specs.declared.imports.Imports.TheVariants.{Single}
+use Rattle.smith_data.specs.declared.value_type.ValType.TheVariants.{I32}
 use Rattle.smith_config.specs.declared.config.Config.{Config}
 use Rattle.smith_config.specs.Config.{default_config}
 use Rattle.smith_rules.specs.Module.{ModuleParts}

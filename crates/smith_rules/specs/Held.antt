@@ -1,13 +1,13 @@
 -- Contents of element segments and bodies. Rules of this project.
 use Rattle.std.specs.Prelude.{◌≡◌, ℕ, ◌≤◌, ◌⊎◌, IsTrue, List, [], Some, slice_get, All}
-use Rattle.smith_types.specs.Kinds.{shared}
+use Rattle.smith_data.specs.Kinds.{shared}
 use Rattle.smith_types.specs.Segments.{item_count}
-use Rattle.smith_types.specs.declared.code.Instructions.{Instructions}
-use Rattle.smith_types.specs.declared.code.Instructions.TheVariants.{Unreachable, Arbitrary}
-use Rattle.smith_types.specs.declared.composite_type.SubType.{SubType}
-use Rattle.smith_types.specs.declared.const_instr.ConstInstr.{ConstInstr}
-use Rattle.smith_types.specs.declared.segments.Elements.{Elements}
-use Rattle.smith_types.specs.declared.segments.Elements.TheVariants.{Functions, Expressions}
+use Rattle.smith_data.specs.declared.code.Instructions.{Instructions}
+use Rattle.smith_data.specs.declared.code.Instructions.TheVariants.{Unreachable, Arbitrary}
+use Rattle.smith_data.specs.declared.composite_type.SubType.{SubType}
+use Rattle.smith_data.specs.declared.const_instr.ConstInstr.{ConstInstr}
+use Rattle.smith_data.specs.declared.segments.Elements.{Elements}
+use Rattle.smith_data.specs.declared.segments.Elements.TheVariants.{Functions, Expressions}
 use Rattle.smith_config.specs.declared.config.Config.{Config}
 
 -- the expressions of an element segment

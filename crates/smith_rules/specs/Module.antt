@@ -3,7 +3,7 @@
 use Rattle.std.specs.Prelude.{◌≡◌, ℕ, ◌+◌, Bool, IsTrue, Option, Some, None, List, length, slice_get}
 use Rattle.std.specs.List.{All}
 use Rattle.std.specs.declared.ops.Range.{Range}
-use Rattle.smith_types.specs.Features.{Features}
+use Rattle.smith_data.specs.Features.{Features}
 use Rattle.smith_types.specs.GroupedTypes.{GroupedTypes}
 use Rattle.smith_types.specs.ValidTypes.{AreTypesValid}
 use Rattle.smith_types.specs.Imports.{EntitySpaces, Defines, IsImportsValid, flattened, imported_spaces}
@@ -12,17 +12,17 @@ use Rattle.smith_types.specs.Expressions.{Context, IsConstExpr, seeing, seen_by_
 use Rattle.smith_types.specs.Segments.{IsElementSegmentValid, IsDataValid}
 use Rattle.smith_types.specs.Exports.{AreExportsValid, IsStartValid}
 use Rattle.smith_types.specs.Bodies.{IsBodyValid, IsCounterGlobal}
-use Rattle.smith_types.specs.declared.value_type.ValType.TheVariants.{Ref}
-use Rattle.smith_types.specs.declared.composite_type.SubType.{SubType}
-use Rattle.smith_types.specs.declared.entity_type.TableType.{TableType}
-use Rattle.smith_types.specs.declared.entity_type.MemoryType.{MemoryType}
-use Rattle.smith_types.specs.declared.entity_type.GlobalType.{GlobalType}
-use Rattle.smith_types.specs.declared.entity_type.ExportKind.{ExportKind}
-use Rattle.smith_types.specs.declared.imports.Imports.{Imports}
-use Rattle.smith_types.specs.declared.const_instr.ConstInstr.{ConstInstr}
-use Rattle.smith_types.specs.declared.segments.ElementSegment.{ElementSegment}
-use Rattle.smith_types.specs.declared.segments.DataSegment.{DataSegment}
-use Rattle.smith_types.specs.declared.code.Code.{Code}
+use Rattle.smith_data.specs.declared.value_type.ValType.TheVariants.{Ref}
+use Rattle.smith_data.specs.declared.composite_type.SubType.{SubType}
+use Rattle.smith_data.specs.declared.entity_type.TableType.{TableType}
+use Rattle.smith_data.specs.declared.entity_type.MemoryType.{MemoryType}
+use Rattle.smith_data.specs.declared.entity_type.GlobalType.{GlobalType}
+use Rattle.smith_data.specs.declared.entity_type.ExportKind.{ExportKind}
+use Rattle.smith_data.specs.declared.imports.Imports.{Imports}
+use Rattle.smith_data.specs.declared.const_instr.ConstInstr.{ConstInstr}
+use Rattle.smith_data.specs.declared.segments.ElementSegment.{ElementSegment}
+use Rattle.smith_data.specs.declared.segments.DataSegment.{DataSegment}
+use Rattle.smith_data.specs.declared.code.Code.{Code}
 use Rattle.smith_config.specs.declared.config.Config.{Config}
 use Rattle.smith_config.specs.Features.{features_of}
 use Rattle.smith_config.specs.Sanitized.{sanitized}

@@ -1,6 +1,6 @@
 -- Lemmas for the examples of non-nullable references.
 use Rattle.smith_rules_examples.proofs.Common.{ℕ, zero, suc, List, [], ◌∷◌, length, refl, ap, ◌∙◌, inl, inr, same_Some, ValType, Ref, SubType, GlobalType, plain, not_null, Context, Features, IsGrounded, IsGranted, final, taking, ModuleParts, module_features, module_imports, with_references}
-use Rattle.smith_types.specs.declared.value_type.AbstractHeapType.TheVariants as heap
+use Rattle.smith_data.specs.declared.value_type.AbstractHeapType.TheVariants as heap
 
 -- a non-nullable reference to anything
 abbrev pub to_any : ValType

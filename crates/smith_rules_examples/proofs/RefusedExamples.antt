@@ -1,7 +1,7 @@
 -- Lemmas for the examples of refused modules.
 use Rattle.smith_rules_examples.proofs.Common.{arith, ◌≡◌, false, [], ◌∷◌, None, refl, sym, subst, codes, IsTrue, All, same_Some, All-head, not_null, plain, AreExportsValid, IsElementSegmentValid, IsDataValid, TableType, Expressions, Config, default_config, AreDefinitionsValid, module_spaces, segment_context, table, no_function, passive_elements, exported_twice, null_of_no_null, two_elements, passive_bytes}
-use Rattle.smith_types.specs.declared.value_type.AbstractHeapType.TheVariants as heap
-use Rattle.smith_types.specs.declared.segments.DataSegmentKind.TheVariants as data_kind
+use Rattle.smith_data.specs.declared.value_type.AbstractHeapType.TheVariants as heap
+use Rattle.smith_data.specs.declared.segments.DataSegmentKind.TheVariants as data_kind
 
 abbrev without_bulk_memory : Config
 without_bulk_memory = record default_config { bulk_memory_enabled = false }

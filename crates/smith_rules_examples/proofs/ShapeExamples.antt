@@ -1,8 +1,8 @@
 -- Lemmas for the examples of shapes.
 use Rattle.smith_rules_examples.proofs.Common.{rules, ◌≡◌, ℕ, List, [], ◌∷◌, Some, None, true, false, refl, codes, slice_get, IsEntityAt, nullable, plain, F32, CompositeInnerType, SubType, EntityType, ExportKind, Shape, default_config, FixesExports, FixesImports, shape_types, shape_spaces, a_type, foo_type, quux_type, ModuleParts, module_spaces, IsSameExport, IsSameType, IsSameFuncType, KeepsAvailableImports, KeepsExports, is_fitting, memory, table, global, one_of_each, environment, with_environment, five_exports}
-use Rattle.smith_types.specs.declared.value_type.AbstractHeapType.TheVariants as heap
-use Rattle.smith_types.specs.declared.entity_type.EntityType.TheVariants as entity
-use Rattle.smith_types.specs.declared.entity_type.ExportKind.TheVariants as kind
+use Rattle.smith_data.specs.declared.value_type.AbstractHeapType.TheVariants as heap
+use Rattle.smith_data.specs.declared.entity_type.EntityType.TheVariants as entity
+use Rattle.smith_data.specs.declared.entity_type.ExportKind.TheVariants as kind
 
 -- without shapes neither exports nor imports are fixed
 pub no_exports_fixed : FixesExports default_config → ⊥

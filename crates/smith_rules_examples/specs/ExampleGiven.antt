@@ -3,19 +3,19 @@
 use Rattle.std.specs.Prelude.{ℕ, Bool, true, false, pos, negsuc, List, [], ◌∷◌, Some, None, codes, replicate}
 use Rattle.smith_types.specs.Flags.{funcref}
 use Rattle.smith_types.specs.ExampleTypes.{anyref, variable}
-use Rattle.smith_types.specs.declared.value_type.ValType.TheVariants.{I32}
-use Rattle.smith_types.specs.declared.composite_type.StorageType.TheVariants.{Val}
-use Rattle.smith_types.specs.declared.composite_type.CompositeInnerType.TheVariants.{Array}
-use Rattle.smith_types.specs.declared.entity_type.EntityType.TheVariants as entity
-use Rattle.smith_types.specs.declared.entity_type.ExportKind.TheVariants as kind
-use Rattle.smith_types.specs.declared.entity_type.MemoryType.{MemoryType}
-use Rattle.smith_types.specs.declared.imports.Imports.{Imports}
-use Rattle.smith_types.specs.declared.imports.Imports.TheVariants.{Single}
-use Rattle.smith_types.specs.declared.const_instr.ConstInstr.{ConstInstr}
-use Rattle.smith_types.specs.declared.const_instr.ConstInstr.TheVariants.{I32Const}
-use Rattle.smith_types.specs.declared.segments.Elements.TheVariants.{Expressions}
-use Rattle.smith_types.specs.declared.code.Code.{Code}
-use Rattle.smith_types.specs.declared.code.Instructions.TheVariants.{Arbitrary}
+use Rattle.smith_data.specs.declared.value_type.ValType.TheVariants.{I32}
+use Rattle.smith_data.specs.declared.composite_type.StorageType.TheVariants.{Val}
+use Rattle.smith_data.specs.declared.composite_type.CompositeInnerType.TheVariants.{Array}
+use Rattle.smith_data.specs.declared.entity_type.EntityType.TheVariants as entity
+use Rattle.smith_data.specs.declared.entity_type.ExportKind.TheVariants as kind
+use Rattle.smith_data.specs.declared.entity_type.MemoryType.{MemoryType}
+use Rattle.smith_data.specs.declared.imports.Imports.{Imports}
+use Rattle.smith_data.specs.declared.imports.Imports.TheVariants.{Single}
+use Rattle.smith_data.specs.declared.const_instr.ConstInstr.{ConstInstr}
+use Rattle.smith_data.specs.declared.const_instr.ConstInstr.TheVariants.{I32Const}
+use Rattle.smith_data.specs.declared.segments.Elements.TheVariants.{Expressions}
+use Rattle.smith_data.specs.declared.code.Code.{Code}
+use Rattle.smith_data.specs.declared.code.Instructions.TheVariants.{Arbitrary}
 use Rattle.smith_config.specs.declared.config.Config.{Config}
 use Rattle.smith_config.specs.Config.{default_config}
 use Rattle.smith_config.specs.ExampleMembers.{final, struct_of, taking_a_number, one_of_each_without_gc, nothing_may_be, a_type, bytes_array}

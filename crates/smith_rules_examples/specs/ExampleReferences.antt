@@ -1,12 +1,12 @@
 -- Modules of the examples whose globals begin with an imported item, or hold non-nullable
 -- references.
 use Rattle.std.specs.Prelude.{ℕ, true, false, List, [], ◌∷◌}
-use Rattle.smith_types.specs.declared.value_type.HeapType.{HeapType}
-use Rattle.smith_types.specs.declared.value_type.ValType.TheVariants.{Ref}
-use Rattle.smith_types.specs.declared.entity_type.EntityType.TheVariants as entity
-use Rattle.smith_types.specs.declared.imports.Imports.TheVariants.{Single}
-use Rattle.smith_types.specs.declared.const_instr.ConstInstr.TheVariants.{GlobalGet, RefFunc}
-use Rattle.smith_types.specs.declared.composite_type.SubType.{SubType}
+use Rattle.smith_data.specs.declared.value_type.HeapType.{HeapType}
+use Rattle.smith_data.specs.declared.value_type.ValType.TheVariants.{Ref}
+use Rattle.smith_data.specs.declared.entity_type.EntityType.TheVariants as entity
+use Rattle.smith_data.specs.declared.imports.Imports.TheVariants.{Single}
+use Rattle.smith_data.specs.declared.const_instr.ConstInstr.TheVariants.{GlobalGet, RefFunc}
+use Rattle.smith_data.specs.declared.composite_type.SubType.{SubType}
 use Rattle.smith_types.specs.ExampleTypes.{nullable, not_null}
 use Rattle.smith_config.specs.declared.config.Config.{Config}
 use Rattle.smith_config.specs.Config.{default_config}

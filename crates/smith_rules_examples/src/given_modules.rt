@@ -1,6 +1,6 @@
 ghost use Rattle.std.specs.Prelude.{[], codes, true, false, pos};
-ghost use Rattle.smith_types.specs.declared.const_instr.ConstInstr.TheVariants.{I32Const};
-ghost use Rattle.smith_types.specs.declared.const_instr.ConstInstr.TheVariants.{GlobalGet};
+ghost use Rattle.smith_data.specs.declared.const_instr.ConstInstr.TheVariants.{I32Const};
+ghost use Rattle.smith_data.specs.declared.const_instr.ConstInstr.TheVariants.{GlobalGet};
 ghost use Rattle.smith_rules.specs.Module.{IsValid};
 ghost use Rattle.smith_rules_examples.specs.ExampleModules.{two_exports, named_imports};
 ghost use Rattle.smith_rules_examples.specs.ExampleModules.{two_memories};

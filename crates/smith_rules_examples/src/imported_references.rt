@@ -1,4 +1,4 @@
-ghost use Rattle.smith_types.specs.declared.value_type.HeapType.TheVariants.{Concrete, Exact};
+ghost use Rattle.smith_data.specs.declared.value_type.HeapType.TheVariants.{Concrete, Exact};
 ghost use Rattle.smith_rules.specs.Module.{IsValid};
 ghost use Rattle.smith_rules_examples.specs.ExampleReferences.{imported_read, refers_to_function};
 

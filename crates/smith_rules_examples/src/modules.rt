@@ -1,5 +1,5 @@
 ghost use Rattle.std.specs.Prelude.{true, pos};
-ghost use Rattle.smith_types.specs.declared.segments.Offset.TheVariants.{Const32};
+ghost use Rattle.smith_data.specs.declared.segments.Offset.TheVariants.{Const32};
 ghost use Rattle.smith_config.specs.Config.{default_config};
 ghost use Rattle.smith_rules.specs.Module.{IsValid};
 ghost use Rattle.smith_rules_examples.specs.ExampleModules.{

@@ -4,11 +4,11 @@ use Rattle.std.proofs.lemmas.Bool.{eqb-true, ne_eqb}
 use Rattle.smith_binary.specs.Numbers.{IsUnsigned}
 use Rattle.smith_binary.specs.Pieces.{IsByte, IsList, Writes}
 use Rattle.smith_binary.proofs.WrittenLemmas.{joined_written, written_as}
-use Rattle.smith_types.specs.declared.const_instr.ConstInstr.{ConstInstr}
-use Rattle.smith_types.specs.declared.value_type.AbstractHeapType.TheVariants as abstract
-use Rattle.smith_types.specs.declared.value_type.HeapType.{HeapType}
-use Rattle.smith_types.specs.declared.value_type.HeapType.TheVariants.{Abstract, Concrete, Exact}
-use Rattle.smith_types.specs.declared.value_type.RefType.{RefType}
+use Rattle.smith_data.specs.declared.const_instr.ConstInstr.{ConstInstr}
+use Rattle.smith_data.specs.declared.value_type.AbstractHeapType.TheVariants as abstract
+use Rattle.smith_data.specs.declared.value_type.HeapType.{HeapType}
+use Rattle.smith_data.specs.declared.value_type.HeapType.TheVariants.{Abstract, Concrete, Exact}
+use Rattle.smith_data.specs.declared.value_type.RefType.{RefType}
 use Rattle.smith_sections.specs.Types.{IsRefType}
 use Rattle.smith_sections.specs.Instructions.{IsIndex, IsExpression}
 use Rattle.smith_sections.specs.Elements.{Form, form_number, IsInForm, Elem, IsElemIn, Mode, IsFuncs, IsItems, IsKindFuncs, func_ref, func_items, is_func, is_func_ref, active_funcs_form, active_items_form}

@@ -1,9 +1,9 @@
 -- A segment that is written in one form is spelled by the grammar.
 use Rattle.std.proofs.Common.{ℕ, Option, Some, None, List, refl}
-use Rattle.smith_types.specs.declared.const_instr.ConstInstr.{ConstInstr}
-use Rattle.smith_types.specs.declared.entity_type.TableType.{TableType}
-use Rattle.smith_types.specs.declared.segments.DataSegment.{DataSegment}
-use Rattle.smith_types.specs.declared.segments.ElementSegment.{ElementSegment}
+use Rattle.smith_data.specs.declared.const_instr.ConstInstr.{ConstInstr}
+use Rattle.smith_data.specs.declared.entity_type.TableType.{TableType}
+use Rattle.smith_data.specs.declared.segments.DataSegment.{DataSegment}
+use Rattle.smith_data.specs.declared.segments.ElementSegment.{ElementSegment}
 use Rattle.smith_sections.specs.Data.{IsData, IsDataWritten, data_form, data_of}
 use Rattle.smith_sections.specs.Definitions.{IsTable, IsTableAs, IsTableWritten, initialised_table}
 use Rattle.smith_sections.specs.Elements.{IsElem, IsElemWritten, elem_form, elem_of}

@@ -4,10 +4,10 @@ use Rattle.std.specs.Prelude.{◌≡◌, ℕ, List, [], ◌∷◌, ◌++◌, rep
 use Rattle.std.specs.List.{flat_map}
 use Rattle.smith_binary.specs.Numbers.{IsUnsigned, shortest_bytes}
 use Rattle.smith_binary.specs.Pieces.{Is, Joined, IsList, IsSized}
-use Rattle.smith_types.specs.declared.value_type.ValType.{ValType}
-use Rattle.smith_types.specs.declared.code.Code.{Code}
-use Rattle.smith_types.specs.declared.code.Instructions.{Instructions}
-use Rattle.smith_types.specs.declared.code.Instructions.TheVariants.{Unreachable, Arbitrary}
+use Rattle.smith_data.specs.declared.value_type.ValType.{ValType}
+use Rattle.smith_data.specs.declared.code.Code.{Code}
+use Rattle.smith_data.specs.declared.code.Instructions.{Instructions}
+use Rattle.smith_data.specs.declared.code.Instructions.TheVariants.{Unreachable, Arbitrary}
 use Rattle.smith_sections.specs.Types.{IsValType}
 
 -- a run of locals of one type: their number, then the type (Code Section)

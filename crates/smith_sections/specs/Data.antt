@@ -3,10 +3,10 @@
 use Rattle.std.specs.Prelude.{◌≡◌, ◌==◌, ℕ, List, if◌then◌else◌}
 use Rattle.smith_binary.specs.Numbers.{IsUnsigned}
 use Rattle.smith_binary.specs.Pieces.{IsByte, Joined, IsList}
-use Rattle.smith_types.specs.declared.const_instr.ConstInstr.{ConstInstr}
-use Rattle.smith_types.specs.declared.segments.DataSegment.{DataSegment}
-use Rattle.smith_types.specs.declared.segments.DataSegmentKind.{DataSegmentKind}
-use Rattle.smith_types.specs.declared.segments.DataSegmentKind.TheVariants.{Passive, Active}
+use Rattle.smith_data.specs.declared.const_instr.ConstInstr.{ConstInstr}
+use Rattle.smith_data.specs.declared.segments.DataSegment.{DataSegment}
+use Rattle.smith_data.specs.declared.segments.DataSegmentKind.{DataSegmentKind}
+use Rattle.smith_data.specs.declared.segments.DataSegmentKind.TheVariants.{Passive, Active}
 use Rattle.smith_sections.specs.Instructions.{IsIndex, IsExpression, offset_of}
 
 -- the mode of a segment (Structure, Data Segments)

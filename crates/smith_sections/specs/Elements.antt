@@ -3,17 +3,17 @@
 use Rattle.std.specs.Prelude.{◌≡◌, ◌==◌, ℕ, Bool, true, false, not, ◌&&◌, List, [], ◌∷◌, map, unwrap_or, if◌then◌else◌}
 use Rattle.smith_binary.specs.Numbers.{IsUnsigned}
 use Rattle.smith_binary.specs.Pieces.{IsByte, Joined, IsList}
-use Rattle.smith_types.specs.declared.value_type.AbstractHeapType.TheVariants as abstract
-use Rattle.smith_types.specs.declared.value_type.HeapType.{HeapType}
-use Rattle.smith_types.specs.declared.value_type.HeapType.TheVariants.{Abstract}
-use Rattle.smith_types.specs.declared.value_type.RefType.{RefType}
-use Rattle.smith_types.specs.declared.const_instr.ConstInstr.{ConstInstr}
-use Rattle.smith_types.specs.declared.const_instr.ConstInstr.TheVariants.{RefFunc}
-use Rattle.smith_types.specs.declared.segments.ElementSegment.{ElementSegment}
-use Rattle.smith_types.specs.declared.segments.ElementKind.{ElementKind}
-use Rattle.smith_types.specs.declared.segments.ElementKind.TheVariants.{Passive, Declared, Active}
-use Rattle.smith_types.specs.declared.segments.Elements.{Elements}
-use Rattle.smith_types.specs.declared.segments.Elements.TheVariants.{Functions, Expressions}
+use Rattle.smith_data.specs.declared.value_type.AbstractHeapType.TheVariants as abstract
+use Rattle.smith_data.specs.declared.value_type.HeapType.{HeapType}
+use Rattle.smith_data.specs.declared.value_type.HeapType.TheVariants.{Abstract}
+use Rattle.smith_data.specs.declared.value_type.RefType.{RefType}
+use Rattle.smith_data.specs.declared.const_instr.ConstInstr.{ConstInstr}
+use Rattle.smith_data.specs.declared.const_instr.ConstInstr.TheVariants.{RefFunc}
+use Rattle.smith_data.specs.declared.segments.ElementSegment.{ElementSegment}
+use Rattle.smith_data.specs.declared.segments.ElementKind.{ElementKind}
+use Rattle.smith_data.specs.declared.segments.ElementKind.TheVariants.{Passive, Declared, Active}
+use Rattle.smith_data.specs.declared.segments.Elements.{Elements}
+use Rattle.smith_data.specs.declared.segments.Elements.TheVariants.{Functions, Expressions}
 use Rattle.smith_sections.specs.Types.{IsRefType}
 use Rattle.smith_sections.specs.Instructions.{IsIndex, IsExpression, offset_of}
 

@@ -2,10 +2,10 @@
 -- Specification 3.0. Groups are those of the compact imports proposal.
 use Rattle.std.specs.Prelude.{◌≡◌, ℕ, List, []}
 use Rattle.smith_binary.specs.Pieces.{IsByte, Joined, IsList, IsName}
-use Rattle.smith_types.specs.declared.imports.Import.{Import}
-use Rattle.smith_types.specs.declared.imports.ImportItem.{ImportItem}
-use Rattle.smith_types.specs.declared.imports.Imports.{Imports}
-use Rattle.smith_types.specs.declared.imports.Imports.TheVariants.{Single, Compact1, Compact2}
+use Rattle.smith_data.specs.declared.imports.Import.{Import}
+use Rattle.smith_data.specs.declared.imports.ImportItem.{ImportItem}
+use Rattle.smith_data.specs.declared.imports.Imports.{Imports}
+use Rattle.smith_data.specs.declared.imports.Imports.TheVariants.{Single, Compact1, Compact2}
 use Rattle.smith_types.specs.Imports.{flattened}
 use Rattle.smith_sections.specs.Entities.{IsExternType}
 

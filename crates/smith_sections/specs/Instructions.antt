@@ -3,10 +3,10 @@
 use Rattle.std.specs.Prelude.{ℕ, List, [], ◌∷◌}
 use Rattle.smith_binary.specs.Numbers.{IsUnsigned, IsSigned, IsLittleEndian, IsVector}
 use Rattle.smith_binary.specs.Pieces.{IsByte, Joined, Each}
-use Rattle.smith_types.specs.declared.const_instr.ConstInstr.{ConstInstr}
-use Rattle.smith_types.specs.declared.const_instr.ConstInstr.TheVariants as instr
-use Rattle.smith_types.specs.declared.segments.Offset.{Offset}
-use Rattle.smith_types.specs.declared.segments.Offset.TheVariants as offset
+use Rattle.smith_data.specs.declared.const_instr.ConstInstr.{ConstInstr}
+use Rattle.smith_data.specs.declared.const_instr.ConstInstr.TheVariants as instr
+use Rattle.smith_data.specs.declared.segments.Offset.{Offset}
+use Rattle.smith_data.specs.declared.segments.Offset.TheVariants as offset
 use Rattle.smith_sections.specs.Types.{IsHeapType}
 
 -- an index (Binary Format, Modules, Indices)

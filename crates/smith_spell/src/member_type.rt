@@ -1,6 +1,6 @@
 ghost use Rattle.std.specs.Prelude.{◌≡◌, ◌↔◌, IsTrue, All};
 ghost use Rattle.std.specs.List.{Contains};
-ghost use Rattle.smith_types.specs.declared.value_type.ValType.TheVariants.{Ref};
+ghost use Rattle.smith_data.specs.declared.value_type.ValType.TheVariants.{Ref};
 ghost use Rattle.smith_draw.specs.Choices.{enabled};
 ghost use Rattle.smith_draw.specs.ValueTypes.{abstract_heap_types};
 ghost use Rattle.smith_draw.specs.CompositeTypes.{most_results};

@@ -18,9 +18,6 @@ pub mod GroundLemmas
 pub mod GroundedLemmas
 pub mod FuncGroundLemmas
 pub mod GroundGrowthLemmas
-pub mod FeatureBitLemmas
-pub mod PartLemmas
-pub mod KindLemmas
 pub mod TypeGrowthLemmas
 pub mod EntityGrowthLemmas
 pub mod ExpressionGrowthLemmas

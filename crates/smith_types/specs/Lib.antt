@@ -8,8 +8,6 @@ pub mod ExampleTypes
 pub mod Exports
 pub mod Expressions
 pub mod Families
-pub mod FeatureBits
-pub mod Features
 pub mod Flags
 pub mod Floats
 pub mod FuncGrounds
@@ -20,17 +18,13 @@ pub mod Groups
 pub mod Grown
 pub mod HeldValues
 pub mod Imports
-pub mod Instructions
 pub mod KindCounts
-pub mod Kinds
 pub mod Laws
 pub mod Matching
 pub mod OpenTypes
 pub mod Places
-pub mod Same
 pub mod Segments
 pub mod Sizes
-pub mod SplitTexts
 pub mod Subtyping
 pub mod Types
 pub mod ValidTypes

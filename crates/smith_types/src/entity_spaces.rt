@@ -1,13 +1,13 @@
 ghost use Rattle.std.specs.Prelude.{◌≡◌, ◌++◌, [], ◌∷◌, map, OnOk, IfOk, IfErr};
 ghost use Rattle.std.specs.List.{flat_map};
 ghost use Rattle.smith_types.specs.Imports.{flattened, imported_spaces};
-ghost use Rattle.smith_types.specs.declared.imports.ImportItem.{ImportItem as Item};
+ghost use Rattle.smith_data.specs.declared.imports.ImportItem.{ImportItem as Item};
 ghost use Rattle.smith_types.specs.EntitySpaces.{spaces_in, with_entity, with_entities};
 ghost use Rattle.smith_types.specs.EntitySpaces.{entities_of};
 
-use crate::entity_type::{EntityType, GlobalType, MemoryType, TableType};
-use crate::imports::{ImportItem, Imports};
-use crate::list::{Items, Name};
+use smith_data::{EntityType, GlobalType, MemoryType, TableType};
+use smith_data::{ImportItem, Imports};
+use smith_data::{Items, Name};
 use smith_bytes::Error;
 use std::alloc::Global;
 

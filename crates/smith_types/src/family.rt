@@ -3,7 +3,7 @@ ghost use Rattle.smith_types.specs.Types.{IsOrderly};
 ghost use Rattle.smith_types.specs.GroupedTypes.{MayFollow};
 ghost use Rattle.smith_types.specs.Families.{AreFamilies};
 
-use crate::composite_type::SubType;
+use smith_data::SubType;
 use smith_bytes::Error;
 
 // The direct subtypes of a type, as a list that is linked from the last to the first.

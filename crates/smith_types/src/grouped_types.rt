@@ -3,9 +3,9 @@ ghost use Rattle.std.specs.Prelude.{MatchBool, MatchOption};
 ghost use Rattle.std.specs.List.{flat_map};
 ghost use Rattle.smith_types.specs.Groups.{space_of, AreFollowing};
 
-use crate::clone_in::CloneIn;
-use crate::composite_type::SubType;
-use crate::list::Items;
+use smith_data::CloneIn;
+use smith_data::SubType;
+use smith_data::Items;
 use crate::type_space::TypeSpace;
 use smith_bytes::Error;
 use std::alloc::Global;

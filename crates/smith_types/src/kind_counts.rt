@@ -1,9 +1,9 @@
 ghost use Rattle.std.specs.Prelude.{◌≡◌, ◌+◌, ◌<◌, ◌^◌, Bool};
-ghost use Rattle.smith_types.specs.declared.value_type.AbstractHeapType.{AbstractHeapType};
+ghost use Rattle.smith_data.specs.declared.value_type.AbstractHeapType.{AbstractHeapType};
 ghost use Rattle.smith_types.specs.KindCounts.{kind_count_at, counts_with};
 
-use crate::composite_type::{CompositeInnerType, CompositeType};
-use crate::value_type::AbstractHeapType;
+use smith_data::{CompositeInnerType, CompositeType};
+use smith_data::AbstractHeapType;
 
 // The number of types of each kind and sharedness in a list of types.
 #[derive(Clone, Copy)]

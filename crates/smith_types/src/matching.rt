@@ -14,10 +14,10 @@ ghost use Rattle.smith_types.specs.Matching.{
   IsInnerInRange,
 };
 
-use crate::composite_type::{CompositeInnerType, CompositeType, FieldType, FuncType, StorageType};
+use smith_data::{CompositeInnerType, CompositeType, FieldType, FuncType, StorageType};
 use crate::subtyping::val_type_is_below;
 use crate::type_space::TypeSpace;
-use crate::value_type::ValType;
+use smith_data::ValType;
 
 // Returns whether the composite type `a` matches `b`. Heap types are compared as in
 // `TypeSpace::heap_type_is_sub_type`.

@@ -1,9 +1,9 @@
 ghost use Rattle.std.specs.Prelude.{◌≡◌, false};
 ghost use Rattle.smith_types.specs.FuncGrounds.{are_below, kinds_of, kinds_with, noted_with};
 
-use crate::composite_type::{CompositeInnerType, SubType};
+use smith_data::{CompositeInnerType, SubType};
 use crate::subtyping::abstract_type_is_below;
-use crate::value_type::AbstractHeapType;
+use smith_data::AbstractHeapType;
 
 // The kinds of composite types in a list of types.
 #[derive(Clone, Copy)]

@@ -1,6 +1,6 @@
 ghost use Rattle.std.specs.Prelude.{◌≡◌, ◌<◌, length, IsTrue, ◌↔◌};
-ghost use Rattle.smith_types.specs.declared.value_type.HeapType.TheVariants.{Abstract, Concrete};
-ghost use Rattle.smith_types.specs.Kinds.{kind, bottom, shared};
+ghost use Rattle.smith_data.specs.declared.value_type.HeapType.TheVariants.{Abstract, Concrete};
+ghost use Rattle.smith_data.specs.Kinds.{kind, bottom, shared};
 ghost use Rattle.smith_types.specs.Subtyping.{
   is_abstract_below,
   IsBelow,
@@ -10,9 +10,9 @@ ghost use Rattle.smith_types.specs.Subtyping.{
   IsValInRange,
 };
 
-use crate::composite_type::SubType;
+use smith_data::SubType;
 use crate::type_space::TypeSpace;
-use crate::value_type::{AbstractHeapType, HeapType, RefType, ValType};
+use smith_data::{AbstractHeapType, HeapType, RefType, ValType};
 
 // Returns whether the value type `a` is a subtype of `b`. Heap types are compared as in
 // `TypeSpace::heap_type_is_sub_type`.

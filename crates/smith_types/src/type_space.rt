@@ -35,12 +35,12 @@ ghost use Rattle.smith_types.specs.Grounded.{IsGroundedBy, IsGroundedByStructs};
 ghost use Rattle.smith_types.specs.KindCounts.{indices_of_kind};
 ghost use Rattle.smith_types.specs.Sizes.{value_count};
 ghost use Rattle.smith_types.specs.Matching.{IsCompositeMatch, IsInnerInRange};
-ghost use Rattle.smith_types.specs.declared.value_type.HeapType.TheVariants.{Concrete};
+ghost use Rattle.smith_data.specs.declared.value_type.HeapType.TheVariants.{Concrete};
 ghost use Rattle.smith_types.specs.Subtyping.{IsBelow, IsRefBelow, IsValBelow, IsInRange};
 ghost use Rattle.smith_types.specs.Subtyping.{IsValInRange};
 
-use crate::composite_type::{CompositeInnerType, CompositeType, SubType};
-use crate::entity_type::EntityType;
+use smith_data::{CompositeInnerType, CompositeType, SubType};
+use smith_data::EntityType;
 use crate::family::{Family, extend_families, join_family};
 use crate::ground::{Ground, GroundKinds, is_ground, no_grounds, note_ground};
 use crate::matching::composite_type_is_match;
@@ -48,7 +48,7 @@ use crate::place::{Place, last_counts, push_row};
 use crate::subtyping::{
     abstract_type_is_below, heap_type_is_below, ref_type_is_below, val_type_is_below,
 };
-use crate::value_type::{AbstractHeapType, HeapType, RefType, ValType};
+use smith_data::{AbstractHeapType, HeapType, RefType, ValType};
 use smith_bytes::Error;
 use std::alloc::Global;
 use std::fmt;

@@ -1,7 +1,7 @@
 // The name of each kind of instructions.
 
 ghost use Rattle.std.specs.Prelude.{◌≡◌, codes};
-ghost use Rattle.smith_types.specs.declared.instruction_kind.InstructionKind.TheVariants.{
+ghost use Rattle.smith_data.specs.declared.instruction_kind.InstructionKind.TheVariants.{
   NumericInt,
   Numeric,
   VectorInt,
@@ -15,7 +15,7 @@ ghost use Rattle.smith_types.specs.declared.instruction_kind.InstructionKind.The
   Control,
   Aggregate,
 };
-ghost use Rattle.smith_types.specs.Instructions.{IsNamed};
+ghost use Rattle.smith_data.specs.Instructions.{IsNamed};
 
 fn kind_names()
     ensures whole_numbers { IsNamed (codes "numeric_non_float") NumericInt }

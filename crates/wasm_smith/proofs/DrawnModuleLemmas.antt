@@ -3,7 +3,7 @@ use Rattle.std.proofs.Common.{◌≡◌, ℕ, Bool, List, Some, length, arith}
 use Rattle.std.specs.Prelude.{slice_get, Option}
 use Rattle.std.proofs.lemmas.List.Elements.{All-nil}
 use Rattle.smith_types.specs.Bodies.{IsCounterGlobal}
-use Rattle.smith_types.specs.declared.const_instr.ConstInstr.{ConstInstr}
+use Rattle.smith_data.specs.declared.const_instr.ConstInstr.{ConstInstr}
 use Rattle.smith_config.specs.declared.config.Config.{Config}
 use Rattle.wasm_smith.specs.Build.{parts_of}
 use Rattle.wasm_smith.specs.DrawnParts.{IsDrawnFor}

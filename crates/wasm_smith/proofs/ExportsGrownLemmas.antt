@@ -4,7 +4,7 @@ use Rattle.std.specs.List.{AllZip}
 use Rattle.smith_types.specs.Exports.{AreExportsValid}
 use Rattle.smith_types.specs.Grown.{AreSpacesGrown}
 use Rattle.smith_types.specs.Imports.{EntitySpaces}
-use Rattle.smith_types.specs.declared.entity_type.EntityType.{EntityType}
+use Rattle.smith_data.specs.declared.entity_type.EntityType.{EntityType}
 use Rattle.smith_types.proofs.ExportGrowthLemmas.{AreExportsValid-grown, IsEntityAt-grown}
 use Rattle.smith_types.proofs.ListLemmas.{AllZip-weaker}
 use Rattle.smith_rules.specs.ExportedItems.{Export}

@@ -10,7 +10,7 @@ use Rattle.smith_types.specs.Entities.{AreEntitiesValid, AreCountsEnabled, IsTag
 use Rattle.smith_types.specs.Imports.{EntitySpaces, IsImportsValid, flattened, imported_spaces}
 use Rattle.smith_types.specs.EntitySpaces.{spaces_in}
 use Rattle.smith_types.specs.GroupedTypes.{GroupedTypes}
-use Rattle.smith_types.specs.declared.imports.Import.{Import}
+use Rattle.smith_data.specs.declared.imports.Import.{Import}
 use Rattle.smith_types.proofs.ValidityLemmas.{no_types}
 use Rattle.smith_config.specs.declared.config.Config.{Config}
 use Rattle.smith_config.specs.declared.shape.Shape.{Shape}

@@ -12,10 +12,10 @@ use Rattle.smith_bytes.specs.declared.error.Why.{Why}
 use Rattle.smith_bytes.proofs.SpelledLemmas.{joined_parts}
 use Rattle.smith_types.specs.Imports.{EntitySpaces, flattened, imported_spaces}
 use Rattle.smith_types.specs.GroupedTypes.{GroupedTypes}
-use Rattle.smith_types.specs.declared.composite_type.SubType.{SubType}
-use Rattle.smith_types.specs.declared.entity_type.GlobalType.{GlobalType}
-use Rattle.smith_types.specs.declared.const_instr.ConstInstr.{ConstInstr}
-use Rattle.smith_types.specs.declared.const_instr.ConstInstr.TheVariants.{I32Const}
+use Rattle.smith_data.specs.declared.composite_type.SubType.{SubType}
+use Rattle.smith_data.specs.declared.entity_type.GlobalType.{GlobalType}
+use Rattle.smith_data.specs.declared.const_instr.ConstInstr.{ConstInstr}
+use Rattle.smith_data.specs.declared.const_instr.ConstInstr.TheVariants.{I32Const}
 use Rattle.smith_config.specs.declared.config.Config.{Config}
 use Rattle.smith_config.specs.declared.shape.Shape.{Shape}
 use Rattle.smith_config.specs.InUse.{HasNoShapes}

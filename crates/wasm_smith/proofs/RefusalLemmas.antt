@@ -3,7 +3,7 @@ use Rattle.std.proofs.Common.{◌≡◌, ◌⊎◌, List, refl, sym, subst, inl,
 use Rattle.std.specs.Prelude.{Option, Some, None, Result, Ok, Err, IfErr, All}
 use Rattle.smith_types.specs.Expressions.{Context}
 use Rattle.smith_types.specs.Imports.{EntitySpaces}
-use Rattle.smith_types.specs.declared.entity_type.TableType.{TableType}
+use Rattle.smith_data.specs.declared.entity_type.TableType.{TableType}
 use Rattle.smith_config.specs.declared.config.Config.{Config}
 use Rattle.smith_config.specs.declared.shape.Shape.{Shape}
 use Rattle.smith_config.specs.InUse.{FixesImports, FixesExports, HasNoShapes}

@@ -9,10 +9,10 @@ use Rattle.smith_types.specs.Expressions.{Context}
 use Rattle.smith_types.specs.Floats.{IsNoFloat, GivesNoFloat}
 use Rattle.smith_types.specs.Imports.{EntitySpaces, flattened, imported_spaces}
 use Rattle.smith_types.specs.Segments.{IsElementSegmentValid, IsElementInside, IsDataValid, IsDataInside}
-use Rattle.smith_types.specs.declared.composite_type.SubType.{SubType}
-use Rattle.smith_types.specs.declared.entity_type.TableType.{TableType}
-use Rattle.smith_types.specs.declared.segments.ElementSegment.{ElementSegment}
-use Rattle.smith_types.specs.declared.code.Code.{Code}
+use Rattle.smith_data.specs.declared.composite_type.SubType.{SubType}
+use Rattle.smith_data.specs.declared.entity_type.TableType.{TableType}
+use Rattle.smith_data.specs.declared.segments.ElementSegment.{ElementSegment}
+use Rattle.smith_data.specs.declared.code.Code.{Code}
 use Rattle.smith_config.specs.declared.config.Config.{Config}
 use Rattle.smith_config.specs.Features.{features_of}
 use Rattle.smith_config.specs.InUse.{FixesExports}

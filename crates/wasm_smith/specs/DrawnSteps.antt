@@ -8,7 +8,7 @@ use Rattle.smith_types.specs.Floats.{HasNoFloat}
 use Rattle.smith_types.specs.Grown.{Extends, AreSpacesGrown}
 use Rattle.smith_types.specs.Imports.{EntitySpaces, flattened}
 use Rattle.smith_types.specs.EntitySpaces.{spaces_in}
-use Rattle.smith_types.specs.declared.imports.Import.{Import}
+use Rattle.smith_data.specs.declared.imports.Import.{Import}
 use Rattle.smith_config.specs.declared.config.Config.{Config}
 use Rattle.smith_config.specs.declared.shape.Shape.{Shape}
 use Rattle.smith_config.specs.Faults.{minimum_of}

@@ -6,8 +6,8 @@ ghost use Rattle.smith_bytes.specs.declared.error.Error.TheVariants.{EmptyChoose
 ghost use Rattle.smith_bytes.specs.declared.error.Error.TheVariants.{NotEnoughData};
 ghost use Rattle.smith_types.specs.ExampleTypes.{not_null, plain};
 ghost use Rattle.smith_types.specs.Flags.{funcref};
-ghost use Rattle.smith_types.specs.declared.value_type.AbstractHeapType.TheVariants as heap;
-ghost use Rattle.smith_types.specs.declared.segments.Offset.TheVariants.{Const32, Const64};
+ghost use Rattle.smith_data.specs.declared.value_type.AbstractHeapType.TheVariants as heap;
+ghost use Rattle.smith_data.specs.declared.segments.Offset.TheVariants.{Const32, Const64};
 ghost use Rattle.smith_const_expr.specs.ExampleConstExprs.{context_of_types};
 ghost use Rattle.smith_config.specs.Config.{default_config};
 ghost use Rattle.smith_config.specs.Shapes.{space_of};

@@ -4,7 +4,7 @@ use Rattle.std.proofs.lemmas.Result.{on_ok_weaker}
 use Rattle.std.proofs.lemmas.List.{take_all}
 use Rattle.smith_code.proofs.DrawnLemmas.{paid_for, drawn_none, drawn_then, drawn_within, drawn_turn, dropped_drawn, plain_drawn, node_drawn, enclosed_drawn, if_drawn, labels_kept, try_drawn}
 use Rattle.smith_code.specs.Bodies.{drawing_at, statement_at}
-use Rattle.smith_types.specs.FeatureBits.{features_in}
+use Rattle.smith_data.specs.FeatureBits.{features_in}
 use Rattle.smith_code.specs.DraftSteps.{state_of}
 use Rattle.smith_code_nodes.proofs.StopLemmas.{node_goes_on}
 use Rattle.smith_code_nodes.specs.Nodes.{label_of, opened}

@@ -1,4 +1,4 @@
-use Rattle.smith_types.specs.declared.value_type.ValType.TheVariants.{Ref}
+use Rattle.smith_data.specs.declared.value_type.ValType.TheVariants.{Ref}
 use Rattle.smith_code_nodes.specs.Scopes.{where_stands}
 use Rattle.smith_code_aggregates.specs.declared.creations.Creation.TheVariants as creation
 use Rattle.smith_code_nodes.proofs.ChosenLemmas.{ok_by}

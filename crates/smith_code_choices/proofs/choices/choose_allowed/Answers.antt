@@ -1,6 +1,6 @@
 use Rattle.std.proofs.Common.{sym, ◌∙◌}
 use Rattle.smith_code_nodes.specs.Scopes.{where_stands}
-use Rattle.smith_types.specs.FeatureBits.{features_in}
+use Rattle.smith_data.specs.FeatureBits.{features_in}
 use Rattle.smith_code_choices.proofs.ChoiceLemmas.{allowed_node, allowed_none, forbidden_node}
 use Rattle.smith_code_nodes.proofs.StopLemmas.{node_goes_on}
 use Rattle.smith_code_choices.proofs.choices.choose_allowed.Goals as goal

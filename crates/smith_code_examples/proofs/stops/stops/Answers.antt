@@ -1,7 +1,7 @@
 use Rattle.std.proofs.Common.{false, [], ◌∷◌, refl, arith}
 use Rattle.std.specs.Prelude.{pos}
-use Rattle.smith_types.specs.declared.value_type.AbstractHeapType.TheVariants as heap
-use Rattle.smith_types.specs.declared.value_type.ValType.TheVariants.{I32}
+use Rattle.smith_data.specs.declared.value_type.AbstractHeapType.TheVariants as heap
+use Rattle.smith_data.specs.declared.value_type.ValType.TheVariants.{I32}
 use Rattle.smith_bytes.specs.Draws.{choose_at, digit_count, range_at}
 use Rattle.smith_draw.specs.Below.{is_heap_below}
 use Rattle.smith_draw.specs.Choices.{chosen_at}

@@ -1,5 +1,5 @@
 use Rattle.std.proofs.Common.{List, ap, arith, length, ◌∙◌}
-use Rattle.smith_types.specs.declared.composite_type.SubType.{SubType}
+use Rattle.smith_data.specs.declared.composite_type.SubType.{SubType}
 use Rattle.smith_code_leaves.specs.Leaves.{leaf_within}
 use Rattle.smith_code_nodes.specs.Scopes.{where_stands}
 use Rattle.smith_code_leaves.proofs.LeafChoiceLemmas.{not_some}

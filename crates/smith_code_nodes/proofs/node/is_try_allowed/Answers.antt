@@ -1,5 +1,5 @@
 use Rattle.std.proofs.Common.{sym, ◌∙◌}
-use Rattle.smith_types.specs.FeatureBits.{features_in}
+use Rattle.smith_data.specs.FeatureBits.{features_in}
 use Rattle.smith_code_nodes.proofs.AllowedLemmas.{try_allowed, try_forbidden}
 use Rattle.smith_code_nodes.proofs.node.is_try_allowed.Goals as goal
 

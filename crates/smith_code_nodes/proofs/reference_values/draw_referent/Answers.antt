@@ -1,7 +1,7 @@
 use Rattle.std.proofs.Common.{arith, ap, false, ◌∷◌, ◌-◌}
 use Rattle.std.specs.Prelude.{slice_index_or}
-use Rattle.smith_types.specs.declared.value_type.AbstractHeapType.TheVariants as abstract
-use Rattle.smith_types.specs.declared.value_type.HeapType.TheVariants.{Abstract}
+use Rattle.smith_data.specs.declared.value_type.AbstractHeapType.TheVariants as abstract
+use Rattle.smith_data.specs.declared.value_type.HeapType.TheVariants.{Abstract}
 use Rattle.smith_code_nodes.specs.Scopes.{bare}
 use Rattle.smith_code_nodes.specs.ReferenceChoices.{externref, funcref, referent}
 use Rattle.smith_code_nodes.proofs.ReferenceChoiceLemmas.{extern_valid, func_valid, local_referent_valid, referent_by, referent_local}

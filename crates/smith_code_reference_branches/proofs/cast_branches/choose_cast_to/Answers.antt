@@ -3,7 +3,7 @@ use Rattle.std.proofs.lemmas.Option.{slice_get_read}
 use Rattle.smith_code_nodes.specs.Scopes.{bare, where_stands}
 use Rattle.smith_code_reference_branches.proofs.CastBranchLemmas.{cast_value_none, cast_value_some, kept_cast_gives}
 use Rattle.smith_code_nodes.proofs.NodeLemmas.{one_valid}
-use Rattle.smith_types.specs.declared.value_type.ValType.TheVariants.{Ref}
+use Rattle.smith_data.specs.declared.value_type.ValType.TheVariants.{Ref}
 use Rattle.smith_code_reference_branches.proofs.cast_branches.choose_cast_to.Goals as goal
 
 pub choose_target-requires-clause-taken : goal.choose_target-requires-clause-taken

@@ -2,7 +2,7 @@ use Rattle.std.proofs.Common.{◌≡◌, true, [], ◌∷◌}
 use Rattle.std.proofs.lemmas.List.Elements.{recursion_from_All}
 use Rattle.smith_types.specs.Entities.{IsGlobalValid}
 use Rattle.smith_types.specs.ExampleEntities.{constant_global}
-use Rattle.smith_types.specs.declared.value_type.ValType.TheVariants.{V128}
+use Rattle.smith_data.specs.declared.value_type.ValType.TheVariants.{V128}
 use Rattle.smith_config.specs.Features.{features_of}
 use Rattle.smith_draw.proofs.examples.const_exprs.spaces.Goals as goal
 

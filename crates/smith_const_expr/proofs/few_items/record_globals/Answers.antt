@@ -1,8 +1,8 @@
 use Rattle.std.proofs.Common.{false, ◌≡◌, ◌+◌, ◌<◌, ◌∙◌, ap, arith, get_or, length, ℕ}
 use Rattle.std.specs.Prelude.{Some, slice_get}
 use Rattle.std.proofs.lemmas.Option.{slice_get-get_or}
-use Rattle.smith_types.specs.declared.entity_type.GlobalType.{GlobalType}
-use Rattle.smith_types.specs.declared.value_type.ValType.TheVariants.{I32}
+use Rattle.smith_data.specs.declared.entity_type.GlobalType.{GlobalType}
+use Rattle.smith_data.specs.declared.value_type.ValType.TheVariants.{I32}
 use Rattle.smith_const_expr.specs.ConstScopes.{context_of}
 use Rattle.smith_const_expr.specs.KeptOffers.{readable}
 use Rattle.smith_const_expr.proofs.KnownLemmas.{one_recorded}

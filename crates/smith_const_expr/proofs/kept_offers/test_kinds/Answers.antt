@@ -2,7 +2,7 @@ use Rattle.std.proofs.Common.{◌≡◌, ◌+◌, ◌∷◌, [], ◌∙◌, ap, 
 use Rattle.std.specs.Prelude.{None, Option, Some, slice_get}
 use Rattle.std.proofs.lemmas.List.{length-append}
 use Rattle.std.proofs.lemmas.Option.{slice_get-get_or}
-use Rattle.smith_types.specs.declared.value_type.ValType.{ValType}
+use Rattle.smith_data.specs.declared.value_type.ValType.{ValType}
 use Rattle.smith_const_expr.proofs.ClassLemmas.{flag_pushed}
 use Rattle.smith_draw.proofs.const_expr.kept_offers.test_kinds.Goals as goal
 

@@ -2,7 +2,7 @@ use Rattle.std.proofs.Common.{◌≡◌, ◌∙◌, ap, arith, length, List, ℕ
 use Rattle.std.specs.Prelude.{Some, slice_index}
 use Rattle.std.proofs.lemmas.Option.{get_or_from_slice_get}
 use Rattle.smith_types.specs.Expressions.{function_reference}
-use Rattle.smith_types.specs.declared.value_type.ValType.{ValType}
+use Rattle.smith_data.specs.declared.value_type.ValType.{ValType}
 use Rattle.smith_const_expr.specs.ConstScopes.{context_of}
 use Rattle.smith_const_expr.specs.KeptOffers.{AreAllRead, IsFewWhole}
 use Rattle.smith_const_expr.proofs.ClassLemmas.{same_element}

@@ -1,9 +1,9 @@
 use Rattle.std.proofs.Common.{false, ◌∙◌, ap, arith, length, List}
 use Rattle.std.specs.Prelude.{Option, None, slice_index, slice_index_or}
 use Rattle.std.proofs.lemmas.Option.{get_or_from_slice_get}
-use Rattle.smith_types.specs.declared.entity_type.GlobalType.{GlobalType}
-use Rattle.smith_types.specs.declared.value_type.ValType.{ValType}
-use Rattle.smith_types.specs.declared.value_type.ValType.TheVariants.{I32}
+use Rattle.smith_data.specs.declared.entity_type.GlobalType.{GlobalType}
+use Rattle.smith_data.specs.declared.value_type.ValType.{ValType}
+use Rattle.smith_data.specs.declared.value_type.ValType.TheVariants.{I32}
 use Rattle.smith_const_expr.specs.ConstScopes.{context_of}
 use Rattle.smith_const_expr.specs.KeptOffers.{AreAllRead, IsFewWhole, readable}
 use Rattle.smith_const_expr.proofs.ClassLemmas.{same_element}

@@ -1,4 +1,4 @@
-use Rattle.smith_types.specs.declared.composite_type.SubType.{SubType}
+use Rattle.smith_data.specs.declared.composite_type.SubType.{SubType}
 use Rattle.smith_const_expr.specs.ConstOffers.{type_offers}
 use Rattle.smith_const_expr.specs.ConstScopes.{context_of}
 use Rattle.smith_const_expr.proofs.ConstFoundLemmas.{turn_on, turn_found}

@@ -1,5 +1,5 @@
 use Rattle.std.proofs.Common.{◌≡◌, drop}
-use Rattle.smith_types.specs.declared.composite_type.SubType.{SubType}
+use Rattle.smith_data.specs.declared.composite_type.SubType.{SubType}
 use Rattle.smith_const_expr.specs.ConstOffers.{past, each_from, type_offers, types_offers}
 use Rattle.smith_const_expr.specs.ConstScopes.{context_of}
 use Rattle.smith_draw.proofs.const_expr.offers.past_types.Given as goal

@@ -3,7 +3,7 @@ use Rattle.std.specs.Prelude.{IfSome, Option, Some, slice_get}
 use Rattle.std.proofs.lemmas.Option.{slice_get-get_or}
 use Rattle.smith_types.specs.Expressions.{function_reference}
 use Rattle.smith_types.specs.Subtyping.{IsValInRange}
-use Rattle.smith_types.specs.declared.value_type.ValType.{ValType}
+use Rattle.smith_data.specs.declared.value_type.ValType.{ValType}
 use Rattle.smith_const_expr.specs.ConstScopes.{context_of}
 use Rattle.smith_const_expr.proofs.ClassLemmas.{classes_noted, flags_noted, one_noted}
 use Rattle.smith_const_expr.proofs.KnownLemmas.{function_kind_exists}

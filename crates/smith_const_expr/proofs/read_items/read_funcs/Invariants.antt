@@ -1,8 +1,8 @@
 use Rattle.std.proofs.Common.{◌≡◌, Bool, List, length}
 use Rattle.std.specs.Prelude.{Some}
 use Rattle.smith_types.specs.Expressions.{function_reference}
-use Rattle.smith_types.specs.declared.composite_type.SubType.{SubType}
-use Rattle.smith_types.specs.declared.value_type.ValType.{ValType}
+use Rattle.smith_data.specs.declared.composite_type.SubType.{SubType}
+use Rattle.smith_data.specs.declared.value_type.ValType.{ValType}
 use Rattle.smith_const_expr.specs.ConstScopes.{context_of}
 use Rattle.smith_const_expr.specs.KeptOffers.{AreClasses, AreFlags}
 use Rattle.smith_draw.proofs.const_expr.read_items.read_funcs.Given as goal

@@ -1,6 +1,6 @@
 use Rattle.std.proofs.Common.{◌≤◌, List, length, true}
 use Rattle.std.proofs.lemmas.Result.{IfOk-weaker}
-use Rattle.smith_types.specs.declared.segments.DataSegment.{DataSegment}
+use Rattle.smith_data.specs.declared.segments.DataSegment.{DataSegment}
 use Rattle.smith_config.specs.Features.{features_of}
 use Rattle.smith_const_expr.specs.ConstScopes.{seen_by}
 use Rattle.smith_draw.proofs.ValueTypeLemmas.{drawn_is}

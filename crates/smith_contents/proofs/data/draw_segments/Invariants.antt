@@ -2,7 +2,7 @@ use Rattle.std.proofs.Common.{List}
 use Rattle.std.specs.Prelude.{All}
 use Rattle.smith_bytes.proofs.GrowingLoop.{IsGrowing}
 use Rattle.smith_types.specs.Expressions.{Context}
-use Rattle.smith_types.specs.declared.entity_type.MemoryType.{MemoryType}
+use Rattle.smith_data.specs.declared.entity_type.MemoryType.{MemoryType}
 use Rattle.smith_contents.specs.DataSegments.{data_segment_at, data_segments_at}
 use Rattle.smith_contents.specs.DataTargets.{AreTargets, IsDataFit}
 use Rattle.smith_contents.proofs.data.draw_segments.Given as goal

@@ -3,7 +3,7 @@ use Rattle.std.specs.Prelude.{All}
 use Rattle.std.proofs.lemmas.List.Elements.{All-nil, All-push}
 use Rattle.smith_bytes.proofs.GrowingLoop.{grow_go, grow_stop, grow_full}
 use Rattle.smith_types.specs.Expressions.{IsConstExpr}
-use Rattle.smith_types.specs.declared.value_type.ValType.TheVariants.{Ref}
+use Rattle.smith_data.specs.declared.value_type.ValType.TheVariants.{Ref}
 use Rattle.smith_types.specs.Floats.{GivesNoFloat}
 use Rattle.smith_const_expr.specs.ConstScopes.{seen_by}
 use Rattle.smith_contents.specs.ElementSegments.{drawn_expressions_at}

@@ -3,7 +3,7 @@ use Rattle.std.specs.Prelude.{All}
 use Rattle.smith_bytes.proofs.GrowingLoop.{IsGrowing}
 use Rattle.smith_types.specs.Expressions.{IsConstExpr}
 use Rattle.smith_types.specs.Floats.{HasNoFloat, GivesNoFloat}
-use Rattle.smith_types.specs.declared.value_type.ValType.TheVariants.{Ref}
+use Rattle.smith_data.specs.declared.value_type.ValType.TheVariants.{Ref}
 use Rattle.smith_const_expr.specs.ConstScopes.{seen_by}
 use Rattle.smith_const_expr.specs.KeptOffers.{AreKeptOffers}
 use Rattle.smith_contents.specs.ElementSegments.{expression_item_at, drawn_expressions_at}

@@ -1,6 +1,6 @@
 use Rattle.std.proofs.Common.{true, ◌≤◌, List, length}
 use Rattle.std.proofs.lemmas.Result.{IfOk-weaker}
-use Rattle.smith_types.specs.declared.const_instr.ConstInstr.{ConstInstr}
+use Rattle.smith_data.specs.declared.const_instr.ConstInstr.{ConstInstr}
 use Rattle.smith_const_expr.specs.ConstScopes.{seen_by}
 use Rattle.smith_draw.proofs.ValueTypeLemmas.{drawn_is}
 use Rattle.smith_contents.proofs.ElementFitLemmas.{expressions_fit}

@@ -1,5 +1,5 @@
 use Rattle.std.proofs.Common.{ℕ, List, true}
-use Rattle.smith_types.specs.declared.segments.Elements.TheVariants.{Functions}
+use Rattle.smith_data.specs.declared.segments.Elements.TheVariants.{Functions}
 use Rattle.smith_const_expr.specs.ConstScopes.{seen_by}
 use Rattle.smith_contents.specs.DrawnElements.{AreItemsFit}
 use Rattle.smith_contents.specs.ElementSegments.{functions_at}

@@ -2,7 +2,7 @@ use Rattle.std.proofs.Common.{◌≤◌, List, length, true}
 use Rattle.std.proofs.lemmas.List.Elements.{All-weaker}
 use Rattle.std.proofs.lemmas.Result.{IfOk-weaker}
 use Rattle.smith_bytes.specs.declared.error.Count.TheVariants as counts
-use Rattle.smith_types.specs.declared.segments.ElementSegment.{ElementSegment}
+use Rattle.smith_data.specs.declared.segments.ElementSegment.{ElementSegment}
 use Rattle.smith_const_expr.specs.ConstScopes.{seen_by}
 use Rattle.smith_draw.specs.Grounding.{standing_in}
 use Rattle.smith_rules.specs.Held.{HasItems}

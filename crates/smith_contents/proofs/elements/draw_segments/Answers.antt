@@ -1,7 +1,7 @@
 use Rattle.std.proofs.Common.{arith, refl, true}
 use Rattle.std.proofs.lemmas.List.Elements.{All-push}
 use Rattle.smith_bytes.specs.declared.error.Count.TheVariants as counts
-use Rattle.smith_types.specs.declared.segments.ElementSegment.{ElementSegment}
+use Rattle.smith_data.specs.declared.segments.ElementSegment.{ElementSegment}
 use Rattle.smith_const_expr.specs.ConstScopes.{seen_by}
 use Rattle.smith_contents.specs.DrawnElements.{IsElementFit}
 use Rattle.smith_contents.proofs.ElementsLoop.{segments_go, segments_stop, segments_full, segments_refused, refused_by}

@@ -1,5 +1,5 @@
 use Rattle.std.proofs.Common.{◌≡◌, get_or, drop}
-use Rattle.smith_types.specs.declared.entity_type.ExportKind.TheVariants.{Memory}
+use Rattle.smith_data.specs.declared.entity_type.ExportKind.TheVariants.{Memory}
 use Rattle.smith_draw.specs.Choices.{enabled}
 use Rattle.smith_draw.proofs.enabled.enabled_at.Given as goal
 

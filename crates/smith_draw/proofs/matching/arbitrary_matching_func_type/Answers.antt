@@ -4,8 +4,8 @@ use Rattle.smith_draw.proofs.StandingLemmas.{func_stands}
 use Rattle.smith_draw.proofs.DrawingLemmas.{of_drawn}
 use Rattle.std.specs.Prelude.{All}
 use Rattle.smith_types.specs.ValidTypes.{values_of}
-use Rattle.smith_types.specs.declared.composite_type.FuncType.{FuncType}
-use Rattle.smith_types.specs.declared.composite_type.CompositeInnerType.TheVariants.{Func}
+use Rattle.smith_data.specs.declared.composite_type.FuncType.{FuncType}
+use Rattle.smith_data.specs.declared.composite_type.CompositeInnerType.TheVariants.{Func}
 use Rattle.smith_config.specs.Granted.{IsGranted}
 use Rattle.smith_draw.specs.Grounding.{standing_in}
 use Rattle.smith_draw.proofs.GrantedLemmas.{matching_func_granted}

@@ -1,6 +1,6 @@
 use Rattle.std.proofs.Common.{◌≡◌, ◌⊎◌, inl, inr}
 use Rattle.smith_types.specs.Grounded.{IsGrounded}
-use Rattle.smith_types.specs.declared.value_type.RefType.{RefType}
+use Rattle.smith_data.specs.declared.value_type.RefType.{RefType}
 use Rattle.smith_draw.specs.Grounding.{standing_in}
 use Rattle.smith_draw.proofs.GroundingLemmas.{grounded_if}
 use Rattle.smith_draw.proofs.SharedLemmas.{below_shared}

@@ -2,8 +2,8 @@ use Rattle.smith_draw.proofs.MatchingCompositeLemmas.{matching_struct_match, mat
 use Rattle.smith_draw.proofs.DrawingLemmas.{of_drawn}
 use Rattle.std.specs.Prelude.{All}
 use Rattle.smith_types.specs.ValidTypes.{values_of}
-use Rattle.smith_types.specs.declared.composite_type.StructType.{StructType}
-use Rattle.smith_types.specs.declared.composite_type.CompositeInnerType.TheVariants.{Struct}
+use Rattle.smith_data.specs.declared.composite_type.StructType.{StructType}
+use Rattle.smith_data.specs.declared.composite_type.CompositeInnerType.TheVariants.{Struct}
 use Rattle.smith_config.specs.Granted.{IsGranted}
 use Rattle.smith_draw.specs.Grounding.{standing_in}
 use Rattle.smith_draw.proofs.GrantedLemmas.{matching_struct_granted}

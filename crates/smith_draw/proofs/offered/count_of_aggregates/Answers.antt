@@ -1,5 +1,5 @@
 use Rattle.std.proofs.Common.{arith}
-use Rattle.smith_types.specs.declared.value_type.AbstractHeapType.TheVariants.{Array, Struct}
+use Rattle.smith_data.specs.declared.value_type.AbstractHeapType.TheVariants.{Array, Struct}
 use Rattle.smith_draw.proofs.OfferedPlaceLemmas.{two_kinds}
 use Rattle.smith_draw.proofs.offered.count_of_aggregates.Goals as goal
 

@@ -1,6 +1,6 @@
 use Rattle.std.proofs.Common.{◌≡◌, ◌<◌, length, drop, Some}
 use Rattle.std.specs.Prelude.{slice_get}
-use Rattle.smith_types.specs.declared.value_type.HeapType.{HeapType}
+use Rattle.smith_data.specs.declared.value_type.HeapType.{HeapType}
 use Rattle.smith_draw.specs.Offered.{of_kinds}
 use Rattle.smith_draw.proofs.offered.offered_of_kinds.Given as goal
 

@@ -6,7 +6,7 @@ use Rattle.smith_sections.specs.Long.{IsLongBody, IsLongContent, IsLongList}
 use Rattle.smith_sections.specs.Modules.{IsModule}
 use Rattle.smith_sections.specs.Sections.{IsSectionIf}
 use Rattle.smith_sections.proofs.ListLemmas.{body_spelled}
-use Rattle.smith_types.specs.declared.code.Code.{Code}
+use Rattle.smith_data.specs.declared.code.Code.{Code}
 use Rattle.smith_encode.specs.Around.{IsModuleAround}
 use Rattle.smith_encode.specs.Contents.{contents_of}
 use Rattle.smith_encode.specs.Layout.{is_filled}

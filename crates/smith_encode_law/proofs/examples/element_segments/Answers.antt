@@ -1,8 +1,8 @@
 use Rattle.std.proofs.Common.{false, None, [], ◌∷◌, pos, refl}
 use Rattle.std.proofs.lemmas.List.Elements.{All-from_recursion}
-use Rattle.smith_types.specs.declared.const_instr.ConstInstr.TheVariants.{I32Const, RefFunc}
-use Rattle.smith_types.specs.declared.value_type.HeapType.TheVariants.{Concrete}
-use Rattle.smith_types.specs.declared.value_type.ValType.TheVariants.{I32, Ref}
+use Rattle.smith_data.specs.declared.const_instr.ConstInstr.TheVariants.{I32Const, RefFunc}
+use Rattle.smith_data.specs.declared.value_type.HeapType.TheVariants.{Concrete}
+use Rattle.smith_data.specs.declared.value_type.ValType.TheVariants.{I32, Ref}
 use Rattle.smith_types.specs.Expressions.{reference_to}
 use Rattle.smith_types.specs.Flags.{funcref}
 use Rattle.smith_types.specs.Subtyping.{itself, IsRefBelow}

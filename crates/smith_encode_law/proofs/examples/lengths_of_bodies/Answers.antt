@@ -1,7 +1,7 @@
 use Rattle.std.proofs.Common.{◌^◌, ◌≤◌, inl, inr, [], ◌∷◌, ◌++◌, length, refl, arith, length-append}
 use Rattle.smith_binary.specs.Pieces.{Each}
 use Rattle.smith_binary.proofs.NumberLemmas.{unsigned_last}
-use Rattle.smith_types.specs.declared.value_type.ValType.TheVariants.{I32}
+use Rattle.smith_data.specs.declared.value_type.ValType.TheVariants.{I32}
 use Rattle.smith_sections.specs.Codes.{IsRun}
 use Rattle.smith_sections.specs.Long.{IsNeverLong, IsLongBody}
 use Rattle.smith_sections.proofs.SizeLemmas.{AtMost, bytes_within, joined_within, none_within, not_long, no_long_items, number_within, one_long_item, one_within}

@@ -1,10 +1,10 @@
 use Rattle.std.proofs.Common.{rules, ◌≡◌, ◌∙◌, false, None, [], ◌∷◌, lit<, refl, sym, ap, subst}
 use Rattle.std.proofs.lemmas.List.Elements.{All-from_recursion}
 use Rattle.std.proofs.lemmas.Option.{same_Some}
-use Rattle.smith_types.specs.declared.entity_type.TableType.{TableType}
-use Rattle.smith_types.specs.declared.value_type.AbstractHeapType.TheVariants as heap
-use Rattle.smith_types.specs.declared.value_type.HeapType.TheVariants.{Concrete}
-use Rattle.smith_types.specs.Kinds.{bottom}
+use Rattle.smith_data.specs.declared.entity_type.TableType.{TableType}
+use Rattle.smith_data.specs.declared.value_type.AbstractHeapType.TheVariants as heap
+use Rattle.smith_data.specs.declared.value_type.HeapType.TheVariants.{Concrete}
+use Rattle.smith_data.specs.Kinds.{bottom}
 use Rattle.smith_types.specs.Segments.{IsItem}
 use Rattle.smith_types.specs.Subtyping.{itself, IsBelow, IsRefBelow}
 use Rattle.smith_types.specs.ExampleContexts.{context_types, context_with}

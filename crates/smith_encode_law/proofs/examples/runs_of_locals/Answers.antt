@@ -3,7 +3,7 @@ use Rattle.smith_binary.specs.Numbers.{IsUnsigned}
 use Rattle.smith_binary.specs.Pieces.{Each, Joined, IsList}
 use Rattle.smith_binary.proofs.NumberLemmas.{unsigned_last}
 use Rattle.smith_binary.proofs.UnambiguousLemmas.{unsigned_is_unambiguous}
-use Rattle.smith_types.specs.declared.value_type.ValType.TheVariants.{I32}
+use Rattle.smith_data.specs.declared.value_type.ValType.TheVariants.{I32}
 use Rattle.smith_sections.specs.Codes.{IsRun}
 use Rattle.smith_encode_law.proofs.CheckLemmas.{both}
 use Rattle.smith_encode_law.proofs.examples.runs_of_locals.Goals as goal

@@ -1,6 +1,6 @@
 use Rattle.std.proofs.Common.{◌≡◌, ◌∙◌, ◌+◌, ◌++◌, ◌∷◌, [], take, drop, sym, ap}
 use Rattle.std.proofs.lemmas.List.{drop_all, take_all, take_more}
-use Rattle.smith_types.specs.declared.imports.Import.{Import}
+use Rattle.smith_data.specs.declared.imports.Import.{Import}
 use Rattle.smith_given_imports.proofs.GroupedImportsLoop.{grouped_first, group_alone, joined_none, joining_more}
 use Rattle.smith_given_imports.proofs.TakenImportsLoop.{offered_next}
 use Rattle.smith_given_imports.proofs.grouped_imports.put_in_groups.Goals as goal

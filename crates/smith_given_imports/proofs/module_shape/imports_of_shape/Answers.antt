@@ -1,7 +1,7 @@
 use Rattle.std.proofs.Common.{◌∙◌, List, refl, ap, subst, sym}
 use Rattle.std.specs.Prelude.{All}
 use Rattle.smith_types.specs.Imports.{flattened, IsImportsValid}
-use Rattle.smith_types.specs.declared.imports.Imports.{Imports}
+use Rattle.smith_data.specs.declared.imports.Imports.{Imports}
 use Rattle.smith_config.specs.Features.{features_of}
 use Rattle.smith_given_imports.proofs.KeptImportLemmas.{kept_flat, kept_valid, imported_valid, imported_enabled}
 use Rattle.smith_given_imports.proofs.module_shape.imports_of_shape.Goals as goal

@@ -1,7 +1,7 @@
 use Rattle.std.proofs.Common.{◌≡◌, ◌++◌, map, take}
 use Rattle.smith_types.specs.Imports.{import_of}
-use Rattle.smith_types.specs.declared.imports.ImportItem.{ImportItem}
-use Rattle.smith_types.specs.declared.imports.Imports.TheVariants.{Single}
+use Rattle.smith_data.specs.declared.imports.ImportItem.{ImportItem}
+use Rattle.smith_data.specs.declared.imports.Imports.TheVariants.{Single}
 use Rattle.smith_given_imports.proofs.module_shape.push_items.Given as goal
 
 abbrev pub invariant-loop-item : goal.invariant-loop-item

@@ -1,6 +1,6 @@
 use Rattle.std.proofs.Common.{◌≡◌, ◌++◌, map, take}
 use Rattle.smith_types.specs.Imports.{import_of}
-use Rattle.smith_types.specs.declared.imports.Imports.TheVariants.{Single}
+use Rattle.smith_data.specs.declared.imports.Imports.TheVariants.{Single}
 use Rattle.smith_given_imports.proofs.module_shape.push_names.Given as goal
 
 abbrev pub invariant-loop-name : goal.invariant-loop-name

@@ -1,5 +1,5 @@
 use Rattle.std.proofs.Common.{◌≡◌, ◌∙◌, sym, refl, List, ◌∷◌, [], Bool}
-use Rattle.smith_types.specs.declared.entity_type.ExportKind.{ExportKind}
+use Rattle.smith_data.specs.declared.entity_type.ExportKind.{ExportKind}
 use Rattle.smith_imports.specs.Imported.{spaces_of}
 use Rattle.smith_imports.specs.ImportedEntities.{kind_rows}
 use Rattle.smith_draw.proofs.EnabledLemmas.{length_enabled}

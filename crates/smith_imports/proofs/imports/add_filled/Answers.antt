@@ -1,6 +1,6 @@
 use Rattle.std.proofs.Common.{◌≡◌, ◌∙◌, ◌++◌, sym, ap, subst, List}
-use Rattle.smith_types.specs.declared.imports.Import.{Import}
-use Rattle.smith_types.specs.declared.imports.Imports.{Imports}
+use Rattle.smith_data.specs.declared.imports.Import.{Import}
+use Rattle.smith_data.specs.declared.imports.Imports.{Imports}
 use Rattle.smith_types.specs.Imports.{flattened, imports_of}
 use Rattle.smith_imports.specs.Imported.{Counts, AreImportsFit}
 use Rattle.smith_imports.proofs.ImportsGrownLemmas.{ends_counted, none_added}

@@ -1,5 +1,5 @@
 use Rattle.smith_rules_examples.proofs.Common.{rules, ℕ, List, [], ◌∷◌, refl, codes, All-from_recursion, IsFuncTypeIndex, IsEntityAt, AreDistinct, EntityType, ExportKind, module_spaces, two_exports}
-use Rattle.smith_types.specs.declared.entity_type.EntityType.TheVariants as entity
+use Rattle.smith_data.specs.declared.entity_type.EntityType.TheVariants as entity
 use Rattle.smith_rules_examples.proofs.PartExamples.{function_types, function_at}
 use Rattle.smith_rules_examples.proofs.given_modules.exports.Goals as goal
 

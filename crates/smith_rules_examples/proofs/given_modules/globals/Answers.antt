@@ -1,5 +1,5 @@
 use Rattle.smith_rules_examples.proofs.Common.{rules, arith, ℕ, ◌<◌, List, pos, true, false, refl, All-from_recursion, IsEntityAt, I32, EntityType, ExportKind, I32Const, GlobalGet, distinct_alone, module_spaces, global_context, number_given, global, number, exported_number, three_numbers}
-use Rattle.smith_types.specs.declared.entity_type.EntityType.TheVariants as entity
+use Rattle.smith_data.specs.declared.entity_type.EntityType.TheVariants as entity
 use Rattle.smith_rules_examples.proofs.PartExamples.{first_read, globals_defined}
 use Rattle.smith_rules_examples.proofs.given_modules.globals.Goals as goal
 

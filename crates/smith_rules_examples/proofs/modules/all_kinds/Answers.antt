@@ -1,6 +1,6 @@
 use Rattle.smith_rules_examples.proofs.Common.{rules, ℕ, List, [], ◌∷◌, Some, false, refl, codes, All-from_recursion, plain, nullable, IsTypeValid, IsGroupValid, AreTypesValid, IsFuncTypeIndex, IsTagValid, IsEntityAt, AreDistinct, I32, I64, F32, Ref, EntityType, ExportKind, F32Const, RefNull, IsRefBelow-refl, foo_type, quux_type, each_place, IsTableDefined, module_features, module_types, module_spaces, table_context, global_context, memory, table, global, one_of_each, group_of}
-use Rattle.smith_types.specs.declared.value_type.AbstractHeapType.TheVariants as heap
-use Rattle.smith_types.specs.declared.entity_type.EntityType.TheVariants as entity
+use Rattle.smith_data.specs.declared.value_type.AbstractHeapType.TheVariants as heap
+use Rattle.smith_data.specs.declared.entity_type.EntityType.TheVariants as entity
 use Rattle.smith_rules_examples.proofs.PartExamples.{alone, globals_defined, group_valid}
 use Rattle.smith_rules_examples.proofs.modules.all_kinds.Goals as goal
 

@@ -1,5 +1,5 @@
 use Rattle.smith_rules_examples.proofs.Common.{rules, arith, common_steps, ℕ, List, [], ◌∷◌, refl, All-from_recursion, funcref, IsTagValid, IsConstExpr, IsElementSegmentValid, IsDataValid, IsEntityAt, EntityType, ExportKind, Ref, distinct_alone, module_spaces, segment_context, no_function, shared_memory, two_elements, one_data_segment, one_tag}
-use Rattle.smith_types.specs.declared.entity_type.EntityType.TheVariants as entity
+use Rattle.smith_data.specs.declared.entity_type.EntityType.TheVariants as entity
 use Rattle.smith_rules_examples.proofs.PartExamples.{no_function_given, function_types, functions_valid, function_at}
 use Rattle.smith_rules_examples.proofs.modules.segments.Goals as goal
 

@@ -1,5 +1,5 @@
 use Rattle.smith_rules_examples.proofs.Common.{[], ◌∷◌, true, None, refl, inr, All-head, All-from_recursion, ValType, Ref, plain, not_null, below_kind, IsGranted, a_type, plain_function, module_context, one_function, one_number, with_references}
-use Rattle.smith_types.specs.declared.value_type.AbstractHeapType.TheVariants as heap
+use Rattle.smith_data.specs.declared.value_type.AbstractHeapType.TheVariants as heap
 use Rattle.smith_rules_examples.proofs.GrantedExamples.{any_not_granted, to_any}
 use Rattle.smith_rules_examples.proofs.promises.locals.Goals as goal
 

@@ -1,5 +1,5 @@
 use Rattle.smith_rules_examples.proofs.Common.{rules, arith, common_steps, [], ◌∷◌, false, refl, inl, All-nil, All-head, All-from_recursion, itself, Concrete, ValType, I32, Ref, Expressions, empty_struct, plain, not_null, grounded_at, default_config, IsGranted, HasGroundedItems, final, taking, ModuleParts, module_context, one_number, one_table, passive_elements, with_references, holding_reference}
-use Rattle.smith_types.specs.declared.value_type.AbstractHeapType.TheVariants as heap
+use Rattle.smith_data.specs.declared.value_type.AbstractHeapType.TheVariants as heap
 use Rattle.smith_rules_examples.proofs.GrantedExamples.{any_not_granted, any_taken, to_any}
 use Rattle.smith_rules_examples.proofs.promises.references.Goals as goal
 

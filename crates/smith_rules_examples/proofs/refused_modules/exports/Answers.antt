@@ -1,6 +1,6 @@
 use Rattle.smith_rules_examples.proofs.Common.{rules, ℕ, List, [], ◌∷◌, refl, codes, All-from_recursion, All-head, IsEntityAt, AreDistinct, EntityType, ExportKind, module_spaces, exported_twice, one_number}
-use Rattle.smith_types.specs.declared.entity_type.EntityType.TheVariants as entity
-use Rattle.smith_types.specs.declared.entity_type.ExportKind.TheVariants as kind
+use Rattle.smith_data.specs.declared.entity_type.EntityType.TheVariants as entity
+use Rattle.smith_data.specs.declared.entity_type.ExportKind.TheVariants as kind
 use Rattle.smith_rules_examples.proofs.RefusedExamples.{name_refused}
 use Rattle.smith_rules_examples.proofs.refused_modules.exports.Goals as goal
 

@@ -1,5 +1,5 @@
 use Rattle.smith_rules_examples.proofs.Common.{arith, [], ◌∷◌, false, codes, All-head, IsImportsValid, Compact2, default_config, features_of, module_features, number, two_imports}
-use Rattle.smith_types.specs.declared.entity_type.EntityType.TheVariants as entity
+use Rattle.smith_data.specs.declared.entity_type.EntityType.TheVariants as entity
 use Rattle.smith_rules_examples.proofs.refused_modules.imports.Goals as goal
 
 pub returns-clause-an_empty_group : goal.returns-clause-an_empty_group

@@ -1,5 +1,5 @@
 use Rattle.smith_rules_examples.proofs.Common.{rules, arith, [], ◌∷◌, Some, None, pos, false, sym, subst, refl, same_Some, funcref, common_steps, IsConstExpr, nullable, plain, TableType, Ref, I32Const, GlobalGet, RefNull, IsRefBelow-refl, by_cases_from_below, each_place, IsTableDefined, table_context, table, global, no_function, table_from_import, table_behind, one_table}
-use Rattle.smith_types.specs.declared.value_type.AbstractHeapType.TheVariants as heap
+use Rattle.smith_data.specs.declared.value_type.AbstractHeapType.TheVariants as heap
 use Rattle.smith_rules_examples.proofs.PartExamples.{alone, pushed_alone, no_function_given}
 use Rattle.smith_rules_examples.proofs.RefusedExamples.{null_refused}
 use Rattle.smith_rules_examples.proofs.refused_modules.tables.Goals as goal

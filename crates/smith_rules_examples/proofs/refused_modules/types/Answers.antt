@@ -1,5 +1,5 @@
 use Rattle.smith_rules_examples.proofs.Common.{rules, arith, common_steps, ◌≡◌, true, false, [], ◌∷◌, Some, None, refl, sym, subst, same_Some, All-head, Concrete, Ref, SubType, plain, nullable, anyref, eqref, IsValTypeValid, IsGroupValid, IsSupertypeValid, by_cases_from_below, a_type, bytes_array, taking, module_features, referring_to, types_together, group_of}
-use Rattle.smith_types.specs.declared.value_type.AbstractHeapType.TheVariants as heap
+use Rattle.smith_data.specs.declared.value_type.AbstractHeapType.TheVariants as heap
 use Rattle.smith_rules_examples.proofs.refused_modules.types.Goals as goal
 
 pub returns : goal.returns

@@ -2,7 +2,7 @@ use Rattle.std.proofs.Common.{◌∙◌, ap}
 use Rattle.std.specs.Prelude.{Some}
 use Rattle.std.proofs.lemmas.Option.{get_or_from_slice_get}
 use Rattle.smith_types.specs.Expressions.{function_reference}
-use Rattle.smith_types.specs.declared.value_type.ValType.{ValType}
+use Rattle.smith_data.specs.declared.value_type.ValType.{ValType}
 use Rattle.smith_const_expr.specs.ConstScopes.{context_of}
 use Rattle.smith_draw.proofs.const_expr.few_items.FewItems.recorded_function.Goals as goal
 

@@ -1,8 +1,8 @@
 use Rattle.std.proofs.Common.{ℕ, List, [], ◌∷◌, ◌<◌, refl, arith}
 use Rattle.smith_encode_law.proofs.CheckLemmas.{both}
 use Rattle.smith_sections.specs.Codes.{IsRun}
-use Rattle.smith_types.specs.declared.value_type.ValType.{ValType}
-use Rattle.smith_types.specs.declared.value_type.ValType.TheVariants.{I32}
+use Rattle.smith_data.specs.declared.value_type.ValType.{ValType}
+use Rattle.smith_data.specs.declared.value_type.ValType.TheVariants.{I32}
 use Rattle.smith_instr.specs.declared.instr.Instr.TheVariants as instr
 use Rattle.smith_instr_binary.specs.Instructions.{IsInstr, IsExpr}
 use Rattle.smith_instr_binary_law.proofs.SpelledExamples.{index, no_item, more_items}

@@ -2,7 +2,7 @@ use Rattle.std.proofs.Common.{inl, inr, [], ◌∷◌, refl, subst, sym, arith}
 use Rattle.std.specs.Prelude.{Any}
 use Rattle.std.proofs.lemmas.List.Elements.{All-from_recursion}
 use Rattle.smith_binary.specs.Pieces.{Each}
-use Rattle.smith_types.specs.declared.value_type.ValType.TheVariants.{I32}
+use Rattle.smith_data.specs.declared.value_type.ValType.TheVariants.{I32}
 use Rattle.smith_sections.specs.Codes.{IsRun}
 use Rattle.smith_sections.specs.Long.{IsNeverLong}
 use Rattle.smith_sections.proofs.SizeLemmas.{AtMost, bytes_within, joined_within, none_within, not_long, no_long_items, number_within, one_long_item, one_within}

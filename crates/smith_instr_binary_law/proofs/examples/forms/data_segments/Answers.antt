@@ -1,5 +1,5 @@
 use Rattle.std.proofs.Common.{ℕ, ◌<◌, [], ◌∷◌, refl, arith}
-use Rattle.smith_types.specs.declared.segments.DataSegmentKind.TheVariants as data_kind
+use Rattle.smith_data.specs.declared.segments.DataSegmentKind.TheVariants as data_kind
 use Rattle.smith_sections.specs.Data.{IsDataIn, data_of, named_memory}
 use Rattle.smith_sections.specs.Instructions.{offset_of}
 use Rattle.smith_encode_law.proofs.CheckLemmas.{both}

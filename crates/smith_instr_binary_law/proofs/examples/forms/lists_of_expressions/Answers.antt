@@ -1,6 +1,6 @@
 use Rattle.std.proofs.Common.{[], ◌∷◌, refl, arith}
 use Rattle.smith_types.specs.ExampleTypes.{nullable, plain}
-use Rattle.smith_types.specs.declared.value_type.AbstractHeapType.TheVariants as heap
+use Rattle.smith_data.specs.declared.value_type.AbstractHeapType.TheVariants as heap
 use Rattle.smith_sections.specs.Instructions.{IsExpression, offset_of}
 use Rattle.smith_sections.specs.Types.{IsRefType}
 use Rattle.smith_encode_law.proofs.CheckLemmas.{both}

@@ -1,5 +1,5 @@
 use Rattle.std.proofs.Common.{ℕ, ◌<◌, [], ◌∷◌, None, Some, refl, arith}
-use Rattle.smith_types.specs.declared.segments.ElementKind.TheVariants.{Active}
+use Rattle.smith_data.specs.declared.segments.ElementKind.TheVariants.{Active}
 use Rattle.smith_sections.specs.Elements.{IsElemIn, IsKindFuncs, elem_of, first_funcs, table_funcs}
 use Rattle.smith_sections.specs.Instructions.{offset_of}
 use Rattle.smith_encode_law.proofs.CheckLemmas.{both}

@@ -8,55 +8,55 @@ use Rattle.std.specs.Cmp.{unsigned_Decides, signed_Decides, booleans_Decides}
 use Rattle.std.specs.Cmp.Lexicographic.{pointwise}
 use Rattle.std.proofs.lemmas.Bool.Decides.{Decides-like, Decides-and}
 use Rattle.std.proofs.lemmas.Slice.Eq.{slice_eq-Decides, bytes_eq-Decides}
-use Rattle.smith_types.specs.declared.value_type.AbstractHeapType.{AbstractHeapType}
-use Rattle.smith_types.specs.declared.value_type.HeapType.{HeapType}
-use Rattle.smith_types.specs.declared.value_type.HeapType.TheVariants.{Abstract, Concrete, Exact}
-use Rattle.smith_types.specs.declared.value_type.RefType.{RefType}
-use Rattle.smith_types.specs.declared.value_type.ValType.{ValType}
-use Rattle.smith_types.specs.declared.value_type.ValType.TheVariants.{Ref}
-use Rattle.smith_types.specs.declared.composite_type.StorageType.{StorageType}
-use Rattle.smith_types.specs.declared.composite_type.StorageType.TheVariants.{Val}
-use Rattle.smith_types.specs.declared.composite_type.FieldType.{FieldType}
-use Rattle.smith_types.specs.declared.composite_type.ArrayType.{ArrayType}
-use Rattle.smith_types.specs.declared.composite_type.StructType.{StructType}
-use Rattle.smith_types.specs.declared.composite_type.FuncType.{FuncType}
-use Rattle.smith_types.specs.declared.composite_type.CompositeInnerType.{CompositeInnerType}
-use Rattle.smith_types.specs.declared.composite_type.CompositeInnerType.TheVariants.{Array, Func, Struct}
-use Rattle.smith_types.specs.declared.composite_type.CompositeType.{CompositeType}
-use Rattle.smith_types.specs.declared.composite_type.SubType.{SubType}
-use Rattle.smith_types.specs.declared.entity_type.TableType.{TableType}
-use Rattle.smith_types.specs.declared.entity_type.MemoryType.{MemoryType}
-use Rattle.smith_types.specs.declared.entity_type.GlobalType.{GlobalType}
-use Rattle.smith_types.specs.declared.entity_type.EntityType.{EntityType}
-use Rattle.smith_types.specs.declared.entity_type.EntityType.TheVariants as entity
-use Rattle.smith_types.specs.declared.entity_type.ExportKind.{ExportKind}
-use Rattle.smith_types.specs.declared.imports.Import.{Import}
-use Rattle.smith_types.specs.declared.imports.ImportItem.{ImportItem}
-use Rattle.smith_types.specs.declared.imports.Imports.{Imports}
-use Rattle.smith_types.specs.declared.imports.Imports.TheVariants.{Single, Compact1, Compact2}
-use Rattle.smith_types.specs.declared.const_instr.ConstInstr.{ConstInstr}
-use Rattle.smith_types.specs.declared.const_instr.ConstInstr.TheVariants as instr
-use Rattle.smith_types.specs.contracts.entity_type.TableTypePartialEq.TheImpl.{ghosts as table_same}
-use Rattle.smith_types.specs.contracts.entity_type.MemoryTypePartialEq.TheImpl.{ghosts as memory_same}
-use Rattle.smith_types.specs.contracts.entity_type.GlobalTypePartialEq.TheImpl.{ghosts as global_same}
-use Rattle.smith_types.specs.contracts.entity_type.EntityTypePartialEq.TheImpl.{ghosts as entity_same}
-use Rattle.smith_types.specs.contracts.entity_type.ExportKindPartialEq.TheImpl.{ghosts as kind_same}
-use Rattle.smith_types.specs.contracts.imports.ImportPartialEq.TheImpl.{ghosts as import_same}
-use Rattle.smith_types.specs.contracts.imports.ImportItemPartialEq.TheImpl.{ghosts as item_same}
-use Rattle.smith_types.specs.contracts.imports.ImportsPartialEq.TheImpl.{ghosts as imports_same}
-use Rattle.smith_types.specs.contracts.const_instr.ConstInstrPartialEq.TheImpl.{ghosts as instr_same}
-use Rattle.smith_types.specs.contracts.value_type.AbstractHeapTypePartialEq.TheImpl.{ghosts as abstract_same}
-use Rattle.smith_types.specs.contracts.value_type.HeapTypePartialEq.TheImpl.{ghosts as heap_same}
-use Rattle.smith_types.specs.contracts.value_type.RefTypePartialEq.TheImpl.{ghosts as ref_same}
-use Rattle.smith_types.specs.contracts.value_type.ValTypePartialEq.TheImpl.{ghosts as val_same}
-use Rattle.smith_types.specs.contracts.composite_type.StorageTypePartialEq.TheImpl.{ghosts as storage_same}
-use Rattle.smith_types.specs.contracts.composite_type.FieldTypePartialEq.TheImpl.{ghosts as field_same}
-use Rattle.smith_types.specs.contracts.composite_type.ArrayTypePartialEq.TheImpl.{ghosts as array_same}
-use Rattle.smith_types.specs.contracts.composite_type.StructTypePartialEq.TheImpl.{ghosts as struct_same}
-use Rattle.smith_types.specs.contracts.composite_type.FuncTypePartialEq.TheImpl.{ghosts as func_same}
-use Rattle.smith_types.specs.contracts.composite_type.CompositeInnerTypePartialEq.TheImpl.{ghosts as inner_same}
-use Rattle.smith_types.specs.contracts.composite_type.CompositeTypePartialEq.TheImpl.{ghosts as composite_same}
-use Rattle.smith_types.specs.contracts.composite_type.SubTypePartialEq.TheImpl.{ghosts as sub_same}
+use Rattle.smith_data.specs.declared.value_type.AbstractHeapType.{AbstractHeapType}
+use Rattle.smith_data.specs.declared.value_type.HeapType.{HeapType}
+use Rattle.smith_data.specs.declared.value_type.HeapType.TheVariants.{Abstract, Concrete, Exact}
+use Rattle.smith_data.specs.declared.value_type.RefType.{RefType}
+use Rattle.smith_data.specs.declared.value_type.ValType.{ValType}
+use Rattle.smith_data.specs.declared.value_type.ValType.TheVariants.{Ref}
+use Rattle.smith_data.specs.declared.composite_type.StorageType.{StorageType}
+use Rattle.smith_data.specs.declared.composite_type.StorageType.TheVariants.{Val}
+use Rattle.smith_data.specs.declared.composite_type.FieldType.{FieldType}
+use Rattle.smith_data.specs.declared.composite_type.ArrayType.{ArrayType}
+use Rattle.smith_data.specs.declared.composite_type.StructType.{StructType}
+use Rattle.smith_data.specs.declared.composite_type.FuncType.{FuncType}
+use Rattle.smith_data.specs.declared.composite_type.CompositeInnerType.{CompositeInnerType}
+use Rattle.smith_data.specs.declared.composite_type.CompositeInnerType.TheVariants.{Array, Func, Struct}
+use Rattle.smith_data.specs.declared.composite_type.CompositeType.{CompositeType}
+use Rattle.smith_data.specs.declared.composite_type.SubType.{SubType}
+use Rattle.smith_data.specs.declared.entity_type.TableType.{TableType}
+use Rattle.smith_data.specs.declared.entity_type.MemoryType.{MemoryType}
+use Rattle.smith_data.specs.declared.entity_type.GlobalType.{GlobalType}
+use Rattle.smith_data.specs.declared.entity_type.EntityType.{EntityType}
+use Rattle.smith_data.specs.declared.entity_type.EntityType.TheVariants as entity
+use Rattle.smith_data.specs.declared.entity_type.ExportKind.{ExportKind}
+use Rattle.smith_data.specs.declared.imports.Import.{Import}
+use Rattle.smith_data.specs.declared.imports.ImportItem.{ImportItem}
+use Rattle.smith_data.specs.declared.imports.Imports.{Imports}
+use Rattle.smith_data.specs.declared.imports.Imports.TheVariants.{Single, Compact1, Compact2}
+use Rattle.smith_data.specs.declared.const_instr.ConstInstr.{ConstInstr}
+use Rattle.smith_data.specs.declared.const_instr.ConstInstr.TheVariants as instr
+use Rattle.smith_data.specs.contracts.entity_type.TableTypePartialEq.TheImpl.{ghosts as table_same}
+use Rattle.smith_data.specs.contracts.entity_type.MemoryTypePartialEq.TheImpl.{ghosts as memory_same}
+use Rattle.smith_data.specs.contracts.entity_type.GlobalTypePartialEq.TheImpl.{ghosts as global_same}
+use Rattle.smith_data.specs.contracts.entity_type.EntityTypePartialEq.TheImpl.{ghosts as entity_same}
+use Rattle.smith_data.specs.contracts.entity_type.ExportKindPartialEq.TheImpl.{ghosts as kind_same}
+use Rattle.smith_data.specs.contracts.imports.ImportPartialEq.TheImpl.{ghosts as import_same}
+use Rattle.smith_data.specs.contracts.imports.ImportItemPartialEq.TheImpl.{ghosts as item_same}
+use Rattle.smith_data.specs.contracts.imports.ImportsPartialEq.TheImpl.{ghosts as imports_same}
+use Rattle.smith_data.specs.contracts.const_instr.ConstInstrPartialEq.TheImpl.{ghosts as instr_same}
+use Rattle.smith_data.specs.contracts.value_type.AbstractHeapTypePartialEq.TheImpl.{ghosts as abstract_same}
+use Rattle.smith_data.specs.contracts.value_type.HeapTypePartialEq.TheImpl.{ghosts as heap_same}
+use Rattle.smith_data.specs.contracts.value_type.RefTypePartialEq.TheImpl.{ghosts as ref_same}
+use Rattle.smith_data.specs.contracts.value_type.ValTypePartialEq.TheImpl.{ghosts as val_same}
+use Rattle.smith_data.specs.contracts.composite_type.StorageTypePartialEq.TheImpl.{ghosts as storage_same}
+use Rattle.smith_data.specs.contracts.composite_type.FieldTypePartialEq.TheImpl.{ghosts as field_same}
+use Rattle.smith_data.specs.contracts.composite_type.ArrayTypePartialEq.TheImpl.{ghosts as array_same}
+use Rattle.smith_data.specs.contracts.composite_type.StructTypePartialEq.TheImpl.{ghosts as struct_same}
+use Rattle.smith_data.specs.contracts.composite_type.FuncTypePartialEq.TheImpl.{ghosts as func_same}
+use Rattle.smith_data.specs.contracts.composite_type.CompositeInnerTypePartialEq.TheImpl.{ghosts as inner_same}
+use Rattle.smith_data.specs.contracts.composite_type.CompositeTypePartialEq.TheImpl.{ghosts as composite_same}
+use Rattle.smith_data.specs.contracts.composite_type.SubTypePartialEq.TheImpl.{ghosts as sub_same}
 
 -- lists are equal element by element if `==` of elements is exact
 pub exact_items : {A : Type 0} {E : A → A → Bool} → ((a b : A) → Decides (E a b) (a ≡ b)) → (xs ys : List A) → Decides (pointwise E xs ys) (xs ≡ ys)

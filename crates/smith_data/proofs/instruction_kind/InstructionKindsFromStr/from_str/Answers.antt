@@ -3,12 +3,12 @@ use Rattle.std.proofs.lemmas.Iterator.Consumers.{YieldsList-at, YieldsList-turn,
 use Rattle.std.proofs.lemmas.Iterator.Splits.{YieldsList-from_str_split}
 use Rattle.std.proofs.lemmas.Option.{slice_get_read}
 use Rattle.std.proofs.lemmas.Grind.{common_steps}
-use Rattle.smith_types.specs.Instructions.{IsNamed, kinds_bits}
-use Rattle.smith_types.specs.SplitTexts.{split_at_commas}
+use Rattle.smith_data.specs.Instructions.{IsNamed, kinds_bits}
+use Rattle.smith_data.specs.SplitTexts.{split_at_commas}
 use Rattle.std.specs.List.{AllZip}
-use Rattle.smith_types.proofs.KindLemmas.{union_of-push}
-use Rattle.smith_types.proofs.PartLemmas.{AllZip-next}
-use Rattle.smith_types.proofs.instruction_kind.InstructionKindsFromStr.from_str.Goals as goal
+use Rattle.smith_data.proofs.KindLemmas.{union_of-push}
+use Rattle.smith_data.proofs.PartLemmas.{AllZip-next}
+use Rattle.smith_data.proofs.instruction_kind.InstructionKindsFromStr.from_str.Goals as goal
 
 pub returns-in-Err : goal.returns-in-Err
 returns-in-Err c =

@@ -1,9 +1,9 @@
 use Rattle.std.proofs.Common.{◌≡◌, List, length, take}
-use Rattle.smith_types.specs.Instructions.{kinds_bits, union_of, IsNamed}
-use Rattle.smith_types.specs.SplitTexts.{split_at_commas}
+use Rattle.smith_data.specs.Instructions.{kinds_bits, union_of, IsNamed}
+use Rattle.smith_data.specs.SplitTexts.{split_at_commas}
 use Rattle.std.specs.List.{AllZip}
-use Rattle.smith_types.specs.declared.instruction_kind.InstructionKind.{InstructionKind}
-use Rattle.smith_types.proofs.instruction_kind.InstructionKindsFromStr.from_str.Given as goal
+use Rattle.smith_data.specs.declared.instruction_kind.InstructionKind.{InstructionKind}
+use Rattle.smith_data.proofs.instruction_kind.InstructionKindsFromStr.from_str.Given as goal
 
 abbrev pub invariant-loop-part : goal.invariant-loop-part
 invariant-loop-part l = record {

@@ -1,6 +1,6 @@
 ghost use Rattle.std.specs.Prelude.{◌≡◌, ◌↔◌, ⊤, IsTrue, bit_and};
 ghost use Rattle.bitflags.specs.Sets.{without};
-ghost use Rattle.smith_types.specs.Instructions.{
+ghost use Rattle.smith_data.specs.Instructions.{
   kind_bits,
   instruction_kind_name,
   kind_table,

@@ -1,10 +1,10 @@
 -- Kinds of instructions, their sets as bits, and their names.
 use Rattle.std.specs.Prelude.{Bool, ◌-◌, if◌then◌else◌, ◌≡◌, ℕ, ◌+◌, ◌^◌, List, [], ◌∷◌, take, codes, bit_or, fold, map, Result, Ok, Err, slice_get, Some}
 use Rattle.std.specs.List.{AllZip}
-use Rattle.smith_types.specs.SplitTexts.{split_at_commas}
+use Rattle.smith_data.specs.SplitTexts.{split_at_commas}
 use Rattle.std.specs.Char.{to_ascii_lowercase}
-use Rattle.smith_types.specs.declared.instruction_kind.InstructionKind.{InstructionKind}
-use Rattle.smith_types.specs.declared.instruction_kind.InstructionKind.TheVariants.{
+use Rattle.smith_data.specs.declared.instruction_kind.InstructionKind.{InstructionKind}
+use Rattle.smith_data.specs.declared.instruction_kind.InstructionKind.TheVariants.{
   NumericInt,
   Numeric,
   VectorInt,
@@ -18,8 +18,8 @@ use Rattle.smith_types.specs.declared.instruction_kind.InstructionKind.TheVarian
   Control,
   Aggregate,
 }
-use Rattle.smith_types.specs.declared.instruction_kind.InstructionKinds.{InstructionKinds}
-use Rattle.smith_types.specs.declared.instruction_kind.UnknownKind.{UnknownKind}
+use Rattle.smith_data.specs.declared.instruction_kind.InstructionKinds.{InstructionKinds}
+use Rattle.smith_data.specs.declared.instruction_kind.UnknownKind.{UnknownKind}
 
 -- the bits of a kind: its own bit, and for a kind with floats also that of the kind without
 abbrev pub kind_bits : InstructionKind → ℕ

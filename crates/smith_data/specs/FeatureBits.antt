@@ -1,7 +1,7 @@
 -- Sets of features as bits.
 use Rattle.std.specs.Prelude.{ℕ, Bool, List, [], ◌∷◌, codes, ◌==◌, bit_and, bit_or, if◌then◌else◌}
-use Rattle.smith_types.specs.declared.features.WasmFeatures.{WasmFeatures}
-use Rattle.smith_types.specs.Features.{Features}
+use Rattle.smith_data.specs.declared.features.WasmFeatures.{WasmFeatures}
+use Rattle.smith_data.specs.Features.{Features}
 
 -- the bits of a set
 abbrev pub bits_of : WasmFeatures → ℕ

@@ -1,9 +1,9 @@
 -- The bits of kinds, one more at a time.
 use Rattle.std.proofs.Common.{◌≡◌, List, [], ◌∷◌, ◌++◌, true, sym, bit_or, ap, ◌∙◌}
 use Rattle.std.proofs.lemmas.List.Sums.{fold-append}
-use Rattle.smith_types.specs.declared.instruction_kind.InstructionKind.{InstructionKind}
-use Rattle.smith_types.specs.declared.instruction_kind.InstructionKinds.{InstructionKinds}
-use Rattle.smith_types.specs.Instructions.{kind_bits, kinds_bits, with_kind, union_of}
+use Rattle.smith_data.specs.declared.instruction_kind.InstructionKind.{InstructionKind}
+use Rattle.smith_data.specs.declared.instruction_kind.InstructionKinds.{InstructionKinds}
+use Rattle.smith_data.specs.Instructions.{kind_bits, kinds_bits, with_kind, union_of}
 
 pub union_of-push : (set : InstructionKinds) (kinds : List InstructionKind) (kind : InstructionKind)
     → kinds_bits set ≡ union_of kinds → kinds_bits (with_kind set true kind) ≡ union_of (kinds ++ kind ∷ [])

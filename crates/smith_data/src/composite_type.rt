@@ -1,5 +1,5 @@
 ghost use Rattle.std.specs.Prelude.{◌≡◌};
-ghost use Rattle.smith_types.specs.Kinds.{kind_of, bottom_of};
+ghost use Rattle.smith_data.specs.Kinds.{kind_of, bottom_of};
 
 use crate::list::Items;
 use crate::value_type::{AbstractHeapType, ValType};

@@ -1,6 +1,6 @@
 ghost use Rattle.std.specs.Prelude.{◌≡◌, IsTrue, ◌↔◌};
 ghost use Rattle.std.specs.Bool.{Decides};
-ghost use Rattle.smith_types.specs.Same.{
+ghost use Rattle.smith_data.specs.Same.{
   exact_items,
   exact_abstract,
   exact_heap,

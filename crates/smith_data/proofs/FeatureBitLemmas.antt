@@ -4,9 +4,9 @@ use Rattle.std.specs.Prelude.{fold, ◌&&◌, take, drop}
 use Rattle.std.proofs.lemmas.Nat.{and_or_self, and_or_apart}
 use Rattle.std.proofs.lemmas.Bool.{eqb-true}
 use Rattle.std.proofs.lemmas.List.Sums.{fold-append}
-use Rattle.smith_types.specs.declared.features.WasmFeatures.{WasmFeatures}
-use Rattle.smith_types.specs.Features.{Features}
-use Rattle.smith_types.specs.FeatureBits.{has, joined, features_in}
+use Rattle.smith_data.specs.declared.features.WasmFeatures.{WasmFeatures}
+use Rattle.smith_data.specs.Features.{Features}
+use Rattle.smith_data.specs.FeatureBits.{has, joined, features_in}
 
 -- each feature and its bit
 abbrev pub feature_rows : Features → List (Bool × ℕ)

@@ -1,6 +1,6 @@
 use Rattle.std.proofs.Common.{arith, refl}
-use Rattle.smith_types.specs.Instructions.{IsNamed}
-use Rattle.smith_types.specs.declared.instruction_kind.InstructionKind.TheVariants.{
+use Rattle.smith_data.specs.Instructions.{IsNamed}
+use Rattle.smith_data.specs.declared.instruction_kind.InstructionKind.TheVariants.{
   NumericInt,
   Numeric,
   VectorInt,
@@ -14,7 +14,7 @@ use Rattle.smith_types.specs.declared.instruction_kind.InstructionKind.TheVarian
   Control,
   Aggregate,
 }
-use Rattle.smith_types.proofs.instruction_kind.InstructionKindFromStr.from_str.Goals as goal
+use Rattle.smith_data.proofs.instruction_kind.InstructionKindFromStr.from_str.Goals as goal
 
 pub returns : goal.returns
 returns c =

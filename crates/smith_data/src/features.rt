@@ -1,6 +1,6 @@
 ghost use Rattle.std.specs.Prelude.{◌≡◌, ⊤};
-ghost use Rattle.smith_types.specs.FeatureBits.{bits_of, feature_table, has, joined, features_in};
-ghost use Rattle.smith_types.specs.Features.{every_feature};
+ghost use Rattle.smith_data.specs.FeatureBits.{bits_of, feature_table, has, joined, features_in};
+ghost use Rattle.smith_data.specs.Features.{every_feature};
 
 use bitflags::{Flag, Flags, bitflag_items};
 

@@ -1,0 +1,3 @@
+pub mod FeatureBitLemmas
+pub mod PartLemmas
+pub mod KindLemmas
