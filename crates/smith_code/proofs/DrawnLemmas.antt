@@ -19,11 +19,12 @@ use Rattle.smith_instr.specs.declared.instr.Instr.{Instr}
 use Rattle.smith_instr.specs.declared.instr.Instr.TheVariants as instr
 use Rattle.smith_instr.proofs.SequenceLemmas.{below_themselves}
 use Rattle.smith_code_nodes.specs.Scopes.{context_of, bare, where_stands, widest, most, AreLabels, IsAllowedIn}
+use Rattle.smith_code_nodes.specs.Traps.{IsNoStop}
 use Rattle.smith_code_nodes.specs.Nodes.{block_cost, IsNode, HasHeadType, MayOpen, head_sets, head_instruction, opened, label_of, taken_by}
 use Rattle.smith_code.specs.DraftSteps.{IsDrawn, IsWritten, IsOpened, IsEnded}
-use Rattle.smith_code.specs.Laws.{HasNoOther}
-use Rattle.smith_code.specs.Leaves.{longest_leaf}
-use Rattle.smith_code.specs.Stops.{AreStopsNeeded, HasNeededStops, HaveNeededStops, IsNeeded, IsNoStop}
+use Rattle.smith_code_leaves.specs.Laws.{HasNoOther}
+use Rattle.smith_code_leaves.specs.Leaves.{longest_leaf}
+use Rattle.smith_code.specs.Stops.{AreStopsNeeded, HasNeededStops, HaveNeededStops, IsNeeded}
 use Rattle.smith_code_nodes.specs.declared.node.Head.{Head}
 use Rattle.smith_code_nodes.specs.declared.node.Head.TheVariants as heads
 use Rattle.smith_code_nodes.specs.declared.node.Node.{Node}
@@ -32,8 +33,8 @@ use Rattle.smith_code_nodes.specs.declared.node.Opening.TheVariants as opening
 use Rattle.smith_code_nodes.specs.declared.scope.Scope.{Scope}
 use Rattle.smith_code_nodes.specs.declared.scope.Draft.{Draft}
 use Rattle.smith_code_nodes.proofs.NodeLemmas.{one_valid}
-use Rattle.smith_code.proofs.LeafChoiceLemmas.{some_leaf}
-use Rattle.smith_code.proofs.LeafLemmas.{stop_allowed}
+use Rattle.smith_code_leaves.proofs.LeafChoiceLemmas.{some_leaf}
+use Rattle.smith_code_leaves.proofs.LeafLemmas.{stop_allowed}
 use Rattle.smith_code.proofs.StopLemmas.{at_end, in_turn}
 
 times : (k m n : ℕ) → m ≤ n → k * m ≤ k * n

@@ -10,9 +10,9 @@ use Rattle.smith_instr.specs.declared.control.Catch.{Catch}
 use Rattle.smith_instr.specs.declared.instr.Instr.{Instr}
 use Rattle.smith_instr.specs.declared.instr.Instr.TheVariants as instr
 use Rattle.smith_code.specs.Bodies.{Drawing, State, begun, body_at, drawing_at, dropped, enclosed_at, ended, head_at, inside_at, leaf_in, node_at, statement_at, statements_within, value_at, values_at, whole_at, written}
-use Rattle.smith_code.specs.Choices.{allowed_choice_at, statement_choice_at}
+use Rattle.smith_code_choices.specs.Choices.{allowed_choice_at, statement_choice_at}
 use Rattle.smith_code.specs.DraftSteps.{IsDrawn, IsEnded, IsOpened, IsWritten, state_of}
-use Rattle.smith_code.specs.Leaves.{leaf_at}
+use Rattle.smith_code_leaves.specs.Leaves.{leaf_at}
 use Rattle.smith_code_nodes.specs.Nodes.{is_node_allowed, label_of, opened}
 use Rattle.smith_code_nodes.specs.Scopes.{context_of}
 use Rattle.smith_code_nodes.specs.declared.node.Head.{Head}

@@ -1,12 +1,4 @@
-pub mod ReferenceLemmas
-pub mod LeafLemmas
-pub mod LeafChoiceLemmas
-pub mod OtherLemmas
-pub mod SearchLemmas
-pub mod LawLemmas
 pub mod StopLemmas
-pub mod ChoiceNodeLemmas
-pub mod ChoiceLemmas
 pub mod DrawnLemmas
 pub mod MadeLemmas
 pub mod CreatedLemmas

@@ -10,24 +10,20 @@ use Rattle.smith_types.specs.Types.{IsOrderly}
 use Rattle.smith_data.specs.declared.composite_type.FieldType.{FieldType}
 use Rattle.smith_data.specs.declared.composite_type.StructType.{StructType}
 use Rattle.smith_data.specs.declared.composite_type.SubType.{SubType}
-use Rattle.smith_data.specs.declared.value_type.AbstractHeapType.{AbstractHeapType}
-use Rattle.smith_data.specs.declared.value_type.AbstractHeapType.TheVariants as abstract
 use Rattle.smith_data.specs.declared.value_type.HeapType.{HeapType}
-use Rattle.smith_data.specs.declared.value_type.HeapType.TheVariants.{Abstract, Concrete, Exact}
 use Rattle.smith_data.specs.declared.value_type.ValType.{ValType}
 use Rattle.smith_data.specs.declared.value_type.ValType.TheVariants.{I32, I64, F32, F64, V128, Ref}
 use Rattle.smith_draw.specs.Below.{is_val_below}
-use Rattle.smith_instr.specs.AggregateTypes.{external, internal}
 use Rattle.smith_instr.specs.Contexts.{BodyContext, AreValid, IsValid, created_reference}
 use Rattle.smith_instr.specs.Sequences.{stacked}
 use Rattle.smith_instr.specs.declared.aggregate.AggregateInstr.TheVariants as aggregate
 use Rattle.smith_instr.specs.declared.instr.Instr.{Instr}
 use Rattle.smith_instr.specs.declared.instr.Instr.TheVariants as instr
 use Rattle.smith_instr.specs.declared.reference.ReferenceInstr.TheVariants as reference
-use Rattle.smith_code.specs.Leaves.{IsLeaf, IsTaking, constant_instr_at, conversion_over, conversion_to, conversion_to_type, created_over, creation_of, creation_over, fields_at, fields_in, first_single, i31_by, i31_creation, i31_leaf, i31_number, i31_of, i31_type, i31_with, if_permitted, instructions_of, leaf_within, may_create, named_at, named_type, only, searches_on, unary_permitted, value_over, with_last}
+use Rattle.smith_code_leaves.specs.Leaves.{IsLeaf, IsTaking, constant_instr_at, conversion_to, created_over, creation_of, creation_over, fields_at, fields_in, first_single, i31_by, i31_creation, i31_leaf, i31_number, i31_of, i31_type, i31_with, if_permitted, instructions_of, leaf_within, may_create, named_at, named_type, only, searches_on, value_over, with_last}
 use Rattle.smith_code.specs.Stops.{HaveNeededStops}
-use Rattle.smith_code.specs.declared.leaf.Leaf.{Leaf}
-use Rattle.smith_code.specs.declared.unary.Unary.{Unary}
+use Rattle.smith_code_leaves.specs.declared.leaf.Leaf.{Leaf}
+use Rattle.smith_code_leaves.specs.declared.unary.Unary.{Unary}
 use Rattle.smith_code_aggregates.specs.Aggregates.{first_created_array, first_created_struct, is_created_below, is_created_empty, is_created_struct}
 use Rattle.smith_code_aggregates.specs.Fields.{struct_in}
 use Rattle.smith_code_aggregates.proofs.AggregateLemmas.{struct_there}
@@ -37,12 +33,14 @@ use Rattle.smith_code_nodes.specs.declared.offer.Reach.TheVariants as reach
 use Rattle.smith_code_nodes.proofs.NodeLemmas.{one_valid}
 use Rattle.smith_code_nodes.proofs.OfferLemmas.{both, tested}
 use Rattle.smith_code.proofs.DrawnLemmas.{alone}
-use Rattle.smith_code.proofs.LawLemmas.{IsFound, first_item, found, mapped_some, single_found}
-use Rattle.smith_code.proofs.LeafLemmas.{array_leaf, global_leaf, i31_over, inside_over, internal_valid, local_leaf, no_constant, null_constant, outside_over, reference_leaf, struct_leaf}
-use Rattle.smith_code.proofs.OtherLemmas.{first_passes}
-use Rattle.smith_code.proofs.ReferenceLemmas.{reference_there}
-use Rattle.smith_code.proofs.SearchLemmas.{or_some, tried_each}
-use Rattle.smith_code.proofs.StopLemmas.{in_turn, permitted_goes_on}
+use Rattle.smith_code_leaves.proofs.ConversionLemmas.{IsUnaryOf, conversion_is}
+use Rattle.smith_code_leaves.proofs.LawLemmas.{IsFound, first_item, found, mapped_some, single_found}
+use Rattle.smith_code_leaves.proofs.LeafLemmas.{array_leaf, global_leaf, i31_over, local_leaf, no_constant, null_constant, reference_leaf, struct_leaf}
+use Rattle.smith_code_leaves.proofs.OtherLemmas.{first_passes}
+use Rattle.smith_code_leaves.proofs.ReferenceLemmas.{reference_there}
+use Rattle.smith_code_leaves.proofs.SearchLemmas.{or_some, tried_each}
+use Rattle.smith_code_nodes.proofs.StopLemmas.{permitted_goes_on}
+use Rattle.smith_code.proofs.StopLemmas.{in_turn}
 
 -- the first of the offered items
 offered_first : (test : ℕ → Bool) (size : ℕ) (P : ℕ → Type 0) (o : Option ℕ) → slice_get (offered test size) 0 ≡ o → ((index : ℕ) → test index ≡ true → P index) → IfSome o P
@@ -166,12 +164,6 @@ only_of : (config : Config) (context : BodyContext) (set : List ℕ) (more : ℕ
 only_of config context set more wanted None valid of found = tt
 only_of config context set more wanted (Some instruction) valid of found = record { fits = fits_only more instruction; makes = single_makes config context set wanted instruction valid of found }
 
--- an instruction that takes a value that is found
-record IsUnaryOf (config : Config) (context : BodyContext) (set : List ℕ) (wanted : ValType) (unary : Unary) : Type 0 where
-  valid : IsValid context unary.operand
-  taking : IsTaking context set (unary.operand ∷ []) wanted unary.instruction
-  found : IsFound config context unary.instruction
-
 last_of : (config : Config) (context : BodyContext) (set : List ℕ) (more : ℕ) (operand wanted : ValType) (instruction : Instr) (leaf : Leaf) → more < 2 → IsValid context wanted → IsOf config context set more operand leaf → IsTaking context set (operand ∷ []) wanted instruction
     → IsFound config context instruction → IsOf config context set (suc more) wanted (with_last instruction leaf)
 last_of config context set more operand wanted instruction leaf few valid of taking found =
@@ -226,47 +218,6 @@ wider_of config context set (suc more) wanted leaf of = record { fits = tt; make
 weaker : {A : Type 0} (P Q : A → Type 0) (o : Option A) → ((x : A) → P x → Q x) → IfSome o P → IfSome o Q
 weaker P Q None more is = tt
 weaker P Q (Some x) more is = more x is
-
--- a conversion
-external_valid : (context : BodyContext) (shared nullable : Bool) → IsValid context (internal shared nullable) → IsValid context (external shared nullable)
-external_valid context shared nullable valid = (valid.0, record { heap_type = (tt, valid.1.heap_type.1); nullable = valid.1.nullable })
-
-inside_by : (config : Config) (context : BodyContext) (set : List ℕ) (shared nullable permitted : Bool) → IsValid context (internal shared nullable) → is_permitted context.features config (instr.Aggregate aggregate.AnyConvertExtern) ≡ permitted
-    → IfSome (if permitted then Some (record { instruction = instr.Aggregate aggregate.AnyConvertExtern; operand = external shared nullable }) else None) (IsUnaryOf config context set (internal shared nullable))
-inside_by config context set shared nullable true valid is = record { valid = external_valid context shared nullable valid; taking = inside_over context set shared nullable; found = is }
-inside_by config context set shared nullable false valid is = tt
-
-outside_by : (config : Config) (context : BodyContext) (set : List ℕ) (shared nullable permitted : Bool) → IsValid context (external shared nullable) → is_permitted context.features config (instr.Aggregate aggregate.ExternConvertAny) ≡ permitted
-    → IfSome (if permitted then Some (record { instruction = instr.Aggregate aggregate.ExternConvertAny; operand = internal shared nullable }) else None) (IsUnaryOf config context set (external shared nullable))
-outside_by config context set shared nullable true valid is = record { valid = internal_valid context config shared nullable is valid; taking = outside_over context set shared nullable; found = is }
-outside_by config context set shared nullable false valid is = tt
-
-conversion_by : (config : Config) (context : BodyContext) (set : List ℕ) (nullable shared : Bool) (ty : AbstractHeapType) → IsValid context (Ref (record { nullable = nullable; heap_type = Abstract shared ty }))
-    → IfSome (unary_permitted config context (conversion_over nullable (Abstract shared ty))) (IsUnaryOf config context set (Ref (record { nullable = nullable; heap_type = Abstract shared ty })))
-conversion_by config context set nullable shared abstract.Any valid = inside_by config context set shared nullable _ valid refl
-conversion_by config context set nullable shared abstract.Extern valid = outside_by config context set shared nullable _ valid refl
-conversion_by config context set nullable shared ty valid = tt
-
-conversion_for : (config : Config) (context : BodyContext) (set : List ℕ) (nullable : Bool) (heap_type : HeapType) → IsValid context (Ref (record { nullable = nullable; heap_type = heap_type }))
-    → IfSome (unary_permitted config context (conversion_over nullable heap_type)) (IsUnaryOf config context set (Ref (record { nullable = nullable; heap_type = heap_type })))
-conversion_for config context set nullable (Abstract shared ty) valid = conversion_by config context set nullable shared ty valid
-conversion_for config context set nullable (Concrete index) valid = tt
-conversion_for config context set nullable (Exact index) valid = tt
-
-conversion_is : (config : Config) (context : BodyContext) (set : List ℕ) (wanted : ValType) → IsValid context wanted → IfSome (conversion_to config context wanted) (IsUnaryOf config context set wanted)
-conversion_is config context set (Ref to) valid = conversion_for config context set to.nullable to.heap_type valid
-conversion_is config context set I32 valid = tt
-conversion_is config context set I64 valid = tt
-conversion_is config context set F32 valid = tt
-conversion_is config context set F64 valid = tt
-conversion_is config context set V128 valid = tt
-
-pub conversion_valid : (config : Config) (context : BodyContext) (wanted : ValType) (unary : Unary) → IsValid context wanted → Some unary ≡ conversion_to_type wanted → is_permitted context.features config unary.instruction ≡ true → IsValid context unary.operand
-conversion_valid config context wanted unary valid is permitted =
-    let P = IsUnaryOf config context [] wanted in
-    let of : IfSome (if is_permitted context.features config unary.instruction then Some unary else None) P = subst (λ (o : Option Unary). IfSome (unary_permitted config context o) P) (sym is) (conversion_is config context [] wanted valid) in
-    let of' : IfSome (Some unary) P = subst (λ (b : Bool). IfSome (if b then Some unary else None) P) permitted of in
-    of'.valid
 
 -- the creation of a struct of one field
 abbrev pub HasValidFields : BodyContext → Type 0

@@ -1,7 +1,5 @@
--- Sequences in which each `unreachable` is needed, one after another; and instructions that are not
--- `unreachable`.
-use Rattle.std.proofs.Common.{◌≡◌, ℕ, true, List, [], ◌∷◌, ◌++◌, refl, sym, subst, append_assoc}
-use Rattle.smith_data.specs.Features.{Features}
+-- Sequences in which each `unreachable` is needed, one after another.
+use Rattle.std.proofs.Common.{◌≡◌, ℕ, List, [], ◌∷◌, ◌++◌, refl, sym, subst, append_assoc}
 use Rattle.smith_data.specs.declared.value_type.ValType.{ValType}
 use Rattle.smith_config.specs.declared.config.Config.{Config}
 use Rattle.smith_instr.specs.Contexts.{BodyContext, AreValid}
@@ -9,12 +7,7 @@ use Rattle.smith_instr.specs.Sequences.{Stacked, stacked, AreTyped, nothing, ste
 use Rattle.smith_instr.specs.declared.instr.Instr.{Instr}
 use Rattle.smith_instr.specs.declared.instr.Instr.TheVariants as instr
 use Rattle.smith_instr.proofs.SequenceLemmas.{count_as_themselves}
-use Rattle.smith_code_nodes.specs.Nodes.{head_instruction, is_drop_allowed, is_head_allowed, is_node_allowed}
-use Rattle.smith_code_nodes.specs.Scopes.{is_permitted}
-use Rattle.smith_code_nodes.specs.declared.node.Node.{Node}
-use Rattle.smith_code_nodes.proofs.OfferLemmas.{both}
-use Rattle.smith_code.specs.Stops.{AreStopsNeeded, HaveNeededStops, IsNoStop}
-use Rattle.smith_code.proofs.LawLemmas.{stop_forbidden}
+use Rattle.smith_code.specs.Stops.{AreStopsNeeded, HaveNeededStops}
 
 -- the end of a sequence
 pub at_end : (config : Config) (context : BodyContext) (values : List ValType) (set : List ℕ) → AreValid context values → HaveNeededStops config context [] (stacked values set) (stacked values set)
@@ -56,13 +49,3 @@ append {ys = ys} (try_table {ty = ty} {clauses = clauses} {all = all} {body = bo
 -- one sequence after another
 pub in_turn : {config : Config} {context : BodyContext} {xs ys : List Instr} {a b c : Stacked} → HaveNeededStops config context xs a b → HaveNeededStops config context ys b c → HaveNeededStops config context (xs ++ ys) a c
 in_turn first second = append first.typed first.needed second
-
--- with `disallow_traps`, an instruction that is permitted is not an `unreachable`
-pub permitted_goes_on : (features : Features) (config : Config) (instruction : Instr) → is_permitted features config instruction ≡ true → IsNoStop config instruction
-permitted_goes_on features config instruction permitted = λ disallowed stops. stop_forbidden features config disallowed (subst (λ (i : Instr). is_permitted features config i ≡ true) stops permitted)
-
-pub node_goes_on : (features : Features) (config : Config) (node : Node) → is_node_allowed features config node ≡ true → IsNoStop config (head_instruction node.head)
-node_goes_on features config node allowed =
-    let (head, _) = both (is_head_allowed features config node.head) (is_drop_allowed features config node.drops) allowed in
-    let (permitted, _) = both (is_permitted features config (head_instruction node.head)) _ head in
-    permitted_goes_on features config (head_instruction node.head) permitted

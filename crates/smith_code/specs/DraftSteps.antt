@@ -5,7 +5,7 @@ use Rattle.smith_instr.specs.Contexts.{AreValid}
 use Rattle.smith_instr.specs.Sequences.{stacked}
 use Rattle.smith_instr.specs.declared.instr.Instr.{Instr}
 use Rattle.smith_code.specs.Bodies.{State}
-use Rattle.smith_code.specs.Leaves.{longest_leaf}
+use Rattle.smith_code_leaves.specs.Leaves.{longest_leaf}
 use Rattle.smith_code.specs.Stops.{HaveNeededStops}
 use Rattle.smith_code_nodes.specs.Scopes.{bare, where_stands, most, IsAllowedIn}
 use Rattle.smith_code_nodes.specs.declared.scope.Draft.{Draft}

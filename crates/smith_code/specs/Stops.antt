@@ -6,11 +6,7 @@ use Rattle.smith_instr.specs.Contexts.{BodyContext}
 use Rattle.smith_instr.specs.Sequences.{Stacked, IsFramed, IsStep, AreTyped, IsBodyTyped, nothing, step, block, loop, if_alone, if_else, try_table}
 use Rattle.smith_instr.specs.declared.instr.Instr.{Instr}
 use Rattle.smith_instr.specs.declared.instr.Instr.TheVariants as instr
-use Rattle.smith_code.specs.Laws.{HasNoOther}
-
--- with `disallow_traps`, an instruction is not `unreachable`
-abbrev pub IsNoStop : Config → Instr → Type 0
-IsNoStop config instruction = IsTrue config.disallow_traps → ¬ (instruction ≡ instr.Unreachable)
+use Rattle.smith_code_leaves.specs.Laws.{HasNoOther}
 
 -- an `unreachable` takes no value and leaves one, of a type for which no other permitted instructions
 -- without a budget produce a value

@@ -4,7 +4,7 @@ ghost use Rattle.smith_data.specs.FeatureBits.{features_in};
 ghost use Rattle.smith_instr.specs.Enabled.{IsEnabled};
 ghost use Rattle.smith_instr.specs.Sequences.{IsBodyTyped};
 ghost use Rattle.smith_code.specs.Bodies.{body_at};
-ghost use Rattle.smith_code.specs.Leaves.{longest_leaf};
+ghost use Rattle.smith_code_leaves.specs.Leaves.{longest_leaf};
 ghost use Rattle.smith_code.specs.Stops.{HasNeededStops};
 ghost use Rattle.smith_code_nodes.specs.Scopes.{IsScope, bare, kinds_of_bodies, most};
 ghost use Rattle.smith_code_nodes.specs.Traps.{IsTrapless};

@@ -1,4 +1,4 @@
-ghost use Rattle.smith_code.specs.Laws.{TrapsOnlyForNoOther};
+ghost use Rattle.smith_code_leaves.specs.Laws.{TrapsOnlyForNoOther};
 
 /// States that, if traps are disallowed, a value is `unreachable` only if no other permitted
 /// instructions without a budget produce one of its type.

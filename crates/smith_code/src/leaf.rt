@@ -1,31 +1,14 @@
-ghost use Rattle.std.specs.Prelude.{◌≡◌, ◌++◌, [], ◌∷◌, IfErr, OnOk};
+ghost use Rattle.std.specs.Prelude.{◌≡◌, [], ◌∷◌, IfErr, OnOk};
 ghost use Rattle.smith_bytes.specs.Source.{KeepsPieces};
 ghost use Rattle.smith_instr.specs.Contexts.{IsValid};
 ghost use Rattle.smith_code.specs.Bodies.{leaf_in};
 ghost use Rattle.smith_code.specs.DraftSteps.{IsDrawn, state_of};
-ghost use Rattle.smith_code.specs.Leaves.{first_leaf, instructions_of, only, spare_leaf};
-ghost use Rattle.smith_code.specs.Leaves.{with_last};
-ghost use Rattle.smith_code_nodes.specs.Scopes.{IsScope, bare, where_stands};
+ghost use Rattle.smith_code_nodes.specs.Scopes.{IsScope, bare};
 
-use crate::created::{created_type, write_created};
-use crate::search::leaf_within;
-use crate::single::draw_any_leaf;
-use crate::written::write_some;
 use smith_bytes::{Error, Unstructured};
+use smith_code_leaves::{draw_any_leaf, only, write_instructions, write_spare};
 use smith_code_nodes::{Draft, Scope, is_allowed};
-use smith_instr::Instr;
 use smith_types::ValType;
-
-/// A value that takes no budget.
-#[derive(Drop)]
-pub(crate) struct Leaf {
-    /// An instruction without operands.
-    pub(crate) value: Instr,
-    /// An instruction that takes this value, if there are two after it.
-    pub(crate) next: Option<Instr>,
-    /// The last instruction after the value, if there is one. It takes the value before it.
-    pub(crate) last: Option<Instr>,
-}
 
 /// Writes instructions that produce a value that matches `wanted`, and take no budget. These are an
 /// instruction without operands that is drawn, or another value if it is not allowed.
@@ -49,84 +32,4 @@ pub(crate) fn write_leaf(
         return write_instructions(only(leaf), draft);
     }
     write_spare(scope, wanted, draft)
-}
-
-/// Writes `unreachable`. Writes the first allowed value instead if traps are disallowed.
-#[tactic(auto, unfolding(crate::specs::Leaves::spare_leaf))]
-fn write_spare(scope: &Scope<'_>, wanted: ValType, draft: &mut Draft) -> Result<(), Error>
-    requires scope { IsScope (bare scope.now) }
-    requires wanted { IsValid (bare scope.now) wanted }
-    ensures out { OnOk result (draft.new.out ≡ draft.old.out ++ spare_leaf scope.now.config.now
-        (where_stands scope.now draft.old) draft.old.set.items wanted) }
-    ensures set { draft.new.set.items ≡ draft.old.set.items }
-    ensures same { draft.new.labels.items ≡ draft.old.labels.items }
-    ensures budget { draft.new.budget ≡ draft.old.budget }
-    ensures memory { IfErr result (λ e. e ≡ Error.Memory) }
-{
-    if scope.config.disallow_traps {
-        return write_first(scope, wanted, draft);
-    }
-    write_instructions(only(Instr::Unreachable), draft)
-}
-
-/// Writes the first allowed value that matches `wanted`. Writes `unreachable` if there is none.
-fn write_first(scope: &Scope<'_>, wanted: ValType, draft: &mut Draft) -> Result<(), Error>
-    requires scope { IsScope (bare scope.now) }
-    requires wanted { IsValid (bare scope.now) wanted }
-    ensures out { OnOk result (draft.new.out ≡ draft.old.out ++ first_leaf scope.now.config.now
-        (where_stands scope.now draft.old) draft.old.set.items wanted) }
-    ensures set { draft.new.set.items ≡ draft.old.set.items }
-    ensures same { draft.new.labels.items ≡ draft.old.labels.items }
-    ensures budget { draft.new.budget ≡ draft.old.budget }
-    ensures memory { IfErr result (λ e. e ≡ Error.Memory) }
-{
-    if let Some(leaf) = leaf_within(scope, wanted, 2, true, draft) {
-        return write_instructions(leaf, draft);
-    }
-    if let Some(ty) = created_type(scope, wanted, draft) {
-        return write_created(scope, ty, draft);
-    }
-    write_instructions(only(Instr::Unreachable), draft)
-}
-
-/// Writes the instructions of `leaf`.
-fn write_instructions(leaf: Leaf, draft: &mut Draft) -> Result<(), Error>
-    ensures out { OnOk result (draft.new.out ≡ draft.old.out ++ instructions_of leaf) }
-    ensures set { draft.new.set.items ≡ draft.old.set.items }
-    ensures same { draft.new.labels.items ≡ draft.old.labels.items }
-    ensures budget { draft.new.budget ≡ draft.old.budget }
-    ensures memory { IfErr result (λ e. e ≡ Error.Memory) }
-{
-    let Leaf { value, next, last } = leaf;
-    draft.out.push(value)?;
-    write_some(next, draft)?;
-    write_some(last, draft)
-}
-
-/// Creates a value of one instruction.
-pub(crate) fn only(instruction: Instr) -> Leaf
-    ensures { result ≡ only instruction }
-{
-    Leaf {
-        value: instruction,
-        next: None,
-        last: None,
-    }
-}
-
-/// Creates the value of `leaf`, which has at most two instructions, and then `instruction`, which
-/// takes it.
-pub(crate) fn with_last(instruction: Instr, leaf: Leaf) -> Leaf
-    ensures { result ≡ with_last instruction leaf }
-{
-    let Leaf {
-        value,
-        next: _,
-        last,
-    } = leaf;
-    Leaf {
-        value,
-        next: last,
-        last: Some(instruction),
-    }
 }

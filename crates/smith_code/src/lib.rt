@@ -2,16 +2,9 @@
 #![tactic(auto)]
 
 mod body;
-mod choices;
-mod created;
 mod drawn;
-mod families;
 pub mod laws;
 mod leaf;
-mod references;
-mod search;
-mod single;
-mod unary;
 mod written;
 
 pub use body::draw_body;

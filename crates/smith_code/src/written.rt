@@ -1,4 +1,4 @@
-ghost use Rattle.std.specs.Prelude.{◌≡◌, List, ◌∷◌, ◌++◌, option_to_list, replicate};
+ghost use Rattle.std.specs.Prelude.{◌≡◌, List, ◌∷◌, ◌++◌, replicate};
 ghost use Rattle.std.specs.Prelude.{IfErr, OnOk};
 ghost use Rattle.smith_data.specs.declared.value_type.ValType.{ValType as Val};
 ghost use Rattle.smith_code.specs.DraftSteps.{IsWritten, IsOpened, IsEnded};
@@ -23,20 +23,6 @@ pub(crate) fn write_plain(
         draft.set.push(index)?;
     }
     Ok(())
-}
-
-/// Writes `instruction`, if there is one.
-pub(crate) fn write_some(instruction: Option<Instr>, draft: &mut Draft) -> Result<(), Error>
-    ensures out { OnOk result (draft.new.out ≡ draft.old.out ++ option_to_list instruction) }
-    ensures set { draft.new.set.items ≡ draft.old.set.items }
-    ensures same { draft.new.labels.items ≡ draft.old.labels.items }
-    ensures budget { draft.new.budget ≡ draft.old.budget }
-    ensures memory { IfErr result (λ e. e ≡ Error.Memory) }
-{
-    match instruction {
-        Some(instruction) => draft.out.push(instruction),
-        None => Ok(()),
-    }
 }
 
 /// Writes the `opening` of a block whose label has the types `label`.

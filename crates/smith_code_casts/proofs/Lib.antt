@@ -1,2 +1,1 @@
 pub mod CastLemmas
-pub mod CastBranchLemmas

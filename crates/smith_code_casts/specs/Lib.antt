@@ -1,2 +1,1 @@
 pub mod CastChoices
-pub mod CastBranchChoices

@@ -302,7 +302,7 @@ fn test_for(
 }
 
 /// Draws the type of a local that `to` matches. Returns the nullable type of `to` if there is none.
-pub(crate) fn draw_above(scope: &Scope<'_>, to: RefType, u: &mut Unstructured<'_>) -> RefType
+pub fn draw_above(scope: &Scope<'_>, to: RefType, u: &mut Unstructured<'_>) -> RefType
     requires scope { IsScope (bare scope.now) }
     requires to { IsValid (bare scope.now) (Ref to) }
     ensures exact { above_at (bare scope.now) to u.old ≡ (result, u.new) }
@@ -317,7 +317,7 @@ pub(crate) fn draw_above(scope: &Scope<'_>, to: RefType, u: &mut Unstructured<'_
 }
 
 /// Returns the reference type `value`, or `other` if `value` is not a reference type.
-pub(crate) fn reference_or(value: ValType, other: RefType) -> RefType
+pub fn reference_or(value: ValType, other: RefType) -> RefType
     ensures { result ≡ unwrap_or (reference_in (Some value)) other }
 {
     match value {

@@ -3,7 +3,5 @@ pub mod BranchChoiceLemmas
 pub mod TargetLemmas
 pub mod BlockNodeLemmas
 pub mod BlockChoiceLemmas
-pub mod CallLemmas
-pub mod NullLemmas
 pub mod ThrowLemmas
 pub mod TryLemmas

@@ -1,5 +1,5 @@
-//! Choices of blocks, branches, calls and exceptions. The standard is the WebAssembly Core
-//! Specification 3.0.
+//! Choices of blocks, branches and exceptions, and of the type of a called function. The standard
+//! is the WebAssembly Core Specification 3.0.
 //!
 //! A call that returns a `Result` fails only if an allocation fails, apart from the errors in its
 //! section `# Errors`.
@@ -7,21 +7,12 @@
 
 mod blocks;
 mod branches;
-mod calls;
-mod function_tables;
-mod null_branches;
 mod outcomes;
-mod tail_calls;
 mod throws;
 mod try_tables;
 
 pub use blocks::{choose_any_block, choose_block};
 pub use branches::{choose_branch, choose_leaving, choose_table, choose_target};
-pub use calls::{
-    choose_any_by_reference, choose_any_indirect, choose_by_reference, choose_indirect,
-};
-pub use null_branches::{choose_kept, choose_null_branch, choose_of_reference, last_reference};
-pub use outcomes::Outcome;
-pub use tail_calls::{choose_any_tail_call, choose_tail_call};
+pub use outcomes::{Outcome, choose_fit_type, dropped_of, is_fit};
 pub use throws::{choose_any_throw, choose_throw_statement};
 pub use try_tables::{choose_any_try, choose_try};

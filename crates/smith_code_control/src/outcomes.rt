@@ -53,7 +53,7 @@ impl<'a> Offer for TypeOffer<'a> {
 }
 
 /// Returns whether the results of `function` may have the outcome `outcome`.
-pub(crate) fn is_fit(scope: &Scope<'_>, outcome: Outcome, function: &FuncType) -> bool
+pub fn is_fit(scope: &Scope<'_>, outcome: Outcome, function: &FuncType) -> bool
     requires scope { IsScope (bare scope.now) }
     requires outcome { IsOutcome (bare scope.now) outcome }
     requires results { AreValid (bare scope.now) function.now.results }
@@ -67,7 +67,7 @@ pub(crate) fn is_fit(scope: &Scope<'_>, outcome: Outcome, function: &FuncType) -
 }
 
 /// Returns the number of results of `function` that are dropped for the outcome `outcome`.
-pub(crate) fn dropped_of(outcome: Outcome, function: &FuncType) -> usize
+pub fn dropped_of(outcome: Outcome, function: &FuncType) -> usize
     ensures { result ≡ dropped_of outcome function.now }
 {
     match outcome {
@@ -79,11 +79,7 @@ pub(crate) fn dropped_of(outcome: Outcome, function: &FuncType) -> usize
 
 /// Chooses a function type of a drawn chunk whose results may have the outcome `outcome`, if there
 /// is one.
-pub(crate) fn choose_fit_type(
-    scope: &Scope<'_>,
-    outcome: Outcome,
-    u: &mut Unstructured<'_>,
-) -> Option<u32>
+pub fn choose_fit_type(scope: &Scope<'_>, outcome: Outcome, u: &mut Unstructured<'_>) -> Option<u32>
     requires scope { IsScope (bare scope.now) }
     requires outcome { IsOutcome (bare scope.now) outcome }
     ensures exact { fit_type_at (bare scope.now) outcome u.old ≡ (result, u.new) }

@@ -8,7 +8,7 @@ use Rattle.smith_config.specs.declared.config.Config.{Config}
 use Rattle.smith_instr.specs.Contexts.{BodyContext, IsValid, AreValid}
 use Rattle.smith_instr.specs.Sequences.{Stacked, AreTyped, nothing, step, block, loop, if_alone, if_else, try_table}
 use Rattle.smith_instr.specs.declared.instr.Instr.TheVariants as instr
-use Rattle.smith_code.specs.Laws.{HasNoOther}
+use Rattle.smith_code_leaves.specs.Laws.{HasNoOther}
 use Rattle.smith_code.specs.Stops.{AreStopsNeeded, HasNeededStops}
 use Rattle.smith_code.proofs.DrawnLemmas.{alone}
 

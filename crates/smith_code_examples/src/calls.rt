@@ -1,4 +1,4 @@
-#![tactic(auto, unfolding(smith_code_control::specs::CallChoices::by_reference_at, smith_code_control::specs::CallChoices::indirect_at, smith_code_control::specs::CallChoices::return_call_at, smith_code_control::specs::CallChoices::tail_call_at, smith_code::specs::Choices::statement_choice_at, smith_code::specs::Choices::value_choice_at, smith_code_nodes::specs::Offered::chunk_at, smith_code_nodes::specs::Offered::offered, smith_draw::specs::Below::is_heap_below, smith_draw::specs::Choices::chosen_at, smith_bytes::specs::Draws::choose_at, smith_bytes::specs::Draws::digit_count, smith_bytes::specs::Draws::range_at))]
+#![tactic(auto, unfolding(smith_code_control::specs::CallChoices::by_reference_at, smith_code_control::specs::CallChoices::indirect_at, smith_code_control::specs::CallChoices::return_call_at, smith_code_control::specs::CallChoices::tail_call_at, smith_code_choices::specs::Choices::statement_choice_at, smith_code_choices::specs::Choices::value_choice_at, smith_code_nodes::specs::Offered::chunk_at, smith_code_nodes::specs::Offered::offered, smith_draw::specs::Below::is_heap_below, smith_draw::specs::Choices::chosen_at, smith_bytes::specs::Draws::choose_at, smith_bytes::specs::Draws::digit_count, smith_bytes::specs::Draws::range_at))]
 
 ghost use Rattle.std.specs.Prelude.{◌≡◌, Some, None, [], ◌∷◌};
 ghost use Rattle.smith_types.specs.ExampleTypes.{nullable};
@@ -8,7 +8,7 @@ ghost use Rattle.smith_config.specs.Config.{default_config};
 ghost use Rattle.smith_instr.specs.declared.instr.Instr.TheVariants as instr;
 ghost use Rattle.smith_instr_examples.specs.ExampleBodies.{function_of, some_func};
 ghost use Rattle.smith_code_control.specs.CallChoices.{tail_call_at};
-ghost use Rattle.smith_code.specs.Choices.{statement_choice_at, value_choice_at};
+ghost use Rattle.smith_code_choices.specs.Choices.{statement_choice_at, value_choice_at};
 ghost use Rattle.smith_code_nodes.specs.Nodes.{node_of};
 ghost use Rattle.smith_code_examples.specs.ExampleBytes.{calling};
 ghost use Rattle.smith_code_examples.specs.ExampleContexts.{externals, holding, unmanaged};

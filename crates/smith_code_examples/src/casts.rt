@@ -1,4 +1,4 @@
-#![tactic(auto, unfolding(smith_code_casts::specs::CastBranchChoices::cast_branch_for, smith_code_casts::specs::CastBranchChoices::cast_value_at, smith_code_casts::specs::CastChoices::cast_at, smith_code_casts::specs::CastChoices::cast_choice_at, smith_code_casts::specs::CastChoices::cast_for, smith_code_casts::specs::CastChoices::conversion_at, smith_code_casts::specs::CastChoices::non_null_test_at, smith_code_casts::specs::CastChoices::scalar_at, smith_code_casts::specs::CastChoices::type_test_at, smith_code_nodes::specs::Offered::chunk_at, smith_code_nodes::specs::Offered::offered, smith_draw::specs::Below::is_heap_below, smith_draw::specs::Choices::chosen_at, smith_draw::specs::Offered::ancestors, smith_bytes::specs::Draws::bool_at, smith_bytes::specs::Draws::choose_at, smith_bytes::specs::Draws::digit_count, smith_bytes::specs::Draws::range_at))]
+#![tactic(auto, unfolding(smith_code_reference_branches::specs::CastBranchChoices::cast_branch_for, smith_code_reference_branches::specs::CastBranchChoices::cast_value_at, smith_code_casts::specs::CastChoices::cast_at, smith_code_casts::specs::CastChoices::cast_choice_at, smith_code_casts::specs::CastChoices::cast_for, smith_code_casts::specs::CastChoices::conversion_at, smith_code_casts::specs::CastChoices::non_null_test_at, smith_code_casts::specs::CastChoices::scalar_at, smith_code_casts::specs::CastChoices::type_test_at, smith_code_nodes::specs::Offered::chunk_at, smith_code_nodes::specs::Offered::offered, smith_draw::specs::Below::is_heap_below, smith_draw::specs::Choices::chosen_at, smith_draw::specs::Offered::ancestors, smith_bytes::specs::Draws::bool_at, smith_bytes::specs::Draws::choose_at, smith_bytes::specs::Draws::digit_count, smith_bytes::specs::Draws::range_at))]
 
 ghost use Rattle.std.specs.Prelude.{◌≡◌, Some, None, [], ◌∷◌, true};
 ghost use Rattle.smith_types.specs.ExampleTypes.{not_null, nullable, plain};
@@ -9,7 +9,7 @@ ghost use Rattle.smith_data.specs.declared.value_type.ValType.TheVariants.{I32, 
 ghost use Rattle.smith_instr.specs.declared.aggregate.AggregateInstr.TheVariants as aggregate;
 ghost use Rattle.smith_instr.specs.declared.instr.Instr.TheVariants as instr;
 ghost use Rattle.smith_instr.specs.declared.reference.ReferenceInstr.TheVariants as reference;
-ghost use Rattle.smith_code_casts.specs.CastBranchChoices.{cast_branch_at, cast_value_at};
+ghost use Rattle.smith_code_reference_branches.specs.CastBranchChoices.{cast_branch_at, cast_value_at};
 ghost use Rattle.smith_code_casts.specs.CastChoices.{cast_choice_at};
 ghost use Rattle.smith_code_aggregates.specs.CreationChoices.{aggregate_of};
 ghost use Rattle.smith_code_nodes.specs.Nodes.{node_of};

@@ -1,10 +1,10 @@
-#![tactic(auto, unfolding(smith_code::specs::Leaves::constant_instr_at, smith_code::specs::Leaves::first_single, smith_code::specs::Leaves::leaf_choice_at, smith_code_nodes::specs::Scopes::is_permitted, smith_instr::specs::Enabled::is_enabled, smith_draw::specs::Choices::chosen_at, smith_code_nodes::specs::Offered::chunk_at, smith_code_nodes::specs::Offered::offered, smith_bytes::specs::Draws::choose_at, smith_bytes::specs::Draws::digit_count, smith_bytes::specs::Draws::range_at))]
+#![tactic(auto, unfolding(smith_code_leaves::specs::Leaves::constant_instr_at, smith_code_leaves::specs::Leaves::first_single, smith_code_leaves::specs::Leaves::leaf_choice_at, smith_code_nodes::specs::Scopes::is_permitted, smith_instr::specs::Enabled::is_enabled, smith_draw::specs::Choices::chosen_at, smith_code_nodes::specs::Offered::chunk_at, smith_code_nodes::specs::Offered::offered, smith_bytes::specs::Draws::choose_at, smith_bytes::specs::Draws::digit_count, smith_bytes::specs::Draws::range_at))]
 
 ghost use Rattle.std.specs.Prelude.{◌≡◌, ◌≤◌, ℕ, ◌==◌, ◌||◌, Bool, true, List, Some, None, [], ◌∷◌};
 ghost use Rattle.smith_bytes.specs.Draws.{choose_at};
 ghost use Rattle.smith_data.specs.declared.value_type.ValType.TheVariants.{I32};
 ghost use Rattle.smith_instr.specs.declared.instr.Instr.TheVariants as instr;
-ghost use Rattle.smith_code.specs.Leaves.{first_single, leaf_choice_at};
+ghost use Rattle.smith_code_leaves.specs.Leaves.{first_single, leaf_choice_at};
 ghost use Rattle.smith_code_nodes.specs.Offered.{chunk_at, offered};
 ghost use Rattle.smith_code_examples.specs.ExampleBytes.{trapless};
 ghost use Rattle.smith_code_examples.specs.ExampleContexts.{many_globals};

@@ -1,4 +1,4 @@
-#![tactic(auto, unfolding(smith_code::specs::Leaves::any_leaf_at, smith_code::specs::Leaves::created_type, smith_code::specs::Leaves::constant_instr_at, smith_code::specs::Leaves::first_leaf, smith_code::specs::Leaves::first_single, smith_code::specs::Leaves::i31_leaf, smith_code::specs::Leaves::leaf_within, smith_code::specs::Leaves::leaf_at, smith_code::specs::Leaves::leaf_choice_at, smith_code::specs::Leaves::named_at, smith_code::specs::Leaves::spare_leaf, smith_code_nodes::specs::Scopes::is_permitted, smith_instr::specs::Enabled::is_enabled, smith_draw::specs::Below::is_heap_below, smith_draw::specs::Choices::chosen_at, smith_draw::specs::Offered::ancestors, smith_code_nodes::specs::Offered::chunk_at, smith_code_nodes::specs::Offered::offered, smith_bytes::specs::Draws::choose_at, smith_bytes::specs::Draws::digit_count, smith_bytes::specs::Draws::range_at, smith_bytes::specs::Draws::whole_at))]
+#![tactic(auto, unfolding(smith_code_leaves::specs::Leaves::any_leaf_at, smith_code_leaves::specs::Leaves::created_type, smith_code_leaves::specs::Leaves::constant_instr_at, smith_code_leaves::specs::Leaves::first_leaf, smith_code_leaves::specs::Leaves::first_single, smith_code_leaves::specs::Leaves::i31_leaf, smith_code_leaves::specs::Leaves::leaf_within, smith_code_leaves::specs::Leaves::leaf_at, smith_code_leaves::specs::Leaves::leaf_choice_at, smith_code_leaves::specs::Leaves::named_at, smith_code_leaves::specs::Leaves::spare_leaf, smith_code_nodes::specs::Scopes::is_permitted, smith_instr::specs::Enabled::is_enabled, smith_draw::specs::Below::is_heap_below, smith_draw::specs::Choices::chosen_at, smith_draw::specs::Offered::ancestors, smith_code_nodes::specs::Offered::chunk_at, smith_code_nodes::specs::Offered::offered, smith_bytes::specs::Draws::choose_at, smith_bytes::specs::Draws::digit_count, smith_bytes::specs::Draws::range_at, smith_bytes::specs::Draws::whole_at))]
 
 ghost use Rattle.std.specs.Prelude.{◌≡◌, ◌+◌, ◌^◌, true, [], ◌∷◌, pos};
 ghost use Rattle.smith_types.specs.Types.{IsOrderly};
@@ -14,8 +14,8 @@ ghost use Rattle.smith_instr.specs.declared.aggregate.AggregateInstr.TheVariants
 ghost use Rattle.smith_instr.specs.declared.instr.Instr.TheVariants as instr;
 ghost use Rattle.smith_instr.specs.declared.reference.ReferenceInstr.TheVariants as reference;
 ghost use Rattle.smith_instr_examples.specs.ExampleBodies.{kinds_of, number};
-ghost use Rattle.smith_code.specs.Laws.{HasNoOther};
-ghost use Rattle.smith_code.specs.Leaves.{first_leaf, i31_type, leaf_at};
+ghost use Rattle.smith_code_leaves.specs.Laws.{HasNoOther};
+ghost use Rattle.smith_code_leaves.specs.Leaves.{first_leaf, i31_type, leaf_at};
 ghost use Rattle.smith_code_examples.specs.ExampleAggregates.{any, nested, paired, some};
 ghost use Rattle.smith_code_examples.specs.ExampleAggregates.{some_of, unnamed, untyped, wrapped};
 ghost use Rattle.smith_code_examples.specs.ExampleBytes.{trapless};

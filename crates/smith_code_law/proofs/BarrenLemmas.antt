@@ -25,7 +25,7 @@ use Rattle.smith_instr.specs.declared.instr.Instr.TheVariants as instr
 use Rattle.smith_instr.specs.declared.reference.ReferenceInstr.TheVariants as reference
 use Rattle.smith_code_nodes.specs.Scopes.{is_permitted, kinds_of_bodies}
 use Rattle.smith_code_nodes.specs.Traps.{may_trap}
-use Rattle.smith_code.specs.Laws.{HasNoOther, HasNoSingle, HasNoValue, IsNumber}
+use Rattle.smith_code_leaves.specs.Laws.{HasNoOther, HasNoSingle, HasNoValue, IsNumber}
 use Rattle.smith_code_law.specs.Barren.{IsSharingOn, IsBarren, IsBarrenReference}
 
 or_true : (a : Bool) → (a || true) ≡ true

@@ -16,7 +16,7 @@ use Rattle.smith_data.specs.declared.value_type.ValType.{ValType}
 use Rattle.smith_data.specs.declared.value_type.ValType.TheVariants.{Ref}
 use Rattle.smith_instr.specs.Contexts.{BodyContext, IsValid, created_reference, reference_to_function}
 use Rattle.smith_code_nodes.specs.Scopes.{kinds_of_bodies}
-use Rattle.smith_code.specs.Laws.{HasNoOther}
+use Rattle.smith_code_leaves.specs.Laws.{HasNoOther}
 
 -- references of this sharedness may be created
 abbrev pub IsSharingOn : BodyContext → Bool → Type 0

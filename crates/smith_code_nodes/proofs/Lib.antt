@@ -13,3 +13,4 @@ pub mod ReferenceChoiceLemmas
 pub mod ItemLemmas
 pub mod ResultLemmas
 pub mod RepeatLemmas
+pub mod StopLemmas

@@ -3,6 +3,7 @@
 -- trap, since the instructions of the called function are judged by themselves; nor are the limits
 -- of stacks and memory.
 use Rattle.std.specs.Prelude.{◌≡◌, Bool, true, false, IsTrue}
+use Rattle.smith_config.specs.declared.config.Config.{Config}
 use Rattle.smith_instr.specs.declared.aggregate.AggregateInstr.{AggregateInstr}
 use Rattle.smith_instr.specs.declared.aggregate.AggregateInstr.TheVariants as aggregate
 use Rattle.smith_instr.specs.declared.instr.Instr.{Instr}
@@ -115,3 +116,7 @@ may_trap _ = false
 -- an instruction that doesn't trap, or `unreachable`
 abbrev pub IsTrapless : Instr → Type 0
 IsTrapless instruction = IsTrue (may_trap instruction) → instruction ≡ instr.Unreachable
+
+-- with `disallow_traps`, an instruction is not `unreachable`
+abbrev pub IsNoStop : Config → Instr → Type 0
+IsNoStop config instruction = IsTrue config.disallow_traps → ¬ (instruction ≡ instr.Unreachable)

@@ -31,7 +31,7 @@ use Rattle.smith_instr.specs.Sequences.{IsBodyTyped}
 use Rattle.smith_instr.specs.declared.instr.Instr.{Instr}
 use Rattle.smith_code_nodes.specs.Scopes.{kinds_of_bodies, most, IsScope}
 use Rattle.smith_code_nodes.specs.Traps.{IsTrapless}
-use Rattle.smith_code.specs.Leaves.{longest_leaf}
+use Rattle.smith_code_leaves.specs.Leaves.{longest_leaf}
 use Rattle.smith_code.specs.Stops.{HasNeededStops}
 use Rattle.smith_program.specs.Bodies.{HasDefinedType, IsDrawnAt, function_context}
 use Rattle.smith_code_nodes.proofs.NodeLemmas.{func_wide}

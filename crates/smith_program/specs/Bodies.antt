@@ -14,7 +14,7 @@ use Rattle.smith_instr.specs.Sequences.{IsBodyTyped}
 use Rattle.smith_instr.specs.declared.instr.Instr.{Instr}
 use Rattle.smith_code_nodes.specs.Scopes.{kinds_of_bodies, most}
 use Rattle.smith_code_nodes.specs.Traps.{IsTrapless}
-use Rattle.smith_code.specs.Leaves.{longest_leaf}
+use Rattle.smith_code_leaves.specs.Leaves.{longest_leaf}
 use Rattle.smith_code.specs.Stops.{HasNeededStops}
 use Rattle.smith_program.specs.References.{references_of}
 use Rattle.smith_program.specs.declared.program.Body.{Body}

@@ -12,7 +12,7 @@ ghost use Rattle.smith_program.specs.Bodies.{function_context};
 ghost use Rattle.smith_program.specs.DrawnBodies.{bodies_at, one_at};
 ghost use Rattle.smith_program.specs.Named.{IsNamed};
 ghost use Rattle.smith_code.specs.Bodies.{body_at};
-ghost use Rattle.smith_code.specs.Leaves.{longest_leaf};
+ghost use Rattle.smith_code_leaves.specs.Leaves.{longest_leaf};
 ghost use Rattle.smith_code.specs.Stops.{HasNeededStops};
 ghost use Rattle.smith_code_nodes.specs.Scopes.{kinds_of_bodies, most};
 ghost use Rattle.smith_code_nodes.specs.Traps.{IsTrapless};

@@ -4,7 +4,7 @@ use Rattle.smith_code.proofs.ExactLemmas.{body_stops}
 use Rattle.smith_instr.specs.declared.instr.Instr.TheVariants as instr
 use Rattle.smith_code.proofs.DrawnLemmas.{one_allowed}
 use Rattle.smith_code_nodes.proofs.AllowedLemmas.{all_enabled, all_trapless}
-use Rattle.smith_code.proofs.LeafLemmas.{stop_allowed}
+use Rattle.smith_code_leaves.proofs.LeafLemmas.{stop_allowed}
 use Rattle.smith_code.proofs.BodyLemmas.{stop_typed}
 use Rattle.smith_code.proofs.body.draw_body.Goals as goal
 

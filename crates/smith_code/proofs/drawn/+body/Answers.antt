@@ -6,7 +6,7 @@ use Rattle.smith_code.proofs.DrawnLemmas.{paid_for, drawn_none, drawn_then, draw
 use Rattle.smith_code.specs.Bodies.{drawing_at, statement_at}
 use Rattle.smith_data.specs.FeatureBits.{features_in}
 use Rattle.smith_code.specs.DraftSteps.{state_of}
-use Rattle.smith_code.proofs.StopLemmas.{node_goes_on}
+use Rattle.smith_code_nodes.proofs.StopLemmas.{node_goes_on}
 use Rattle.smith_code_nodes.specs.Nodes.{label_of, opened}
 use Rattle.smith_code_nodes.specs.Scopes.{bare}
 use Rattle.smith_code.proofs.ExactLemmas.{all_left, chosen_statement, chosen_value, deep_statements, drops_written, enclosed_exact, forbidden_statement, head_enclosed, head_if, head_try, if_exact, inside_exact, last_statements, last_value, next_value, no_values, node_exact, none_left, one_less, other_value, plain_exact, stopped, unpaid_value}

@@ -3,7 +3,7 @@ use Rattle.std.proofs.lemmas.Result.{on_ok_weaker}
 use Rattle.smith_code_nodes.specs.Scopes.{where_stands}
 use Rattle.smith_code.proofs.CreatedLemmas.{drawn_permitted, spare_drawn}
 use Rattle.smith_code.proofs.ExactLemmas.{leaf_state}
-use Rattle.smith_code.proofs.LeafChoiceLemmas.{leaf_permitted}
+use Rattle.smith_code_leaves.proofs.LeafChoiceLemmas.{leaf_permitted}
 use Rattle.smith_code.proofs.leaf.write_leaf.Goals as goal
 
 pub returns-then-is_allowed-clause-exact : goal.returns-then-is_allowed-clause-exact

@@ -10,11 +10,11 @@ use Rattle.smith_config.specs.Config.{default_config}
 use Rattle.smith_instr.specs.Enabled.{is_enabled}
 use Rattle.smith_instr.specs.declared.aggregate.AggregateInstr.TheVariants as aggregate
 use Rattle.smith_instr.specs.declared.instr.Instr.TheVariants as instr
-use Rattle.smith_code.specs.Leaves.{any_leaf_at, constant_instr_at, created_type, first_leaf, first_single, i31_leaf, leaf_at, leaf_choice_at, leaf_within, named_at, spare_leaf}
+use Rattle.smith_code_leaves.specs.Leaves.{any_leaf_at, constant_instr_at, created_type, first_leaf, first_single, i31_leaf, leaf_at, leaf_choice_at, leaf_within, named_at, spare_leaf}
 use Rattle.smith_code_nodes.specs.Offered.{chunk_at, offered}
 use Rattle.smith_code_nodes.specs.Scopes.{is_permitted}
-use Rattle.smith_code.proofs.LawLemmas.{no_other}
-use Rattle.smith_code.proofs.LeafLemmas.{i31_over, struct_leaf}
+use Rattle.smith_code_leaves.proofs.LawLemmas.{no_other}
+use Rattle.smith_code_leaves.proofs.LeafLemmas.{i31_over, struct_leaf}
 use Rattle.smith_code_examples.specs.ExampleAggregates.{some, some_of, unnamed}
 use Rattle.smith_code_examples.specs.ExampleBytes.{trapless}
 use Rattle.smith_code_examples.proofs.StopExamples.{in_place, nothing_needed, result_needed, within}

@@ -1,0 +1,15 @@
+//! Choices of calls through tables and references, and of tail calls. The standard is the
+//! WebAssembly Core Specification 3.0.
+//!
+//! A call that returns a `Result` fails only if an allocation fails, apart from the errors in its
+//! section `# Errors`.
+#![tactic(auto)]
+
+mod calls;
+mod function_tables;
+mod tail_calls;
+
+pub use calls::{
+    choose_any_by_reference, choose_any_indirect, choose_by_reference, choose_indirect,
+};
+pub use tail_calls::{choose_any_tail_call, choose_tail_call};

@@ -1,0 +1,2 @@
+pub mod ChoiceNodeLemmas
+pub mod ChoiceLemmas

@@ -1,0 +1,18 @@
+//! Values that take no budget: one that is drawn, or the first that is allowed. The standard is the
+//! WebAssembly Core Specification 3.0.
+//!
+//! A call that returns a `Result` fails only if an allocation fails, apart from the errors in its
+//! section `# Errors`.
+#![tactic(auto)]
+
+mod created;
+mod families;
+mod leaf;
+mod references;
+mod search;
+mod single;
+mod unary;
+
+pub use leaf::{Leaf, only, write_instructions, write_spare};
+pub use single::draw_any_leaf;
+pub use unary::Unary;

@@ -1,0 +1,2 @@
+pub mod NullLemmas
+pub mod CastBranchLemmas
