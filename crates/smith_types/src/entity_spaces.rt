@@ -5,9 +5,6 @@ ghost use Rattle.smith_data.specs.declared.imports.ImportItem.{ImportItem as Ite
 ghost use Rattle.smith_types.specs.EntitySpaces.{spaces_in, with_entity, with_entities};
 ghost use Rattle.smith_types.specs.EntitySpaces.{entities_of};
 
-use smith_data::{EntityType, GlobalType, MemoryType, TableType};
-use smith_data::{ImportItem, Imports};
-use smith_data::{Items, Name};
 use smith_bytes::Error;
 use smith_data::{EntityType, GlobalType, ImportItem, Imports, Items, MemoryType, Name, TableType};
 use std::alloc::Global;

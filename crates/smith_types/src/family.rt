@@ -3,7 +3,6 @@ ghost use Rattle.smith_types.specs.Types.{IsOrderly};
 ghost use Rattle.smith_types.specs.GroupedTypes.{MayFollow};
 ghost use Rattle.smith_types.specs.Families.{AreFamilies};
 
-use smith_data::SubType;
 use smith_bytes::Error;
 use smith_data::SubType;
 

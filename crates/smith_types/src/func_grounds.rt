@@ -7,11 +7,9 @@ ghost use Rattle.smith_types.specs.Grounded.{IsGroundedByFuncs};
 ghost use Rattle.smith_types.specs.Grounds.{AreClosed};
 ghost use Rattle.smith_types.specs.FuncGrounds.{AreFuncGrounds, IsFunctionAdded, IsTypeNoted};
 
-use smith_data::SubType;
 use crate::ground::{Ground, mark_above};
 use crate::noted_kinds::{NotedKinds, no_kinds};
 use crate::type_space::TypeSpace;
-use smith_data::HeapType;
 use smith_bytes::Error;
 use smith_data::{HeapType, SubType};
 use std::alloc::Global;

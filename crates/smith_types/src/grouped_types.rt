@@ -3,9 +3,6 @@ ghost use Rattle.std.specs.Prelude.{MatchBool, MatchOption};
 ghost use Rattle.std.specs.List.{flat_map};
 ghost use Rattle.smith_types.specs.Groups.{space_of, AreFollowing};
 
-use smith_data::CloneIn;
-use smith_data::SubType;
-use smith_data::Items;
 use crate::type_space::TypeSpace;
 use smith_bytes::Error;
 use smith_data::{CloneIn, Items, SubType};

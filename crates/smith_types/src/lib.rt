@@ -1,6 +1,6 @@
 //! The type space, the subtype test, and the definitions of validity, over the plain data of
-//! `smith_data`. The standard is the WebAssembly Core Specification 3.0. Sections in parentheses are sections of the
-//! standard.
+//! `smith_data`. The standard is the WebAssembly Core Specification 3.0. Sections in parentheses are
+//! sections of the standard.
 //!
 //! A call that returns a `Result` fails only if an allocation fails, apart from the errors in its
 //! section `# Errors`.
@@ -24,5 +24,11 @@ pub use entity_spaces::{EntitySpaces, imported_spaces_of};
 pub use func_grounds::FuncGrounds;
 pub use ground::{are_defaultable, is_defaultable, unpacked};
 pub use grouped_types::type_space_of;
+pub use smith_data::{
+    AbstractHeapType, ArrayType, CloneIn, Code, CompositeInnerType, CompositeType, ConstInstr,
+    DataSegment, DataSegmentKind, ElementKind, ElementSegment, Elements, EntityType, Exact,
+    ExportKind, FieldType, FuncType, GlobalType, HeapType, Import, ImportItem, Imports,
+    InstructionKind, InstructionKinds, Instructions, Items, MemoryType, Name, Offset, RefType,
+    StorageType, StructType, SubType, TableType, UnknownKind, ValType, WasmFeatures, is_same,
+};
 pub use type_space::{TypeSpace, start_after};
-pub use smith_data::{AbstractHeapType, ArrayType, CloneIn, Code, CompositeInnerType, CompositeType, ConstInstr, DataSegment, DataSegmentKind, ElementKind, ElementSegment, Elements, EntityType, Exact, ExportKind, FieldType, FuncType, GlobalType, HeapType, Import, ImportItem, Imports, InstructionKind, InstructionKinds, Instructions, Items, MemoryType, Name, Offset, RefType, StorageType, StructType, SubType, TableType, UnknownKind, ValType, WasmFeatures, is_same};

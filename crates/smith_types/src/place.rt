@@ -3,7 +3,6 @@ ghost use Rattle.smith_types.specs.Types.{IsOrderly};
 ghost use Rattle.smith_types.specs.GroupedTypes.{MayFollow};
 ghost use Rattle.smith_types.specs.Places.{last_counts, IsPlace, ArePlaces, IsLonger, IsRowAtEnd};
 
-use smith_data::SubType;
 use crate::kind_counts::{KindCounts, no_counts};
 use smith_bytes::Error;
 use smith_data::SubType;

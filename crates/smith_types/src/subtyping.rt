@@ -10,9 +10,8 @@ ghost use Rattle.smith_types.specs.Subtyping.{
   IsValInRange,
 };
 
-use smith_data::SubType;
 use crate::type_space::TypeSpace;
-use smith_data::{AbstractHeapType, HeapType, RefType, ValType};
+use smith_data::{AbstractHeapType, HeapType, RefType, SubType, ValType};
 
 // Returns whether the value type `a` is a subtype of `b`. Heap types are compared as in
 // `TypeSpace::heap_type_is_sub_type`.

@@ -39,8 +39,6 @@ ghost use Rattle.smith_data.specs.declared.value_type.HeapType.TheVariants.{Conc
 ghost use Rattle.smith_types.specs.Subtyping.{IsBelow, IsRefBelow, IsValBelow, IsInRange};
 ghost use Rattle.smith_types.specs.Subtyping.{IsValInRange};
 
-use smith_data::{CompositeInnerType, CompositeType, SubType};
-use smith_data::EntityType;
 use crate::family::{Family, extend_families, join_family};
 use crate::ground::{Ground, GroundKinds, is_ground, no_grounds, note_ground};
 use crate::matching::composite_type_is_match;
@@ -48,7 +46,6 @@ use crate::place::{Place, last_counts, push_row};
 use crate::subtyping::{
     abstract_type_is_below, heap_type_is_below, ref_type_is_below, val_type_is_below,
 };
-use smith_data::{AbstractHeapType, HeapType, RefType, ValType};
 use smith_bytes::Error;
 use smith_data::{
     AbstractHeapType, CompositeInnerType, CompositeType, EntityType, HeapType, RefType, SubType,

@@ -13,7 +13,7 @@ right c =
     let Right : KeptOffers → Type 0 = λ kept. IfSome kept.many (AreManyKept context) in
     elim c.if-is_none.branch [
       | then-is_none+else-scope-entities-le-MOST w ↦ subst Right (sym w.self-is)
-        (subst (λ (many : Option ManyItems). IfSome many (AreManyKept context)) (sym w.replace.ensures.after) (w.new.ensures context))
+          (subst (λ (many : Option ManyItems). IfSome many (AreManyKept context)) (sym w.replace.ensures.after) (w.new.ensures context))
       | else-is_none w ↦ subst Right (sym w.self-is) c.requires.kept.many
     ]
 
