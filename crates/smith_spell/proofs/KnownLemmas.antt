@@ -4,7 +4,6 @@ use Rattle.std.specs.Prelude.{◌↔◌, slice_get, if◌then◌else◌}
 use Rattle.std.specs.List.{All, list_any}
 use Rattle.std.proofs.lemmas.List.Elements.{All-push}
 use Rattle.std.proofs.lemmas.Option.{slice_get_within, get_or_from_slice_get}
-use Rattle.smith_data.specs.Kinds.{shared}
 use Rattle.smith_types.specs.Subtyping.{is_abstract_below, IsBelow, itself}
 use Rattle.smith_types.specs.Grounded.{IsGroundedByStructs}
 use Rattle.smith_types.specs.Grounds.{is_ground, is_ground_of, kind_at, AreGroundKinds}

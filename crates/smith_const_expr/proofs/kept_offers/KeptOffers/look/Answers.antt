@@ -3,8 +3,9 @@ use Rattle.std.specs.Prelude.{Option, IfSome}
 use Rattle.smith_const_expr.specs.ConstScopes.{context_of}
 use Rattle.smith_const_expr.specs.KeptOffers.{AreManyKept}
 use Rattle.smith_const_expr.specs.declared.kept_offers.KeptOffers.{KeptOffers}
+use Rattle.smith_const_expr.specs.declared.kept_offers.ManyItems.{ManyItems}
 use Rattle.smith_const_expr.proofs.kept_offers.KeptOffers.look.Goals as goal
-use Rattle.smith_const_expr.proofs.kept_offers.KeptOffers.look.Goals.{then-is_none+else-scope-entities-le-MOST+in-Some-1, then-is_none+else-scope-entities-le-MOST+in-None-1, else-is_none, In-Some}
+use Rattle.smith_const_expr.proofs.kept_offers.KeptOffers.look.Goals.{then-is_none+else-scope-entities-le-MOST, else-is_none, In-Some}
 
 -- the classes and counts are correct, whether they were there or are begun
 right : (c : In-Some) → IfSome c.if-is_none.self.many (AreManyKept (context_of c.args.scope.now))
