@@ -39,8 +39,8 @@ impl fmt::Display for Difference<'_> {
     }
 }
 
-/// Checks that `case` wants something that not every answer has, no list that is empty, no blank
-/// text, and no line after one that matches all further lines.
+/// Checks that `case` wants an answer, lines, pieces or kinds, and that it has no empty list, no
+/// blank text, and no line after one that matches all further lines.
 ///
 /// # Errors
 ///

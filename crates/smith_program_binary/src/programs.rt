@@ -21,8 +21,9 @@ use std::alloc::Global;
 ///
 /// # Errors
 ///
-/// Returns `TooLong` if a list has 2^32 items or more, or a section or a body 2^32 bytes or more,
-/// and `Memory` if an allocation fails.
+/// Returns `TooLong` if a list has 2^32 items or more, a section or a body has 2^32 bytes or more,
+/// an alignment needs more than the six bits of the format, or an instruction accesses a lane of
+/// more than eight bytes. Returns `Memory` if an allocation fails.
 pub fn encode(alloc: Global, program: &Program) -> Result<Vec<u8>, EncodeError>
     ensures spelled { IfOk result (λ bytes.
         IsProgramBinary program.now.«module» program.now.bodies bytes.items) }

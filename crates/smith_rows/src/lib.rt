@@ -1,6 +1,7 @@
 //! Tests beyond the worked cases of `smith_cases`: complete examples of the library, data that
 //! outlive a loan, the texts of errors and of plain data, a writer that fails, the bytes of
-//! instructions, which are compared with those of another encoder, and calls that lack memory.
+//! instructions, which are compared with those of another encoder, cases that are not ok, and calls
+//! that lack memory.
 #![tactic(auto)]
 
 #[cfg(test)]
