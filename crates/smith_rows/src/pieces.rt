@@ -92,7 +92,7 @@ fn entities_are_written(rt: HostRuntime) -> Result<(), Fail> {
 }
 
 // Shapes as cases name them, and the texts of their imports.
-const IMPORTS: [(&str, &[&str]); 2] = [
+static IMPORTS: [(&str, &[&str]); 2] = [
     (
         "a memory that is imported and exported",
         &["(import \"env\" \"memory\" (memory 1))"],
@@ -135,7 +135,7 @@ fn imports_are_written(rt: HostRuntime) -> Result<(), Fail> {
 }
 
 // Constant instructions, and their texts.
-const CONSTANTS: [(ConstInstr, &str); 38] = [
+static CONSTANTS: [(ConstInstr, &str); 38] = [
     (
         ConstInstr::I32Const(-2_147_483_648),
         "i32.const -2147483648",
@@ -235,7 +235,7 @@ fn sub_type(
 }
 
 // Function types as cases write them, and their texts.
-const FUNCTION_TYPES: [(&str, &str); 2] = [
+static FUNCTION_TYPES: [(&str, &str); 2] = [
     ("->", "(func)"),
     ("i32,i64 -> f32", "(func (param i32 i64) (result f32))"),
 ];
@@ -330,7 +330,7 @@ const NAMED: ElementKind = ElementKind::Active {
 };
 
 // Segments of functions, and their texts.
-const FUNCTIONS: [(ElementKind, HeapType, &[u32], &str); 3] = [
+static FUNCTIONS: [(ElementKind, HeapType, &[u32], &str); 3] = [
     (ElementKind::Passive, FUNC, &[0, 3], "(elem func 0 3)"),
     (
         ElementKind::Declared,
