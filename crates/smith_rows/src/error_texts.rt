@@ -6,7 +6,7 @@ use std::fmt;
 use std::test::Fail;
 
 // Each error, and each of its contents, at least once.
-const TEXTS: [(Error, &str); 29] = [
+static TEXTS: [(Error, &str); 29] = [
     (Error::EmptyChoose, "nothing to choose from"),
     (Error::NotEnoughData, "not enough bytes are left"),
     (Error::Memory, "out of memory"),
@@ -139,26 +139,25 @@ fn texts_of_errors(rt: HostRuntime) -> Result<(), Fail> {
     are_written(rt.alloc(), &TEXTS)
 }
 
+static OFFSET_FAULTS: [(OffsetChoicesFault, &str); 4] = [
+    (
+        OffsetChoicesFault::NeedThree,
+        "need three numbers between commas",
+    ),
+    (
+        OffsetChoicesFault::Number(2),
+        "part 2 isn't a number of 32 bits",
+    ),
+    (OffsetChoicesFault::TooMany, "more than three parts"),
+    (
+        OffsetChoicesFault::AllZero,
+        "one of the three must be above zero",
+    ),
+];
+
 #[test]
 fn texts_of_offset_faults(rt: HostRuntime) -> Result<(), Fail> {
-    are_written(
-        rt.alloc(),
-        &[
-            (
-                OffsetChoicesFault::NeedThree,
-                "need three numbers between commas",
-            ),
-            (
-                OffsetChoicesFault::Number(2),
-                "part 2 isn't a number of 32 bits",
-            ),
-            (OffsetChoicesFault::TooMany, "more than three parts"),
-            (
-                OffsetChoicesFault::AllZero,
-                "one of the three must be above zero",
-            ),
-        ],
-    )
+    are_written(rt.alloc(), &OFFSET_FAULTS)
 }
 
 #[test]

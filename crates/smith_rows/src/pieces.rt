@@ -28,72 +28,71 @@ fn is_read<T: TextForm + Drop>(alloc: Global, read: Option<T>, wanted: &str) -> 
     }
 }
 
-// Value types as cases write them, and their texts.
-const VALUE_TYPES: [(&str, &str); 22] = [
-    ("i32", "i32"),
-    ("i64", "i64"),
-    ("f32", "f32"),
-    ("f64", "f64"),
-    ("v128", "v128"),
-    ("(ref null func)", "funcref"),
-    ("(ref null extern)", "externref"),
-    ("(ref null any)", "anyref"),
-    ("(ref null none)", "nullref"),
-    ("(ref null noextern)", "nullexternref"),
-    ("(ref null nofunc)", "nullfuncref"),
-    ("(ref null eq)", "eqref"),
-    ("(ref null struct)", "structref"),
-    ("(ref null array)", "arrayref"),
-    ("(ref null i31)", "i31ref"),
-    ("(ref null exn)", "exnref"),
-    ("(ref null noexn)", "nullexnref"),
-    ("(ref noextern)", "(ref noextern)"),
-    ("(ref null (shared any))", "(ref null (shared any))"),
-    ("(ref (shared i31))", "(ref (shared i31))"),
-    ("(ref null 7)", "(ref null 7)"),
-    ("(ref (exact 0))", "(ref (exact 0))"),
-];
+// Returns what is written in a case on `line`, and the wanted text.
+fn parts_of(line: &str) -> (&str, &str) {
+    line.split_once(" => ").unwrap_or((line, "no text"))
+}
+
+// A value type on each line as cases write it, and its text.
+const VALUE_TYPES: &str = "\
+i32 => i32
+i64 => i64
+f32 => f32
+f64 => f64
+v128 => v128
+(ref null func) => funcref
+(ref null extern) => externref
+(ref null any) => anyref
+(ref null none) => nullref
+(ref null noextern) => nullexternref
+(ref null nofunc) => nullfuncref
+(ref null eq) => eqref
+(ref null struct) => structref
+(ref null array) => arrayref
+(ref null i31) => i31ref
+(ref null exn) => exnref
+(ref null noexn) => nullexnref
+(ref noextern) => (ref noextern)
+(ref null (shared any)) => (ref null (shared any))
+(ref (shared i31)) => (ref (shared i31))
+(ref null 7) => (ref null 7)
+(ref (exact 0)) => (ref (exact 0))";
 
 #[test]
 fn value_types_are_written(rt: HostRuntime) -> Result<(), Fail> {
-    for (text, wanted) in &VALUE_TYPES {
+    for line in VALUE_TYPES.lines() {
+        let (text, wanted) = parts_of(line);
         is_read(rt.alloc(), val_type_of(text), wanted)?;
     }
     Ok(())
 }
 
-// Entities as cases write them, and their texts.
-const ENTITIES: [(&str, &str); 12] = [
-    ("table 0 (ref null func)", "(table 0 funcref)"),
-    (
-        "table shared i64 5 10 (ref null func)",
-        "(table shared i64 5 10 funcref)",
-    ),
-    ("memory 1", "(memory 1)"),
-    (
-        "memory shared i64 pagesize 2^0 1 2",
-        "(memory i64 1 2 shared (pagesize 1))",
-    ),
-    ("memory pagesize 2^16 1", "(memory 1 (pagesize 65536))"),
-    ("memory pagesize 2^64 1", "(memory 1 (pagesize 2^64))"),
-    ("global i32", "(global i32)"),
-    ("global mut i32", "(global (mut i32))"),
-    ("global shared i32", "(global (shared i32))"),
-    ("global shared mut i32", "(global (shared mut i32))"),
-    ("tag 3", "(tag (type 3))"),
-    ("func 4294967295", "(func (type 4294967295))"),
-];
+// An entity on each line as cases write it, and its text.
+const ENTITIES: &str = "\
+table 0 (ref null func) => (table 0 funcref)
+table shared i64 5 10 (ref null func) => (table shared i64 5 10 funcref)
+memory 1 => (memory 1)
+memory shared i64 pagesize 2^0 1 2 => (memory i64 1 2 shared (pagesize 1))
+memory pagesize 2^16 1 => (memory 1 (pagesize 65536))
+memory pagesize 2^64 1 => (memory 1 (pagesize 2^64))
+global i32 => (global i32)
+global mut i32 => (global (mut i32))
+global shared i32 => (global (shared i32))
+global shared mut i32 => (global (shared mut i32))
+tag 3 => (tag (type 3))
+func 4294967295 => (func (type 4294967295))";
 
 #[test]
 fn entities_are_written(rt: HostRuntime) -> Result<(), Fail> {
-    for (text, wanted) in &ENTITIES {
+    for line in ENTITIES.lines() {
+        let (text, wanted) = parts_of(line);
         is_read(rt.alloc(), entity_of(text), wanted)?;
     }
     Ok(())
 }
 
 // Shapes as cases name them, and the texts of their imports.
-const IMPORTS: [(&str, &[&str]); 2] = [
+static IMPORTS: [(&str, &[&str]); 2] = [
     (
         "a memory that is imported and exported",
         &["(import \"env\" \"memory\" (memory 1))"],
@@ -136,7 +135,7 @@ fn imports_are_written(rt: HostRuntime) -> Result<(), Fail> {
 }
 
 // Constant instructions, and their texts.
-const CONSTANTS: [(ConstInstr, &str); 38] = [
+static CONSTANTS: [(ConstInstr, &str); 38] = [
     (
         ConstInstr::I32Const(-2_147_483_648),
         "i32.const -2147483648",
@@ -236,7 +235,7 @@ fn sub_type(
 }
 
 // Function types as cases write them, and their texts.
-const FUNCTION_TYPES: [(&str, &str); 2] = [
+static FUNCTION_TYPES: [(&str, &str); 2] = [
     ("->", "(func)"),
     ("i32,i64 -> f32", "(func (param i32 i64) (result f32))"),
 ];
@@ -331,7 +330,7 @@ const NAMED: ElementKind = ElementKind::Active {
 };
 
 // Segments of functions, and their texts.
-const FUNCTIONS: [(ElementKind, HeapType, &[u32], &str); 3] = [
+static FUNCTIONS: [(ElementKind, HeapType, &[u32], &str); 3] = [
     (ElementKind::Passive, FUNC, &[0, 3], "(elem func 0 3)"),
     (
         ElementKind::Declared,

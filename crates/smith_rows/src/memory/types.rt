@@ -15,7 +15,7 @@ struct Pushes<'a> {
 }
 
 // The pushes: whether each is of a group, and how many types and groups exist before it.
-const PUSHES: [(bool, u32, usize); 7] = [
+static PUSHES: [(bool, u32, usize); 7] = [
     (false, 0, 0),
     (false, 1, 0),
     (true, 2, 0),
