@@ -37,10 +37,10 @@ pub none_after_last : (function : FuncType) → HasDefinedType after_an_import 1
 none_after_last function (index, at, there) = let never : None ≡ Some index = at in cc
 
 -- a defined function has one type
-pub type_alone : (m : ModuleParts) (place : ℕ) (one other : FuncType) → HasDefinedType m place one → HasDefinedType m place other → other ≡ one
-type_alone m place one other (index, at, there) (found, here, within) =
+pub type_alone : (m : ModuleParts) (place : ℕ) (known other : FuncType) → HasDefinedType m place known → HasDefinedType m place other → other ≡ known
+type_alone m place known other (index, at, there) (found, here, within) =
     let same : found ≡ index = same_Some found index (sym here ∙ at) in
-    func_alone m.types index one other there (subst (λ (i : ℕ). IsFuncAt m.types i other) same within)
+    func_alone m.types index known other there (subst (λ (i : ℕ). IsFuncAt m.types i other) same within)
 
 -- a body is typed with the type of its function
 typed_as : (m : ModuleParts) (place : ℕ) (code : Code) (instructions : List Instr) (function : FuncType) → HasDefinedType m place function → IsBodyAt m place code instructions
