@@ -1,10 +1,11 @@
 -- Contexts and types of the examples of structures, arrays and casts.
-use Rattle.std.specs.Prelude.{ℕ, List, [], ◌∷◌}
+use Rattle.std.specs.Prelude.{ℕ, List, [], ◌∷◌, replicate}
 use Rattle.smith_types.specs.ExampleFeatures.{without_gc}
 use Rattle.smith_types.specs.ExampleTypes.{constant, empty_struct, final_type, not_null, nullable, plain, plain_func, struct, variable}
 use Rattle.smith_types.specs.Flags.{funcref}
 use Rattle.smith_data.specs.declared.composite_type.CompositeInnerType.TheVariants.{Array}
 use Rattle.smith_data.specs.declared.composite_type.StorageType.TheVariants.{I8, Val}
+use Rattle.smith_data.specs.declared.composite_type.SubType.{SubType}
 use Rattle.smith_data.specs.declared.value_type.AbstractHeapType.{AbstractHeapType}
 use Rattle.smith_data.specs.declared.value_type.AbstractHeapType.TheVariants as heap
 use Rattle.smith_data.specs.declared.value_type.HeapType.TheVariants.{Concrete}
@@ -108,3 +109,7 @@ wrapped = record (function_of [] []) {
   funcs = 2 ∷ [];
   references = 0 ∷ [];
 }
+
+-- the type of a struct with this number of packed fields
+abbrev pub with_fields : ℕ → SubType
+with_fields count = final_type (struct (replicate count (constant I8)))

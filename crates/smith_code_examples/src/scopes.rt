@@ -1,8 +1,14 @@
+#![tactic(auto, unfolding(smith_code_leaves::specs::Leaves::longest_leaf, smith_code_leaves::specs::Leaves::widest_struct, smith_code_nodes::specs::Scopes::widest))]
+
 ghost use Rattle.std.specs.Prelude.{◌≡◌, ◌-◌, ◌^◌, [], ◌∷◌, replicate};
-ghost use Rattle.smith_types.specs.ExampleTypes.{final_type, plain_func, struct};
+ghost use Rattle.smith_types.specs.ExampleTypes.{final_type, plain_func, struct, taking};
 ghost use Rattle.smith_data.specs.declared.composite_type.CompositeInnerType.TheVariants.{Func};
 ghost use Rattle.smith_data.specs.declared.value_type.ValType.TheVariants.{I32, I64};
+ghost use Rattle.smith_config.specs.Config.{default_config};
 ghost use Rattle.smith_code_nodes.specs.Scopes.{func_size, indexed, most, widest};
+ghost use Rattle.smith_code_leaves.specs.Leaves.{longest_leaf, widest_struct};
+ghost use Rattle.smith_code_examples.specs.ExampleAggregates.{with_fields};
+ghost use Rattle.smith_code_examples.specs.ExampleBytes.{trapless};
 
 fn indices()
     ensures few { indexed 3 ≡ 3 }
@@ -20,4 +26,23 @@ fn sizes()
         ≡ 5 }
     ensures a_narrow_function { widest (final_type plain_func ∷ []) ≡ 3 }
     ensures instructions_for_one_unit { most [] ≡ 16 }
+{}
+
+fn fields()
+    ensures no_type { widest_struct [] ≡ 2 }
+    ensures of_one_field { widest_struct (with_fields 1 ∷ []) ≡ 2 }
+    ensures of_three_fields { widest_struct (with_fields 3 ∷ []) ≡ 3 }
+    ensures between_others { widest_struct (with_fields 3 ∷ with_fields 5 ∷ with_fields 4 ∷ []) ≡ 5 }
+    ensures no_struct { widest_struct (final_type (taking (replicate 5 I32)) ∷ []) ≡ 2 }
+{}
+
+fn values_without_a_budget()
+    ensures with_traps { longest_leaf default_config (with_fields 5 ∷ []) ≡ 1 }
+    ensures no_type { longest_leaf trapless [] ≡ 3 }
+    ensures no_struct { longest_leaf trapless (final_type (taking (replicate 5 I32)) ∷ []) ≡ 3 }
+    ensures of_two_fields { longest_leaf trapless (with_fields 2 ∷ []) ≡ 3 }
+    ensures of_five_fields { longest_leaf trapless (with_fields 5 ∷ []) ≡ 6 }
+    ensures between_others { longest_leaf trapless
+        (with_fields 3 ∷ with_fields 5 ∷ with_fields 4 ∷ [])
+        ≡ 6 }
 {}

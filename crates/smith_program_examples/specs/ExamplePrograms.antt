@@ -1,9 +1,10 @@
--- Modules whose bodies the examples draw, and bodies that bytes produce.
-use Rattle.std.specs.Prelude.{ℕ, true, List, [], ◌∷◌}
+-- Modules and bodies of the examples, and the bytes that produce such bodies.
+use Rattle.std.specs.Prelude.{ℕ, true, None, List, [], ◌∷◌}
 use Rattle.smith_types.specs.ExampleTypes.{final_type, giving, plain_func}
 use Rattle.smith_data.specs.declared.code.Code.{Code}
 use Rattle.smith_data.specs.declared.code.Instructions.TheVariants.{Arbitrary}
 use Rattle.smith_data.specs.declared.composite_type.CompositeInnerType.{CompositeInnerType}
+use Rattle.smith_data.specs.declared.composite_type.FuncType.{FuncType}
 use Rattle.smith_data.specs.declared.entity_type.EntityType.TheVariants as entity
 use Rattle.smith_data.specs.declared.imports.Imports.TheVariants.{Single}
 use Rattle.smith_data.specs.declared.value_type.ValType.TheVariants.{I32}
@@ -11,7 +12,7 @@ use Rattle.smith_config.specs.declared.config.Config.{Config}
 use Rattle.smith_config.specs.Config.{default_config}
 use Rattle.smith_rules.specs.Module.{ModuleParts}
 use Rattle.smith_rules_examples.specs.ExampleModules.{empty_module, group_of}
-use Rattle.smith_rules_examples.specs.ExampleParts.{import_named, trapping}
+use Rattle.smith_rules_examples.specs.ExampleParts.{import_named, memory, trapping}
 use Rattle.smith_instr_examples.specs.ExampleBodies.{number}
 use Rattle.smith_code_examples.specs.ExampleBytes.{narrow}
 use Rattle.smith_program.specs.declared.program.Body.{Body}
@@ -42,9 +43,24 @@ narrow_function = one_of (giving (I32 ∷ []))
 abbrev pub two_functions : ModuleParts
 two_functions = record narrow_function { funcs = 0 ∷ 0 ∷ []; num_defined_funcs = 2; code = trapping ∷ trapping ∷ [] }
 
+-- the types of a function without parameters: without results, and with the result i32
+abbrev pub gives_nothing : FuncType
+gives_nothing = record { params = []; results = [] }
+
+abbrev pub gives_number : FuncType
+gives_number = record { params = []; results = I32 ∷ [] }
+
 -- a body of raw bytes
 abbrev pub raw : Code
 raw = record { locals = []; instructions = Arbitrary (7 ∷ 8 ∷ []) }
+
+-- a function with the result i32, and a body of raw bytes
+abbrev pub raw_alone : ModuleParts
+raw_alone = record narrow_function { code = raw ∷ [] }
+
+-- a body with a local of an i32
+abbrev pub with_local : Code
+with_local = record trapping { locals = I32 ∷ [] }
 
 -- two functions with the result i32, and between them one with raw bytes
 abbrev pub raw_between : ModuleParts
@@ -58,6 +74,16 @@ after_an_import = record narrow_function {
   imports = Single (import_named [] (entity.Func 0)) ∷ [];
   num_imports = 1;
   funcs = 0 ∷ 1 ∷ [];
+  encodes_imports = true;
+  type_size = 2;
+}
+
+-- an imported memory, and a function with the result i32
+abbrev pub after_a_memory : ModuleParts
+after_a_memory = record narrow_function {
+  imports = Single (import_named [] (entity.Memory (memory 1 None))) ∷ [];
+  num_imports = 1;
+  memories = memory 1 None ∷ [];
   encodes_imports = true;
   type_size = 2;
 }

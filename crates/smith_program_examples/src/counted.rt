@@ -3,7 +3,10 @@ ghost use Rattle.smith_instr.specs.declared.control.BlockType.TheVariants as blo
 ghost use Rattle.smith_instr.specs.declared.instr.Instr.TheVariants as instr;
 ghost use Rattle.smith_instr.specs.declared.numeric.IntBinary.TheVariants.{Sub};
 ghost use Rattle.smith_instr.specs.declared.numeric.NumericInstr.TheVariants as numeric;
-ghost use Rattle.smith_program.specs.Counted.{check_of, counted};
+ghost use Rattle.smith_instr_examples.specs.ExampleBodies.{number};
+ghost use Rattle.smith_program.specs.Counted.{check_of, counted, counted_body};
+ghost use Rattle.smith_program.specs.declared.program.Body.TheVariants as body;
+ghost use Rattle.smith_program_examples.specs.ExamplePrograms.{constant};
 
 fn counters()
     ensures check { check_of 5
@@ -18,4 +21,11 @@ fn counters()
     ensures several { counted (5 ∷ 6 ∷ []) [] ≡ check_of 6 ++ check_of 5 }
     ensures none { counted [] (instr.Loop block.Empty ∷ instr.End ∷ [])
         ≡ instr.Loop block.Empty ∷ instr.End ∷ [] }
+{}
+
+fn bodies()
+    ensures drawn { counted_body (5 ∷ []) (constant 7)
+        ≡ body.Drawn (check_of 5 ++ number 7 ∷ []) }
+    ensures raw_bytes { counted_body (5 ∷ []) body.Raw ≡ body.Raw }
+    ensures unchecked { ¬ (counted_body (5 ∷ []) (constant 7) ≡ constant 7) }
 {}
