@@ -13,7 +13,7 @@ use Rattle.smith_data.specs.declared.composite_type.FieldType.{FieldType}
 use Rattle.smith_data.specs.declared.composite_type.StructType.{StructType}
 use Rattle.smith_data.specs.declared.composite_type.SubType.{SubType}
 use Rattle.smith_data.specs.declared.value_type.ValType.{ValType}
-use Rattle.smith_draw.specs.HeldFields.{fields_of}
+use Rattle.smith_draw_types.specs.HeldFields.{fields_of}
 use Rattle.smith_instr.specs.Contexts.{BodyContext, IsValid, AreValid, created_reference}
 use Rattle.smith_instr.specs.Sequences.{stacked}
 use Rattle.smith_instr.specs.declared.aggregate.AggregateInstr.TheVariants as aggregate

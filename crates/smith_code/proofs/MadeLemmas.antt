@@ -13,7 +13,7 @@ use Rattle.smith_data.specs.declared.composite_type.SubType.{SubType}
 use Rattle.smith_data.specs.declared.value_type.HeapType.{HeapType}
 use Rattle.smith_data.specs.declared.value_type.ValType.{ValType}
 use Rattle.smith_data.specs.declared.value_type.ValType.TheVariants.{I32, I64, F32, F64, V128, Ref}
-use Rattle.smith_draw.specs.Below.{is_val_below}
+use Rattle.smith_draw_types.specs.Below.{is_val_below}
 use Rattle.smith_instr.specs.Contexts.{BodyContext, AreValid, IsValid, created_reference}
 use Rattle.smith_instr.specs.Sequences.{stacked}
 use Rattle.smith_instr.specs.declared.aggregate.AggregateInstr.TheVariants as aggregate

@@ -1,5 +1,5 @@
 ghost use Rattle.std.specs.Prelude.{◌≤◌, ◌<◌, ◌+◌, ◌*◌, All, length, IfOk, IsTrue};
-ghost use Rattle.smith_draw.specs.Drawing.{Draws};
+ghost use Rattle.smith_draw_types.specs.Drawing.{Draws};
 ghost use Rattle.smith_data.specs.FeatureBits.{features_in};
 ghost use Rattle.smith_instr.specs.Enabled.{IsEnabled};
 ghost use Rattle.smith_instr.specs.Sequences.{IsBodyTyped};

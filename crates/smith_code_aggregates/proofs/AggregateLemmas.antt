@@ -19,7 +19,7 @@ use Rattle.smith_data.specs.declared.composite_type.StorageType.TheVariants as s
 use Rattle.smith_data.specs.declared.composite_type.StructType.{StructType}
 use Rattle.smith_data.specs.declared.composite_type.SubType.{SubType}
 use Rattle.smith_types.proofs.GroundedLemmas.{defaults_each, default_for}
-use Rattle.smith_draw.specs.HeldFields.{fields_of}
+use Rattle.smith_draw_types.specs.HeldFields.{fields_of}
 use Rattle.smith_bytes.specs.Draws.{choose_at}
 use Rattle.smith_instr.specs.AggregateTypes.{IsFieldAt, IsOfBytes, IsReadBy, IsElemOf, value_of}
 use Rattle.smith_instr.specs.Contexts.{BodyContext, IsValid, AreValid, nullable_to}

@@ -12,7 +12,7 @@ use Rattle.smith_data.specs.declared.composite_type.SubType.{SubType}
 use Rattle.smith_data.specs.declared.value_type.ValType.{ValType}
 use Rattle.smith_data.specs.declared.value_type.ValType.TheVariants.{I32}
 use Rattle.smith_types.specs.Grounded.{is_defaultable}
-use Rattle.smith_draw.specs.Choices.{chosen_at}
+use Rattle.smith_draw_types.specs.Choices.{chosen_at}
 use Rattle.smith_instr.specs.AggregateTypes.{HasAggregateType, value_of}
 use Rattle.smith_instr.specs.Contexts.{BodyContext, IsValid, AreValid, created_reference}
 use Rattle.smith_instr.specs.declared.aggregate.AggregateInstr.{AggregateInstr}

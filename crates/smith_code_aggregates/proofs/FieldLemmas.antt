@@ -7,7 +7,7 @@ use Rattle.smith_data.specs.declared.composite_type.FieldType.{FieldType}
 use Rattle.smith_data.specs.declared.value_type.HeapType.TheVariants.{Concrete}
 use Rattle.smith_data.specs.declared.value_type.ValType.{ValType}
 use Rattle.smith_data.specs.declared.value_type.ValType.TheVariants.{I32}
-use Rattle.smith_draw.specs.Choices.{chosen_at}
+use Rattle.smith_draw_types.specs.Choices.{chosen_at}
 use Rattle.smith_instr.specs.AggregateTypes.{IsFieldAt, value_of}
 use Rattle.smith_instr.specs.Contexts.{BodyContext, IsValid, AreValid, nullable_to}
 use Rattle.smith_instr.specs.declared.aggregate.AggregateInstr.TheVariants as aggregate

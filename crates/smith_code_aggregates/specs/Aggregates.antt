@@ -6,7 +6,7 @@ use Rattle.smith_data.specs.declared.composite_type.FieldType.{FieldType}
 use Rattle.smith_data.specs.declared.composite_type.StructType.{StructType}
 use Rattle.smith_data.specs.declared.composite_type.SubType.{SubType}
 use Rattle.smith_data.specs.declared.value_type.ValType.{ValType}
-use Rattle.smith_draw.specs.Below.{is_val_below}
+use Rattle.smith_draw_types.specs.Below.{is_val_below}
 use Rattle.smith_instr.specs.Contexts.{BodyContext, created_reference}
 use Rattle.smith_code_nodes.specs.Chosen.{giving}
 use Rattle.smith_code_aggregates.specs.Fields.{element_in, is_usable_in, struct_in}

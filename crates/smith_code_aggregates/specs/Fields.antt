@@ -12,7 +12,7 @@ use Rattle.smith_data.specs.declared.composite_type.StorageType.{StorageType}
 use Rattle.smith_data.specs.declared.composite_type.StorageType.TheVariants as storage
 use Rattle.smith_data.specs.declared.composite_type.StructType.{StructType}
 use Rattle.smith_data.specs.declared.composite_type.SubType.{SubType}
-use Rattle.smith_draw.specs.Below.{is_val_below}
+use Rattle.smith_draw_types.specs.Below.{is_val_below}
 use Rattle.smith_instr.specs.AggregateTypes.{value_of}
 use Rattle.smith_instr.specs.Contexts.{BodyContext, AreValid}
 use Rattle.smith_instr.specs.declared.aggregate.Extension.{Extension}

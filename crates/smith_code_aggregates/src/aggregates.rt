@@ -29,6 +29,7 @@ pub(crate) struct StructField {
     pub ty: u32,
     /// The index of the field.
     pub index: u32,
+    /// The type of the field.
     pub field: FieldType,
 }
 

@@ -22,7 +22,7 @@ use crate::fields::FieldUse;
 use smith_bytes::{Error, Unstructured};
 use smith_code_nodes::{Draft, Node, Scope, draw_index, nullable_to, plain};
 use smith_code_tables::choose_segment_below;
-use smith_draw::choose;
+use smith_draw_types::choose;
 use smith_instr::{AggregateInstr, Instr};
 use smith_types::{FieldType, HeapType, ValType, unpacked};
 use std::alloc::Global;

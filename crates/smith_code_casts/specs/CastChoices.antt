@@ -11,8 +11,8 @@ use Rattle.smith_data.specs.declared.value_type.HeapType.TheVariants.{Abstract}
 use Rattle.smith_data.specs.declared.value_type.RefType.{RefType}
 use Rattle.smith_data.specs.declared.value_type.ValType.{ValType}
 use Rattle.smith_data.specs.declared.value_type.ValType.TheVariants.{I32, Ref}
-use Rattle.smith_draw.specs.Below.{is_val_below}
-use Rattle.smith_draw.specs.Choices.{chosen_at}
+use Rattle.smith_draw_types.specs.Below.{is_val_below}
+use Rattle.smith_draw_types.specs.Choices.{chosen_at}
 use Rattle.smith_instr.specs.AggregateTypes.{external, internal}
 use Rattle.smith_instr.specs.Contexts.{BodyContext, nullable_to}
 use Rattle.smith_instr.specs.declared.aggregate.AggregateInstr.TheVariants as aggregate

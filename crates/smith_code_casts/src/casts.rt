@@ -21,7 +21,7 @@ use smith_code_aggregates::names_types;
 use smith_code_nodes::{
     Draft, Node, Offer, Scope, choose_offered, indexed, is_below, is_sub_type, nullable_to, plain,
 };
-use smith_draw::choose;
+use smith_draw_types::choose;
 use smith_instr::{AggregateInstr, Instr, ReferenceInstr};
 use smith_types::{AbstractHeapType, HeapType, RefType, ValType, WasmFeatures};
 use std::alloc::Global;

@@ -36,7 +36,7 @@ use smith_code_reference_branches::{
     choose_cast_branch, choose_kept, choose_kept_cast, choose_null_branch,
 };
 use smith_code_tables::{choose_bulk, choose_table_change, choose_table_value};
-use smith_draw::choose;
+use smith_draw_types::choose;
 use smith_instr::Instr;
 use smith_types::ValType;
 use std::alloc::Global;

@@ -1,4 +1,4 @@
-#![tactic(auto, unfolding(smith_code_memory::specs::AtomicChoices::atomic_at, smith_code_memory::specs::AtomicChoices::atomic_store_at, smith_code_memory::specs::Accesses::access_at, smith_code_memory::specs::Accesses::offset_at, smith_code_memory::specs::Accesses::place_at, smith_draw::specs::Choices::chosen_at, smith_bytes::specs::Draws::choose_at, smith_bytes::specs::Draws::digit_count, smith_bytes::specs::Draws::range_at))]
+#![tactic(auto, unfolding(smith_code_memory::specs::AtomicChoices::atomic_at, smith_code_memory::specs::AtomicChoices::atomic_store_at, smith_code_memory::specs::Accesses::access_at, smith_code_memory::specs::Accesses::offset_at, smith_code_memory::specs::Accesses::place_at, smith_draw_types::specs::Choices::chosen_at, smith_bytes::specs::Draws::choose_at, smith_bytes::specs::Draws::digit_count, smith_bytes::specs::Draws::range_at))]
 
 ghost use Rattle.std.specs.Prelude.{◌≡◌, Some, None, [], ◌∷◌};
 ghost use Rattle.smith_data.specs.declared.value_type.ValType.TheVariants.{I32, I64, F32};

@@ -1,4 +1,4 @@
-#![tactic(auto, unfolding(smith_code_tables::specs::BulkChoices::bulk_at, smith_code_nodes::specs::Items::index_at, smith_code_nodes::specs::Items::item_at, smith_draw::specs::Choices::chosen_at, smith_bytes::specs::Draws::digit_count, smith_bytes::specs::Draws::range_at))]
+#![tactic(auto, unfolding(smith_code_tables::specs::BulkChoices::bulk_at, smith_code_nodes::specs::Items::index_at, smith_code_nodes::specs::Items::item_at, smith_draw_types::specs::Choices::chosen_at, smith_bytes::specs::Draws::digit_count, smith_bytes::specs::Draws::range_at))]
 
 ghost use Rattle.std.specs.Prelude.{◌≡◌, Some, None, [], ◌∷◌};
 ghost use Rattle.smith_data.specs.declared.value_type.ValType.TheVariants.{I32, I64};

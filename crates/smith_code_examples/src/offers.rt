@@ -1,4 +1,4 @@
-#![tactic(auto, unfolding(smith_code_leaves::specs::Leaves::constant_instr_at, smith_code_leaves::specs::Leaves::first_single, smith_code_leaves::specs::Leaves::leaf_choice_at, smith_code_nodes::specs::Scopes::is_permitted, smith_instr::specs::Enabled::is_enabled, smith_draw::specs::Choices::chosen_at, smith_code_nodes::specs::Offered::chunk_at, smith_code_nodes::specs::Offered::offered, smith_bytes::specs::Draws::choose_at, smith_bytes::specs::Draws::digit_count, smith_bytes::specs::Draws::range_at))]
+#![tactic(auto, unfolding(smith_code_leaves::specs::Leaves::constant_instr_at, smith_code_leaves::specs::Leaves::first_single, smith_code_leaves::specs::Leaves::leaf_choice_at, smith_code_nodes::specs::Scopes::is_permitted, smith_instr::specs::Enabled::is_enabled, smith_draw_types::specs::Choices::chosen_at, smith_code_nodes::specs::Offered::chunk_at, smith_code_nodes::specs::Offered::offered, smith_bytes::specs::Draws::choose_at, smith_bytes::specs::Draws::digit_count, smith_bytes::specs::Draws::range_at))]
 
 ghost use Rattle.std.specs.Prelude.{◌≡◌, ◌≤◌, ℕ, ◌==◌, ◌||◌, Bool, true, List, Some, None, [], ◌∷◌};
 ghost use Rattle.smith_bytes.specs.Draws.{choose_at};

@@ -1,4 +1,4 @@
-#![tactic(auto, unfolding(smith_code_nodes::specs::ReferenceChoices::reference_value_at, smith_code_nodes::specs::ReferenceChoices::referent_at, smith_code_nodes::specs::ReferenceChoices::test_at, smith_draw::specs::Choices::chosen_at, smith_bytes::specs::Draws::bool_at, smith_bytes::specs::Draws::digit_count, smith_bytes::specs::Draws::range_at))]
+#![tactic(auto, unfolding(smith_code_nodes::specs::ReferenceChoices::reference_value_at, smith_code_nodes::specs::ReferenceChoices::referent_at, smith_code_nodes::specs::ReferenceChoices::test_at, smith_draw_types::specs::Choices::chosen_at, smith_bytes::specs::Draws::bool_at, smith_bytes::specs::Draws::digit_count, smith_bytes::specs::Draws::range_at))]
 
 ghost use Rattle.std.specs.Prelude.{◌≡◌, Some, None, [], ◌∷◌};
 ghost use Rattle.smith_types.specs.ExampleTypes.{eqref, not_null, nullable, plain};

@@ -18,10 +18,10 @@ use Rattle.smith_data.specs.declared.value_type.HeapType.TheVariants.{Abstract, 
 use Rattle.smith_data.specs.declared.value_type.RefType.{RefType}
 use Rattle.smith_data.specs.declared.value_type.ValType.TheVariants.{Ref}
 use Rattle.smith_data.specs.declared.composite_type.StorageType.TheVariants.{Val}
-use Rattle.smith_draw.specs.HeldFields.{fields_of}
+use Rattle.smith_draw_types.specs.HeldFields.{fields_of}
 use Rattle.smith_instr.specs.Contexts.{BodyContext, created_reference}
-use Rattle.smith_draw.specs.Below.{is_heap_below}
-use Rattle.smith_draw.proofs.BelowLemmas.{heap_decides}
+use Rattle.smith_draw_types.specs.Below.{is_heap_below}
+use Rattle.smith_draw_types.proofs.BelowLemmas.{heap_decides}
 use Rattle.smith_code_law.specs.Barren.{IsBarren}
 use Rattle.smith_code_law.specs.ExampleContexts.{outside}
 

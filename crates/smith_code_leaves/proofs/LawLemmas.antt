@@ -17,7 +17,7 @@ use Rattle.smith_data.specs.declared.value_type.HeapType.{HeapType}
 use Rattle.smith_data.specs.declared.value_type.HeapType.TheVariants.{Abstract}
 use Rattle.smith_data.specs.declared.value_type.ValType.{ValType}
 use Rattle.smith_data.specs.declared.value_type.ValType.TheVariants.{I32, I64, F32, F64, V128, Ref}
-use Rattle.smith_draw.specs.Below.{is_val_below}
+use Rattle.smith_draw_types.specs.Below.{is_val_below}
 use Rattle.smith_instr.specs.AggregateTypes.{external, internal}
 use Rattle.smith_instr.specs.Contexts.{BodyContext, created_reference, nullable_to, reference_to_function}
 use Rattle.smith_instr.specs.Enabled.{is_enabled}

@@ -8,7 +8,7 @@ use Rattle.smith_data.specs.declared.value_type.RefType.{RefType}
 use Rattle.smith_data.specs.declared.value_type.ValType.{ValType}
 use Rattle.smith_data.specs.declared.value_type.ValType.TheVariants.{I32, Ref}
 use Rattle.smith_types.proofs.GrowthLemmas.{IsValBelow-refl}
-use Rattle.smith_draw.specs.Below.{is_val_below}
+use Rattle.smith_draw_types.specs.Below.{is_val_below}
 use Rattle.smith_instr.specs.AggregateTypes.{external, internal}
 use Rattle.smith_instr.specs.Contexts.{BodyContext, IsValid, created_reference}
 use Rattle.smith_instr.specs.Enabled.{is_enabled}

@@ -21,8 +21,8 @@ use Rattle.smith_data.specs.declared.value_type.HeapType.{HeapType}
 use Rattle.smith_data.specs.declared.value_type.HeapType.TheVariants.{Abstract, Concrete, Exact}
 use Rattle.smith_data.specs.declared.value_type.ValType.{ValType}
 use Rattle.smith_data.specs.declared.value_type.ValType.TheVariants.{I32, I64, F32, F64, V128, Ref}
-use Rattle.smith_draw.specs.Below.{is_val_below}
-use Rattle.smith_draw.proofs.BelowLemmas.{val_decides}
+use Rattle.smith_draw_types.specs.Below.{is_val_below}
+use Rattle.smith_draw_types.proofs.BelowLemmas.{val_decides}
 use Rattle.smith_instr.specs.Contexts.{BodyContext, IsLocalSet, created_reference, reference_to_function}
 use Rattle.smith_code_aggregates.specs.Aggregates.{is_creatable_in, is_created_empty, is_created_struct}
 use Rattle.smith_code_aggregates.specs.Fields.{struct_in, struct_of}

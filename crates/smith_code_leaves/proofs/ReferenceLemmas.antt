@@ -9,7 +9,7 @@ use Rattle.smith_types.specs.Types.{IsOrderly}
 use Rattle.smith_data.specs.declared.composite_type.SubType.{SubType}
 use Rattle.smith_data.specs.declared.value_type.HeapType.TheVariants.{Concrete, Exact}
 use Rattle.smith_data.specs.declared.value_type.ValType.{ValType}
-use Rattle.smith_draw.specs.Below.{is_val_below}
+use Rattle.smith_draw_types.specs.Below.{is_val_below}
 use Rattle.smith_instr.specs.Contexts.{BodyContext, reference_to_function}
 use Rattle.smith_code_nodes.specs.Offered.{is_reference_at, is_named, is_reference, IsReferenceTo}
 use Rattle.smith_code_nodes.proofs.OfferLemmas.{tested}

@@ -1,8 +1,7 @@
 //! Values that take no budget: one that is drawn, or the first that is allowed. The standard is the
 //! WebAssembly Core Specification 3.0.
 //!
-//! A call that returns a `Result` fails only if an allocation fails, apart from the errors in its
-//! section `# Errors`.
+//! A call that returns a `Result` fails only if an allocation fails.
 #![tactic(auto)]
 
 mod created;

@@ -12,7 +12,7 @@ use crate::references::choose_reference;
 use smith_bytes::Unstructured;
 use smith_code_aggregates::{first_created_array, first_created_struct};
 use smith_code_nodes::{Draft, Reach, Scope, choose_global, choose_set_local, is_allowed};
-use smith_draw::choose;
+use smith_draw_types::choose;
 use smith_instr::{AggregateInstr, Instr, ReferenceInstr};
 use smith_types::ValType;
 

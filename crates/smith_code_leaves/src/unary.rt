@@ -14,6 +14,7 @@ use smith_types::{AbstractHeapType, FieldType, HeapType, RefType, ValType, unpac
 /// An instruction that takes one operand.
 #[derive(Drop)]
 pub struct Unary {
+    /// The instruction.
     pub instruction: Instr,
     /// The type of the operand.
     pub operand: ValType,

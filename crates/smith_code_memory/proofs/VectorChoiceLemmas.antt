@@ -5,7 +5,7 @@ use Rattle.smith_bytes.specs.Draws.{range_at}
 use Rattle.smith_data.specs.declared.entity_type.MemoryType.{MemoryType}
 use Rattle.smith_data.specs.declared.value_type.ValType.{ValType}
 use Rattle.smith_config.specs.declared.config.Config.{Config}
-use Rattle.smith_draw.specs.Choices.{chosen_at}
+use Rattle.smith_draw_types.specs.Choices.{chosen_at}
 use Rattle.smith_instr.specs.Contexts.{BodyContext}
 use Rattle.smith_instr.specs.MemoryTypes.{vector_bytes}
 use Rattle.smith_instr.specs.declared.vector.VectorInstr.{VectorInstr}

@@ -12,7 +12,7 @@ ghost use Rattle.smith_code_nodes.specs.Scopes.{IsScope, bare, where_stands};
 use crate::memories::{Access, draw_access};
 use smith_bytes::{Error, Unstructured};
 use smith_code_nodes::{Draft, Node, Scope, address, plain};
-use smith_draw::choose;
+use smith_draw_types::choose;
 use smith_instr::{AtomicAccess, AtomicUpdate, AtomicWidth, Instr, MemArg};
 use smith_types::ValType;
 use std::alloc::Global;

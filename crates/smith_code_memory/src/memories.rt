@@ -70,7 +70,9 @@ fn stores<'a>() -> &'a [Store]
 /// The memory, offset and alignment of an access, and whether its addresses have 64 bits.
 #[derive(Clone, Copy)]
 pub(crate) struct Access {
+    /// The memory, the offset and the alignment.
     pub at: MemArg,
+    /// Whether the addresses of the memory have 64 bits.
     pub wide: bool,
 }
 

@@ -14,7 +14,7 @@ use crate::vector_rows::vector_loads;
 use crate::vectors::has_vectors;
 use smith_bytes::{Error, Unstructured};
 use smith_code_nodes::{Draft, Node, Scope, address, plain};
-use smith_draw::choose;
+use smith_draw_types::choose;
 use smith_instr::{Instr, VectorLoad};
 use smith_types::ValType;
 use std::alloc::Global;

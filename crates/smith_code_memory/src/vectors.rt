@@ -14,7 +14,7 @@ use crate::vector_memory::{choose_load_lane, choose_vector_load};
 use crate::vector_rows::vector_rows;
 use smith_bytes::{Error, Unstructured};
 use smith_code_nodes::{Draft, Node, Scope, plain};
-use smith_draw::choose;
+use smith_draw_types::choose;
 use smith_instr::{Instr, LaneExtract, LaneShape, VectorInstr};
 use smith_types::{ValType, WasmFeatures};
 use std::alloc::Global;

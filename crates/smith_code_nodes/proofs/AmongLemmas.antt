@@ -5,7 +5,7 @@ use Rattle.std.specs.List.{Contains}
 use Rattle.std.specs.Cmp.{unsigned_Decides}
 use Rattle.smith_data.specs.declared.value_type.ValType.{ValType}
 use Rattle.smith_data.specs.declared.composite_type.SubType.{SubType}
-use Rattle.smith_draw.specs.Below.{is_val_below}
+use Rattle.smith_draw_types.specs.Below.{is_val_below}
 use Rattle.smith_code_nodes.specs.Offered.{is_among, are_below}
 
 pub false_from : (b : Bool) → (b ≡ true → ⊥) → b ≡ false

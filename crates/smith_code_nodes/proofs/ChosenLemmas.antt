@@ -5,7 +5,7 @@ use Rattle.std.proofs.Common.{◌≡◌, ℕ, ◌<◌, ◌≤◌, ◌-◌, List,
 use Rattle.std.proofs.lemmas.Option.{same_Some, slice_get-get_or}
 use Rattle.smith_bytes.specs.Draws.{choose_at, digit_count, range_at}
 use Rattle.smith_bytes.specs.declared.error.Error.{Error}
-use Rattle.smith_draw.specs.Choices.{chosen_at}
+use Rattle.smith_draw_types.specs.Choices.{chosen_at}
 use Rattle.smith_instr.specs.declared.instr.Instr.TheVariants as instr
 use Rattle.smith_code_nodes.specs.Nodes.{node_of}
 use Rattle.smith_code_nodes.specs.Chosen.{or_nop, Chosen}

@@ -17,8 +17,8 @@ use Rattle.smith_data.specs.declared.composite_type.FuncType.{FuncType}
 use Rattle.smith_data.specs.declared.composite_type.SubType.{SubType}
 use Rattle.smith_data.specs.declared.entity_type.GlobalType.{GlobalType}
 use Rattle.smith_data.specs.declared.entity_type.MemoryType.{MemoryType}
-use Rattle.smith_draw.specs.Below.{is_val_below}
-use Rattle.smith_draw.proofs.BelowLemmas.{val_decides}
+use Rattle.smith_draw_types.specs.Below.{is_val_below}
+use Rattle.smith_draw_types.proofs.BelowLemmas.{val_decides}
 use Rattle.smith_instr.specs.Contexts.{BodyContext, IsFunction, address}
 use Rattle.smith_instr.specs.InstrTypes.{IsTaken}
 use Rattle.smith_code_nodes.specs.Scopes.{context_of, bare}

@@ -11,7 +11,7 @@ use Rattle.smith_data.specs.declared.composite_type.FuncType.{FuncType}
 use Rattle.smith_data.specs.declared.composite_type.SubType.{SubType}
 use Rattle.smith_data.specs.declared.entity_type.GlobalType.{GlobalType}
 use Rattle.smith_data.specs.declared.entity_type.MemoryType.{MemoryType}
-use Rattle.smith_draw.specs.Below.{is_val_below}
+use Rattle.smith_draw_types.specs.Below.{is_val_below}
 use Rattle.smith_instr.specs.Contexts.{BodyContext, IsLocalSet, IsFunction, reference_to_function}
 use Rattle.smith_code_nodes.specs.declared.offer.Reach.{Reach}
 use Rattle.smith_code_nodes.specs.declared.offer.Reach.TheVariants as reach

@@ -16,7 +16,7 @@ use Rattle.smith_data.specs.declared.entity_type.GlobalType.{GlobalType}
 use Rattle.smith_data.specs.declared.entity_type.TableType.{TableType}
 use Rattle.smith_data.specs.declared.instruction_kind.InstructionKinds.{InstructionKinds}
 use Rattle.smith_config.specs.declared.config.Config.{Config}
-use Rattle.smith_draw.specs.HeldFields.{fields_of}
+use Rattle.smith_draw_types.specs.HeldFields.{fields_of}
 use Rattle.smith_instr.specs.Contexts.{BodyContext, AreValid, IsRefValid}
 use Rattle.smith_instr.specs.Enabled.{is_enabled, IsEnabled}
 use Rattle.smith_instr.specs.declared.instr.Instr.{Instr}

@@ -2,8 +2,7 @@
 //! types of their operands. The numeric instructions, and those on references, are chosen here. The
 //! standard is the WebAssembly Core Specification 3.0.
 //!
-//! A call that returns a `Result` fails only if an allocation fails, apart from the errors in its
-//! section `# Errors`.
+//! A call that returns a `Result` fails only if an allocation fails.
 #![tactic(auto)]
 
 mod addresses;

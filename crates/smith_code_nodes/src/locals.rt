@@ -1,7 +1,7 @@
 ghost use Rattle.std.specs.Prelude.{◌≡◌, ◌<◌, ◌⊎◌, Bool, true, length, Some, slice_get, IfSome};
 ghost use Rattle.smith_bytes.specs.Draws.{choose_at};
 ghost use Rattle.smith_bytes.specs.Source.{KeepsPieces};
-ghost use Rattle.smith_draw.specs.Below.{is_val_below};
+ghost use Rattle.smith_draw_types.specs.Below.{is_val_below};
 ghost use Rattle.smith_types.specs.Subtyping.{IsValInRange};
 ghost use Rattle.smith_instr.specs.Contexts.{IsValid};
 ghost use Rattle.smith_code_nodes.specs.Offered.{has_default, is_local_below};

@@ -13,7 +13,7 @@ use Rattle.smith_data.specs.declared.value_type.RefType.{RefType}
 use Rattle.smith_data.specs.declared.value_type.ValType.{ValType}
 use Rattle.smith_data.specs.declared.value_type.ValType.TheVariants.{I32, I64, F32, F64, V128, Ref}
 use Rattle.smith_types.proofs.GrowthLemmas.{IsValBelow-refl}
-use Rattle.smith_draw.specs.Below.{is_val_below}
+use Rattle.smith_draw_types.specs.Below.{is_val_below}
 use Rattle.smith_instr.specs.Contexts.{BodyContext, IsValid, AreValid}
 use Rattle.smith_instr.specs.InstrTypes.{HasInstrType, difference, sets}
 use Rattle.smith_instr.specs.declared.instr.Instr.{Instr}

@@ -1,7 +1,6 @@
 //! Choices of branches on null and on casts. The standard is the WebAssembly Core Specification 3.0.
 //!
-//! A call that returns a `Result` fails only if an allocation fails, apart from the errors in its
-//! section `# Errors`.
+//! A call that returns a `Result` fails only if an allocation fails.
 #![tactic(auto)]
 
 mod cast_branches;

@@ -5,7 +5,7 @@ use Rattle.smith_bytes.specs.Draws.{bool_at}
 use Rattle.smith_data.specs.declared.entity_type.TableType.{TableType}
 use Rattle.smith_data.specs.declared.value_type.ValType.{ValType}
 use Rattle.smith_data.specs.declared.value_type.ValType.TheVariants.{I32, Ref}
-use Rattle.smith_draw.specs.Choices.{chosen_at}
+use Rattle.smith_draw_types.specs.Choices.{chosen_at}
 use Rattle.smith_instr.specs.Contexts.{BodyContext, address}
 use Rattle.smith_instr.specs.ReferenceTypes.{narrower}
 use Rattle.smith_instr.specs.declared.instr.Instr.TheVariants as instr

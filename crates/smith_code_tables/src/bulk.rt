@@ -9,7 +9,7 @@ ghost use Rattle.smith_code_nodes.specs.Scopes.{where_stands};
 
 use smith_bytes::{Error, Unstructured};
 use smith_code_nodes::{Draft, Node, Scope, address, draw_index, draw_item, narrower, plain};
-use smith_draw::choose;
+use smith_draw_types::choose;
 use smith_instr::{Instr, MemoryInstr};
 use smith_types::{MemoryType, ValType};
 use std::alloc::Global;

@@ -24,7 +24,7 @@ use smith_code_nodes::{
     Draft, Node, Offer, Scope, address, choose_in_chunk, draw_index, draw_item, indexed,
     is_address, is_sub_type, narrower, plain,
 };
-use smith_draw::choose;
+use smith_draw_types::choose;
 use smith_instr::{Instr, TableInstr};
 use smith_types::{TableType, ValType, WasmFeatures};
 use std::alloc::Global;

@@ -1,6 +1,7 @@
 -- The features that a configuration enables. Rules of this project.
-use Rattle.std.specs.Prelude.{ℕ, Bool, true, [], ◌∷◌, sum_by, nat_lt, if◌then◌else◌}
+use Rattle.std.specs.Prelude.{ℕ, Bool, true, sum_by, nat_lt, if◌then◌else◌}
 use Rattle.smith_data.specs.Features.{Features}
+use Rattle.smith_data.specs.FeatureBits.{feature_rows}
 use Rattle.smith_config.specs.declared.config.Config.{Config}
 
 -- mutable globals and the first version of the standard always; multi-memory if several memories
@@ -40,29 +41,4 @@ bit_of row = if row.0 then row.1 else 0
 
 -- the features as a number: the sum of the bits of those that are enabled
 abbrev pub number_of : Features → ℕ
-number_of features = sum_by bit_of (
-    (features.mutable_global, 1) ∷
-    (features.wasm1, 2) ∷
-    (features.saturating_float_to_int, 4) ∷
-    (features.sign_extension, 8) ∷
-    (features.reference_types, 16) ∷
-    (features.multi_value, 32) ∷
-    (features.bulk_memory, 64) ∷
-    (features.simd, 128) ∷
-    (features.relaxed_simd, 256) ∷
-    (features.multi_memory, 512) ∷
-    (features.exceptions, 1024) ∷
-    (features.memory64, 2048) ∷
-    (features.tail_call, 4096) ∷
-    (features.function_references, 8192) ∷
-    (features.gc, 16384) ∷
-    (features.compact_imports, 32768) ∷
-    (features.threads, 65536) ∷
-    (features.shared_everything_threads, 131072) ∷
-    (features.custom_page_sizes, 262144) ∷
-    (features.extended_const, 524288) ∷
-    (features.wide_arithmetic, 1048576) ∷
-    (features.acquire_release_atomics, 2097152) ∷
-    (features.multibyte_array_access, 4194304) ∷
-    (features.custom_descriptors, 8388608) ∷
-    [])
+number_of features = sum_by bit_of (feature_rows features)

@@ -1,7 +1,7 @@
 //! The configuration of a generated module, and its checks.
 //!
 //! A call that returns a `Result` fails only if an allocation fails, apart from the errors in its
-//! section `# Errors`.
+//! section `# Errors`. The parser of offset choices fails with [`OffsetChoicesFault`].
 #![tactic(auto)]
 
 mod arbitrary;

@@ -13,7 +13,7 @@ use Rattle.smith_data.specs.declared.composite_type.SubType.{SubType}
 use Rattle.smith_data.specs.declared.entity_type.GlobalType.{GlobalType}
 use Rattle.smith_data.specs.declared.value_type.ValType.{ValType}
 use Rattle.smith_data.specs.declared.value_type.ValType.TheVariants.{I32}
-use Rattle.smith_draw.specs.Below.{is_val_below}
+use Rattle.smith_draw_types.specs.Below.{is_val_below}
 use Rattle.smith_const_expr.specs.ConstOffers.{offered_if, global_offers, function_offers}
 use Rattle.smith_const_expr.specs.KeptOffers.{AreClasses, AreFlags, IsEntry, IsNoted, IsTally, is_offered, offered_before, readable}
 use Rattle.smith_const_expr.specs.declared.classes.Classes.{Classes}

@@ -26,7 +26,7 @@ use Rattle.smith_data.specs.declared.const_instr.ConstInstr.{ConstInstr}
 use Rattle.smith_data.specs.declared.const_instr.ConstInstr.TheVariants as instr
 use Rattle.smith_config.specs.declared.config.Config.{Config}
 use Rattle.smith_const_expr.specs.Constants.{constant_at, is_wide, operation, operator_at, extended_by, extended_within, extended_at}
-use Rattle.smith_draw.specs.HeldFields.{fields_of}
+use Rattle.smith_draw_types.specs.HeldFields.{fields_of}
 use Rattle.smith_const_expr.specs.ConstOffers.{offers}
 use Rattle.smith_const_expr.specs.ConstNodes.{fields_there, field_operands, repeated, converted, is_extended, node_at}
 use Rattle.smith_const_expr.specs.ConstExprs.{State, state_of, behind, length_at, operand_at, operands_at, after_choice, expression_at, expression_alone_at}
@@ -38,9 +38,9 @@ use Rattle.smith_const_expr.specs.declared.extended.Operator.TheVariants.{Add, S
 use Rattle.smith_const_expr.specs.declared.node.Node.{Node}
 use Rattle.smith_const_expr.specs.declared.node.Operand.{Operand}
 use Rattle.smith_const_expr.specs.declared.node.Operand.TheVariants.{Value, Length}
-use Rattle.smith_draw.proofs.SharedLemmas.{each_join}
-use Rattle.smith_draw.proofs.FloatLemmas.{stands_in}
-use Rattle.smith_draw.proofs.MatchingCompositeLemmas.{fields_of_values}
+use Rattle.smith_draw_types.proofs.SharedLemmas.{each_join}
+use Rattle.smith_draw_types.proofs.FloatLemmas.{stands_in}
+use Rattle.smith_draw_types.proofs.MatchingCompositeLemmas.{fields_of_values}
 
 -- an operand whose type is not a float
 abbrev IsNoFloatOperand : Operand → Type 0

@@ -8,7 +8,7 @@ use Rattle.smith_types.specs.Expressions.{Context, reference_to, function_refere
 use Rattle.smith_data.specs.declared.value_type.AbstractHeapType.TheVariants as heap
 use Rattle.smith_data.specs.declared.value_type.HeapType.TheVariants.{Abstract}
 use Rattle.smith_config.specs.declared.config.Config.{Config}
-use Rattle.smith_draw.specs.Below.{is_val_below}
+use Rattle.smith_draw_types.specs.Below.{is_val_below}
 use Rattle.smith_data.specs.declared.value_type.HeapType.{HeapType}
 use Rattle.smith_data.specs.declared.value_type.RefType.{RefType}
 use Rattle.smith_data.specs.declared.value_type.ValType.{ValType}

@@ -28,9 +28,9 @@ use Rattle.smith_data.specs.declared.const_instr.ConstInstr.{ConstInstr}
 use Rattle.smith_data.specs.declared.const_instr.ConstInstr.TheVariants as instr
 use Rattle.smith_config.specs.declared.config.Config.{Config}
 use Rattle.smith_const_expr.specs.Constants.{constant_at}
-use Rattle.smith_draw.specs.Below.{is_heap_below, is_val_below}
+use Rattle.smith_draw_types.specs.Below.{is_heap_below, is_val_below}
 use Rattle.smith_const_expr.specs.ConstScopes.{IsScope}
-use Rattle.smith_draw.specs.HeldFields.{fields_of}
+use Rattle.smith_draw_types.specs.HeldFields.{fields_of}
 use Rattle.smith_const_expr.specs.ConstOffers.{each_from, offered_if, is_integer, global_offers, function_offers, struct_ways, array_ways, type_offers, types_offers, conversions_to, conversions, other_offers, created_offers, reference_offers, constant_offers, offers}
 use Rattle.smith_types.proofs.GroundedLemmas.{default_for, defaults_each}
 use Rattle.smith_types.specs.Grounded.{IsGrounded, is_defaultable, are_defaultable}
@@ -43,7 +43,7 @@ use Rattle.smith_const_expr.specs.declared.node_choice.Choice.TheVariants as cho
 use Rattle.smith_const_expr.specs.declared.node.Operand.{Operand}
 use Rattle.smith_const_expr.specs.declared.node.Operand.TheVariants.{Value, Length}
 use Rattle.smith_const_expr.proofs.PuttingLemmas.{below_itself}
-use Rattle.smith_draw.proofs.BelowLemmas.{val_decides}
+use Rattle.smith_draw_types.proofs.BelowLemmas.{val_decides}
 use Rattle.smith_const_expr.proofs.ConstStepLemmas.{length_map}
 use Rattle.std.specs.List.{Any}
 use Rattle.std.proofs.lemmas.Option.{slice_get_within, get_or_from_slice_get}

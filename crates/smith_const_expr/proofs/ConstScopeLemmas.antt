@@ -25,9 +25,9 @@ use Rattle.smith_types.proofs.ValidityLemmas.{ends_within, group_at}
 use Rattle.smith_types.proofs.EntityGrowthLemmas.{IsValTypeValid-later}
 use Rattle.smith_config.specs.declared.config.Config.{Config}
 use Rattle.smith_config.specs.Features.{features_of}
-use Rattle.smith_draw.specs.declared.spaces.Spaces.{Spaces}
+use Rattle.smith_draw_types.specs.declared.spaces.Spaces.{Spaces}
 use Rattle.smith_const_expr.specs.ConstScopes.{IsScope, seen_by, AreSpacesValid}
-use Rattle.smith_draw.specs.HeldFields.{fields_of}
+use Rattle.smith_draw_types.specs.HeldFields.{fields_of}
 use Rattle.smith_const_expr.specs.ConstBounds.{widest}
 use Rattle.smith_const_expr.specs.ConstSteps.{IsDrawn}
 use Rattle.smith_const_expr.proofs.PuttingLemmas.{expression_of}

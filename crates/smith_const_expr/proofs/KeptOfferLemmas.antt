@@ -7,7 +7,7 @@ use Rattle.std.proofs.lemmas.Bool.Decides.{eqb_tells}
 use Rattle.std.proofs.lemmas.Option.{get_or_from_slice_get, slice_get-get_or, slice_get_within}
 use Rattle.smith_types.specs.Expressions.{Context, function_reference}
 use Rattle.smith_data.specs.declared.value_type.ValType.{ValType}
-use Rattle.smith_draw.specs.Below.{is_val_below}
+use Rattle.smith_draw_types.specs.Below.{is_val_below}
 use Rattle.smith_const_expr.specs.ConstOffers.{each_from, offered_if, past, global_offers, function_offers}
 use Rattle.smith_const_expr.specs.KeptOffers.{IsEntry, IsFor, IsKeptAt, IsKeptOffer, IsWhole, IsWholeAt, offered_before}
 use Rattle.smith_const_expr.specs.declared.kept_offers.KeptOffer.{KeptOffer}

@@ -21,7 +21,7 @@ use Rattle.smith_const_expr.specs.declared.known.Known.{Known}
 use Rattle.smith_const_expr.specs.declared.known.Known.TheVariants.{Few, Many}
 use Rattle.smith_const_expr.specs.declared.node_choice.Choice.TheVariants as choice
 use Rattle.smith_const_expr.proofs.ClassLemmas.{get_front, get_last, readable_in_range, readable_same, same_element}
-use Rattle.smith_draw.proofs.GroundingLemmas.{within_reference}
+use Rattle.smith_draw_types.proofs.GroundingLemmas.{within_reference}
 
 -- one more item is recorded
 pub one_recorded : {A B : Type 0} (record_of : ℕ → A → B) (xs : List A) (x : A) (one : B) (records longer : List B) → AreRecorded record_of xs records → slice_get xs (length records) ≡ Some x → one ≡ record_of (length records) x → longer ≡ records ++ one ∷ [] → AreRecorded record_of xs longer

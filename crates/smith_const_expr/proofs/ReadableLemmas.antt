@@ -11,10 +11,10 @@ use Rattle.smith_types.specs.Subtyping.{IsValBelow}
 use Rattle.smith_types.specs.Expressions.{Context}
 use Rattle.smith_data.specs.declared.value_type.ValType.{ValType}
 use Rattle.smith_data.specs.declared.entity_type.GlobalType.{GlobalType}
-use Rattle.smith_draw.specs.Below.{is_val_below}
+use Rattle.smith_draw_types.specs.Below.{is_val_below}
 use Rattle.smith_const_expr.specs.ConstOffers.{each_from, offered_if, readable_globals}
 use Rattle.smith_const_expr.specs.ConstScopes.{IsReadable}
-use Rattle.smith_draw.proofs.BelowLemmas.{val_decides}
+use Rattle.smith_draw_types.proofs.BelowLemmas.{val_decides}
 
 -- an item of a list, by recursion
 abbrev Among : {A : Type 0} → A → List A → Type 0

@@ -15,8 +15,8 @@ use Rattle.smith_const_expr.specs.Constants.{constant_at}
 use Rattle.smith_const_expr.specs.ConstOffers.{each_from, offered_if, global_offers, readable_globals, offers}
 use Rattle.smith_const_expr.specs.ConstNodes.{node_at}
 use Rattle.smith_const_expr.specs.ConstExprs.{expression_at, expression_alone_at}
-use Rattle.smith_draw.specs.SpelledConstants.{SpellsConstExpr}
-use Rattle.smith_draw.specs.Below.{is_val_below}
+use Rattle.smith_draw_types.specs.SpelledConstants.{SpellsConstExpr}
+use Rattle.smith_draw_types.specs.Below.{is_val_below}
 use Rattle.std.specs.Prelude.{◌&&◌, not}
 use Rattle.std.specs.List.{AllByRecursion as Each}
 use Rattle.std.proofs.lemmas.List.Elements.{recursion_from_All}

@@ -7,12 +7,12 @@ use Rattle.smith_data.specs.declared.entity_type.GlobalType.{GlobalType}
 use Rattle.smith_data.specs.declared.composite_type.SubType.{SubType}
 use Rattle.smith_data.specs.declared.value_type.ValType.{ValType}
 use Rattle.smith_types.proofs.GrowthLemmas.{IsValBelow-trans}
-use Rattle.smith_draw.specs.Below.{is_val_below}
+use Rattle.smith_draw_types.specs.Below.{is_val_below}
 use Rattle.smith_const_expr.specs.ConstOffers.{global_offers, offered_if}
 use Rattle.smith_const_expr.specs.KeptOffers.{IsCounted, IsWiderOffer, offered_before}
 use Rattle.smith_const_expr.specs.declared.kept_offers.KeptOffer.{KeptOffer}
 use Rattle.smith_const_expr.specs.declared.node_choice.Choice.TheVariants as choice
-use Rattle.smith_draw.proofs.BelowLemmas.{val_decides}
+use Rattle.smith_draw_types.proofs.BelowLemmas.{val_decides}
 use Rattle.smith_const_expr.proofs.KeptOfferLemmas.{offered_more, offered_rising}
 
 below_wider : (types : List SubType) → IsOrderly types → (a b c : ValType) → is_val_below types b c ≡ true → is_val_below types a b ≡ true → is_val_below types a c ≡ true

@@ -11,7 +11,7 @@ use Rattle.smith_bytes.specs.declared.error.Error.{Error}
 use Rattle.smith_bytes.specs.declared.error.Error.TheVariants.{Memory, EmptyChoose}
 use Rattle.smith_config.specs.declared.config.Config.{Config}
 use Rattle.smith_config.specs.Granted.{IsNonNullable, IsUngrounded}
-use Rattle.smith_draw.specs.HeldFields.{HoldsUngroundedField}
+use Rattle.smith_draw_types.specs.HeldFields.{HoldsUngroundedField}
 
 -- the number of fields of a struct
 abbrev pub field_count : CompositeInnerType → ℕ

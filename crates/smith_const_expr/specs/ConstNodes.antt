@@ -13,7 +13,7 @@ use Rattle.smith_data.specs.declared.composite_type.SubType.{SubType}
 use Rattle.smith_data.specs.declared.const_instr.ConstInstr.{ConstInstr}
 use Rattle.smith_data.specs.declared.const_instr.ConstInstr.TheVariants as instr
 use Rattle.smith_const_expr.specs.Constants.{constant_at}
-use Rattle.smith_draw.specs.HeldFields.{fields_of}
+use Rattle.smith_draw_types.specs.HeldFields.{fields_of}
 use Rattle.smith_const_expr.specs.declared.node_choice.Choice.{Choice}
 use Rattle.smith_const_expr.specs.declared.node_choice.Choice.TheVariants as choice
 use Rattle.smith_const_expr.specs.declared.node.Operand.{Operand}

@@ -7,7 +7,7 @@ use Rattle.smith_types.specs.Types.{IsOrderly}
 use Rattle.smith_types.specs.ValidTypes.{IsValTypeValid, AreTypesValid}
 use Rattle.smith_types.specs.Entities.{IsFuncTypeIndex, IsGlobalValid}
 use Rattle.smith_config.specs.declared.config.Config.{Config}
-use Rattle.smith_draw.specs.declared.spaces.Spaces.{Spaces}
+use Rattle.smith_draw_types.specs.declared.spaces.Spaces.{Spaces}
 use Rattle.smith_data.specs.declared.composite_type.CompositeInnerType.{CompositeInnerType}
 use Rattle.smith_data.specs.declared.composite_type.CompositeInnerType.TheVariants.{Array, Func, Struct}
 use Rattle.smith_data.specs.declared.composite_type.FieldType.{FieldType}
@@ -15,7 +15,7 @@ use Rattle.smith_data.specs.declared.composite_type.SubType.{SubType}
 use Rattle.smith_data.specs.declared.entity_type.GlobalType.{GlobalType}
 use Rattle.smith_types.specs.Expressions.{IsStructAt, field_values}
 use Rattle.smith_config.specs.Features.{features_of}
-use Rattle.smith_draw.specs.HeldFields.{fields_of}
+use Rattle.smith_draw_types.specs.HeldFields.{fields_of}
 use Rattle.smith_const_expr.specs.declared.scope.Scope.{Scope}
 
 -- the context of a scope (Validation, Contexts)

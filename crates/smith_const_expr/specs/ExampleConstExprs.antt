@@ -10,7 +10,7 @@ use Rattle.smith_types.specs.ExampleTypes.{final_type, struct, array, constant}
 use Rattle.smith_data.specs.declared.value_type.ValType.TheVariants.{V128}
 use Rattle.smith_types.specs.ExampleEntities.{constant_global}
 use Rattle.smith_config.specs.declared.config.Config.{Config}
-use Rattle.smith_draw.specs.declared.spaces.Spaces.{Spaces}
+use Rattle.smith_draw_types.specs.declared.spaces.Spaces.{Spaces}
 use Rattle.smith_const_expr.specs.ConstScopes.{AreSpacesValid}
 use Rattle.smith_const_expr.specs.ConstOffers.{readable_globals}
 

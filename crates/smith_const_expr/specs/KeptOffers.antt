@@ -7,7 +7,7 @@ use Rattle.smith_types.specs.Expressions.{Context, function_reference}
 use Rattle.smith_data.specs.declared.composite_type.SubType.{SubType}
 use Rattle.smith_data.specs.declared.entity_type.GlobalType.{GlobalType}
 use Rattle.smith_data.specs.declared.value_type.ValType.{ValType}
-use Rattle.smith_draw.specs.Below.{is_val_below}
+use Rattle.smith_draw_types.specs.Below.{is_val_below}
 use Rattle.smith_const_expr.specs.ConstOffers.{each_from, global_offers, function_offers}
 use Rattle.smith_const_expr.specs.declared.block_counts.BlockCounts.{BlockCounts}
 use Rattle.smith_const_expr.specs.declared.classes.Classes.{Classes}

@@ -1,4 +1,4 @@
-ghost use Rattle.smith_draw.specs.Drawing.{AlwaysDraws};
+ghost use Rattle.smith_draw_types.specs.Drawing.{AlwaysDraws};
 ghost use Rattle.smith_const_expr.specs.Constants.{constant_at};
 
 use smith_bytes::Unstructured;

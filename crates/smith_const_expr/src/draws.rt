@@ -8,8 +8,8 @@ ghost use Rattle.smith_data.specs.declared.value_type.ValType.TheVariants.{I32, 
 ghost use Rattle.smith_types.specs.Expressions.{IsConstExpr};
 ghost use Rattle.smith_types.specs.Floats.{IsNoFloat, HasNoFloat, GivesNoFloat};
 ghost use Rattle.smith_config.specs.Features.{features_of};
-ghost use Rattle.smith_draw.specs.Grounding.{standing_in};
-ghost use Rattle.smith_draw.specs.SpelledConstants.{SpellsConstExpr};
+ghost use Rattle.smith_draw_types.specs.Grounding.{standing_in};
+ghost use Rattle.smith_draw_types.specs.SpelledConstants.{SpellsConstExpr};
 ghost use Rattle.smith_const_expr.specs.ConstOffers.{readable_globals};
 ghost use Rattle.smith_const_expr.specs.ConstExprs.{const_expr_at, table_init_at};
 ghost use Rattle.smith_const_expr.specs.ConstScopes.{seen_by, IsReadable, AreSpacesValid};
@@ -22,7 +22,7 @@ use crate::references::is_below;
 use crate::scope::{Scope, visible_end};
 use smith_bytes::{Error, Unstructured};
 use smith_config::Config;
-use smith_draw::Spaces;
+use smith_draw_types::Spaces;
 use smith_types::{ConstInstr, Items, RefType, ValType};
 use std::alloc::Global;
 

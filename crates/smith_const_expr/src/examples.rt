@@ -25,13 +25,13 @@ ghost use Rattle.smith_const_expr.specs.ConstBounds.{widest, most_instructions, 
 ghost use Rattle.smith_const_expr.specs.ConstBounds.{MayRefuseConstExpr};
 ghost use Rattle.smith_config.specs.Granted.{IsNonNullable};
 ghost use Rattle.smith_const_expr.specs.ConstExprs.{expression_alone_at};
-ghost use Rattle.smith_draw.specs.SpelledConstants.{SpellsI32, SpellsConstant, SpellsConstExpr};
+ghost use Rattle.smith_draw_types.specs.SpelledConstants.{SpellsI32, SpellsConstant, SpellsConstExpr};
 ghost use Rattle.smith_const_expr.specs.ExampleConstExprs.{context_of_types, packed_struct, packed_array};
 ghost use Rattle.smith_const_expr.specs.ExampleConstExprs.{MutableGlobalsAreNotRead, NothingIsValid};
 ghost use Rattle.smith_const_expr.specs.ExampleConstExprs.{AFunctionNeedsItsType, AGlobalNeedsItsFeature};
 ghost use Rattle.smith_const_expr.specs.ExampleConstExprs.{ImportedGlobalsStand};
 
-#[tactic(auto, unfolding(crate::specs::ConstOffers::offers, smith_draw::specs::Offered::ancestors, smith_draw::specs::Below::is_heap_below))]
+#[tactic(auto, unfolding(crate::specs::ConstOffers::offers, smith_draw_types::specs::Offered::ancestors, smith_draw_types::specs::Below::is_heap_below))]
 fn offers_of_numbers()
     ensures a_global_comes_first { offers default_config (context_with usual_features 2) I32 1
         ≡ choice.Global 0 ∷ choice.Constant ∷ choice.Extended ∷ [] }
@@ -48,7 +48,7 @@ fn offers_of_numbers()
         ≡ choice.Constant ∷ [] }
 {}
 
-#[tactic(auto, unfolding(crate::specs::ConstOffers::offers, smith_draw::specs::Offered::ancestors, smith_draw::specs::Below::is_heap_below))]
+#[tactic(auto, unfolding(crate::specs::ConstOffers::offers, smith_draw_types::specs::Offered::ancestors, smith_draw_types::specs::Below::is_heap_below))]
 fn offers_of_references()
     ensures functions { offers default_config (context_with usual_features 3)
         (Ref (nullable (plain heap.Func))) 1
@@ -97,7 +97,7 @@ fn offers_of_references()
         (Ref (not_null (plain heap.None))) 50 ≡ [] }
 {}
 
-#[tactic(auto, unfolding(crate::specs::ConstExprs::expression_alone_at, crate::specs::ConstExprs::expression_at, crate::specs::ConstNodes::node_at, crate::specs::Constants::constant_at, crate::specs::Constants::extended_at, crate::specs::Constants::extended_within, crate::specs::Constants::operator_at, crate::specs::ConstOffers::offers, smith_draw::specs::Offered::ancestors, smith_draw::specs::Below::is_heap_below, smith_bytes::specs::Draws::choose_at, smith_bytes::specs::Draws::range_at, smith_bytes::specs::Draws::whole_at, smith_bytes::specs::Draws::digit_count))]
+#[tactic(auto, unfolding(crate::specs::ConstExprs::expression_alone_at, crate::specs::ConstExprs::expression_at, crate::specs::ConstNodes::node_at, crate::specs::Constants::constant_at, crate::specs::Constants::extended_at, crate::specs::Constants::extended_within, crate::specs::Constants::operator_at, crate::specs::ConstOffers::offers, smith_draw_types::specs::Offered::ancestors, smith_draw_types::specs::Below::is_heap_below, smith_bytes::specs::Draws::choose_at, smith_bytes::specs::Draws::range_at, smith_bytes::specs::Draws::whole_at, smith_bytes::specs::Draws::digit_count))]
 fn draws()
     ensures a_sum { expression_alone_at (context_of_types []) default_config 50 I32
         (1 ∷ 1 ∷ 0 ∷ 5 ∷ 0 ∷ 0 ∷ 0 ∷ 0 ∷ 7 ∷ 0 ∷ 0 ∷ 0 ∷ [])

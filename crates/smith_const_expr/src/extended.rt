@@ -4,7 +4,7 @@ ghost use Rattle.smith_data.specs.declared.const_instr.ConstInstr.{ConstInstr};
 ghost use Rattle.smith_bytes.specs.Source.{KeepsPieces};
 ghost use Rattle.smith_types.specs.Expressions.{Context};
 ghost use Rattle.smith_data.specs.declared.value_type.ValType.TheVariants.{I32, I64};
-ghost use Rattle.smith_draw.specs.Drawing.{AlwaysDraws};
+ghost use Rattle.smith_draw_types.specs.Drawing.{AlwaysDraws};
 ghost use Rattle.smith_const_expr.specs.Constants.{is_wide, operation, operator_of, operator_at};
 ghost use Rattle.smith_const_expr.specs.Constants.{extended_at};
 ghost use Rattle.smith_const_expr.specs.Putting.{Adds, Puts};

@@ -1,9 +1,9 @@
 ghost use Rattle.std.specs.Prelude.{◌≡◌, ◌≤◌, ◌<◌, ◌++◌, [], ◌∷◌, map, length, slice_get, Some};
 ghost use Rattle.std.specs.Prelude.{IfOk, IfErr, OnOk};
-ghost use Rattle.smith_draw.specs.Drawing.{Draws};
+ghost use Rattle.smith_draw_types.specs.Drawing.{Draws};
 ghost use Rattle.smith_const_expr.specs.ConstNodes.{fields_there, field_operands, repeated};
 ghost use Rattle.smith_const_expr.specs.ConstNodes.{is_shared_heap, converted, node_of, node_at};
-ghost use Rattle.smith_draw.specs.HeldFields.{fields_of};
+ghost use Rattle.smith_draw_types.specs.HeldFields.{fields_of};
 ghost use Rattle.smith_types.specs.Expressions.{field_values};
 ghost use Rattle.smith_data.specs.declared.value_type.ValType.TheVariants.{I32};
 ghost use Rattle.smith_const_expr.specs.declared.node.Operand.TheVariants.{Value};

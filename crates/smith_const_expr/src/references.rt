@@ -4,7 +4,7 @@ ghost use Rattle.smith_types.specs.Expressions.{reference_to, created, function_
 ghost use Rattle.smith_data.specs.declared.value_type.HeapType.TheVariants.{Abstract};
 ghost use Rattle.smith_data.specs.declared.value_type.AbstractHeapType.TheVariants as heap;
 ghost use Rattle.smith_data.specs.declared.composite_type.SubType.{SubType};
-ghost use Rattle.smith_draw.specs.Below.{is_val_below};
+ghost use Rattle.smith_draw_types.specs.Below.{is_val_below};
 ghost use Rattle.smith_const_expr.specs.ConstScopes.{context_of};
 ghost use Rattle.smith_const_expr.specs.KeptOffers.{is_offered, readable};
 

@@ -2,7 +2,7 @@ ghost use Rattle.std.specs.Prelude.{◌≡◌};
 ghost use Rattle.smith_const_expr.specs.ConstScopes.{visible_end};
 
 use smith_config::Config;
-use smith_draw::Spaces;
+use smith_draw_types::Spaces;
 
 /// The context of an expression, in which only globals below `visible` may be read.
 #[derive(Clone, Copy)]

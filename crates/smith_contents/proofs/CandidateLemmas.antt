@@ -12,11 +12,11 @@ use Rattle.smith_data.specs.declared.composite_type.SubType.{SubType}
 use Rattle.smith_data.specs.declared.entity_type.EntityType.TheVariants as entity
 use Rattle.smith_data.specs.declared.entity_type.ExportKind.{ExportKind}
 use Rattle.smith_data.specs.declared.entity_type.ExportKind.TheVariants as kind
-use Rattle.smith_draw.specs.Choices.{chosen_at}
-use Rattle.smith_draw.specs.TypeUses.{places_from}
-use Rattle.smith_draw.proofs.EnabledLemmas.{enabled_all}
-use Rattle.smith_draw.proofs.SupertypeLemmas.{chosen_of}
-use Rattle.smith_draw.proofs.TypeUseLemmas.{IsPassing, places_pass}
+use Rattle.smith_draw_types.specs.Choices.{chosen_at}
+use Rattle.smith_draw_types.specs.TypeUses.{places_from}
+use Rattle.smith_draw_types.proofs.EnabledLemmas.{enabled_all}
+use Rattle.smith_draw_types.proofs.SupertypeLemmas.{chosen_of}
+use Rattle.smith_draw_types.proofs.TypeUseLemmas.{IsPassing, places_pass}
 use Rattle.smith_contents.specs.Exporting.{is_func_below, candidates, candidate_rows, offered_kinds}
 use Rattle.smith_contents.specs.Exported.{HasSizeIn32Bits, IsFuncWithin, MayExport, IsCandidate}
 

@@ -7,7 +7,7 @@ use Rattle.std.proofs.lemmas.Option.{slice_get-get_or, get_or_from_slice_get}
 use Rattle.smith_bytes.proofs.DrawnLemmas.{range_within}
 use Rattle.smith_bytes.specs.Draws.{range_at}
 use Rattle.smith_bytes.specs.Source.{KeepsPieces}
-use Rattle.smith_draw.specs.Choices.{chosen_at}
+use Rattle.smith_draw_types.specs.Choices.{chosen_at}
 use Rattle.smith_contents.specs.OfferedIndices.{Indices}
 use Rattle.smith_data.specs.declared.entity_type.MemoryType.{MemoryType}
 use Rattle.smith_const_expr.specs.ConstOffers.{offered_if}

@@ -19,8 +19,8 @@ use Rattle.smith_config.specs.declared.config.Config.{Config}
 use Rattle.smith_config.specs.Features.{features_of}
 use Rattle.smith_config.specs.Sanitized.{IsSanitized}
 use Rattle.smith_config.specs.Granted.{IsGranted}
-use Rattle.smith_draw.proofs.GrantedLemmas.{locals_granted}
-use Rattle.smith_draw.proofs.LocalLemmas.{locals_most, locals_valid, locals_no_float}
+use Rattle.smith_draw_types.proofs.GrantedLemmas.{locals_granted}
+use Rattle.smith_draw_types.proofs.LocalLemmas.{locals_most, locals_valid, locals_no_float}
 use Rattle.smith_contents.specs.DrawnBodies.{raw_bytes_at, is_raw_at, instructions_at, body_at, bodies_at}
 use Rattle.smith_rules.specs.Held.{IsRaw}
 

@@ -25,9 +25,9 @@ use Rattle.smith_validity.proofs.HeldValueLemmas.{all_of_parts}
 use Rattle.smith_config.specs.declared.config.Config.{Config}
 use Rattle.smith_config.specs.Granted.{IsUngrounded}
 use Rattle.smith_const_expr.specs.ConstScopes.{seen_by}
-use Rattle.smith_draw.specs.Grounding.{standing_in}
-use Rattle.smith_draw.specs.declared.spaces.Spaces.{Spaces}
-use Rattle.smith_draw.proofs.ValueTypeLemmas.{drawn_is}
+use Rattle.smith_draw_types.specs.Grounding.{standing_in}
+use Rattle.smith_draw_types.specs.declared.spaces.Spaces.{Spaces}
+use Rattle.smith_draw_types.proofs.ValueTypeLemmas.{drawn_is}
 use Rattle.smith_contents.specs.DrawnElements.{HasUngroundedElements, IsTarget, IsKindOffered, IsPlaced, IsKindDrawn, FitsTable, MayHoldItems, AreItemsFit, IsElementFit}
 use Rattle.smith_contents.specs.ElementSegments.{KindChoice, most_items, expression_item_at, drawn_expressions_at}
 use Rattle.smith_rules.specs.Held.{expressions_of}

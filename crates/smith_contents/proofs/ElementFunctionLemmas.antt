@@ -23,12 +23,12 @@ use Rattle.smith_data.specs.declared.value_type.ValType.{ValType}
 use Rattle.smith_data.specs.declared.value_type.ValType.TheVariants.{Ref}
 use Rattle.smith_config.specs.declared.config.Config.{Config}
 use Rattle.smith_config.specs.Features.{features_of}
-use Rattle.smith_draw.specs.Choices.{chosen_at}
+use Rattle.smith_draw_types.specs.Choices.{chosen_at}
 use Rattle.smith_types.specs.Floats.{GivesNoFloat}
-use Rattle.smith_draw.specs.TypeUses.{places_from}
-use Rattle.smith_draw.proofs.FloatLemmas.{stands_in}
-use Rattle.smith_draw.proofs.SupertypeLemmas.{chosen_of}
-use Rattle.smith_draw.proofs.TypeUseLemmas.{IsPassing, places_pass}
+use Rattle.smith_draw_types.specs.TypeUses.{places_from}
+use Rattle.smith_draw_types.proofs.FloatLemmas.{stands_in}
+use Rattle.smith_draw_types.proofs.SupertypeLemmas.{chosen_of}
+use Rattle.smith_draw_types.proofs.TypeUseLemmas.{IsPassing, places_pass}
 use Rattle.smith_contents.specs.DrawnElements.{AreItemsFit}
 use Rattle.smith_contents.specs.ElementSegments.{is_plain_func, is_funcref, is_unshared_type, unshared_funcs, are_functions_at, chosen_functions_at, functions_at}
 

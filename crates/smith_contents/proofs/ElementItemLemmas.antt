@@ -15,17 +15,17 @@ use Rattle.smith_types.proofs.GroupGrowthLemmas.{AreTypesOpen-at, AreTypesOpen-s
 use Rattle.smith_config.specs.declared.config.Config.{Config}
 use Rattle.smith_config.specs.Features.{features_of}
 use Rattle.smith_config.specs.Sanitized.{IsSanitized}
-use Rattle.smith_draw.specs.Choices.{chosen_at}
-use Rattle.smith_draw.specs.Kept.{IsSharingEnabled}
-use Rattle.smith_draw.specs.MatchingTypes.{matching_ref_type_at}
-use Rattle.smith_draw.specs.declared.spaces.Spaces.{Spaces}
-use Rattle.smith_draw.proofs.ChosenLemmas.{references_without_gc}
-use Rattle.smith_draw.proofs.FilledLemmas.{ref_type_filled, matching_ref_ungrounded}
+use Rattle.smith_draw_types.specs.Choices.{chosen_at}
+use Rattle.smith_draw_types.specs.Kept.{IsSharingEnabled}
+use Rattle.smith_draw_types.specs.MatchingTypes.{matching_ref_type_at}
+use Rattle.smith_draw_types.specs.declared.spaces.Spaces.{Spaces}
+use Rattle.smith_draw_types.proofs.ChosenLemmas.{references_without_gc}
+use Rattle.smith_draw_types.proofs.FilledLemmas.{ref_type_filled, matching_ref_ungrounded}
 use Rattle.smith_config.specs.Granted.{IsUngrounded}
-use Rattle.smith_draw.specs.Grounding.{standing_in}
-use Rattle.smith_draw.proofs.MatchingLemmas.{matching_ref_below, matching_ref_valid}
-use Rattle.smith_draw.proofs.TableTypeLemmas.{element_enabled}
-use Rattle.smith_draw.proofs.ValueTypeLemmas.{ref_type_drawn}
+use Rattle.smith_draw_types.specs.Grounding.{standing_in}
+use Rattle.smith_draw_types.proofs.MatchingLemmas.{matching_ref_below, matching_ref_valid}
+use Rattle.smith_draw_types.proofs.TableTypeLemmas.{element_enabled}
+use Rattle.smith_draw_types.proofs.ValueTypeLemmas.{ref_type_drawn}
 use Rattle.smith_contents.specs.DrawnElements.{IsKindOffered, FitsAddresses, FitsTable, HasUngroundedElements, MayDrawElements, MayHoldItems, MayRefuseItems, MayRefuseElementSegment}
 use Rattle.smith_contents.specs.ElementSegments.{KindChoice, item_type_at, chosen_functions_at, expression_item_at, drawn_expressions_at}
 use Rattle.smith_contents.specs.declared.element_kinds.KindChoice.TheVariants as choice

@@ -8,9 +8,9 @@ use Rattle.smith_data.specs.declared.entity_type.TableType.{TableType}
 use Rattle.smith_data.specs.declared.segments.Offset.{Offset}
 use Rattle.smith_data.specs.declared.segments.Offset.TheVariants.{Global}
 use Rattle.smith_config.specs.declared.config.Config.{Config}
-use Rattle.smith_draw.specs.Choices.{chosen_at}
-use Rattle.smith_draw.proofs.SupertypeLemmas.{chosen_of}
-use Rattle.smith_draw.proofs.ValueTypeLemmas.{drawn_is}
+use Rattle.smith_draw_types.specs.Choices.{chosen_at}
+use Rattle.smith_draw_types.proofs.SupertypeLemmas.{chosen_of}
+use Rattle.smith_draw_types.proofs.ValueTypeLemmas.{drawn_is}
 use Rattle.smith_contents.specs.DataTargets.{TellOffsets}
 use Rattle.smith_contents.specs.DrawnElements.{IsPlaced}
 use Rattle.smith_contents.specs.ElementSegments.{most_offset}

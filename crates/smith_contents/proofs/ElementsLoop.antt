@@ -15,8 +15,8 @@ use Rattle.smith_data.specs.declared.segments.ElementSegment.{ElementSegment}
 use Rattle.smith_data.specs.declared.value_type.RefType.{RefType}
 use Rattle.smith_config.specs.declared.config.Config.{Config}
 use Rattle.smith_bytes.specs.Steps.{◌>>=◌, ReturnsWhy}
-use Rattle.smith_draw.specs.Choices.{chosen_at}
-use Rattle.smith_draw.specs.Grounding.{without_globals}
+use Rattle.smith_draw_types.specs.Choices.{chosen_at}
+use Rattle.smith_draw_types.specs.Grounding.{without_globals}
 use Rattle.smith_contents.specs.declared.element_kinds.KindChoice.TheVariants as choice
 use Rattle.smith_contents.specs.ElementSegments.{KindChoice, most_items, items_in, element_kind_at, item_type_at, items_at, element_segment_at, element_segments_at}
 
@@ -90,20 +90,6 @@ segments_full {config = config} {context = context} {kinds = kinds} {n = n} {mad
     let k : config.max_element_segments - n ≡ 0 = omega arith in
     let one : element_segments_at config context kinds (config.max_element_segments - n) made bytes ≡ Ok (made, bytes) = rw k refl in
     sym now.so_far ∙ one
-
--- the refusal of a part is that of the whole
-refused_part : {X Y A B : Type 0} (of_part : X → A) (of_whole : Y → B) (e : Error) (part : Result A Why) (whole : Result B Why) → ReturnsWhy of_part (Err e) part → ((why : Why) → part ≡ Err why → whole ≡ Err why) → ReturnsWhy of_whole (Err e) whole
-refused_part of_part of_whole errors.Memory part whole given passes = tt
-refused_part of_part of_whole errors.EmptyChoose part whole given passes = given
-refused_part of_part of_whole errors.NotEnoughData part whole given passes = given
-refused_part of_part of_whole (errors.Config fault) part whole given passes = given
-refused_part of_part of_whole (errors.Shape which fault) part whole given passes = given
-refused_part of_part of_whole (errors.IncorrectFormat why) part whole given passes = passes why given
-
-pub refused_by : {X Y A B : Type 0} (of_part : X → A) (of_whole : Y → B) (e : Error) (part : Result A Why) (whole : Result B Why) (result : Result Y Error) → ReturnsWhy of_part (Err e) part → ((why : Why) → part ≡ Err why → whole ≡ Err why)
-    → IsErrAnd result (λ y. y ≡ e) → ReturnsWhy of_whole result whole
-refused_by of_part of_whole e part whole (Ok y) given passes h = absurd h
-refused_by {X = X} of_part of_whole e part whole (Err own) given passes h = refused_part of_part of_whole own part whole (subst (λ (one : Error). ReturnsWhy of_part (Err one) part) (sym h) given) passes
 
 -- lack of memory is left open
 pub memory_lacks : {Y B : Type 0} (of_whole : Y → B) (e : Error) (whole : Result B Why) (result : Result Y Error) → e ≡ errors.Memory → IsErrAnd result (λ y. y ≡ e) → ReturnsWhy of_whole result whole

@@ -16,9 +16,9 @@ use Rattle.smith_data.specs.declared.entity_type.ExportKind.{ExportKind}
 use Rattle.smith_data.specs.declared.entity_type.ExportKind.TheVariants as kind
 use Rattle.smith_config.specs.declared.config.Config.{Config}
 use Rattle.smith_config.specs.InUse.{HasNoShapes}
-use Rattle.smith_draw.specs.FuncSizes.{IsSmall}
-use Rattle.smith_draw.specs.Choices.{enabled}
-use Rattle.smith_draw.specs.TypeUses.{places_from}
+use Rattle.smith_draw_types.specs.FuncSizes.{IsSmall}
+use Rattle.smith_draw_types.specs.Choices.{enabled}
+use Rattle.smith_draw_types.specs.TypeUses.{places_from}
 use Rattle.smith_bytes.specs.Steps.{ReturnsWhy}
 use Rattle.smith_bytes.specs.Spelling.{SpellsEmpty}
 use Rattle.smith_rules.specs.ExportedItems.{Export, item_size, exported_size}
@@ -28,7 +28,7 @@ use Rattle.smith_contents.specs.AllExports.{everything_at, exports_at}
 use Rattle.smith_contents.specs.declared.exported.Exports.{Exports}
 use Rattle.smith_contents.proofs.CandidateLemmas.{length_alike}
 use Rattle.smith_bytes.proofs.StepLemmas.{given_takes}
-use Rattle.smith_draw.proofs.FuncSizeLemmas.{small_at}
+use Rattle.smith_draw_types.proofs.FuncSizeLemmas.{small_at}
 
 -- if no item is enabled, neither the first nor a later one is
 off_by : {A : Type 0} (x : A) (b : Bool) (rest : List (A × Bool)) → length (enabled ((x, b) ∷ rest)) ≡ 0 → (b ≡ false) × (length (enabled rest) ≡ 0)

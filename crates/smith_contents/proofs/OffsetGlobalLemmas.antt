@@ -12,7 +12,7 @@ use Rattle.smith_data.specs.declared.entity_type.GlobalType.{GlobalType}
 use Rattle.smith_data.specs.declared.value_type.ValType.{ValType}
 use Rattle.smith_data.specs.declared.value_type.ValType.TheVariants.{I32, I64, F32, F64, V128, Ref}
 use Rattle.smith_config.specs.declared.config.Config.{Config}
-use Rattle.smith_draw.specs.Below.{is_val_below}
+use Rattle.smith_draw_types.specs.Below.{is_val_below}
 use Rattle.smith_const_expr.specs.ConstOffers.{each_from, offered_if, readable_globals}
 use Rattle.smith_const_expr.proofs.ReadableLemmas.{readable_listed}
 use Rattle.smith_contents.specs.DataSegments.{offset_globals}

@@ -17,7 +17,7 @@ use Rattle.smith_config.specs.declared.config.Config.{Config}
 use Rattle.smith_bytes.specs.Steps.{ReturnsWhy}
 use Rattle.smith_contents.specs.DataSegments.{Targets, counting_at, targets_of, passive_at, data_segment_at, data_segments_at, data_at}
 use Rattle.smith_contents.specs.PassiveData.{passive_data, SpellsPassive}
-use Rattle.smith_draw.specs.SpelledParts.{SpellsBytes}
+use Rattle.smith_draw_types.specs.SpelledParts.{SpellsBytes}
 use Rattle.smith_bytes.proofs.StepLemmas.{given_takes}
 
 one_byte : (byte : ℕ) (after : List ℕ) → whole_at 1 (byte ∷ after) ≡ (byte, after)

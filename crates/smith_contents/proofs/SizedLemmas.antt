@@ -7,7 +7,7 @@ use Rattle.smith_data.specs.declared.composite_type.CompositeInnerType.{Composit
 use Rattle.smith_data.specs.declared.composite_type.CompositeInnerType.TheVariants as inners
 use Rattle.smith_data.specs.declared.composite_type.SubType.{SubType}
 use Rattle.smith_config.specs.Shapes.{most_listed}
-use Rattle.smith_draw.specs.FuncSizes.{HasFewValues, IsInnerWithin, IsSmall, IsSmallInner}
+use Rattle.smith_draw_types.specs.FuncSizes.{HasFewValues, IsInnerWithin, IsSmall, IsSmallInner}
 use Rattle.smith_contents.specs.Exported.{HasSizeIn32Bits}
 
 small_inner : (inner : CompositeInnerType) → IsSmallInner inner → value_count inner + 2 < 2 ^ 32

@@ -18,12 +18,12 @@ use Rattle.smith_data.specs.declared.composite_type.CompositeInnerType.TheVarian
 use Rattle.smith_data.specs.declared.composite_type.FuncType.{FuncType}
 use Rattle.smith_data.specs.declared.composite_type.SubType.{SubType}
 use Rattle.smith_config.specs.declared.config.Config.{Config}
-use Rattle.smith_draw.specs.Choices.{chosen_at}
-use Rattle.smith_draw.proofs.SupertypeLemmas.{chosen_of}
-use Rattle.smith_draw.proofs.TypeUseLemmas.{IsPassing, places_pass, places_any}
-use Rattle.smith_draw.proofs.ValueTypeLemmas.{wanted_by}
-use Rattle.smith_draw.specs.TypeUses.{takes_and_gives_nothing, is_start_type}
-use Rattle.smith_draw.specs.SpelledParts.{SpellsNoStart}
+use Rattle.smith_draw_types.specs.Choices.{chosen_at}
+use Rattle.smith_draw_types.proofs.SupertypeLemmas.{chosen_of}
+use Rattle.smith_draw_types.proofs.TypeUseLemmas.{IsPassing, places_pass, places_any}
+use Rattle.smith_draw_types.proofs.ValueTypeLemmas.{wanted_by}
+use Rattle.smith_draw_types.specs.TypeUses.{takes_and_gives_nothing, is_start_type}
+use Rattle.smith_draw_types.specs.SpelledParts.{SpellsNoStart}
 use Rattle.smith_contents.specs.Start.{start_funcs, start_wanted_at, start_at}
 
 -- the function type without parameters and results

@@ -16,9 +16,9 @@ use Rattle.smith_data.specs.declared.segments.DataSegmentKind.TheVariants.{Passi
 use Rattle.smith_data.specs.declared.segments.Offset.{Offset}
 use Rattle.smith_data.specs.declared.segments.Offset.TheVariants.{Const32, Const64, Global}
 use Rattle.smith_config.specs.declared.config.Config.{Config}
-use Rattle.smith_draw.specs.Choices.{chosen_at}
+use Rattle.smith_draw_types.specs.Choices.{chosen_at}
 use Rattle.smith_const_expr.specs.ConstOffers.{offered_if, readable_globals}
-use Rattle.smith_draw.specs.Offsets.{offset_at}
+use Rattle.smith_draw_types.specs.Offsets.{offset_at}
 
 -- whether segments may be copied into a memory: always if its minimum is above 0, else for one of
 -- eleven drawn numbers

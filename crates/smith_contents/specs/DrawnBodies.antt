@@ -7,7 +7,7 @@ use Rattle.smith_data.specs.declared.code.Code.{Code}
 use Rattle.smith_data.specs.declared.code.Instructions.{Instructions}
 use Rattle.smith_data.specs.declared.code.Instructions.TheVariants.{Unreachable, Arbitrary}
 use Rattle.smith_config.specs.declared.config.Config.{Config}
-use Rattle.smith_draw.specs.Locals.{locals_at}
+use Rattle.smith_draw_types.specs.Locals.{locals_at}
 
 -- a length, then that number of raw bytes
 unfoldable pub raw_bytes_at : List ℕ → Instructions × List ℕ

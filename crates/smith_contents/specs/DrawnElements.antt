@@ -27,10 +27,10 @@ use Rattle.smith_config.specs.Features.{features_of}
 use Rattle.smith_config.specs.Sanitized.{IsSanitized}
 use Rattle.smith_config.specs.Granted.{IsUngrounded, HasGroundedItems}
 use Rattle.smith_const_expr.specs.ConstBounds.{MayLack}
-use Rattle.smith_draw.specs.HeldFields.{HoldsUngroundedField}
+use Rattle.smith_draw_types.specs.HeldFields.{HoldsUngroundedField}
 use Rattle.smith_const_expr.specs.ConstScopes.{AreSpacesValid}
-use Rattle.smith_draw.specs.Grounding.{without_globals}
-use Rattle.smith_draw.specs.declared.spaces.Spaces.{Spaces}
+use Rattle.smith_draw_types.specs.Grounding.{without_globals}
+use Rattle.smith_draw_types.specs.declared.spaces.Spaces.{Spaces}
 use Rattle.smith_rules.specs.Held.{HasItems, expressions_of}
 use Rattle.smith_contents.specs.declared.element_kinds.KindChoice.{KindChoice}
 use Rattle.smith_contents.specs.declared.element_kinds.KindChoice.TheVariants as choice

@@ -26,14 +26,14 @@ use Rattle.smith_data.specs.declared.value_type.HeapType.TheVariants.{Abstract}
 use Rattle.smith_data.specs.declared.value_type.RefType.{RefType}
 use Rattle.smith_data.specs.declared.value_type.ValType.TheVariants.{Ref}
 use Rattle.smith_config.specs.declared.config.Config.{Config}
-use Rattle.smith_draw.specs.Choices.{chosen_at}
+use Rattle.smith_draw_types.specs.Choices.{chosen_at}
 use Rattle.smith_const_expr.specs.ConstExprs.{const_expr_at}
 use Rattle.smith_const_expr.specs.ConstOffers.{readable_globals}
-use Rattle.smith_draw.specs.Grounding.{without_globals}
-use Rattle.smith_draw.specs.MatchingTypes.{matching_ref_type_at}
-use Rattle.smith_draw.specs.Offsets.{offset_at}
-use Rattle.smith_draw.specs.TypeUses.{places_from}
-use Rattle.smith_draw.specs.ValueTypes.{ref_type_at}
+use Rattle.smith_draw_types.specs.Grounding.{without_globals}
+use Rattle.smith_draw_types.specs.MatchingTypes.{matching_ref_type_at}
+use Rattle.smith_draw_types.specs.Offsets.{offset_at}
+use Rattle.smith_draw_types.specs.TypeUses.{places_from}
+use Rattle.smith_draw_types.specs.ValueTypes.{ref_type_at}
 use Rattle.smith_bytes.specs.Steps.{◌>>=◌}
 pub use Rattle.smith_contents.specs.declared.element_kinds.KindChoice.{KindChoice}
 use Rattle.smith_contents.specs.declared.element_kinds.KindChoice.TheVariants as choice

@@ -13,7 +13,7 @@ use Rattle.smith_data.specs.declared.entity_type.EntityType.TheVariants as entit
 use Rattle.smith_data.specs.declared.entity_type.ExportKind.{ExportKind}
 use Rattle.smith_config.specs.declared.config.Config.{Config}
 use Rattle.smith_config.specs.InUse.{FixesExports, HasNoShapes}
-use Rattle.smith_draw.specs.FuncSizes.{IsSmall}
+use Rattle.smith_draw_types.specs.FuncSizes.{IsSmall}
 use Rattle.smith_rules.specs.ExportedItems.{Export, item_size, exported_size, IsStanding}
 use Rattle.smith_rules.specs.Refusals.{MayHaveNoExports}
 

@@ -19,8 +19,8 @@ use Rattle.smith_data.specs.declared.entity_type.ExportKind.{ExportKind}
 use Rattle.smith_data.specs.declared.entity_type.ExportKind.TheVariants as kind
 use Rattle.smith_config.specs.declared.config.Config.{Config}
 use Rattle.smith_rules.specs.ExportedItems.{Export, exported_size}
-use Rattle.smith_draw.specs.Choices.{enabled, chosen_at}
-use Rattle.smith_draw.specs.TypeUses.{places_from}
+use Rattle.smith_draw_types.specs.Choices.{enabled, chosen_at}
+use Rattle.smith_draw_types.specs.TypeUses.{places_from}
 
 -- whether an export has this name
 abbrev pub is_exported : List Export → List ℕ → Bool

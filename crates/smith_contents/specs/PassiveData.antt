@@ -4,7 +4,7 @@ use Rattle.smith_bytes.specs.Spelling.{Listed}
 use Rattle.smith_data.specs.declared.segments.DataSegment.{DataSegment}
 use Rattle.smith_data.specs.declared.segments.DataSegmentKind.TheVariants.{Passive}
 use Rattle.smith_config.specs.declared.config.Config.{Config}
-use Rattle.smith_draw.specs.SpelledParts.{SpellsBytes}
+use Rattle.smith_draw_types.specs.SpelledParts.{SpellsBytes}
 
 -- bytes that are not copied anywhere
 abbrev pub passive_data : List ℕ → DataSegment

@@ -3,8 +3,8 @@ use Rattle.std.specs.Prelude.{ℕ, Bool, false, ◌&&◌, nat_lt, List, length, 
 use Rattle.smith_bytes.specs.Draws.{bool_at}
 use Rattle.smith_data.specs.declared.composite_type.SubType.{SubType}
 use Rattle.smith_config.specs.declared.config.Config.{Config}
-use Rattle.smith_draw.specs.Choices.{chosen_at}
-use Rattle.smith_draw.specs.TypeUses.{places_from, is_start_type}
+use Rattle.smith_draw_types.specs.Choices.{chosen_at}
+use Rattle.smith_draw_types.specs.TypeUses.{places_from, is_start_type}
 
 -- the indices of the functions that may start a module, imported ones too: those without parameters
 -- and results

@@ -5,16 +5,16 @@ ghost use Rattle.smith_types.specs.Floats.{IsNoFloat};
 ghost use Rattle.smith_config.specs.Features.{features_of};
 ghost use Rattle.smith_config.specs.Sanitized.{IsSanitized};
 ghost use Rattle.smith_config.specs.Granted.{IsGranted};
-ghost use Rattle.smith_draw.specs.Grounding.{standing_in};
-ghost use Rattle.smith_draw.specs.Drawing.{AlwaysDraws, Draws};
-ghost use Rattle.smith_draw.specs.KeptGrounds.{AreKeptGrounds};
+ghost use Rattle.smith_draw_types.specs.Grounding.{standing_in};
+ghost use Rattle.smith_draw_types.specs.Drawing.{AlwaysDraws, Draws};
+ghost use Rattle.smith_draw_types.specs.KeptGrounds.{AreKeptGrounds};
 ghost use Rattle.smith_contents.specs.DrawnBodies.{raw_bytes_at, is_raw_at, instructions_at};
 ghost use Rattle.smith_contents.specs.DrawnBodies.{body_at, bodies_at};
 ghost use Rattle.smith_rules.specs.Held.{IsRaw};
 
 use smith_bytes::{Error, Unstructured};
 use smith_config::Config;
-use smith_draw::{KeptGrounds, Spaces, Standing, draw_locals};
+use smith_draw_types::{KeptGrounds, Spaces, Standing, draw_locals};
 use smith_types::{Code, Instructions, Items};
 use std::alloc::Global;
 

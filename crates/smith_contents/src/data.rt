@@ -11,7 +11,7 @@ ghost use Rattle.smith_data.specs.declared.entity_type.MemoryType.{MemoryType};
 ghost use Rattle.smith_config.specs.Faults.{Passes};
 ghost use Rattle.smith_config.specs.Features.{features_of};
 ghost use Rattle.smith_const_expr.specs.ConstScopes.{AreSpacesValid, seen_by};
-ghost use Rattle.smith_draw.specs.Drawing.{AlwaysDraws, Draws};
+ghost use Rattle.smith_draw_types.specs.Drawing.{AlwaysDraws, Draws};
 ghost use Rattle.smith_bytes.specs.Steps.{ReturnsWhy};
 ghost use Rattle.smith_contents.specs.DataSegments.{HasPages, least_bytes, last_address};
 ghost use Rattle.smith_contents.specs.DataSegments.{constant_offset, address_at};
@@ -25,7 +25,7 @@ use crate::data_targets::{Targets, offer_memories};
 use crate::offset_globals::OffsetGlobals;
 use smith_bytes::{Count, Error, Unstructured, Why, goes_on};
 use smith_config::Config;
-use smith_draw::{Spaces, arbitrary_offset};
+use smith_draw_types::{Spaces, arbitrary_offset};
 use smith_types::{DataSegment, DataSegmentKind, Items, MemoryType, Offset};
 use std::alloc::Global;
 

@@ -1,8 +1,8 @@
 ghost use Rattle.std.specs.Prelude.{◌≡◌, [], ◌<◌, ◌^◌, ◌↔◌, true, length, IsTrue, IfOk, IfErr, All};
 ghost use Rattle.smith_bytes.specs.Source.{KeepsPieces};
-ghost use Rattle.smith_draw.specs.Choices.{chosen_at};
+ghost use Rattle.smith_draw_types.specs.Choices.{chosen_at};
 ghost use Rattle.smith_const_expr.specs.ConstScopes.{AreSpacesValid, seen_by};
-ghost use Rattle.smith_draw.specs.Drawing.{AlwaysDraws};
+ghost use Rattle.smith_draw_types.specs.Drawing.{AlwaysDraws};
 ghost use Rattle.smith_contents.specs.DataSegments.{may_hold_data_at, counting_at, globals_for};
 ghost use Rattle.smith_contents.specs.DataSegments.{no_memory, targets_of};
 ghost use Rattle.smith_contents.specs.DataTargets.{AreTargets, indexed};
@@ -11,7 +11,7 @@ use crate::offered_indices::OfferedIndices;
 use crate::offset_globals::OffsetGlobals;
 use smith_bytes::{Error, Unstructured};
 use smith_config::Config;
-use smith_draw::Spaces;
+use smith_draw_types::Spaces;
 use smith_types::MemoryType;
 use std::alloc::Global;
 use std::marker::Model;
@@ -78,7 +78,7 @@ impl<'a> Targets<'a> {
 
     /// Draws a memory that segments may be copied into. Returns its index and its type. Requires at
     /// least one such memory.
-    #[tactic(auto, unfolding(smith_draw::specs::Choices::chosen_at))]
+    #[tactic(auto, unfolding(smith_draw_types::specs::Choices::chosen_at))]
     pub(crate) fn choose(&self, u: &mut Unstructured<'_>) -> (u32, MemoryType)
         requires { 0 < length self.now.memories }
         ensures { AlwaysDraws (chosen_at no_memory self.now.memories u.old) result u.old u.new }

@@ -1,7 +1,7 @@
 ghost use Rattle.std.specs.Prelude.{◌≡◌, ◌<◌, ◌^◌, false, length, IfOk, IfErr, All};
 ghost use Rattle.smith_bytes.specs.Source.{KeepsPieces};
 ghost use Rattle.smith_config.specs.declared.config.Config.{Config};
-ghost use Rattle.smith_draw.specs.Drawing.{AlwaysDraws, Draws};
+ghost use Rattle.smith_draw_types.specs.Drawing.{AlwaysDraws, Draws};
 ghost use Rattle.smith_contents.specs.DrawnElements.{IsKindOffered, MayDrawElements};
 ghost use Rattle.smith_contents.specs.ElementSegments.{is_plain_func, is_funcref, is_offered_at};
 ghost use Rattle.smith_contents.specs.ElementSegments.{element_kinds_at};
@@ -11,7 +11,7 @@ use crate::offered_indices::OfferedIndices;
 use crate::offered_kinds::OfferedKinds;
 use smith_bytes::{Error, Unstructured};
 use smith_config::Config;
-use smith_draw::Spaces;
+use smith_draw_types::Spaces;
 use smith_types::{AbstractHeapType, HeapType, RefType, TableType};
 use std::alloc::Global;
 

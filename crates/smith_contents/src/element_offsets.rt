@@ -3,7 +3,7 @@ ghost use Rattle.smith_types.specs.Entities.{most_elements};
 ghost use Rattle.smith_types.specs.Expressions.{Context};
 ghost use Rattle.smith_types.specs.Segments.{IsOffsetValid, IsOffsetInside};
 ghost use Rattle.smith_const_expr.specs.ConstScopes.{AreSpacesValid, seen_by};
-ghost use Rattle.smith_draw.specs.Drawing.{AlwaysDraws};
+ghost use Rattle.smith_draw_types.specs.Drawing.{AlwaysDraws};
 ghost use Rattle.smith_contents.specs.DrawnElements.{FitsAddresses, IsPlaced, IsKindDrawn};
 ghost use Rattle.smith_contents.specs.ElementSegments.{most_offset, constant_offset, hint_at};
 ghost use Rattle.smith_contents.specs.ElementSegments.{constant_offset_at, is_global_wanted_at};
@@ -13,7 +13,7 @@ use crate::element_kinds::KindChoice;
 use crate::offset_globals::OffsetGlobals;
 use smith_bytes::Unstructured;
 use smith_config::Config;
-use smith_draw::{Spaces, arbitrary_offset};
+use smith_draw_types::{Spaces, arbitrary_offset};
 use smith_types::{ElementKind, Offset, TableType};
 
 /// Returns the greatest constant offset into `table`: its minimum with `disallow_traps`, else the

@@ -3,16 +3,16 @@ ghost use Rattle.std.specs.Prelude.{if◌then◌else◌};
 ghost use Rattle.smith_types.specs.Entities.{IsFuncTypeIndex};
 ghost use Rattle.smith_types.specs.EntitySpaces.{spaces_in};
 ghost use Rattle.smith_types.specs.Sizes.{size_in};
-ghost use Rattle.smith_draw.specs.Choices.{chosen_at};
-ghost use Rattle.smith_draw.specs.Drawing.{AlwaysDraws};
-ghost use Rattle.smith_draw.specs.TypeUses.{places_from};
+ghost use Rattle.smith_draw_types.specs.Choices.{chosen_at};
+ghost use Rattle.smith_draw_types.specs.Drawing.{AlwaysDraws};
+ghost use Rattle.smith_draw_types.specs.TypeUses.{places_from};
 ghost use Rattle.smith_contents.specs.Exporting.{is_func_below, candidates, candidate_row};
 ghost use Rattle.smith_contents.specs.Exporting.{candidate_rows, offered_kinds};
 ghost use Rattle.smith_contents.specs.Exported.{HasSizeIn32Bits, IsFuncWithin, MayOffer};
 ghost use Rattle.smith_contents.specs.Exported.{IsCandidate};
 
 use smith_bytes::Unstructured;
-use smith_draw::{choose_enabled, count_enabled};
+use smith_draw_types::{choose_enabled, count_enabled};
 use smith_types::{EntitySpaces, EntityType, ExportKind, TypeSpace};
 
 /// The size of a table, a memory or a global, plus 1.
@@ -167,7 +167,7 @@ fn candidate_at(
 }
 
 /// Draws the index of an item of the kind `kind` that may be exported.
-#[tactic(auto, unfolding(smith_draw::specs::Choices::chosen_at))]
+#[tactic(auto, unfolding(smith_draw_types::specs::Choices::chosen_at))]
 pub(crate) fn choose_candidate(
     types: &TypeSpace,
     spaces: &EntitySpaces,

@@ -1,7 +1,7 @@
 ghost use Rattle.std.specs.Prelude.{◌≡◌, ◌<◌, ◌+◌, ◌^◌, ◌++◌, ◌∷◌, [], length, slice_index_or};
 ghost use Rattle.std.specs.Prelude.{IsTrue, ◌↔◌, OnOk, IfErr};
-ghost use Rattle.smith_draw.specs.Choices.{chosen_at};
-ghost use Rattle.smith_draw.specs.Drawing.{AlwaysDraws};
+ghost use Rattle.smith_draw_types.specs.Choices.{chosen_at};
+ghost use Rattle.smith_draw_types.specs.Drawing.{AlwaysDraws};
 
 use smith_bytes::{Error, Unstructured};
 use smith_types::Items;
@@ -88,7 +88,7 @@ impl OfferedIndices {
     }
 
     /// Draws an offered index. Requires at least one.
-    #[tactic(auto, unfolding(smith_draw::specs::Choices::chosen_at))]
+    #[tactic(auto, unfolding(smith_draw_types::specs::Choices::chosen_at))]
     pub(crate) fn choose(&self, u: &mut Unstructured<'_>) -> u32
         requires { 0 < length self.now.offered }
         ensures { AlwaysDraws (chosen_at 0 self.now.offered u.old) result u.old u.new }

@@ -1,6 +1,6 @@
 ghost use Rattle.std.specs.Prelude.{◌≡◌, ◌<◌, Some, IsTrue, ◌↔◌, length, slice_index_or, All};
-ghost use Rattle.smith_draw.specs.Choices.{chosen_at};
-ghost use Rattle.smith_draw.specs.Drawing.{AlwaysDraws};
+ghost use Rattle.smith_draw_types.specs.Choices.{chosen_at};
+ghost use Rattle.smith_draw_types.specs.Drawing.{AlwaysDraws};
 ghost use Rattle.smith_contents.specs.ElementSegments.{kept_kinds};
 ghost use Rattle.smith_contents.specs.OfferedKinds.{table_at, unnamed_kinds, kinds_over};
 
@@ -86,7 +86,7 @@ impl<'a> OfferedKinds<'a> {
     }
 
     /// Draws a kind. Requires at least one.
-    #[tactic(auto, unfolding(smith_draw::specs::Choices::chosen_at))]
+    #[tactic(auto, unfolding(smith_draw_types::specs::Choices::chosen_at))]
     pub(crate) fn choose(&self, u: &mut Unstructured<'_>) -> KindChoice
         requires { 0 < length self.now }
         ensures { AlwaysDraws (chosen_at KindChoice.Passive self.now u.old) result u.old u.new }

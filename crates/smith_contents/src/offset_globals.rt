@@ -1,15 +1,15 @@
 ghost use Rattle.std.specs.Prelude.{◌≡◌, ◌<◌, ◌≤◌, ◌^◌, [], true, Bool, length, slice_index_or};
 ghost use Rattle.std.specs.Prelude.{IsTrue};
-ghost use Rattle.smith_draw.specs.Choices.{chosen_at};
+ghost use Rattle.smith_draw_types.specs.Choices.{chosen_at};
 ghost use Rattle.smith_const_expr.specs.ConstScopes.{AreSpacesValid, seen_by, visible_end};
-ghost use Rattle.smith_draw.specs.Drawing.{AlwaysDraws};
+ghost use Rattle.smith_draw_types.specs.Drawing.{AlwaysDraws};
 ghost use Rattle.smith_contents.specs.DataSegments.{offset_globals};
 ghost use Rattle.smith_contents.specs.DataTargets.{TellOffsets};
 ghost use Rattle.smith_contents.specs.OffsetGlobals.{tells_offset, telling_from};
 
 use smith_bytes::Unstructured;
 use smith_config::Config;
-use smith_draw::Spaces;
+use smith_draw_types::Spaces;
 use smith_types::{GlobalType, ValType};
 use std::marker::Model;
 
@@ -72,7 +72,7 @@ impl<'a> OffsetGlobals<'a> {
     }
 
     /// Draws the index of a global that the offset may be read from. Requires at least one.
-    #[tactic(auto, unfolding(smith_draw::specs::Choices::chosen_at))]
+    #[tactic(auto, unfolding(smith_draw_types::specs::Choices::chosen_at))]
     pub(crate) fn choose(&self, u: &mut Unstructured<'_>) -> u32
         requires { 0 < length self.now }
         ensures { AlwaysDraws (chosen_at 0 self.now u.old) result u.old u.new }

@@ -1,9 +1,9 @@
 ghost use Rattle.std.specs.Prelude.{◌≡◌, ◌<◌, ◌^◌, false, length, slice_index_or, None, IsTrue};
 ghost use Rattle.smith_bytes.specs.Takes.{Takes, SpellsSuch};
 ghost use Rattle.smith_types.specs.Exports.{IsStartValid};
-ghost use Rattle.smith_draw.specs.Drawing.{AlwaysDraws};
-ghost use Rattle.smith_draw.specs.TypeUses.{takes_and_gives_nothing, is_start_type};
-ghost use Rattle.smith_draw.specs.SpelledParts.{SpellsNoStart};
+ghost use Rattle.smith_draw_types.specs.Drawing.{AlwaysDraws};
+ghost use Rattle.smith_draw_types.specs.TypeUses.{takes_and_gives_nothing, is_start_type};
+ghost use Rattle.smith_draw_types.specs.SpelledParts.{SpellsNoStart};
 ghost use Rattle.smith_contents.specs.Start.{start_funcs, start_wanted_at, start_at};
 
 use smith_bytes::Unstructured;
@@ -68,7 +68,7 @@ fn is_start_wanted(config: &Config, count: usize, u: &mut Unstructured<'_>) -> b
     u.arbitrary()
 }
 
-#[tactic(auto, unfolding(crate::specs::Start::start_at, smith_draw::specs::Choices::chosen_at))]
+#[tactic(auto, unfolding(crate::specs::Start::start_at, smith_draw_types::specs::Choices::chosen_at))]
 fn draw_start(
     config: &Config,
     types: &[SubType],

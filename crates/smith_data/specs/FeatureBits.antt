@@ -36,6 +36,35 @@ feature_table =
     (codes "CUSTOM_DESCRIPTORS", 8388608) ∷
     []
 
+-- whether each feature is in a set, and its bit
+abbrev pub feature_rows : Features → List (Bool × ℕ)
+feature_rows features =
+    (features.mutable_global, 1) ∷
+    (features.wasm1, 2) ∷
+    (features.saturating_float_to_int, 4) ∷
+    (features.sign_extension, 8) ∷
+    (features.reference_types, 16) ∷
+    (features.multi_value, 32) ∷
+    (features.bulk_memory, 64) ∷
+    (features.simd, 128) ∷
+    (features.relaxed_simd, 256) ∷
+    (features.multi_memory, 512) ∷
+    (features.exceptions, 1024) ∷
+    (features.memory64, 2048) ∷
+    (features.tail_call, 4096) ∷
+    (features.function_references, 8192) ∷
+    (features.gc, 16384) ∷
+    (features.compact_imports, 32768) ∷
+    (features.threads, 65536) ∷
+    (features.shared_everything_threads, 131072) ∷
+    (features.custom_page_sizes, 262144) ∷
+    (features.extended_const, 524288) ∷
+    (features.wide_arithmetic, 1048576) ∷
+    (features.acquire_release_atomics, 2097152) ∷
+    (features.multibyte_array_access, 4194304) ∷
+    (features.custom_descriptors, 8388608) ∷
+    []
+
 -- whether all wanted bits are set
 abbrev pub has : ℕ → ℕ → Bool
 has bits wanted = bit_and bits wanted == wanted

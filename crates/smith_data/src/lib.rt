@@ -2,8 +2,8 @@
 //! bodies, with features and kinds of instructions. The standard is the WebAssembly Core
 //! Specification 3.0. Sections in parentheses are sections of the standard.
 //!
-//! A call that returns a `Result` fails only if an allocation fails, apart from the errors in its
-//! section `# Errors`.
+//! A call that returns a `Result` fails only if an allocation fails, except for the parsers of kinds
+//! of instructions, which fail with [`UnknownKind`].
 #![tactic(auto)]
 
 mod clone_in;

@@ -9,9 +9,9 @@ use Rattle.smith_data.specs.declared.value_type.HeapType.TheVariants.{Abstract, 
 use Rattle.smith_data.specs.declared.value_type.ValType.{ValType}
 use Rattle.smith_data.specs.declared.value_type.ValType.TheVariants.{Ref}
 use Rattle.smith_data.specs.declared.composite_type.SubType.{SubType}
-use Rattle.smith_draw.specs.Offered.{supertype_of, supertype_at, ancestors_within, ancestors}
-use Rattle.smith_draw.specs.Below.{names, is_under, is_bottom_of, is_heap_below, is_val_below}
-use Rattle.smith_draw.proofs.AncestorLemmas.{supertype_before, within_enough}
+use Rattle.smith_draw_types.specs.Offered.{supertype_of, supertype_at, ancestors_within, ancestors}
+use Rattle.smith_draw_types.specs.Below.{names, is_under, is_bottom_of, is_heap_below, is_val_below}
+use Rattle.smith_draw_types.proofs.AncestorLemmas.{supertype_before, within_enough}
 use Rattle.smith_defined.proofs.GroupedTypeLemmas.{in_front}
 
 -- types in range of a list are in range of a longer one

@@ -3,7 +3,7 @@ use Rattle.std.proofs.Common.{◌≡◌, ℕ, ◌≤◌, ◌<◌, true, nat_lt, 
 use Rattle.std.proofs.lemmas.Bool.{ltb-false}
 use Rattle.smith_data.specs.declared.entity_type.MemoryType.{MemoryType}
 use Rattle.smith_config.specs.declared.config.Config.{Config}
-use Rattle.smith_draw.specs.Memories.{memtype_at}
+use Rattle.smith_draw_types.specs.Memories.{memtype_at}
 use Rattle.smith_bytes.specs.Spelling.{SpellsEmpty}
 use Rattle.smith_defined.specs.Defined.{IsFilled}
 use Rattle.smith_defined.specs.Definitions.{memories_at}

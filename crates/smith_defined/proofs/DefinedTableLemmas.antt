@@ -22,8 +22,8 @@ use Rattle.smith_config.specs.Sanitized.{IsSanitized}
 use Rattle.smith_config.specs.EntityBounds.{IsTableWithin}
 use Rattle.smith_const_expr.specs.ConstExprs.{table_init_at}
 use Rattle.smith_const_expr.specs.ConstScopes.{AreSpacesValid, seen_by}
-use Rattle.smith_draw.specs.TableTypes.{table_type_at}
-use Rattle.smith_draw.specs.declared.spaces.Spaces.{Spaces}
+use Rattle.smith_draw_types.specs.TableTypes.{table_type_at}
+use Rattle.smith_draw_types.specs.declared.spaces.Spaces.{Spaces}
 use Rattle.smith_bytes.specs.Spelling.{SpellsEmpty}
 use Rattle.smith_config.specs.Granted.{HasGroundedElements}
 use Rattle.smith_defined.specs.Defined.{IsFilled, AreAdded, MayInitialise, drawn_over, scope_of_spaces}

@@ -39,20 +39,6 @@ module _ (config : Config) (types : List SubType) (before : EntitySpaces) (so_fa
   unfolding definitions_at
   definitions_drawn of_tags of_funcs of_tables of_memories of_globals = rw (of_tags, of_funcs, of_tables, of_memories, of_globals) refl
 
--- the refusal of a part is that of the whole
-refused_part : {X Y A B : Type 0} (of_part : X → A) (of_whole : Y → B) (e : Error) (part : Result A Why) (whole : Result B Why) → ReturnsWhy of_part (Err e) part → ((why : Why) → part ≡ Err why → whole ≡ Err why) → ReturnsWhy of_whole (Err e) whole
-refused_part of_part of_whole errors.Memory part whole given passes = tt
-refused_part of_part of_whole errors.EmptyChoose part whole given passes = given
-refused_part of_part of_whole errors.NotEnoughData part whole given passes = given
-refused_part of_part of_whole (errors.Config fault) part whole given passes = given
-refused_part of_part of_whole (errors.Shape which fault) part whole given passes = given
-refused_part of_part of_whole (errors.IncorrectFormat why) part whole given passes = passes why given
-
-pub refused_by : {X Y A B : Type 0} (of_part : X → A) (of_whole : Y → B) (e : Error) (part : Result A Why) (whole : Result B Why) (result : Result Y Error) → ReturnsWhy of_part (Err e) part → ((why : Why) → part ≡ Err why → whole ≡ Err why)
-    → IsErrAnd result (λ y. y ≡ e) → ReturnsWhy of_whole result whole
-refused_by of_part of_whole e part whole (Ok y) given passes h = absurd h
-refused_by {X = X} of_part of_whole e part whole (Err own) given passes h = refused_part of_part of_whole own part whole (subst (λ (one : Error). ReturnsWhy of_part (Err one) part) (sym h) given) passes
-
 -- lack of memory, or of anything to choose from, is left open
 pub lack_left : {Y B : Type 0} (Holds : Type 0) (of_whole : Y → B) (e : Error) (whole : Result B Why) (result : Result Y Error) → (e ≡ errors.Memory) ⊎ ((e ≡ errors.EmptyChoose) × Holds) → IsErrAnd result (λ y. y ≡ e) → ReturnsWhy of_whole result whole
 lack_left Holds of_whole e whole (Ok y) lacks h = absurd h

@@ -17,10 +17,10 @@ use Rattle.smith_config.specs.declared.config.Config.{Config}
 use Rattle.smith_config.specs.Features.{features_of}
 use Rattle.smith_config.specs.Granted.{IsUngrounded}
 use Rattle.smith_const_expr.specs.ConstBounds.{MayRefuseConstExpr}
-use Rattle.smith_draw.specs.Grounding.{function_context}
-use Rattle.smith_draw.specs.KeptGrounds.{AreKeptGrounds}
-use Rattle.smith_draw.specs.declared.kept_grounds.KeptGrounds.{KeptGrounds}
-use Rattle.smith_draw.proofs.FilledLemmas.{fields_before}
+use Rattle.smith_draw_types.specs.Grounding.{function_context}
+use Rattle.smith_draw_types.specs.KeptGrounds.{AreKeptGrounds}
+use Rattle.smith_draw_types.specs.declared.kept_grounds.KeptGrounds.{KeptGrounds}
+use Rattle.smith_draw_types.proofs.FilledLemmas.{fields_before}
 use Rattle.smith_defined.specs.Defined.{MayDefine, MayInitialise, MayRefuseDrawn, MayRefuseDefined, drawn_over, drawn_beside}
 use Rattle.smith_defined.specs.Definitions.{scope_among, scope_over}
 use Rattle.smith_defined.specs.declared.definitions.Definitions.{Definitions}

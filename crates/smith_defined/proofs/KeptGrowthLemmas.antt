@@ -14,7 +14,7 @@ use Rattle.smith_data.specs.declared.value_type.ValType.{ValType}
 use Rattle.smith_data.specs.declared.composite_type.SubType.{SubType}
 use Rattle.smith_data.specs.declared.entity_type.GlobalType.{GlobalType}
 use Rattle.smith_validity.proofs.ReferredTypeLemmas.{value_in_range}
-use Rattle.smith_draw.specs.Below.{is_val_below}
+use Rattle.smith_draw_types.specs.Below.{is_val_below}
 use Rattle.smith_const_expr.specs.ConstOffers.{each_from, offered_if, global_offers, function_offers}
 use Rattle.smith_const_expr.specs.KeptOffers.{AreClasses, AreFewRead, AreFlags, AreItemsRead, AreKeptOffers, AreManyKept, AreRecorded, IsEntry, IsKeptOffer, is_offered, offered_before, readable}
 use Rattle.smith_const_expr.specs.declared.classes.Classes.{Classes}
@@ -25,7 +25,7 @@ use Rattle.smith_const_expr.specs.declared.kept_offers.ManyItems.{ManyItems}
 use Rattle.smith_const_expr.specs.declared.read_items.ReadItems.{ReadItems}
 use Rattle.smith_const_expr.proofs.BlockCountLemmas.{counted_alike}
 use Rattle.smith_const_expr.proofs.ClassLemmas.{get_within_front}
-use Rattle.smith_draw.proofs.GroundingLemmas.{within_reference}
+use Rattle.smith_draw_types.proofs.GroundingLemmas.{within_reference}
 use Rattle.smith_defined.proofs.BelowGrowthLemmas.{value_longer, value_same}
 
 -- the globals and functions of a context are valid over its types, which are orderly

@@ -14,13 +14,13 @@ use Rattle.smith_data.specs.declared.const_instr.ConstInstr.TheVariants.{I32Cons
 use Rattle.smith_data.specs.declared.value_type.ValType.TheVariants.{I32}
 use Rattle.smith_config.specs.declared.config.Config.{Config}
 use Rattle.smith_types.specs.Expressions.{Context}
-use Rattle.smith_draw.specs.GlobalTypes.{global_type_at}
-use Rattle.smith_draw.specs.Grounding.{without_globals}
-use Rattle.smith_draw.specs.SpelledGlobals.{mutable_i32, SpellsMutableI32}
-use Rattle.smith_draw.specs.SpelledConstants.{SpellsConstExpr}
-use Rattle.smith_draw.proofs.GlobalTypeLemmas.{global_type_taken}
+use Rattle.smith_draw_types.specs.GlobalTypes.{global_type_at}
+use Rattle.smith_draw_types.specs.Grounding.{without_globals}
+use Rattle.smith_draw_types.specs.SpelledGlobals.{mutable_i32, SpellsMutableI32}
+use Rattle.smith_draw_types.specs.SpelledConstants.{SpellsConstExpr}
+use Rattle.smith_draw_types.proofs.GlobalTypeLemmas.{global_type_taken}
 use Rattle.smith_const_expr.proofs.SpelledConstExprLemmas.{constant_read, mutable_not_read}
-use Rattle.smith_draw.specs.SpelledParts.{SpellsGlobal}
+use Rattle.smith_draw_types.specs.SpelledParts.{SpellsGlobal}
 use Rattle.smith_defined.specs.NumberedGlobals.{SpellsGlobals}
 use Rattle.smith_defined.specs.Definitions.{InitialiserScope, Global, globals_of, global_scope, initialised_at, global_at, globals_at}
 use Rattle.smith_defined.proofs.DefinedLemmas.{defined_alone}

@@ -17,9 +17,9 @@ use Rattle.smith_config.specs.declared.config.Config.{Config}
 use Rattle.smith_const_expr.specs.ConstBounds.{MayRefuseConstExpr}
 use Rattle.smith_const_expr.specs.ConstExprs.{const_expr_at, table_init_at}
 use Rattle.smith_const_expr.specs.ConstScopes.{seen_by}
-use Rattle.smith_draw.specs.Grounding.{standing_in, without_globals}
-use Rattle.smith_draw.specs.declared.spaces.Spaces.{Spaces}
-use Rattle.smith_draw.proofs.NullableLemmas.{ungrounded_not_null}
+use Rattle.smith_draw_types.specs.Grounding.{standing_in, without_globals}
+use Rattle.smith_draw_types.specs.declared.spaces.Spaces.{Spaces}
+use Rattle.smith_draw_types.proofs.NullableLemmas.{ungrounded_not_null}
 use Rattle.smith_defined.specs.Defined.{drawn_beside}
 use Rattle.smith_defined.specs.Required.{MayRefuseInitial}
 use Rattle.smith_bytes.specs.Steps.{Returns, is_memory}

@@ -38,14 +38,14 @@ use Rattle.smith_config.specs.declared.shape.Shape.{Shape}
 use Rattle.smith_config.specs.Features.{features_of}
 use Rattle.smith_config.specs.Shapes.{most_listed, space_of, shape_types, shape_spaces, shape_values, IsTypePlain, ArePlain}
 use Rattle.smith_config.specs.Granted.{IsNonNullable, IsUngrounded}
-use Rattle.smith_draw.specs.HeldFields.{HoldsUngroundedField}
-use Rattle.smith_draw.specs.HeldFields.{fields_of}
-use Rattle.smith_draw.specs.FuncSizes.{HasFewValues}
-use Rattle.smith_draw.proofs.FuncSizeLemmas.{shape_few}
+use Rattle.smith_draw_types.specs.HeldFields.{HoldsUngroundedField}
+use Rattle.smith_draw_types.specs.HeldFields.{fields_of}
+use Rattle.smith_draw_types.specs.FuncSizes.{HasFewValues}
+use Rattle.smith_draw_types.proofs.FuncSizeLemmas.{shape_few}
 use Rattle.smith_rules.specs.Bounds.{counts_as}
 use Rattle.smith_rules.specs.ShapeImports.{count_in}
 use Rattle.smith_defined.proofs.RequiredLimitLemmas.{limits_more, no_types, type_more}
-use Rattle.smith_draw.proofs.FilledLemmas.{any_weaker, fields_before, later_ungrounded}
+use Rattle.smith_draw_types.proofs.FilledLemmas.{any_weaker, fields_before, later_ungrounded}
 use Rattle.smith_defined.specs.Defined.{AreWithin, HasRoom, drawn_beside}
 use Rattle.smith_defined.specs.Required.{
   AddsTypesOf,

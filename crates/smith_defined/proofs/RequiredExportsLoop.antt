@@ -26,8 +26,8 @@ use Rattle.smith_config.specs.declared.config.Config.{Config}
 use Rattle.smith_config.specs.declared.shape.Shape.{Shape}
 use Rattle.smith_config.specs.Shapes.{most_listed, shape_types, shape_spaces, shape_values}
 use Rattle.smith_config.specs.Granted.{IsNonNullable}
-use Rattle.smith_draw.specs.HeldFields.{HoldsUngroundedField}
-use Rattle.smith_draw.specs.FuncSizes.{HasFewValues}
+use Rattle.smith_draw_types.specs.HeldFields.{HoldsUngroundedField}
+use Rattle.smith_draw_types.specs.FuncSizes.{HasFewValues}
 use Rattle.smith_rules.specs.Bounds.{counts_as}
 use Rattle.smith_rules.specs.ShapeImports.{count_in}
 use Rattle.smith_rules.specs.ExportedItems.{IsStanding, Export}

@@ -12,18 +12,18 @@ use Rattle.smith_bytes.specs.declared.error.Error.{Error}
 use Rattle.smith_types.specs.Entities.{IsTagValid, IsFuncTypeIndex}
 use Rattle.smith_data.specs.declared.composite_type.SubType.{SubType}
 use Rattle.smith_config.specs.declared.config.Config.{Config}
-use Rattle.smith_draw.specs.Choices.{chosen_at}
-use Rattle.smith_draw.specs.Spelling.{SpellsPlace}
-use Rattle.smith_draw.specs.TypeUses.{is_tag_type, types_for, func_types}
-use Rattle.smith_draw.specs.declared.type_use.TypeUse.TheVariants.{Tag, DefinedFunc}
-use Rattle.smith_draw.proofs.SpelledValueLemmas.{chosen_read}
-use Rattle.smith_draw.proofs.SupertypeLemmas.{chosen_of}
-use Rattle.smith_draw.proofs.TypeUseLemmas.{types_usable, places_any}
+use Rattle.smith_draw_types.specs.Choices.{chosen_at}
+use Rattle.smith_draw_types.specs.Spelling.{SpellsPlace}
+use Rattle.smith_draw_types.specs.TypeUses.{is_tag_type, types_for, func_types}
+use Rattle.smith_draw_types.specs.declared.type_use.TypeUse.TheVariants.{Tag, DefinedFunc}
+use Rattle.smith_draw_types.proofs.SpelledValueLemmas.{chosen_read}
+use Rattle.smith_draw_types.proofs.SupertypeLemmas.{chosen_of}
+use Rattle.smith_draw_types.proofs.TypeUseLemmas.{types_usable, places_any}
 use Rattle.smith_bytes.specs.Steps.{ReturnsWhy}
 use Rattle.smith_bytes.specs.Spelling.{SpellsEmpty}
 use Rattle.smith_defined.specs.Defined.{IsFilled}
 use Rattle.smith_defined.specs.Definitions.{items_defined_at, type_indices_at, tag_types, tags_at, funcs_at}
-use Rattle.smith_draw.specs.SpelledParts.{SpellsNoTag, SpellsFuncs}
+use Rattle.smith_draw_types.specs.SpelledParts.{SpellsNoTag, SpellsFuncs}
 use Rattle.smith_defined.proofs.ExtensionLemmas.{all_kept}
 use Rattle.smith_defined.proofs.DefinedLemmas.{defined_all, defined_filled, defined_read, none_listed}
 use Rattle.smith_bytes.proofs.StepLemmas.{given_is}

@@ -18,10 +18,10 @@ use Rattle.smith_config.specs.Faults.{Passes}
 use Rattle.smith_config.specs.Features.{features_of}
 use Rattle.smith_config.specs.Sanitized.{IsSanitized}
 use Rattle.smith_config.specs.EntityBounds.{IsTableWithin, IsMemoryWithin}
-use Rattle.smith_draw.specs.HeldFields.{HoldsUngroundedField}
+use Rattle.smith_draw_types.specs.HeldFields.{HoldsUngroundedField}
 use Rattle.smith_types.specs.Floats.{GivesNoFloat, HasNoFloatValue}
-use Rattle.smith_draw.specs.Grounding.{without_globals}
-use Rattle.smith_draw.specs.declared.spaces.Spaces.{Spaces}
+use Rattle.smith_draw_types.specs.Grounding.{without_globals}
+use Rattle.smith_draw_types.specs.declared.spaces.Spaces.{Spaces}
 use Rattle.smith_defined.specs.Definitions.{InitialiserScope, scope_over, context_at, table_scope}
 use Rattle.smith_config.specs.Granted.{HasGroundedElements, HasGroundedValue}
 use Rattle.smith_rules.specs.Module.{IsTableInitialised}

@@ -16,16 +16,16 @@ use Rattle.smith_data.specs.declared.entity_type.TableType.{TableType}
 use Rattle.smith_data.specs.declared.const_instr.ConstInstr.{ConstInstr}
 use Rattle.smith_config.specs.declared.config.Config.{Config}
 use Rattle.smith_config.specs.Features.{features_of}
-use Rattle.smith_draw.specs.Choices.{chosen_at}
+use Rattle.smith_draw_types.specs.Choices.{chosen_at}
 use Rattle.smith_const_expr.specs.ConstExprs.{const_expr_at, table_init_at}
-use Rattle.smith_draw.specs.Grounding.{without_globals}
-use Rattle.smith_draw.specs.GlobalTypes.{global_type_at}
-use Rattle.smith_draw.specs.Memories.{memtype_at}
-use Rattle.smith_draw.specs.TableTypes.{table_type_at}
-use Rattle.smith_draw.specs.TypeUses.{types_for}
+use Rattle.smith_draw_types.specs.Grounding.{without_globals}
+use Rattle.smith_draw_types.specs.GlobalTypes.{global_type_at}
+use Rattle.smith_draw_types.specs.Memories.{memtype_at}
+use Rattle.smith_draw_types.specs.TableTypes.{table_type_at}
+use Rattle.smith_draw_types.specs.TypeUses.{types_for}
 use Rattle.smith_bytes.specs.Steps.{◌>>=◌}
 use Rattle.smith_defined.specs.declared.definitions.Definitions.{Definitions}
-use Rattle.smith_draw.specs.declared.type_use.TypeUse.TheVariants as uses
+use Rattle.smith_draw_types.specs.declared.type_use.TypeUse.TheVariants as uses
 
 -- the items of a kind that are defined after `before` items: they are drawn one after another until
 -- the minimum is met, then while a drawn bool is true; if there were items before and the maximum

@@ -5,8 +5,8 @@ use Rattle.smith_data.specs.declared.entity_type.GlobalType.{GlobalType}
 use Rattle.smith_data.specs.declared.const_instr.ConstInstr.{ConstInstr}
 use Rattle.smith_data.specs.declared.const_instr.ConstInstr.TheVariants.{I32Const}
 use Rattle.smith_config.specs.declared.config.Config.{Config}
-use Rattle.smith_draw.specs.SpelledGlobals.{mutable_i32}
-use Rattle.smith_draw.specs.SpelledParts.{SpellsGlobal}
+use Rattle.smith_draw_types.specs.SpelledGlobals.{mutable_i32}
+use Rattle.smith_draw_types.specs.SpelledParts.{SpellsGlobal}
 
 -- globals and their initialisers, one for each number
 pub record SpellsGlobals (config : Config) (globals : List GlobalType × List (List ConstInstr)) (piece : List ℕ) : Type 0 where

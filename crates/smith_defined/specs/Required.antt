@@ -27,8 +27,8 @@ use Rattle.smith_config.specs.Features.{features_of}
 use Rattle.smith_config.specs.Sanitized.{IsSanitized}
 use Rattle.smith_config.specs.Shapes.{most_listed, shape_types, shape_spaces, shape_values, IsShapeValid}
 use Rattle.smith_config.specs.Granted.{IsNonNullable}
-use Rattle.smith_draw.specs.HeldFields.{HoldsUngroundedField}
-use Rattle.smith_draw.specs.FuncSizes.{HasFewValues}
+use Rattle.smith_draw_types.specs.HeldFields.{HoldsUngroundedField}
+use Rattle.smith_draw_types.specs.FuncSizes.{HasFewValues}
 use Rattle.smith_rules.specs.Bounds.{counts_as, items_of_exports}
 use Rattle.smith_rules.specs.ShapeImports.{count_in}
 use Rattle.smith_defined.specs.Defined.{AreWithin, HasRoom, StandsBehind, drawn_beside}

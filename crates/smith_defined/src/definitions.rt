@@ -2,7 +2,7 @@ ghost use Rattle.std.specs.Prelude.{◌≡◌, false, IfErr, OnOk, All};
 ghost use Rattle.smith_bytes.specs.Source.{KeepsPieces};
 ghost use Rattle.smith_types.specs.Floats.{HasNoFloat};
 ghost use Rattle.smith_types.specs.EntitySpaces.{spaces_in};
-ghost use Rattle.smith_draw.specs.KeptGrounds.{AreKeptGrounds};
+ghost use Rattle.smith_draw_types.specs.KeptGrounds.{AreKeptGrounds};
 ghost use Rattle.smith_defined.specs.Definitions.{definitions_at};
 ghost use Rattle.smith_bytes.specs.Steps.{ReturnsWhy};
 ghost use Rattle.smith_defined.specs.Defined.{nothing_defined, drawn_beside, MayDefine};
@@ -16,7 +16,7 @@ use crate::tables::define_tables;
 use crate::tags::define_tags;
 use smith_bytes::{Error, Unstructured};
 use smith_config::Config;
-use smith_draw::KeptGrounds;
+use smith_draw_types::KeptGrounds;
 use smith_types::{ConstInstr, EntitySpaces, Items, TypeSpace};
 use std::alloc::Global;
 

@@ -10,16 +10,16 @@ ghost use Rattle.smith_config.specs.Sanitized.{IsSanitized};
 ghost use Rattle.smith_bytes.specs.Steps.{ReturnsWhy};
 ghost use Rattle.smith_defined.specs.Defined.{IsFilled};
 ghost use Rattle.smith_defined.specs.Definitions.{funcs_at};
-ghost use Rattle.smith_draw.specs.Grounding.{function_context};
-ghost use Rattle.smith_draw.specs.KeptGrounds.{AreKeptGrounds};
-ghost use Rattle.smith_draw.specs.TypeUses.{func_types};
-ghost use Rattle.smith_draw.specs.SpelledParts.{SpellsFuncs};
+ghost use Rattle.smith_draw_types.specs.Grounding.{function_context};
+ghost use Rattle.smith_draw_types.specs.KeptGrounds.{AreKeptGrounds};
+ghost use Rattle.smith_draw_types.specs.TypeUses.{func_types};
+ghost use Rattle.smith_draw_types.specs.SpelledParts.{SpellsFuncs};
 ghost use Rattle.smith_rules.specs.Refusals.{MayRefuse};
 
 use crate::typed::define_typed;
 use smith_bytes::{Count, Error, Unstructured, Why};
 use smith_config::Config;
-use smith_draw::{KeptGrounds, TypeUse, list_types};
+use smith_draw_types::{KeptGrounds, TypeUse, list_types};
 use smith_types::{Items, TypeSpace};
 use std::alloc::Global;
 

@@ -10,7 +10,7 @@ ghost use Rattle.smith_data.specs.declared.entity_type.GlobalType.{GlobalType};
 ghost use Rattle.smith_config.specs.Features.{features_of};
 ghost use Rattle.smith_config.specs.Sanitized.{IsSanitized};
 ghost use Rattle.smith_const_expr.specs.ConstScopes.{AreSpacesValid, seen_by};
-ghost use Rattle.smith_draw.specs.Grounding.{standing_in};
+ghost use Rattle.smith_draw_types.specs.Grounding.{standing_in};
 ghost use Rattle.smith_const_expr.specs.KeptOffers.{AreKeptOffers};
 ghost use Rattle.smith_config.specs.Granted.{HasGroundedValue};
 ghost use Rattle.smith_defined.specs.Defined.{IsFilled, AreAdded, MayInitialise, MayRefuseDrawn};
@@ -22,7 +22,7 @@ use crate::past_maximum::discard_past_maximum;
 use smith_bytes::{Error, Unstructured, goes_on};
 use smith_config::Config;
 use smith_const_expr::{KeptOffers, draw_const_expr};
-use smith_draw::{Entities, Spaces, Standing, draw_global_type};
+use smith_draw_types::{Entities, Spaces, Standing, draw_global_type};
 use smith_types::{ConstInstr, GlobalType, Items, TypeSpace};
 use std::alloc::Global;
 

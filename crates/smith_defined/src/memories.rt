@@ -4,7 +4,7 @@ ghost use Rattle.smith_types.specs.Entities.{IsMemoryValid};
 ghost use Rattle.smith_config.specs.Faults.{Passes};
 ghost use Rattle.smith_config.specs.Features.{features_of};
 ghost use Rattle.smith_config.specs.EntityBounds.{IsMemoryWithin};
-ghost use Rattle.smith_draw.specs.Drawing.{DrawsInto};
+ghost use Rattle.smith_draw_types.specs.Drawing.{DrawsInto};
 ghost use Rattle.smith_bytes.specs.Spelling.{SpellsEmpty};
 ghost use Rattle.smith_defined.specs.Defined.{IsFilled, AreAdded};
 ghost use Rattle.smith_defined.specs.Definitions.{memories_at};
@@ -13,7 +13,7 @@ ghost use Rattle.smith_bytes.specs.Spelling.{SpellsNone};
 use crate::past_maximum::discard_past_maximum;
 use smith_bytes::{Error, Unstructured, goes_on};
 use smith_config::Config;
-use smith_draw::arbitrary_memtype;
+use smith_draw_types::arbitrary_memtype;
 use smith_types::{Items, MemoryType};
 
 /// Adds memories of drawn types to the end of `memories`.

@@ -21,7 +21,7 @@ use crate::standing::standing;
 use smith_bytes::{Error, Unstructured, Why};
 use smith_config::Config;
 use smith_const_expr::{KeptOffers, draw_const_expr, draw_table_init};
-use smith_draw::Spaces;
+use smith_draw_types::Spaces;
 use smith_types::{EntitySpaces, EntityType, ExportKind, GlobalType, TableType, TypeSpace};
 use std::alloc::Global;
 

@@ -11,9 +11,9 @@ ghost use Rattle.smith_types.specs.Imports.{EntitySpaces as EntityLists, importe
 ghost use Rattle.smith_types.specs.EntitySpaces.{spaces_in};
 ghost use Rattle.smith_config.specs.Shapes.{most_listed, shape_imports, shape_spaces, shape_types};
 ghost use Rattle.smith_config.specs.Shapes.{IsShapeValid};
-ghost use Rattle.smith_draw.specs.HeldFields.{HoldsUngroundedField};
+ghost use Rattle.smith_draw_types.specs.HeldFields.{HoldsUngroundedField};
 ghost use Rattle.smith_const_expr.specs.KeptOffers.{AreKeptOffers};
-ghost use Rattle.smith_draw.specs.FuncSizes.{HasFewValues};
+ghost use Rattle.smith_draw_types.specs.FuncSizes.{HasFewValues};
 ghost use Rattle.smith_rules.specs.Bounds.{items_of_exports};
 ghost use Rattle.smith_rules.specs.ShapeImports.{count_in};
 ghost use Rattle.smith_rules.specs.ExportedItems.{IsStanding, Export};

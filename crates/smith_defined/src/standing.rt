@@ -1,6 +1,6 @@
 ghost use Rattle.std.specs.Prelude.{◌≡◌, ◌≤◌, take, length};
 
-use smith_draw::{Entities, Spaces};
+use smith_draw_types::{Entities, Spaces};
 use smith_types::{GlobalType, TypeSpace};
 
 /// Returns the types, functions and globals that an initialiser may refer to.

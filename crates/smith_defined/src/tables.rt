@@ -20,7 +20,7 @@ use crate::past_maximum::discard_past_maximum;
 use smith_bytes::{Error, Unstructured, goes_on};
 use smith_config::Config;
 use smith_const_expr::{KeptOffers, draw_table_init};
-use smith_draw::{Spaces, Standing, draw_table_type};
+use smith_draw_types::{Spaces, Standing, draw_table_type};
 use smith_types::{ConstInstr, Items, TableType};
 use std::alloc::Global;
 

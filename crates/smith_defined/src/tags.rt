@@ -7,13 +7,13 @@ ghost use Rattle.smith_bytes.specs.Steps.{ReturnsWhy};
 ghost use Rattle.smith_bytes.specs.Spelling.{SpellsEmpty};
 ghost use Rattle.smith_defined.specs.Defined.{IsFilled};
 ghost use Rattle.smith_defined.specs.Definitions.{tag_types, tags_at};
-ghost use Rattle.smith_draw.specs.SpelledParts.{SpellsNoTag};
+ghost use Rattle.smith_draw_types.specs.SpelledParts.{SpellsNoTag};
 ghost use Rattle.smith_rules.specs.Refusals.{MayRefuse};
 
 use crate::typed::define_typed;
 use smith_bytes::{Count, Error, Unstructured};
 use smith_config::Config;
-use smith_draw::{TypeUse, list_types};
+use smith_draw_types::{TypeUse, list_types};
 use smith_types::{Items, SubType, TypeSpace};
 use std::alloc::Global;
 

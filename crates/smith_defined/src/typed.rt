@@ -1,13 +1,13 @@
 ghost use Rattle.std.specs.Prelude.{◌≡◌, ◌<◌, ◌⊎◌, length, IfErr};
 ghost use Rattle.smith_bytes.specs.Source.{KeepsPieces};
-ghost use Rattle.smith_draw.specs.Choices.{chosen_at};
-ghost use Rattle.smith_draw.specs.Drawing.{DrawsInto};
+ghost use Rattle.smith_draw_types.specs.Choices.{chosen_at};
+ghost use Rattle.smith_draw_types.specs.Drawing.{DrawsInto};
 ghost use Rattle.smith_bytes.specs.Steps.{ReturnsWhy};
 ghost use Rattle.smith_defined.specs.Definitions.{items_defined_at, behind, type_indices_at};
 
 use crate::past_maximum::discard_past_maximum;
 use smith_bytes::{Count, Error, Unstructured, Why, goes_on};
-use smith_draw::choose;
+use smith_draw_types::choose;
 use smith_types::Items;
 
 /// Adds items to the end of `items`, each as the index of its type, which is one of `choices`.

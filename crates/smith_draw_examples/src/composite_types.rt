@@ -9,14 +9,14 @@ ghost use Rattle.smith_types.specs.ExampleTypes.{plain_func, open_type, final_ty
 ghost use Rattle.smith_types.specs.ExampleTypes.{struct_and_below};
 ghost use Rattle.smith_const_expr.specs.ExampleConstExprs.{context_of_types};
 ghost use Rattle.smith_config.specs.Config.{default_config};
-ghost use Rattle.smith_draw.specs.CompositeTypes.{struct_type_at, func_type_at, composite_type_at};
-ghost use Rattle.smith_draw.specs.MatchingComposites.{matching_struct_type_at};
-ghost use Rattle.smith_draw.specs.SubTypes.{may_have_subtypes, supertype_wanted_at, root_type_at};
-ghost use Rattle.smith_draw.specs.SubTypes.{sub_type_of_at};
-ghost use Rattle.smith_draw.specs.RecGroups.{clone_wanted_at};
-ghost use Rattle.smith_draw.specs.ExampleStanding.{chain};
+ghost use Rattle.smith_draw_types.specs.CompositeTypes.{struct_type_at, func_type_at, composite_type_at};
+ghost use Rattle.smith_draw_types.specs.MatchingComposites.{matching_struct_type_at};
+ghost use Rattle.smith_draw_types.specs.SubTypes.{may_have_subtypes, supertype_wanted_at, root_type_at};
+ghost use Rattle.smith_draw_types.specs.SubTypes.{sub_type_of_at};
+ghost use Rattle.smith_draw_types.specs.RecGroups.{clone_wanted_at};
+ghost use Rattle.smith_draw_types.specs.ExampleStanding.{chain};
 
-#[tactic(auto, unfolding(smith_draw::specs::CompositeTypes::struct_type_at, smith_draw::specs::MatchingComposites::matching_struct_type_at, smith_draw::specs::MatchingTypes::matched_fields_at, smith_draw::specs::MatchingTypes::each_at, smith_draw::specs::MatchingTypes::matching_field_type_at, smith_draw::specs::FieldTypes::fields_until_at, smith_draw::specs::FieldTypes::field_type_at, smith_draw::specs::FieldTypes::storage_type_at, smith_bytes::specs::Growth::grow_at, smith_bytes::specs::Draws::bool_at, smith_bytes::specs::Draws::range_at, smith_bytes::specs::Draws::digit_count))]
+#[tactic(auto, unfolding(smith_draw_types::specs::CompositeTypes::struct_type_at, smith_draw_types::specs::MatchingComposites::matching_struct_type_at, smith_draw_types::specs::MatchingTypes::matched_fields_at, smith_draw_types::specs::MatchingTypes::each_at, smith_draw_types::specs::MatchingTypes::matching_field_type_at, smith_draw_types::specs::FieldTypes::fields_until_at, smith_draw_types::specs::FieldTypes::field_type_at, smith_draw_types::specs::FieldTypes::storage_type_at, smith_bytes::specs::Growth::grow_at, smith_bytes::specs::Draws::bool_at, smith_bytes::specs::Draws::range_at, smith_bytes::specs::Draws::digit_count))]
 fn fields()
     ensures at_most { struct_type_at default_config (context_of_types []) false 0 (20 ∷ [])
         ≡ (record { fields = replicate 20 (constant I8) }, []) }
@@ -33,7 +33,7 @@ fn fields()
         ≡ (record { fields = constant I8 ∷ variable I8 ∷ [] }, []) }
 {}
 
-#[tactic(auto, unfolding(smith_draw::specs::CompositeTypes::func_type_at, smith_draw::specs::CompositeTypes::val_types_at, smith_draw::specs::ValueTypes::val_type_at, smith_draw::specs::Choices::chosen_at, smith_bytes::specs::Growth::grow_at, smith_bytes::specs::Draws::bool_at, smith_bytes::specs::Draws::range_at, smith_bytes::specs::Draws::digit_count))]
+#[tactic(auto, unfolding(smith_draw_types::specs::CompositeTypes::func_type_at, smith_draw_types::specs::CompositeTypes::val_types_at, smith_draw_types::specs::ValueTypes::val_type_at, smith_draw_types::specs::Choices::chosen_at, smith_bytes::specs::Growth::grow_at, smith_bytes::specs::Draws::bool_at, smith_bytes::specs::Draws::range_at, smith_bytes::specs::Draws::digit_count))]
 fn functions()
     ensures at_most { func_type_at default_config (context_of_types []) false 0 (replicate 90 1)
         ≡ (record { params = replicate 20 I64; results = replicate 20 I64 }, replicate 10 1) }
@@ -42,7 +42,7 @@ fn functions()
         ≡ (record { params = []; results = I64 ∷ [] }, replicate 7 1) }
 {}
 
-#[tactic(auto, unfolding(smith_draw::specs::CompositeTypes::composite_type_at, smith_draw::specs::CompositeTypes::func_type_at, smith_draw::specs::CompositeTypes::val_types_at, smith_draw::specs::CompositeTypes::struct_type_at, smith_draw::specs::ValueTypes::sharedness_at, smith_draw::specs::FieldTypes::fields_until_at, smith_draw::specs::FieldTypes::field_type_at, smith_draw::specs::FieldTypes::storage_type_at, smith_bytes::specs::Growth::grow_at, smith_bytes::specs::Draws::ratio_at, smith_bytes::specs::Draws::bool_at, smith_bytes::specs::Draws::range_at, smith_bytes::specs::Draws::digit_count))]
+#[tactic(auto, unfolding(smith_draw_types::specs::CompositeTypes::composite_type_at, smith_draw_types::specs::CompositeTypes::func_type_at, smith_draw_types::specs::CompositeTypes::val_types_at, smith_draw_types::specs::CompositeTypes::struct_type_at, smith_draw_types::specs::ValueTypes::sharedness_at, smith_draw_types::specs::FieldTypes::fields_until_at, smith_draw_types::specs::FieldTypes::field_type_at, smith_draw_types::specs::FieldTypes::storage_type_at, smith_bytes::specs::Growth::grow_at, smith_bytes::specs::Draws::ratio_at, smith_bytes::specs::Draws::bool_at, smith_bytes::specs::Draws::range_at, smith_bytes::specs::Draws::digit_count))]
 fn composite_types()
     ensures first { composite_type_at default_config (context_of_types []) 0 (0 ∷ 1 ∷ 1 ∷ [])
         ≡ (record { inner = array (variable I16); shared = false }, []) }
@@ -60,7 +60,7 @@ fn composite_types()
         ≡ (record { inner = empty_struct; shared = true }, []) }
 {}
 
-#[tactic(auto, unfolding(smith_draw::specs::SubTypes::root_type_at, smith_draw::specs::SubTypes::sub_type_of_at, smith_draw::specs::MatchingComposites::matching_composite_type_at, smith_draw::specs::MatchingComposites::matching_struct_type_at, smith_draw::specs::MatchingTypes::matched_fields_at, smith_draw::specs::MatchingTypes::each_at, smith_draw::specs::CompositeTypes::composite_type_at, smith_draw::specs::CompositeTypes::func_type_at, smith_draw::specs::CompositeTypes::val_types_at, smith_draw::specs::ValueTypes::sharedness_at, smith_draw::specs::FieldTypes::fields_until_at, smith_draw::specs::FieldTypes::field_type_at, smith_draw::specs::FieldTypes::storage_type_at, smith_draw::specs::Choices::chosen_at, smith_bytes::specs::Growth::grow_at, smith_bytes::specs::Draws::bool_at, smith_bytes::specs::Draws::range_at, smith_bytes::specs::Draws::digit_count))]
+#[tactic(auto, unfolding(smith_draw_types::specs::SubTypes::root_type_at, smith_draw_types::specs::SubTypes::sub_type_of_at, smith_draw_types::specs::MatchingComposites::matching_composite_type_at, smith_draw_types::specs::MatchingComposites::matching_struct_type_at, smith_draw_types::specs::MatchingTypes::matched_fields_at, smith_draw_types::specs::MatchingTypes::each_at, smith_draw_types::specs::CompositeTypes::composite_type_at, smith_draw_types::specs::CompositeTypes::func_type_at, smith_draw_types::specs::CompositeTypes::val_types_at, smith_draw_types::specs::ValueTypes::sharedness_at, smith_draw_types::specs::FieldTypes::fields_until_at, smith_draw_types::specs::FieldTypes::field_type_at, smith_draw_types::specs::FieldTypes::storage_type_at, smith_draw_types::specs::Choices::chosen_at, smith_bytes::specs::Growth::grow_at, smith_bytes::specs::Draws::bool_at, smith_bytes::specs::Draws::range_at, smith_bytes::specs::Draws::digit_count))]
 fn subtypes()
     ensures final_first { root_type_at default_config (context_of_types []) 0 (1 ∷ 0 ∷ 0 ∷ 0 ∷ [])
         ≡ (final_type (array (constant I8)), []) }
@@ -72,7 +72,7 @@ fn subtypes()
         ≡ (open_type (Some 0) (struct (variable I8 ∷ [])), []) }
 {}
 
-#[tactic(auto, unfolding(smith_draw::specs::Offered::ancestors))]
+#[tactic(auto, unfolding(smith_draw_types::specs::Offered::ancestors))]
 fn chains()
     ensures of_depth_59 { may_have_subtypes (chain 59) 58 (open_type (Some 57) empty_struct)
         ≡ true }

@@ -11,13 +11,13 @@ ghost use Rattle.smith_data.specs.declared.value_type.HeapType.TheVariants.{Abst
 ghost use Rattle.smith_data.specs.declared.value_type.AbstractHeapType.TheVariants as heap;
 ghost use Rattle.smith_const_expr.specs.ExampleConstExprs.{context_of_types};
 ghost use Rattle.smith_config.specs.Config.{default_config};
-ghost use Rattle.smith_draw.specs.Choices.{chosen_at};
-ghost use Rattle.smith_draw.specs.ExampleStanding.{of_each_kind};
-ghost use Rattle.smith_draw.specs.GlobalTypes.{global_type_at};
-ghost use Rattle.smith_draw.specs.SharedHeapTypes.{is_heap_type_shared};
-ghost use Rattle.smith_draw.specs.TableTypes.{drawn_elements, table_type_at};
-ghost use Rattle.smith_draw.specs.TypeUses.{types_for};
-ghost use Rattle.smith_draw.specs.declared.type_use.TypeUse.TheVariants as uses;
+ghost use Rattle.smith_draw_types.specs.Choices.{chosen_at};
+ghost use Rattle.smith_draw_types.specs.ExampleStanding.{of_each_kind};
+ghost use Rattle.smith_draw_types.specs.GlobalTypes.{global_type_at};
+ghost use Rattle.smith_draw_types.specs.SharedHeapTypes.{is_heap_type_shared};
+ghost use Rattle.smith_draw_types.specs.TableTypes.{drawn_elements, table_type_at};
+ghost use Rattle.smith_draw_types.specs.TypeUses.{types_for};
+ghost use Rattle.smith_draw_types.specs.declared.type_use.TypeUse.TheVariants as uses;
 
 fn shared_heap_types()
     ensures abstract_one { is_heap_type_shared [] (Abstract true heap.Any) ≡ true }
@@ -28,7 +28,7 @@ fn shared_heap_types()
 
 // A global type takes its value type, whether it is shared unless that is determined, and whether
 // it is mutable.
-#[tactic(auto, unfolding(smith_draw::specs::GlobalTypes::global_type_at, smith_draw::specs::Choices::chosen_at, smith_draw::specs::ValueTypes::val_type_at, smith_draw::specs::ValueTypes::ref_type_at, smith_draw::specs::ValueTypes::granted_at, smith_draw::specs::ValueTypes::heap_type_at, smith_draw::specs::ValueTypes::type_index_at, smith_draw::specs::ValueTypes::abstract_heap_type_at, smith_draw::specs::ValueTypes::sharedness_at, smith_bytes::specs::Draws::bool_at, smith_bytes::specs::Draws::range_at, smith_bytes::specs::Draws::digit_count, smith_bytes::specs::Draws::ratio_at))]
+#[tactic(auto, unfolding(smith_draw_types::specs::GlobalTypes::global_type_at, smith_draw_types::specs::Choices::chosen_at, smith_draw_types::specs::ValueTypes::val_type_at, smith_draw_types::specs::ValueTypes::ref_type_at, smith_draw_types::specs::ValueTypes::granted_at, smith_draw_types::specs::ValueTypes::heap_type_at, smith_draw_types::specs::ValueTypes::type_index_at, smith_draw_types::specs::ValueTypes::abstract_heap_type_at, smith_draw_types::specs::ValueTypes::sharedness_at, smith_bytes::specs::Draws::bool_at, smith_bytes::specs::Draws::range_at, smith_bytes::specs::Draws::digit_count, smith_bytes::specs::Draws::ratio_at))]
 fn globals()
     ensures of_nothing { global_type_at default_config (context_of_types []) []
         ≡ (constant_global I32, []) }
@@ -55,7 +55,7 @@ fn globals()
         ≡ (record (variable_global (Ref (nullable (Concrete 0)))) { shared = true }, []) }
 {}
 
-#[tactic(auto, unfolding(smith_draw::specs::TableTypes::drawn_elements))]
+#[tactic(auto, unfolding(smith_draw_types::specs::TableTypes::drawn_elements))]
 fn elements()
     ensures configured { drawn_elements default_config false ≡ 1000000 }
     ensures none { drawn_elements (record default_config { max_table_elements = 0 }) true ≡ 0 }
@@ -69,7 +69,7 @@ fn elements()
 {}
 
 // A table type takes the width of its addresses, its minimum and maximum, and its element type.
-#[tactic(auto, unfolding(smith_draw::specs::TableTypes::table_type_at, smith_draw::specs::TableTypes::drawn_elements, smith_draw::specs::Memories::memory64_at, smith_draw::specs::Choices::chosen_at, smith_draw::specs::ValueTypes::ref_type_at, smith_draw::specs::ValueTypes::granted_at, smith_draw::specs::ValueTypes::heap_type_at, smith_draw::specs::ValueTypes::type_index_at, smith_draw::specs::ValueTypes::abstract_heap_type_at, smith_draw::specs::ValueTypes::sharedness_at, smith_draw::specs::Limits::limits64_at, smith_draw::specs::Limits::gradually_at, smith_draw::specs::Limits::gradual, smith_draw::specs::Limits::sixth_power, smith_draw::specs::Limits::scaled, smith_bytes::specs::Draws::whole_at, smith_bytes::specs::Draws::bool_at, smith_bytes::specs::Draws::range_at, smith_bytes::specs::Draws::digit_count, smith_bytes::specs::Draws::ratio_at))]
+#[tactic(auto, unfolding(smith_draw_types::specs::TableTypes::table_type_at, smith_draw_types::specs::TableTypes::drawn_elements, smith_draw_types::specs::Memories::memory64_at, smith_draw_types::specs::Choices::chosen_at, smith_draw_types::specs::ValueTypes::ref_type_at, smith_draw_types::specs::ValueTypes::granted_at, smith_draw_types::specs::ValueTypes::heap_type_at, smith_draw_types::specs::ValueTypes::type_index_at, smith_draw_types::specs::ValueTypes::abstract_heap_type_at, smith_draw_types::specs::ValueTypes::sharedness_at, smith_draw_types::specs::Limits::limits64_at, smith_draw_types::specs::Limits::gradually_at, smith_draw_types::specs::Limits::gradual, smith_draw_types::specs::Limits::sixth_power, smith_draw_types::specs::Limits::scaled, smith_bytes::specs::Draws::whole_at, smith_bytes::specs::Draws::bool_at, smith_bytes::specs::Draws::range_at, smith_bytes::specs::Draws::digit_count, smith_bytes::specs::Draws::ratio_at))]
 fn tables()
     ensures of_nothing { table_type_at default_config (context_of_types []) []
         ≡ (table funcref 0 None, []) }
@@ -98,7 +98,7 @@ fn tables()
         ≡ (record (table (nullable (Abstract true heap.Func)) 0 None) { shared = true }, []) }
 {}
 
-#[tactic(auto, unfolding(smith_draw::specs::TypeUses::is_tag_type))]
+#[tactic(auto, unfolding(smith_draw_types::specs::TypeUses::is_tag_type))]
 fn usable_types()
     ensures tags { types_for uses.Tag (of_each_kind ++ final_type (giving (I32 ∷ [])) ∷ [])
         ≡ 2 ∷ 5 ∷ [] }

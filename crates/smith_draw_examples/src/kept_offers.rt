@@ -42,7 +42,7 @@ fn not_counted()
     ensures a_block_of_no_items { ¬ IsCounted (λ n. n) (counts 0 0 (0 ∷ [])) }
 {}
 
-#[tactic(auto, unfolding(smith_draw::specs::Below::is_heap_below, smith_draw::specs::Offered::ancestors))]
+#[tactic(auto, unfolding(smith_draw_types::specs::Below::is_heap_below, smith_draw_types::specs::Offered::ancestors))]
 fn kept()
     ensures nothing_seen { IsKeptOffer (context_with usual_features 3)
         (kept_for I32 unread unread) }
@@ -58,7 +58,7 @@ fn kept()
         (kept_for (Ref (nullable (Concrete 5))) unread unread) }
 {}
 
-#[tactic(auto, unfolding(smith_draw::specs::Below::is_heap_below, smith_draw::specs::Offered::ancestors))]
+#[tactic(auto, unfolding(smith_draw_types::specs::Below::is_heap_below, smith_draw_types::specs::Offered::ancestors))]
 fn not_kept()
     ensures a_global_left_out { ¬ IsKeptOffer (context_with usual_features 3)
         (kept_for I32 (counts 3 1 (0 ∷ [])) (counts 2 0 (0 ∷ []))) }
@@ -83,7 +83,7 @@ fn not_kept()
         (kept_for (Ref (nullable (Concrete 6))) unread unread) }
 {}
 
-#[tactic(auto, unfolding(smith_draw::specs::Below::is_heap_below, smith_draw::specs::Offered::ancestors))]
+#[tactic(auto, unfolding(smith_draw_types::specs::Below::is_heap_below, smith_draw_types::specs::Offered::ancestors))]
 fn whole()
     ensures of_nothing { IsWhole (context_of_types []) I32 (kept_for I32 unread unread) }
     ensures all_globals { IsWhole (context_with usual_features 3) I32 numbers }

@@ -7,9 +7,9 @@ ghost use Rattle.smith_data.specs.declared.value_type.ValType.TheVariants.{Ref};
 ghost use Rattle.smith_data.specs.declared.value_type.HeapType.TheVariants.{Concrete};
 ghost use Rattle.smith_const_expr.specs.ExampleConstExprs.{context_of_types};
 ghost use Rattle.smith_config.specs.Config.{default_config};
-ghost use Rattle.smith_draw.specs.Locals.{locals_at};
+ghost use Rattle.smith_draw_types.specs.Locals.{locals_at};
 
-#[tactic(auto, unfolding(smith_draw::specs::Locals::locals_at, smith_draw::specs::CompositeTypes::val_types_at, smith_draw::specs::Choices::chosen_at, smith_draw::specs::ValueTypes::val_type_at, smith_draw::specs::ValueTypes::ref_type_at, smith_draw::specs::ValueTypes::granted_at, smith_draw::specs::ValueTypes::heap_type_at, smith_draw::specs::ValueTypes::type_index_at, smith_draw::specs::ValueTypes::abstract_heap_type_at, smith_draw::specs::ValueTypes::sharedness_at, smith_bytes::specs::Growth::grow_at, smith_bytes::specs::Draws::bool_at, smith_bytes::specs::Draws::range_at, smith_bytes::specs::Draws::digit_count, smith_bytes::specs::Draws::ratio_at))]
+#[tactic(auto, unfolding(smith_draw_types::specs::Locals::locals_at, smith_draw_types::specs::CompositeTypes::val_types_at, smith_draw_types::specs::Choices::chosen_at, smith_draw_types::specs::ValueTypes::val_type_at, smith_draw_types::specs::ValueTypes::ref_type_at, smith_draw_types::specs::ValueTypes::granted_at, smith_draw_types::specs::ValueTypes::heap_type_at, smith_draw_types::specs::ValueTypes::type_index_at, smith_draw_types::specs::ValueTypes::abstract_heap_type_at, smith_draw_types::specs::ValueTypes::sharedness_at, smith_bytes::specs::Growth::grow_at, smith_bytes::specs::Draws::bool_at, smith_bytes::specs::Draws::range_at, smith_bytes::specs::Draws::digit_count, smith_bytes::specs::Draws::ratio_at))]
 fn locals()
     ensures of_nothing { locals_at default_config (context_of_types []) [] ≡ ([], []) }
     ensures none { locals_at default_config (context_of_types []) (0 ∷ 1 ∷ 0 ∷ [])

@@ -11,12 +11,12 @@ ghost use Rattle.smith_types.specs.ExampleTypes.{nullable, not_null, anyref, eqr
 ghost use Rattle.smith_types.specs.ExampleTypes.{variable};
 ghost use Rattle.smith_const_expr.specs.ExampleConstExprs.{context_of_types};
 ghost use Rattle.smith_config.specs.Config.{default_config};
-ghost use Rattle.smith_draw.specs.Offered.{subtypes_offered, supertypes_offered, AncestorsAreAll};
-ghost use Rattle.smith_draw.specs.MatchingTypes.{matching_heap_type_at, matching_ref_type_at};
-ghost use Rattle.smith_draw.specs.MatchingTypes.{matching_field_type_at, super_heap_type_at};
-ghost use Rattle.smith_draw.specs.MatchingTypes.{super_ref_type_at};
+ghost use Rattle.smith_draw_types.specs.Offered.{subtypes_offered, supertypes_offered, AncestorsAreAll};
+ghost use Rattle.smith_draw_types.specs.MatchingTypes.{matching_heap_type_at, matching_ref_type_at};
+ghost use Rattle.smith_draw_types.specs.MatchingTypes.{matching_field_type_at, super_heap_type_at};
+ghost use Rattle.smith_draw_types.specs.MatchingTypes.{super_ref_type_at};
 
-#[tactic(auto, unfolding(smith_draw::specs::Offered::subtypes_offered))]
+#[tactic(auto, unfolding(smith_draw_types::specs::Offered::subtypes_offered))]
 fn subtypes()
     ensures of_any { subtypes_offered default_config struct_and_below (plain heap.Any)
         ≡ plain heap.Any ∷ plain heap.Eq ∷ plain heap.Struct ∷ plain heap.Array ∷ plain heap.I31
@@ -39,7 +39,7 @@ fn subtypes()
         ≡ Concrete 0 ∷ [] }
 {}
 
-#[tactic(auto, unfolding(smith_draw::specs::Offered::supertypes_offered, smith_draw::specs::Offered::ancestors))]
+#[tactic(auto, unfolding(smith_draw_types::specs::Offered::supertypes_offered, smith_draw_types::specs::Offered::ancestors))]
 fn supertypes()
     ensures of_a_type { supertypes_offered default_config struct_and_below (Concrete 1)
         ≡ Concrete 1 ∷ plain heap.Any ∷ plain heap.Eq ∷ plain heap.Struct ∷ Concrete 0 ∷ [] }
@@ -56,7 +56,7 @@ fn ancestors_are_all()
     ensures { AncestorsAreAll }
 {}
 
-#[tactic(auto, unfolding(smith_draw::specs::MatchingTypes::matching_heap_type_at, smith_draw::specs::MatchingTypes::references_offered, smith_draw::specs::MatchingTypes::matching_ref_type_at, smith_draw::specs::MatchingTypes::matching_field_type_at, smith_draw::specs::Offered::subtypes_offered, smith_draw::specs::Choices::chosen_at, smith_bytes::specs::Draws::range_at, smith_bytes::specs::Draws::digit_count,))]
+#[tactic(auto, unfolding(smith_draw_types::specs::MatchingTypes::matching_heap_type_at, smith_draw_types::specs::MatchingTypes::references_offered, smith_draw_types::specs::MatchingTypes::matching_ref_type_at, smith_draw_types::specs::MatchingTypes::matching_field_type_at, smith_draw_types::specs::Offered::subtypes_offered, smith_draw_types::specs::Choices::chosen_at, smith_bytes::specs::Draws::range_at, smith_bytes::specs::Draws::digit_count,))]
 fn matching_types()
     ensures last { matching_heap_type_at default_config struct_and_below (plain heap.Any) (7 ∷ [])
         ≡ (Concrete 1, []) }
@@ -73,7 +73,7 @@ fn matching_types()
         ≡ (variable (Val anyref), 1 ∷ []) }
 {}
 
-#[tactic(auto, unfolding(smith_draw::specs::MatchingTypes::super_heap_type_at, smith_draw::specs::MatchingTypes::super_ref_type_at, smith_draw::specs::Offered::supertypes_offered, smith_draw::specs::Offered::ancestors, smith_draw::specs::Choices::chosen_at, smith_bytes::specs::Draws::range_at, smith_bytes::specs::Draws::digit_count,))]
+#[tactic(auto, unfolding(smith_draw_types::specs::MatchingTypes::super_heap_type_at, smith_draw_types::specs::MatchingTypes::super_ref_type_at, smith_draw_types::specs::Offered::supertypes_offered, smith_draw_types::specs::Offered::ancestors, smith_draw_types::specs::Choices::chosen_at, smith_bytes::specs::Draws::range_at, smith_bytes::specs::Draws::digit_count,))]
 fn super_types()
     ensures ancestor { super_heap_type_at default_config struct_and_below (Concrete 1) (4 ∷ [])
         ≡ (Concrete 0, []) }

@@ -7,10 +7,10 @@ ghost use Rattle.smith_data.specs.declared.value_type.HeapType.TheVariants.{Abst
 ghost use Rattle.smith_data.specs.declared.value_type.HeapType.TheVariants.{Exact};
 ghost use Rattle.smith_types.specs.ExampleTypes.{plain, struct_and_below};
 ghost use Rattle.smith_config.specs.Config.{default_config};
-ghost use Rattle.smith_draw.specs.Offered.{subtypes_offered, supertypes_offered};
-ghost use Rattle.smith_draw.specs.ExampleStanding.{of_each_kind, chain};
+ghost use Rattle.smith_draw_types.specs.Offered.{subtypes_offered, supertypes_offered};
+ghost use Rattle.smith_draw_types.specs.ExampleStanding.{of_each_kind, chain};
 
-#[tactic(auto, unfolding(smith_draw::specs::Offered::subtypes_offered))]
+#[tactic(auto, unfolding(smith_draw_types::specs::Offered::subtypes_offered))]
 fn subtypes()
     ensures of_any { subtypes_offered default_config of_each_kind (plain heap.Any)
         ≡ plain heap.Any ∷ plain heap.Eq ∷ plain heap.Struct ∷ plain heap.Array ∷ plain heap.I31
@@ -40,7 +40,7 @@ fn subtypes()
         ≡ plain heap.NoExn ∷ [] }
 {}
 
-#[tactic(auto, unfolding(smith_draw::specs::Offered::subtypes_offered))]
+#[tactic(auto, unfolding(smith_draw_types::specs::Offered::subtypes_offered))]
 fn shared_subtypes()
     ensures of_any { subtypes_offered default_config of_each_kind (Abstract true heap.Any)
         ≡ Abstract true heap.Any ∷ Abstract true heap.Eq ∷ Abstract true heap.Struct
@@ -73,7 +73,7 @@ fn shared_subtypes()
         ≡ Abstract true heap.NoExn ∷ [] }
 {}
 
-#[tactic(auto, unfolding(smith_draw::specs::Offered::subtypes_offered))]
+#[tactic(auto, unfolding(smith_draw_types::specs::Offered::subtypes_offered))]
 fn subtypes_of_types()
     ensures of_a_struct { subtypes_offered default_config struct_and_below (Concrete 0)
         ≡ Concrete 0 ∷ Concrete 1 ∷ plain heap.None ∷ [] }
@@ -93,7 +93,7 @@ fn subtypes_of_types()
         ≡ Exact 0 ∷ [] }
 {}
 
-#[tactic(auto, unfolding(smith_draw::specs::Offered::supertypes_offered))]
+#[tactic(auto, unfolding(smith_draw_types::specs::Offered::supertypes_offered))]
 fn supertypes()
     ensures of_any { supertypes_offered default_config of_each_kind (plain heap.Any)
         ≡ plain heap.Any ∷ [] }
@@ -122,7 +122,7 @@ fn supertypes()
         ≡ plain heap.NoExn ∷ plain heap.Exn ∷ [] }
 {}
 
-#[tactic(auto, unfolding(smith_draw::specs::Offered::supertypes_offered))]
+#[tactic(auto, unfolding(smith_draw_types::specs::Offered::supertypes_offered))]
 fn shared_supertypes()
     ensures of_any { supertypes_offered default_config of_each_kind (Abstract true heap.Any)
         ≡ Abstract true heap.Any ∷ [] }
@@ -153,7 +153,7 @@ fn shared_supertypes()
         ≡ Abstract true heap.NoExn ∷ Abstract true heap.Exn ∷ [] }
 {}
 
-#[tactic(auto, unfolding(smith_draw::specs::Offered::supertypes_offered, smith_draw::specs::Offered::ancestors))]
+#[tactic(auto, unfolding(smith_draw_types::specs::Offered::supertypes_offered, smith_draw_types::specs::Offered::ancestors))]
 fn supertypes_of_types()
     ensures of_a_struct { supertypes_offered default_config of_each_kind (Concrete 0)
         ≡ Concrete 0 ∷ plain heap.Any ∷ plain heap.Eq ∷ plain heap.Struct ∷ [] }

@@ -14,13 +14,13 @@ ghost use Rattle.smith_data.specs.declared.composite_type.StorageType.TheVariant
 ghost use Rattle.smith_types.specs.ExampleContexts.{context_of};
 ghost use Rattle.smith_config.specs.Config.{default_config};
 ghost use Rattle.smith_config.specs.Granted.{IsUngrounded, IsGranted, HasGranted, AreTypesGranted};
-ghost use Rattle.smith_draw.specs.HeldFields.{HoldsUngroundedField};
+ghost use Rattle.smith_draw_types.specs.HeldFields.{HoldsUngroundedField};
 ghost use Rattle.smith_const_expr.specs.ExampleConstExprs.{context_of_types};
-ghost use Rattle.smith_draw.specs.Grounding.{is_grounded};
-ghost use Rattle.smith_draw.specs.ValueTypes.{granted_at, ref_type_at};
-ghost use Rattle.smith_draw.specs.MatchingTypes.{references_offered, matching_ref_type_at};
+ghost use Rattle.smith_draw_types.specs.Grounding.{is_grounded};
+ghost use Rattle.smith_draw_types.specs.ValueTypes.{granted_at, ref_type_at};
+ghost use Rattle.smith_draw_types.specs.MatchingTypes.{references_offered, matching_ref_type_at};
 
-#[tactic(auto, unfolding(smith_draw::specs::Grounding::is_grounded, smith_draw::specs::Below::is_heap_below, smith_draw::specs::Offered::ancestors))]
+#[tactic(auto, unfolding(smith_draw_types::specs::Grounding::is_grounded, smith_draw_types::specs::Below::is_heap_below, smith_draw_types::specs::Offered::ancestors))]
 fn grounded()
     ensures a_struct { is_grounded (context_of_types struct_and_below) (Concrete 0) ≡ true }
     ensures its_kind { is_grounded (context_of_types struct_and_below) (plain heap.Eq) ≡ true }
@@ -40,7 +40,7 @@ fn grounded()
 {}
 
 // A drawn bool decides whether a reference is non-nullable, if such references are enabled.
-#[tactic(auto, unfolding(smith_draw::specs::ValueTypes::granted_at, smith_draw::specs::Grounding::is_grounded, smith_draw::specs::Below::is_heap_below, smith_draw::specs::Offered::ancestors, smith_bytes::specs::Draws::bool_at))]
+#[tactic(auto, unfolding(smith_draw_types::specs::ValueTypes::granted_at, smith_draw_types::specs::Grounding::is_grounded, smith_draw_types::specs::Below::is_heap_below, smith_draw_types::specs::Offered::ancestors, smith_bytes::specs::Draws::bool_at))]
 fn granted()
     ensures wanted { granted_at (record default_config { non_nullable_enabled = true })
         (context_of_types struct_and_below) (Concrete 0) (1 ∷ 7 ∷ [])
@@ -56,7 +56,7 @@ fn granted()
         ≡ (false, 1 ∷ 7 ∷ []) }
 {}
 
-#[tactic(auto, unfolding(smith_draw::specs::ValueTypes::ref_type_at, smith_draw::specs::ValueTypes::granted_at, smith_draw::specs::ValueTypes::heap_type_at, smith_draw::specs::ValueTypes::type_index_at, smith_draw::specs::ValueTypes::abstract_heap_type_at, smith_draw::specs::ValueTypes::sharedness_at, smith_draw::specs::Choices::chosen_at, smith_draw::specs::Grounding::is_grounded, smith_draw::specs::Below::is_heap_below, smith_draw::specs::Offered::ancestors, smith_bytes::specs::Draws::bool_at, smith_bytes::specs::Draws::range_at, smith_bytes::specs::Draws::digit_count, smith_bytes::specs::Draws::ratio_at))]
+#[tactic(auto, unfolding(smith_draw_types::specs::ValueTypes::ref_type_at, smith_draw_types::specs::ValueTypes::granted_at, smith_draw_types::specs::ValueTypes::heap_type_at, smith_draw_types::specs::ValueTypes::type_index_at, smith_draw_types::specs::ValueTypes::abstract_heap_type_at, smith_draw_types::specs::ValueTypes::sharedness_at, smith_draw_types::specs::Choices::chosen_at, smith_draw_types::specs::Grounding::is_grounded, smith_draw_types::specs::Below::is_heap_below, smith_draw_types::specs::Offered::ancestors, smith_bytes::specs::Draws::bool_at, smith_bytes::specs::Draws::range_at, smith_bytes::specs::Draws::digit_count, smith_bytes::specs::Draws::ratio_at))]
 fn references()
     ensures granted { ref_type_at (record default_config { non_nullable_enabled = true })
         (context_of_types struct_and_below) false 2 (1 ∷ 1 ∷ 1 ∷ [])
@@ -76,7 +76,7 @@ fn references()
 
 // The subtypes offered for a non-nullable reference: its own heap type first, then the grounded
 // ones among all offered subtypes, possibly its own again.
-#[tactic(auto, unfolding(smith_draw::specs::MatchingTypes::references_offered, smith_draw::specs::MatchingTypes::matching_ref_type_at, smith_draw::specs::Offered::subtypes_offered, smith_draw::specs::Choices::chosen_at, smith_draw::specs::Grounding::is_grounded, smith_draw::specs::Below::is_heap_below, smith_draw::specs::Offered::ancestors, smith_bytes::specs::Draws::range_at, smith_bytes::specs::Draws::digit_count))]
+#[tactic(auto, unfolding(smith_draw_types::specs::MatchingTypes::references_offered, smith_draw_types::specs::MatchingTypes::matching_ref_type_at, smith_draw_types::specs::Offered::subtypes_offered, smith_draw_types::specs::Choices::chosen_at, smith_draw_types::specs::Grounding::is_grounded, smith_draw_types::specs::Below::is_heap_below, smith_draw_types::specs::Offered::ancestors, smith_bytes::specs::Draws::range_at, smith_bytes::specs::Draws::digit_count))]
 fn offered()
     ensures below_any { references_offered (record default_config { non_nullable_enabled = true })
         (context_of_types struct_and_below) (not_null (plain heap.Any))
@@ -101,7 +101,7 @@ fn offered()
         ≡ (not_null (Concrete 0), []) }
 {}
 
-#[tactic(auto, unfolding(smith_draw::specs::MatchingTypes::references_offered, smith_draw::specs::MatchingTypes::matching_ref_type_at, smith_draw::specs::Offered::subtypes_offered, smith_draw::specs::Choices::chosen_at, smith_draw::specs::Grounding::is_grounded, smith_draw::specs::Below::is_heap_below, smith_draw::specs::Offered::ancestors, smith_bytes::specs::Draws::range_at, smith_bytes::specs::Draws::digit_count))]
+#[tactic(auto, unfolding(smith_draw_types::specs::MatchingTypes::references_offered, smith_draw_types::specs::MatchingTypes::matching_ref_type_at, smith_draw_types::specs::Offered::subtypes_offered, smith_draw_types::specs::Choices::chosen_at, smith_draw_types::specs::Grounding::is_grounded, smith_draw_types::specs::Below::is_heap_below, smith_draw_types::specs::Offered::ancestors, smith_bytes::specs::Draws::range_at, smith_bytes::specs::Draws::digit_count))]
 fn offered_over_functions()
     ensures below_func { references_offered (record default_config { non_nullable_enabled = true })
         (context_of usual_features (final_type plain_func ∷ []) (0 ∷ []) 1)

@@ -3,12 +3,12 @@
 ghost use Rattle.std.specs.Prelude.{◌≡◌, ◌^◌, [], ◌∷◌, true, false, Some, None};
 ghost use Rattle.smith_types.specs.ExampleEntities.{memory};
 ghost use Rattle.smith_config.specs.Config.{default_config};
-ghost use Rattle.smith_draw.specs.Limits.{gradually_at, limits64_at};
-ghost use Rattle.smith_draw.specs.Memories.{shared_memory_at, stated_page_at, page_size_at};
-ghost use Rattle.smith_draw.specs.Memories.{drawn_pages, likely_pages, memtype_at};
+ghost use Rattle.smith_draw_types.specs.Limits.{gradually_at, limits64_at};
+ghost use Rattle.smith_draw_types.specs.Memories.{shared_memory_at, stated_page_at, page_size_at};
+ghost use Rattle.smith_draw_types.specs.Memories.{drawn_pages, likely_pages, memtype_at};
 
 // Numbers that grow from 0, mostly at most 10,000, and at most a million.
-#[tactic(auto, unfolding(smith_draw::specs::Limits::gradually_at, smith_draw::specs::Limits::gradual, smith_draw::specs::Limits::sixth_power, smith_draw::specs::Limits::scaled, smith_bytes::specs::Draws::whole_at))]
+#[tactic(auto, unfolding(smith_draw_types::specs::Limits::gradually_at, smith_draw_types::specs::Limits::gradual, smith_draw_types::specs::Limits::sixth_power, smith_draw_types::specs::Limits::scaled, smith_bytes::specs::Draws::whole_at))]
 fn growth()
     ensures of_nothing { gradually_at 0 10000 1000000 [] ≡ (0, []) }
     ensures of_a_half { gradually_at 0 10000 1000000 (0 ∷ 0 ∷ 0 ∷ 128 ∷ []) ≡ (156, []) }
@@ -23,7 +23,7 @@ fn growth()
     ensures without_a_choice { gradually_at 5 5 5 (1 ∷ []) ≡ (5, 1 ∷ []) }
 {}
 
-#[tactic(auto, unfolding(smith_draw::specs::Limits::limits64_at, smith_draw::specs::Limits::gradually_at, smith_draw::specs::Limits::gradual, smith_draw::specs::Limits::sixth_power, smith_draw::specs::Limits::scaled, smith_bytes::specs::Draws::whole_at, smith_bytes::specs::Draws::bool_at, smith_bytes::specs::Draws::range_at, smith_bytes::specs::Draws::digit_count))]
+#[tactic(auto, unfolding(smith_draw_types::specs::Limits::limits64_at, smith_draw_types::specs::Limits::gradually_at, smith_draw_types::specs::Limits::gradual, smith_draw_types::specs::Limits::sixth_power, smith_draw_types::specs::Limits::scaled, smith_bytes::specs::Draws::whole_at, smith_bytes::specs::Draws::bool_at, smith_bytes::specs::Draws::range_at, smith_bytes::specs::Draws::digit_count))]
 fn limits()
     ensures no_maximum { limits64_at 1 9 false 9 (0 ∷ 0 ∷ 0 ∷ 0 ∷ 0 ∷ 3 ∷ [])
         ≡ ((1, None), 3 ∷ []) }
@@ -32,7 +32,7 @@ fn limits()
         ≡ ((1, Some 4), []) }
 {}
 
-#[tactic(auto, unfolding(smith_draw::specs::Memories::shared_memory_at, smith_bytes::specs::Draws::ratio_at, smith_bytes::specs::Draws::range_at, smith_bytes::specs::Draws::digit_count))]
+#[tactic(auto, unfolding(smith_draw_types::specs::Memories::shared_memory_at, smith_bytes::specs::Draws::ratio_at, smith_bytes::specs::Draws::range_at, smith_bytes::specs::Draws::digit_count))]
 fn shared_memories()
     ensures first_of_four { shared_memory_at default_config (0 ∷ []) ≡ (true, []) }
     ensures second_of_four { shared_memory_at default_config (1 ∷ []) ≡ (false, []) }
@@ -43,7 +43,7 @@ fn shared_memories()
         (0 ∷ []) ≡ (false, 0 ∷ []) }
 {}
 
-#[tactic(auto, unfolding(smith_draw::specs::Memories::page_size_at, smith_draw::specs::Memories::stated_page_at, smith_bytes::specs::Draws::bool_at))]
+#[tactic(auto, unfolding(smith_draw_types::specs::Memories::page_size_at, smith_draw_types::specs::Memories::stated_page_at, smith_bytes::specs::Draws::bool_at))]
 fn page_sizes()
     ensures one_byte { stated_page_at (1 ∷ []) ≡ (Some 0, []) }
     ensures usual { stated_page_at (0 ∷ []) ≡ (Some 16, []) }
@@ -55,7 +55,7 @@ fn page_sizes()
 {}
 
 // The likely sizes of all memories together are at most 1 GiB.
-#[tactic(auto, unfolding(smith_draw::specs::Memories::likely_pages, smith_draw::specs::Memories::drawn_pages))]
+#[tactic(auto, unfolding(smith_draw_types::specs::Memories::likely_pages, smith_draw_types::specs::Memories::drawn_pages))]
 fn pages()
     ensures likely { likely_pages default_config false None ≡ 16384 }
     ensures likely_of_two { likely_pages (record default_config { max_memories = 2 }) false None
@@ -75,7 +75,7 @@ fn pages()
         (record default_config { max_memory32_bytes = 0; disallow_traps = true }) false None ≡ 1 }
 {}
 
-#[tactic(auto, unfolding(smith_draw::specs::Memories::memtype_at, smith_draw::specs::Memories::shared_memory_at, smith_draw::specs::Memories::memory64_at, smith_draw::specs::Memories::page_size_at, smith_draw::specs::Memories::likely_pages, smith_draw::specs::Memories::drawn_pages, smith_draw::specs::Limits::limits64_at, smith_draw::specs::Limits::gradually_at, smith_draw::specs::Limits::gradual, smith_draw::specs::Limits::sixth_power, smith_draw::specs::Limits::scaled, smith_bytes::specs::Draws::whole_at, smith_bytes::specs::Draws::bool_at, smith_bytes::specs::Draws::range_at, smith_bytes::specs::Draws::digit_count, smith_bytes::specs::Draws::ratio_at))]
+#[tactic(auto, unfolding(smith_draw_types::specs::Memories::memtype_at, smith_draw_types::specs::Memories::shared_memory_at, smith_draw_types::specs::Memories::memory64_at, smith_draw_types::specs::Memories::page_size_at, smith_draw_types::specs::Memories::likely_pages, smith_draw_types::specs::Memories::drawn_pages, smith_draw_types::specs::Limits::limits64_at, smith_draw_types::specs::Limits::gradually_at, smith_draw_types::specs::Limits::gradual, smith_draw_types::specs::Limits::sixth_power, smith_draw_types::specs::Limits::scaled, smith_bytes::specs::Draws::whole_at, smith_bytes::specs::Draws::bool_at, smith_bytes::specs::Draws::range_at, smith_bytes::specs::Draws::digit_count, smith_bytes::specs::Draws::ratio_at))]
 fn memories()
     ensures of_nothing { memtype_at default_config []
         ≡ (record (memory 0 (Some 0)) { shared = true }, []) }

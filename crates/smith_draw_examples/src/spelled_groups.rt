@@ -1,7 +1,7 @@
 // Bytes that spell types, and bytes that do not. The clauses are proved; nothing calls these
 // functions.
 
-ghost use Rattle.smith_draw.specs.ExampleSpellings.{OneFunctionIsSpelled, MoreIsAskedFor};
+ghost use Rattle.smith_draw_types.specs.ExampleSpellings.{OneFunctionIsSpelled, MoreIsAskedFor};
 
 /// Bytes that spell a list of groups, and a byte that does not.
 fn spelled_groups()

@@ -3,7 +3,7 @@ ghost use Rattle.smith_bytes.specs.Source.{KeepsPieces};
 ghost use Rattle.smith_types.specs.Imports.{IsImportsValid, flattened, imports_of};
 ghost use Rattle.smith_data.specs.declared.imports.Import.{Import};
 ghost use Rattle.smith_config.specs.Features.{features_of};
-ghost use Rattle.smith_draw.specs.Drawing.{Draws, AlwaysDraws};
+ghost use Rattle.smith_draw_types.specs.Drawing.{Draws, AlwaysDraws};
 ghost use Rattle.smith_given_imports.specs.AvailableImports.{may_join, group_begun, joins_at};
 ghost use Rattle.smith_given_imports.specs.AvailableImports.{group_begun_at, joined_at, grouped_at};
 ghost use Rattle.smith_given_imports.specs.AvailableImports.{AreGroupsOf};

@@ -1,7 +1,7 @@
 ghost use Rattle.std.specs.Prelude.{◌≡◌, ◌<◌, ◌+◌, ◌++◌, ◌∷◌, ◌^◌, [], IsTrue, All, IfOk, IfErr};
 ghost use Rattle.std.specs.Prelude.{OnOk, if◌then◌else◌};
 ghost use Rattle.smith_types.specs.Sizes.{IsTyped, size_in};
-ghost use Rattle.smith_draw.specs.Drawing.{Draws};
+ghost use Rattle.smith_draw_types.specs.Drawing.{Draws};
 ghost use Rattle.smith_given_imports.specs.AvailableImports.{picked_at, fits_beside, CountsTaken};
 ghost use Rattle.smith_given_imports.specs.AvailableImports.{IsImportSized};
 ghost use Rattle.smith_rules.specs.ShapeImports.{is_allowed, is_fitting};

@@ -9,8 +9,8 @@ use Rattle.smith_data.specs.declared.entity_type.EntityType.{EntityType}
 use Rattle.smith_data.specs.declared.entity_type.EntityType.TheVariants as entity
 use Rattle.smith_types.proofs.GroundGrowthLemmas.{import_pushes}
 use Rattle.smith_config.specs.declared.config.Config.{Config}
-use Rattle.smith_draw.specs.KeptGrounds.{AreKeptGrounds}
-use Rattle.smith_draw.specs.declared.kept_grounds.KeptGrounds.{KeptGrounds}
+use Rattle.smith_draw_types.specs.KeptGrounds.{AreKeptGrounds}
+use Rattle.smith_draw_types.specs.declared.kept_grounds.KeptGrounds.{KeptGrounds}
 use Rattle.smith_imports.specs.ImportedEntities.{import_scope}
 
 module _ (config : Config) (types : List SubType) (spaces : EntitySpaces) where

@@ -2,7 +2,7 @@
 use Rattle.std.proofs.Common.{◌≡◌, ℕ, suc, ◌+◌, ◌-◌, ◌<◌, ◌≤◌, Bool, true, false, List, length, refl, sym, ap, arith, ◌∙◌, lt-ltb, le-ltb, nat_lt}
 use Rattle.smith_bytes.specs.Source.{KeepsPieces}
 use Rattle.smith_bytes.specs.Growth.{goes_at}
-use Rattle.smith_draw.proofs.GroupsLoop.{piece_short}
+use Rattle.smith_draw_types.proofs.GroupsLoop.{piece_short}
 use Rattle.smith_data.specs.declared.composite_type.SubType.{SubType}
 use Rattle.smith_data.specs.declared.imports.Imports.{Imports}
 use Rattle.smith_types.specs.Imports.{flattened}

@@ -18,16 +18,16 @@ use Rattle.smith_data.specs.declared.entity_type.TableType.{TableType}
 use Rattle.smith_config.specs.declared.config.Config.{Config}
 use Rattle.smith_config.specs.Features.{features_of}
 use Rattle.smith_config.specs.EntityBounds.{IsTableWithin, IsMemoryWithin}
-use Rattle.smith_draw.specs.Choices.{enabled, chosen_at}
-use Rattle.smith_draw.specs.TypeUses.{types_for, IsUsable}
-use Rattle.smith_draw.specs.declared.type_use.TypeUse.{TypeUse}
-use Rattle.smith_draw.proofs.EnabledLemmas.{enabled_all}
-use Rattle.smith_draw.proofs.SupertypeLemmas.{chosen_of}
-use Rattle.smith_draw.proofs.TypeUseLemmas.{types_usable}
+use Rattle.smith_draw_types.specs.Choices.{enabled, chosen_at}
+use Rattle.smith_draw_types.specs.TypeUses.{types_for, IsUsable}
+use Rattle.smith_draw_types.specs.declared.type_use.TypeUse.{TypeUse}
+use Rattle.smith_draw_types.proofs.EnabledLemmas.{enabled_all}
+use Rattle.smith_draw_types.proofs.SupertypeLemmas.{chosen_of}
+use Rattle.smith_draw_types.proofs.TypeUseLemmas.{types_usable}
 use Rattle.smith_imports.specs.Imported.{MayImport, IsEntityFit, IsFitBeside, MayImportKind}
 use Rattle.smith_types.specs.Floats.{HasNoFloatValue}
 use Rattle.smith_config.specs.Granted.{HasGroundedElements, HasGroundedValue}
-use Rattle.smith_draw.proofs.FuncSizeLemmas.{small_at}
+use Rattle.smith_draw_types.proofs.FuncSizeLemmas.{small_at}
 use Rattle.smith_imports.specs.ImportedEntities.{import_scope, kind_rows}
 
 kind_offered : (config : Config) (types : List SubType) (spaces : EntitySpaces) (bytes : List ℕ) (of_kind : ExportKind) (after : List ℕ) → 0 < length (enabled (kind_rows config types spaces)) → chosen_at kind.Memory (enabled (kind_rows config types spaces)) bytes ≡ (of_kind, after)

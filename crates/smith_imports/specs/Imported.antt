@@ -27,7 +27,7 @@ use Rattle.smith_config.specs.InUse.{FixesImports}
 use Rattle.smith_config.specs.Sanitized.{IsSanitized}
 use Rattle.smith_config.specs.Granted.{HasGroundedElements, HasGroundedValue}
 use Rattle.smith_config.specs.EntityBounds.{IsTableWithin, IsMemoryWithin}
-use Rattle.smith_draw.specs.FuncSizes.{IsSmall}
+use Rattle.smith_draw_types.specs.FuncSizes.{IsSmall}
 use Rattle.smith_imports.specs.ImportNames.{KnowsPairs}
 use Rattle.smith_imports.specs.ImportedEntities.{has_room, may_import, import_scope, sizes}
 use Rattle.smith_bytes.specs.Spelling.{SpellsNone}

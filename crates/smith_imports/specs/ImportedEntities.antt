@@ -13,12 +13,12 @@ use Rattle.smith_data.specs.declared.imports.Import.{Import}
 use Rattle.smith_types.specs.Exports.{entity_kind}
 use Rattle.smith_config.specs.declared.config.Config.{Config}
 use Rattle.smith_config.specs.Features.{features_of}
-use Rattle.smith_draw.specs.Choices.{enabled, chosen_at}
-use Rattle.smith_draw.specs.Memories.{memtype_at}
-use Rattle.smith_draw.specs.GlobalTypes.{global_type_at}
-use Rattle.smith_draw.specs.TableTypes.{table_type_at}
-use Rattle.smith_draw.specs.TypeUses.{types_for}
-use Rattle.smith_draw.specs.declared.type_use.TypeUse.TheVariants as uses
+use Rattle.smith_draw_types.specs.Choices.{enabled, chosen_at}
+use Rattle.smith_draw_types.specs.Memories.{memtype_at}
+use Rattle.smith_draw_types.specs.GlobalTypes.{global_type_at}
+use Rattle.smith_draw_types.specs.TableTypes.{table_type_at}
+use Rattle.smith_draw_types.specs.TypeUses.{types_for}
+use Rattle.smith_draw_types.specs.declared.type_use.TypeUse.TheVariants as uses
 
 -- whether index spaces have room for one more of a kind
 abbrev pub has_room : Config → EntitySpaces → ExportKind → Bool

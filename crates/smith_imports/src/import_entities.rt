@@ -1,10 +1,10 @@
 ghost use Rattle.std.specs.Prelude.{◌≡◌, ◌<◌, ◌+◌, ◌^◌, true, None, Some, IsTrue, IfOk, IfSome};
 ghost use Rattle.std.specs.Prelude.{if◌then◌else◌};
 ghost use Rattle.smith_types.specs.Sizes.{size_in};
-ghost use Rattle.smith_draw.specs.Drawing.{Draws};
+ghost use Rattle.smith_draw_types.specs.Drawing.{Draws};
 ghost use Rattle.smith_imports.specs.Imported.{MayImport, IsEntityFit, IsFitBeside, IsNext};
 ghost use Rattle.smith_imports.specs.Imported.{MayEndAt, spaces_of};
-ghost use Rattle.smith_draw.specs.KeptGrounds.{AreKeptGrounds};
+ghost use Rattle.smith_draw_types.specs.KeptGrounds.{AreKeptGrounds};
 ghost use Rattle.smith_types.specs.Exports.{entity_kind};
 ghost use Rattle.smith_imports.specs.ImportedEntities.{has_room, may_import, import_scope};
 ghost use Rattle.smith_imports.specs.ImportedEntities.{entity_of_kind_at, fits, entity_at, again};
@@ -14,7 +14,7 @@ use crate::import_types::ImportTypes;
 use crate::imported::Imported;
 use smith_bytes::{Error, Unstructured};
 use smith_config::Config;
-use smith_draw::{
+use smith_draw_types::{
     Entities, KeptGrounds, Spaces, Standing, arbitrary_memtype, choose, draw_global_type,
     draw_table_type,
 };

@@ -1,6 +1,6 @@
 ghost use Rattle.std.specs.Prelude.{◌≡◌, ◌<◌, ◌↔◌, length, IsTrue, IfErr, OnOk};
 ghost use Rattle.smith_types.specs.Imports.{imports_of};
-ghost use Rattle.smith_draw.specs.Drawing.{AlwaysDraws};
+ghost use Rattle.smith_draw_types.specs.Drawing.{AlwaysDraws};
 ghost use Rattle.smith_imports.specs.ImportGroups.{group_kind_at};
 ghost use Rattle.smith_imports.specs.Importing.{module_name, with_import};
 

@@ -1,5 +1,5 @@
 ghost use Rattle.std.specs.Prelude.{◌≡◌, ◌<◌, false, None, IfSome};
-ghost use Rattle.smith_draw.specs.Drawing.{AlwaysDraws};
+ghost use Rattle.smith_draw_types.specs.Drawing.{AlwaysDraws};
 ghost use Rattle.smith_imports.specs.Imported.{MayImportKind, spaces_of};
 ghost use Rattle.smith_imports.specs.ImportedEntities.{has_room, may_import, kind_row, kind_at};
 
@@ -7,7 +7,7 @@ use crate::import_types::ImportTypes;
 use crate::imported::Imported;
 use smith_bytes::Unstructured;
 use smith_config::Config;
-use smith_draw::{choose_enabled, count_enabled};
+use smith_draw_types::{choose_enabled, count_enabled};
 use smith_types::ExportKind;
 
 /// Returns whether `config` allows another entity of the kind `kind` after `imported`.
@@ -47,7 +47,7 @@ fn kind_row(
 }
 
 /// Draws the kind of another entity to import. Returns `None` if no kind is offered.
-#[tactic(auto, using(smith_draw::proofs::EnabledLemmas::length_enabled), unfolding(crate::specs::ImportedEntities::kind_at))]
+#[tactic(auto, using(smith_draw_types::proofs::EnabledLemmas::length_enabled), unfolding(crate::specs::ImportedEntities::kind_at))]
 pub(crate) fn draw_kind(
     config: &Config,
     types: &ImportTypes<'_>,

@@ -1,9 +1,9 @@
 ghost use Rattle.std.specs.Prelude.{◌≡◌, ◌<◌, ◌^◌, length, IfOk, IfErr};
-ghost use Rattle.smith_draw.specs.TypeUses.{types_for};
-ghost use Rattle.smith_draw.specs.declared.type_use.TypeUse.TheVariants.{Tag, ImportedFunc};
+ghost use Rattle.smith_draw_types.specs.TypeUses.{types_for};
+ghost use Rattle.smith_draw_types.specs.declared.type_use.TypeUse.TheVariants.{Tag, ImportedFunc};
 
 use smith_bytes::Error;
-use smith_draw::{TypeUse, list_types};
+use smith_draw_types::{TypeUse, list_types};
 use smith_types::{Items, TypeSpace};
 use std::alloc::Global;
 use std::marker::Model;
@@ -19,8 +19,8 @@ pub(crate) struct ImportTypes<'a> {
 impl<'a> Model for ImportTypes<'a> {
     ghost use Rattle.std.specs.Prelude.{◌≡◌};
     ghost use Rattle.smith_types.specs.GroupedTypes.{GroupedTypes};
-    ghost use Rattle.smith_draw.specs.TypeUses.{types_for};
-    ghost use Rattle.smith_draw.specs.declared.type_use.TypeUse.TheVariants.{Tag, ImportedFunc};
+    ghost use Rattle.smith_draw_types.specs.TypeUses.{types_for};
+    ghost use Rattle.smith_draw_types.specs.declared.type_use.TypeUse.TheVariants.{Tag, ImportedFunc};
 
     ghost Value = { GroupedTypes };
 

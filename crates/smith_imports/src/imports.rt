@@ -5,7 +5,7 @@ ghost use Rattle.smith_bytes.specs.Takes.{Takes};
 ghost use Rattle.smith_types.specs.Imports.{EntitySpaces, imports_of, flattened};
 ghost use Rattle.smith_types.specs.EntitySpaces.{with_entity};
 ghost use Rattle.smith_config.specs.declared.config.Config.{Config as Configuration};
-ghost use Rattle.smith_draw.specs.Drawing.{Draws};
+ghost use Rattle.smith_draw_types.specs.Drawing.{Draws};
 ghost use Rattle.smith_imports.specs.ImportedEntities.{import_scope};
 ghost use Rattle.smith_bytes.specs.Steps.{ReturnsWhy};
 ghost use Rattle.smith_imports.specs.Imported.{
@@ -23,7 +23,7 @@ ghost use Rattle.smith_imports.specs.Imported.{
   SpellsNoImport,
   spaces_of,
 };
-ghost use Rattle.smith_draw.specs.KeptGrounds.{AreKeptGrounds};
+ghost use Rattle.smith_draw_types.specs.KeptGrounds.{AreKeptGrounds};
 ghost use Rattle.smith_imports.specs.Importing.{next_entity_at, fill_at, filled_at};
 ghost use Rattle.smith_imports.specs.Importing.{group_of_kind_at, group_at, groups_at, imports_at};
 
@@ -34,7 +34,7 @@ use crate::import_types::ImportTypes;
 use crate::imported::Imported;
 use smith_bytes::{Count, Error, Unstructured, Why, goes_on, limited_string};
 use smith_config::Config;
-use smith_draw::KeptGrounds;
+use smith_draw_types::KeptGrounds;
 use smith_types::{EntityType, Import, Imports, Items, Name, TypeSpace};
 use std::alloc::Global;
 

@@ -2,8 +2,7 @@
 //! Binary Format, Instructions, Numeric Instructions). Wide arithmetic is written in the encoding of
 //! the wide arithmetic proposal.
 //!
-//! A call that returns a `Result` fails only if an allocation fails, apart from the errors in its
-//! section `# Errors`.
+//! A call that returns a `Result` fails only if an allocation fails.
 #![tactic(auto)]
 
 mod numeric;

@@ -19,7 +19,7 @@ use Rattle.smith_data.specs.declared.composite_type.CompositeInnerType.TheVarian
 use Rattle.smith_data.specs.declared.composite_type.SubType.{SubType}
 use Rattle.smith_validity.proofs.HeldValueLemmas.{values_from_held}
 use Rattle.smith_config.specs.declared.config.Config.{Config}
-use Rattle.smith_draw.specs.Spelling.{RefersTo, ReferBack, GroupsFit}
+use Rattle.smith_draw_types.specs.Spelling.{RefersTo, ReferBack, GroupsFit}
 use Rattle.smith_spell.specs.Family.{IsMemberHeapType, IsMemberValType, IsMemberStorage, IsMemberField, IsMemberInner, IsMemberType, IsInFamily}
 use Rattle.smith_spell.specs.Written.{AreMembers}
 

@@ -7,9 +7,9 @@ use Rattle.smith_bytes.specs.Spelling.{Listed}
 use Rattle.smith_types.specs.Entities.{IsFuncTypeIndex}
 use Rattle.smith_data.specs.declared.composite_type.SubType.{SubType}
 use Rattle.smith_config.specs.declared.config.Config.{Config}
-use Rattle.smith_draw.specs.TypeUses.{is_unshared_function, places_from, may_be_used, func_types}
-use Rattle.smith_draw.specs.declared.type_use.TypeUse.TheVariants.{DefinedFunc}
-use Rattle.smith_draw.specs.SpelledParts.{SpellsFuncs}
+use Rattle.smith_draw_types.specs.TypeUses.{is_unshared_function, places_from, may_be_used, func_types}
+use Rattle.smith_draw_types.specs.declared.type_use.TypeUse.TheVariants.{DefinedFunc}
+use Rattle.smith_draw_types.specs.SpelledParts.{SpellsFuncs}
 use Rattle.smith_spell.specs.Written.{ArePlaces}
 
 -- for each item, the number of items before it that pass a test, plus n

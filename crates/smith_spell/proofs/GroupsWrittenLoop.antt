@@ -12,7 +12,7 @@ use Rattle.smith_data.specs.declared.composite_type.SubType.{SubType}
 use Rattle.smith_types.proofs.GroupsAddedLemmas.{space_of_push, groups_cut}
 use Rattle.smith_types.proofs.ListLemmas.{slice_get-grown}
 use Rattle.smith_config.specs.declared.config.Config.{Config}
-use Rattle.smith_draw.specs.Spelling.{SpellsGroup, SpellsGroups, SpellsSize, SpellsSubTypes}
+use Rattle.smith_draw_types.specs.Spelling.{SpellsGroup, SpellsGroups, SpellsSize, SpellsSubTypes}
 use Rattle.smith_spell.specs.Family.{IsMemberType}
 use Rattle.smith_spell.specs.declared.sub_types.Before.{Before}
 use Rattle.smith_spell.specs.Written.{Writes, IsSummary, OverSome, AreMembers}

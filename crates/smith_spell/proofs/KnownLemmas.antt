@@ -16,8 +16,8 @@ use Rattle.smith_data.specs.declared.composite_type.SubType.{SubType}
 use Rattle.smith_types.proofs.GroundedLemmas.{grounded_at, grounded_is, abstract_read}
 use Rattle.smith_types.proofs.PathLemmas.{exact_below}
 use Rattle.smith_types.proofs.WalkLemmas.{Reaches, here, up, by_cases_from_below}
-use Rattle.smith_draw.specs.Spelling.{IsRoot}
-use Rattle.smith_draw.proofs.SpelledSubTypeLemmas.{roots_orderly}
+use Rattle.smith_draw_types.specs.Spelling.{IsRoot}
+use Rattle.smith_draw_types.proofs.SpelledSubTypeLemmas.{roots_orderly}
 use Rattle.smith_spell.specs.declared.earlier.Known.{Known}
 use Rattle.smith_spell.specs.Decided.{IsKnown}
 

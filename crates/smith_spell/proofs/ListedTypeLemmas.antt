@@ -7,9 +7,9 @@ use Rattle.std.proofs.lemmas.List.Elements.{All-contains, All-from_recursion}
 use Rattle.smith_data.specs.declared.value_type.AbstractHeapType.{AbstractHeapType}
 use Rattle.smith_data.specs.declared.value_type.AbstractHeapType.TheVariants.{Func, Extern, Any, None, NoExtern, NoFunc, Eq, Struct, Array, I31, Exn, NoExn}
 use Rattle.smith_config.specs.declared.config.Config.{Config}
-use Rattle.smith_draw.specs.Choices.{enabled}
-use Rattle.smith_draw.specs.ValueTypes.{abstract_heap_types}
-use Rattle.smith_draw.proofs.EnabledLemmas.{enabled_all}
+use Rattle.smith_draw_types.specs.Choices.{enabled}
+use Rattle.smith_draw_types.specs.ValueTypes.{abstract_heap_types}
+use Rattle.smith_draw_types.proofs.EnabledLemmas.{enabled_all}
 use Rattle.smith_spell.specs.Decided.{IsOffered}
 
 -- an item is enabled if its row turns it on

@@ -7,11 +7,11 @@ use Rattle.smith_bytes.specs.Spelling.{SpellsAnyByte, Joined, SpellsNone}
 use Rattle.smith_types.specs.Groups.{space_of}
 use Rattle.smith_data.specs.declared.composite_type.SubType.{SubType}
 use Rattle.smith_config.specs.declared.config.Config.{Config}
-use Rattle.smith_draw.specs.TypeUses.{places_from}
-use Rattle.smith_draw.specs.Spelling.{SpellsGroups}
+use Rattle.smith_draw_types.specs.TypeUses.{places_from}
+use Rattle.smith_draw_types.specs.Spelling.{SpellsGroups}
 use Rattle.smith_spell.specs.Family.{IsInFamily}
 use Rattle.smith_spell.specs.Spelling.{SpellsMember}
-use Rattle.smith_draw.specs.SpelledParts.{SpellsNoTag, SpellsFuncs}
+use Rattle.smith_draw_types.specs.SpelledParts.{SpellsNoTag, SpellsFuncs}
 use Rattle.smith_spell.specs.Written.{Writes}
 use Rattle.smith_spell.proofs.WrittenLemmas.{joined_written, regrouped, written_as}
 use Rattle.smith_spell.proofs.GroupsWrittenLoop.{at_place}

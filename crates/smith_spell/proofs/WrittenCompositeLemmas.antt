@@ -5,8 +5,8 @@ use Rattle.smith_data.specs.declared.composite_type.FieldType.{FieldType}
 use Rattle.smith_data.specs.declared.composite_type.FuncType.{FuncType}
 use Rattle.smith_data.specs.declared.composite_type.StructType.{StructType}
 use Rattle.smith_config.specs.declared.config.Config.{Config}
-use Rattle.smith_draw.specs.CompositeTypes.{most_results}
-use Rattle.smith_draw.specs.Spelling.{SpellsValType, SpellsStorage, SpellsField, SpellsFuncType, SpellsStructType}
+use Rattle.smith_draw_types.specs.CompositeTypes.{most_results}
+use Rattle.smith_draw_types.specs.Spelling.{SpellsValType, SpellsStorage, SpellsField, SpellsFuncType, SpellsStructType}
 use Rattle.smith_spell.specs.Written.{Writes}
 use Rattle.smith_spell.proofs.WrittenLemmas.{joined_written}
 

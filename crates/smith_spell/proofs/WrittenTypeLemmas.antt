@@ -10,9 +10,9 @@ use Rattle.smith_data.specs.declared.value_type.RefType.{RefType}
 use Rattle.smith_data.specs.declared.value_type.ValType.{ValType}
 use Rattle.smith_data.specs.declared.value_type.ValType.TheVariants as vals
 use Rattle.smith_config.specs.declared.config.Config.{Config}
-use Rattle.smith_draw.specs.Choices.{enabled}
-use Rattle.smith_draw.specs.ValueTypes.{value_classes, abstract_heap_types}
-use Rattle.smith_draw.specs.Spelling.{SpellsPlace, SpellsConcrete, SpellsUnshared, SpellsHeapType, SpellsNullable, SpellsRefType, SpellsBehindClass, SpellsValType, class_of}
+use Rattle.smith_draw_types.specs.Choices.{enabled}
+use Rattle.smith_draw_types.specs.ValueTypes.{value_classes, abstract_heap_types}
+use Rattle.smith_draw_types.specs.Spelling.{SpellsPlace, SpellsConcrete, SpellsUnshared, SpellsHeapType, SpellsNullable, SpellsRefType, SpellsBehindClass, SpellsValType, class_of}
 use Rattle.smith_spell.specs.Written.{Writes}
 use Rattle.smith_spell.proofs.WrittenLemmas.{nothing_written, joined_written, written_as}
 

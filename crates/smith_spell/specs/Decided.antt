@@ -8,7 +8,7 @@ use Rattle.smith_data.specs.declared.value_type.AbstractHeapType.TheVariants.{Fu
 use Rattle.smith_data.specs.declared.composite_type.SubType.{SubType}
 use Rattle.smith_config.specs.declared.config.Config.{Config}
 use Rattle.smith_config.specs.InUse.{HasNoShapes}
-use Rattle.smith_draw.specs.Spelling.{IsRoot}
+use Rattle.smith_draw_types.specs.Spelling.{IsRoot}
 use Rattle.smith_spell.specs.declared.earlier.Known.{Known}
 use Rattle.smith_spell.specs.Family.{IsMemberType}
 use Rattle.smith_config.specs.Minimums.{HasNoMinimums}

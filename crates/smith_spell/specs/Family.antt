@@ -19,9 +19,9 @@ use Rattle.smith_data.specs.declared.composite_type.CompositeInnerType.TheVarian
 use Rattle.smith_data.specs.declared.composite_type.SubType.{SubType}
 use Rattle.smith_config.specs.declared.config.Config.{Config}
 use Rattle.smith_config.specs.Shapes.{space_of}
-use Rattle.smith_draw.specs.Choices.{enabled}
-use Rattle.smith_draw.specs.ValueTypes.{abstract_heap_types}
-use Rattle.smith_draw.specs.CompositeTypes.{most_results}
+use Rattle.smith_draw_types.specs.Choices.{enabled}
+use Rattle.smith_draw_types.specs.ValueTypes.{abstract_heap_types}
+use Rattle.smith_draw_types.specs.CompositeTypes.{most_results}
 
 -- a heap type that a type after these may name: an unshared abstract heap type that is drawn, or
 -- one of these types

@@ -6,8 +6,8 @@ use Rattle.smith_config.specs.declared.config.Config.{Config}
 use Rattle.smith_config.specs.Features.{features_of}
 use Rattle.smith_config.specs.Sanitized.{IsSanitized}
 use Rattle.smith_config.specs.Shapes.{space_of}
-use Rattle.smith_draw.specs.RecGroups.{types_at}
-use Rattle.smith_draw.specs.Spelling.{SpellsGroups}
+use Rattle.smith_draw_types.specs.RecGroups.{types_at}
+use Rattle.smith_draw_types.specs.Spelling.{SpellsGroups}
 use Rattle.smith_spell.specs.Family.{IsInFamily}
 
 -- with a minimum of 0 types, the groups of each member of the family are drawn from each piece that

@@ -6,8 +6,8 @@ use Rattle.smith_bytes.specs.Spelling.{SpellsAnyByte, SpellsNone, Where, Joined,
 use Rattle.smith_data.specs.declared.composite_type.SubType.{SubType}
 use Rattle.smith_config.specs.declared.config.Config.{Config}
 use Rattle.smith_config.specs.Shapes.{space_of}
-use Rattle.smith_draw.specs.Spelling.{SpellsGroups}
-use Rattle.smith_draw.specs.SpelledParts.{SpellsNoTag, SpellsFuncs, SpellsGlobal, SpellsBytes, SpellsNoStart}
+use Rattle.smith_draw_types.specs.Spelling.{SpellsGroups}
+use Rattle.smith_draw_types.specs.SpelledParts.{SpellsNoTag, SpellsFuncs, SpellsGlobal, SpellsBytes, SpellsNoStart}
 
 -- types, no import, whether the import section is written, no tag, functions
 unfoldable pub SpellsMember : Config → List (List SubType) → List ℕ → List ℕ → Type 0

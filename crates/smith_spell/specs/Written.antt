@@ -4,9 +4,9 @@ use Rattle.std.specs.List.{list_any}
 use Rattle.smith_bytes.specs.Draws.{big_endian, digit_count}
 use Rattle.smith_data.specs.declared.composite_type.SubType.{SubType}
 use Rattle.smith_config.specs.declared.config.Config.{Config}
-use Rattle.smith_draw.specs.Spelling.{is_open}
+use Rattle.smith_draw_types.specs.Spelling.{is_open}
 use Rattle.smith_spell.specs.Family.{IsMemberType}
-use Rattle.smith_draw.specs.TypeUses.{func_types}
+use Rattle.smith_draw_types.specs.TypeUses.{func_types}
 use Rattle.smith_spell.specs.declared.sub_types.Before.{Before}
 
 -- the new bytes are the old ones followed by a piece with this property

@@ -1,8 +1,8 @@
 ghost use Rattle.std.specs.Prelude.{◌≡◌, ◌≤◌, IsTrue, false, OnOk, IfErr, length, All};
 ghost use Rattle.smith_bytes.specs.declared.error.Error.TheVariants.{Memory};
 ghost use Rattle.smith_bytes.specs.Spelling.{Each, Listed};
-ghost use Rattle.smith_draw.specs.CompositeTypes.{most_results};
-ghost use Rattle.smith_draw.specs.Spelling.{
+ghost use Rattle.smith_draw_types.specs.CompositeTypes.{most_results};
+ghost use Rattle.smith_draw_types.specs.Spelling.{
   SpellsStorage,
   SpellsField,
   SpellsFuncType,

@@ -6,7 +6,7 @@ ghost use Rattle.smith_data.specs.declared.value_type.AbstractHeapType.TheVarian
 ghost use Rattle.smith_types.specs.Grounded.{IsGroundedByStructs};
 ghost use Rattle.smith_types.specs.Grounds.{is_ground};
 ghost use Rattle.smith_types.specs.Subtyping.{is_abstract_below};
-ghost use Rattle.smith_draw.specs.Spelling.{IsRoot};
+ghost use Rattle.smith_draw_types.specs.Spelling.{IsRoot};
 ghost use Rattle.smith_spell.specs.Decided.{IsKnown};
 ghost use Rattle.smith_spell.specs.Family.{IsMemberHeapType};
 

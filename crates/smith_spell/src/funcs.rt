@@ -2,18 +2,18 @@ ghost use Rattle.std.specs.Prelude.{◌≡◌, ◌≤◌, false, OnOk, IfOk, IfE
 ghost use Rattle.smith_bytes.specs.declared.error.Error.TheVariants.{Memory};
 ghost use Rattle.smith_types.specs.Entities.{IsFuncTypeIndex};
 ghost use Rattle.smith_data.specs.declared.composite_type.SubType.{SubType as Sub};
-ghost use Rattle.smith_draw.specs.TypeUses.{is_unshared_function, func_types};
-ghost use Rattle.smith_draw.specs.SpelledParts.{SpellsFuncs};
+ghost use Rattle.smith_draw_types.specs.TypeUses.{is_unshared_function, func_types};
+ghost use Rattle.smith_draw_types.specs.SpelledParts.{SpellsFuncs};
 ghost use Rattle.smith_spell.specs.Written.{Writes, ArePlaces};
 
 use crate::pieces::{write_bool, write_end, write_number};
 use smith_bytes::Error;
 use smith_config::Config;
-use smith_draw::{TypeUse, count_types};
+use smith_draw_types::{TypeUse, count_types};
 use smith_types::{CompositeInnerType, Items, SubType};
 use std::alloc::Global;
 
-#[tactic(auto, unfolding(smith_draw::specs::TypeUses::is_unshared_function))]
+#[tactic(auto, unfolding(smith_draw_types::specs::TypeUses::is_unshared_function))]
 fn is_unshared_function(t: &SubType) -> bool
     ensures { result ≡ is_unshared_function t.now }
 {

@@ -3,10 +3,10 @@ ghost use Rattle.std.specs.List.{list_any};
 ghost use Rattle.smith_bytes.specs.declared.error.Error.TheVariants.{Memory};
 ghost use Rattle.smith_bytes.specs.Spelling.{SpellsAnyByte, Joined, SpellsNone};
 ghost use Rattle.smith_types.specs.Groups.{space_of};
-ghost use Rattle.smith_draw.specs.TypeUses.{is_tag_type};
+ghost use Rattle.smith_draw_types.specs.TypeUses.{is_tag_type};
 ghost use Rattle.smith_spell.specs.Family.{IsInFamily};
 ghost use Rattle.smith_spell.specs.Spelling.{SpellsMember};
-ghost use Rattle.smith_draw.specs.SpelledParts.{SpellsNoTag};
+ghost use Rattle.smith_draw_types.specs.SpelledParts.{SpellsNoTag};
 ghost use Rattle.smith_spell.specs.Written.{Writes};
 
 use crate::funcs::write_funcs;
@@ -14,7 +14,7 @@ use crate::groups::write_groups;
 use crate::pieces::{write_end, write_flag};
 use smith_bytes::Error;
 use smith_config::Config;
-use smith_draw::{TypeUse, count_types};
+use smith_draw_types::{TypeUse, count_types};
 use smith_types::{Items, SubType};
 use std::alloc::Global;
 

@@ -1,9 +1,9 @@
 ghost use Rattle.std.specs.Prelude.{◌≡◌, ◌↔◌, IsTrue, All};
 ghost use Rattle.std.specs.List.{Contains};
 ghost use Rattle.smith_data.specs.declared.value_type.ValType.TheVariants.{Ref};
-ghost use Rattle.smith_draw.specs.Choices.{enabled};
-ghost use Rattle.smith_draw.specs.ValueTypes.{abstract_heap_types};
-ghost use Rattle.smith_draw.specs.CompositeTypes.{most_results};
+ghost use Rattle.smith_draw_types.specs.Choices.{enabled};
+ghost use Rattle.smith_draw_types.specs.ValueTypes.{abstract_heap_types};
+ghost use Rattle.smith_draw_types.specs.CompositeTypes.{most_results};
 ghost use Rattle.smith_spell.specs.Family.{
   IsMemberHeapType,
   IsMemberNullability,

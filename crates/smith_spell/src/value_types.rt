@@ -5,9 +5,9 @@ ghost use Rattle.smith_bytes.specs.declared.error.Error.TheVariants.{Memory};
 ghost use Rattle.smith_bytes.specs.Spelling.{Where, Listed, SpellsBool};
 ghost use Rattle.smith_data.specs.declared.value_type.ValType.TheVariants.{Ref};
 ghost use Rattle.smith_data.specs.declared.composite_type.SubType.{SubType as Sub};
-ghost use Rattle.smith_draw.specs.Choices.{enabled};
-ghost use Rattle.smith_draw.specs.ValueTypes.{value_classes, abstract_heap_types};
-ghost use Rattle.smith_draw.specs.Spelling.{
+ghost use Rattle.smith_draw_types.specs.Choices.{enabled};
+ghost use Rattle.smith_draw_types.specs.ValueTypes.{value_classes, abstract_heap_types};
+ghost use Rattle.smith_draw_types.specs.Spelling.{
   class_of,
   SpellsUnshared,
   SpellsConcrete,

@@ -13,7 +13,7 @@ use Rattle.smith_data.specs.declared.value_type.HeapType.{HeapType}
 use Rattle.smith_data.specs.declared.value_type.HeapType.TheVariants.{Concrete}
 use Rattle.smith_data.specs.declared.composite_type.CompositeInnerType.{CompositeInnerType}
 use Rattle.smith_types.specs.ExampleTypes.{plain}
-use Rattle.smith_draw.specs.Spelling.{IsRoot}
+use Rattle.smith_draw_types.specs.Spelling.{IsRoot}
 use Rattle.smith_spell.specs.Decided.{IsKnown}
 use Rattle.smith_config.specs.ExampleMembers.{final, alone}
 use Rattle.smith_spell.proofs.KnownLemmas.{abstract_known, concrete_known}

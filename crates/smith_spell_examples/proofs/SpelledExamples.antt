@@ -7,13 +7,13 @@ use Rattle.smith_bytes.specs.Spelling.{SpellsBool, SpellsNumber, SpellsAnyByte, 
 use Rattle.smith_data.specs.declared.value_type.HeapType.TheVariants.{Concrete}
 use Rattle.smith_config.specs.Config.{default_config}
 use Rattle.smith_config.specs.declared.config.Config.{Config}
-use Rattle.smith_draw.specs.Choices.{enabled}
-use Rattle.smith_draw.specs.ValueTypes.{value_classes}
-use Rattle.smith_draw.specs.Spelling.{SpellsPlace, SpellsNullable, SpellsRefType, SpellsUnshared, SpellsGroups, SpellsGroup, SpellsSubTypes, SpellsFuncType}
-use Rattle.smith_draw.specs.SpelledConstants.{SpellsI32, SpellsConstant}
-use Rattle.smith_draw.specs.TypeUses.{is_tag_type, is_unshared_function}
+use Rattle.smith_draw_types.specs.Choices.{enabled}
+use Rattle.smith_draw_types.specs.ValueTypes.{value_classes}
+use Rattle.smith_draw_types.specs.Spelling.{SpellsPlace, SpellsNullable, SpellsRefType, SpellsUnshared, SpellsGroups, SpellsGroup, SpellsSubTypes, SpellsFuncType}
+use Rattle.smith_draw_types.specs.SpelledConstants.{SpellsI32, SpellsConstant}
+use Rattle.smith_draw_types.specs.TypeUses.{is_tag_type, is_unshared_function}
 use Rattle.smith_spell.specs.Spelling.{SpellsMember}
-use Rattle.smith_draw.specs.SpelledParts.{SpellsGlobal}
+use Rattle.smith_draw_types.specs.SpelledParts.{SpellsGlobal}
 use Rattle.smith_config.specs.ExampleMembers.{one_function_type}
 use Rattle.smith_spell.proofs.WrittenLemmas.{regrouped}
 

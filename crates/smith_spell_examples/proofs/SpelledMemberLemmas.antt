@@ -19,11 +19,11 @@ use Rattle.smith_config.specs.declared.config.Config.{Config}
 use Rattle.smith_config.specs.Features.{features_of}
 use Rattle.smith_config.specs.Sanitized.{IsSanitized}
 use Rattle.smith_config.specs.Shapes.{space_of}
-use Rattle.smith_draw.specs.RecGroups.{types_at}
-use Rattle.smith_draw.specs.Spelling.{GroupsFit}
-use Rattle.smith_draw.proofs.SpelledGroupLemmas.{types_read}
+use Rattle.smith_draw_types.specs.RecGroups.{types_at}
+use Rattle.smith_draw_types.specs.Spelling.{GroupsFit}
+use Rattle.smith_draw_types.proofs.SpelledGroupLemmas.{types_read}
 use Rattle.smith_spell.specs.Spelling.{SpellsMember}
-use Rattle.smith_draw.specs.SpelledParts.{SpellsNoTag, SpellsFuncs}
+use Rattle.smith_draw_types.specs.SpelledParts.{SpellsNoTag, SpellsFuncs}
 
 -- the bytes after the groups
 abbrev pub SpellsBehindGroups : Config → List SubType → List ℕ → List ℕ → Type 0

@@ -1,5 +1,5 @@
 ghost use Rattle.std.specs.Prelude.{[], ◌∷◌, ◌≡◌, true, false};
-ghost use Rattle.smith_draw.specs.TypeUses.{is_tag_type, func_types};
+ghost use Rattle.smith_draw_types.specs.TypeUses.{is_tag_type, func_types};
 ghost use Rattle.smith_config.specs.ExampleMembers.{final, bytes_array, plain_function, foo_type};
 ghost use Rattle.smith_config.specs.ExampleMembers.{quux_type};
 

@@ -6,7 +6,7 @@ ghost use Rattle.smith_data.specs.declared.composite_type.StorageType.TheVariant
 ghost use Rattle.smith_types.specs.ExampleTypes.{plain, constant, variable, nullable, not_null};
 ghost use Rattle.smith_config.specs.Config.{default_config};
 ghost use Rattle.smith_config.specs.Shapes.{space_of};
-ghost use Rattle.smith_draw.specs.Spelling.{
+ghost use Rattle.smith_draw_types.specs.Spelling.{
   SpellsPlace,
   SpellsConcrete,
   SpellsRefType,

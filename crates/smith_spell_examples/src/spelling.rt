@@ -5,12 +5,12 @@ ghost use Rattle.smith_data.specs.declared.value_type.HeapType.TheVariants.{Conc
 ghost use Rattle.smith_data.specs.declared.value_type.ValType.TheVariants.{Ref};
 ghost use Rattle.smith_data.specs.declared.composite_type.StorageType.TheVariants.{I8, I16};
 ghost use Rattle.smith_types.specs.ExampleTypes.{plain, not_null};
-ghost use Rattle.smith_draw.specs.Spelling.{SpellsGroups, SpellsStorage, SpellsHeapType};
-ghost use Rattle.smith_draw.specs.Spelling.{SpellsUnshared, SpellsSize, SpellsBehindClass};
+ghost use Rattle.smith_draw_types.specs.Spelling.{SpellsGroups, SpellsStorage, SpellsHeapType};
+ghost use Rattle.smith_draw_types.specs.Spelling.{SpellsUnshared, SpellsSize, SpellsBehindClass};
 ghost use Rattle.smith_bytes.specs.Spelling.{SpellsNone};
 ghost use Rattle.smith_spell.specs.Spelling.{SpellsMember, SpellsRest, SpellsSegments, IsRest};
-ghost use Rattle.smith_draw.specs.SpelledParts.{SpellsNoTag, SpellsFuncs, SpellsGlobal};
-ghost use Rattle.smith_draw.specs.SpelledParts.{SpellsBytes, SpellsNoStart};
+ghost use Rattle.smith_draw_types.specs.SpelledParts.{SpellsNoTag, SpellsFuncs, SpellsGlobal};
+ghost use Rattle.smith_draw_types.specs.SpelledParts.{SpellsBytes, SpellsNoStart};
 ghost use Rattle.smith_config.specs.ExampleMembers.{final, one_function_type, array_and_struct};
 ghost use Rattle.smith_config.specs.ExampleMembers.{struct_and_holder, taking_a_number, giving_two};
 ghost use Rattle.smith_config.specs.ExampleMembers.{alone, one_of_each_without_gc};

@@ -16,8 +16,8 @@ use Rattle.smith_types.specs.Floats.{HasNoFloatValue}
 use Rattle.smith_config.specs.Granted.{HasGroundedElements, HasGroundedValue, AreTypesGranted}
 use Rattle.smith_imports.specs.Imported.{IsImported, MayImport}
 use Rattle.smith_imports.specs.ImportedEntities.{import_scope}
-use Rattle.smith_draw.specs.HeldFields.{HoldsUngroundedField}
-use Rattle.smith_draw.proofs.FilledLemmas.{fields_imported}
+use Rattle.smith_draw_types.specs.HeldFields.{HoldsUngroundedField}
+use Rattle.smith_draw_types.proofs.FilledLemmas.{fields_imported}
 use Rattle.smith_imports.proofs.ImportsGrownLemmas.{ungrounded_imported}
 use Rattle.smith_imports.specs.declared.imported.Imported.{Imported}
 use Rattle.wasm_smith.specs.FirstParts.{module_so_far}

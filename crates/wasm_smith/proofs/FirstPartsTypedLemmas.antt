@@ -21,12 +21,12 @@ use Rattle.smith_config.specs.declared.shape.Shape.{Shape}
 use Rattle.smith_config.specs.Features.{features_of}
 use Rattle.smith_config.specs.InUse.{FixesImports}
 use Rattle.smith_config.specs.Shapes.{most_listed, shape_spaces, shape_types, space_of}
-use Rattle.smith_draw.specs.HeldFields.{HoldsUngroundedField}
-use Rattle.smith_draw.specs.FuncSizes.{HasFewValues, IsSmall}
+use Rattle.smith_draw_types.specs.HeldFields.{HoldsUngroundedField}
+use Rattle.smith_draw_types.specs.FuncSizes.{HasFewValues, IsSmall}
 use Rattle.smith_config.specs.Granted.{AreTypesGranted, HasGranted, HasGroundedElements, HasGroundedValue}
-use Rattle.smith_draw.specs.Grounding.{over}
-use Rattle.smith_draw.proofs.FilledLemmas.{ungrounded_before}
-use Rattle.smith_draw.proofs.FuncSizeLemmas.{shape_few}
+use Rattle.smith_draw_types.specs.Grounding.{over}
+use Rattle.smith_draw_types.proofs.FilledLemmas.{ungrounded_before}
+use Rattle.smith_draw_types.proofs.FuncSizeLemmas.{shape_few}
 use Rattle.wasm_smith.specs.FirstParts.{ModuleSoFar, HasNothing, AreFirstParts, AreFirstPartsByModule, AreFirstPartsByImports}
 use Rattle.wasm_smith.specs.DrawnSteps.{AreTypesDrawn, HoldsGrounded, drawn_next}
 use Rattle.smith_defined.proofs.ExtensionLemmas.{all_kept}

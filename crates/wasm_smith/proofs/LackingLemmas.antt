@@ -32,10 +32,10 @@ use Rattle.smith_config.specs.declared.config.Config.{Config}
 use Rattle.smith_config.specs.declared.shape.Shape.{Shape}
 use Rattle.smith_config.specs.Shapes.{shape_imports, shape_spaces, shape_types, shape_values}
 use Rattle.smith_config.specs.Granted.{IsNonNullable, IsUngrounded, HasGranted, IsGranted, HasGroundedElements, HasGroundedValue}
-use Rattle.smith_draw.specs.HeldFields.{fields_of}
-use Rattle.smith_draw.specs.Grounding.{over}
-use Rattle.smith_draw.proofs.FilledLemmas.{any_weaker}
-use Rattle.smith_draw.proofs.NullableLemmas.{ungrounded_not_null}
+use Rattle.smith_draw_types.specs.HeldFields.{fields_of}
+use Rattle.smith_draw_types.specs.Grounding.{over}
+use Rattle.smith_draw_types.proofs.FilledLemmas.{any_weaker}
+use Rattle.smith_draw_types.proofs.NullableLemmas.{ungrounded_not_null}
 use Rattle.wasm_smith.specs.FirstParts.{MayRefuseFirstParts}
 use Rattle.smith_rules.specs.Bounds.{items_of_module_shape}
 use Rattle.wasm_smith.specs.DrawnSteps.{HoldsGrounded}

@@ -22,10 +22,10 @@ use Rattle.smith_config.specs.Faults.{Passes}
 use Rattle.smith_config.specs.InUse.{FixesExports}
 use Rattle.smith_config.specs.Sanitized.{IsSanitized}
 use Rattle.smith_config.specs.Shapes.{IsShapeValid, most_listed, shape_spaces, shape_types}
-use Rattle.smith_draw.specs.HeldFields.{HoldsUngroundedField}
-use Rattle.smith_draw.specs.FuncSizes.{HasFewValues}
+use Rattle.smith_draw_types.specs.HeldFields.{HoldsUngroundedField}
+use Rattle.smith_draw_types.specs.FuncSizes.{HasFewValues}
 use Rattle.smith_config.specs.Granted.{HasGranted, HasGroundedElements, HasGroundedValue}
-use Rattle.smith_draw.proofs.FilledLemmas.{ungrounded_before}
+use Rattle.smith_draw_types.proofs.FilledLemmas.{ungrounded_before}
 use Rattle.smith_rules.specs.ShapeImports.{count_in}
 use Rattle.smith_rules.specs.ExportedItems.{Export, exported_size}
 use Rattle.smith_contents.specs.declared.exported.Exports.{Exports}

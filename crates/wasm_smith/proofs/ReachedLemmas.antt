@@ -21,13 +21,13 @@ use Rattle.smith_config.specs.declared.shape.Shape.{Shape}
 use Rattle.smith_config.specs.InUse.{HasNoShapes}
 use Rattle.smith_config.specs.Sanitized.{IsSanitized}
 use Rattle.smith_config.specs.Shapes.{space_of}
-use Rattle.smith_draw.specs.SpelledGlobals.{mutable_i32}
-use Rattle.smith_draw.proofs.SpelledGroupLemmas.{types_read}
+use Rattle.smith_draw_types.specs.SpelledGlobals.{mutable_i32}
+use Rattle.smith_draw_types.proofs.SpelledGroupLemmas.{types_read}
 use Rattle.smith_spell.specs.Family.{IsInFamily}
 use Rattle.smith_config.specs.Minimums.{HasNoMinimums}
 use Rattle.smith_spell.specs.SpellAnswers.{IsSpellable}
 use Rattle.smith_spell.specs.Spelling.{SpellsMember, SpellsRest, SpellsSegments}
-use Rattle.smith_draw.specs.SpelledParts.{SpellsNoTag, SpellsFuncs, SpellsGlobal, SpellsNoStart}
+use Rattle.smith_draw_types.specs.SpelledParts.{SpellsNoTag, SpellsFuncs, SpellsGlobal, SpellsNoStart}
 use Rattle.smith_spell.proofs.FamilyFitLemmas.{family_fits}
 use Rattle.wasm_smith.specs.FirstParts.{ModuleSoFar, first_parts_at, nothing_so_far}
 use Rattle.smith_bytes.specs.Steps.{Returns, is_lack, ◌>>=◌, section_flag_at}

@@ -8,9 +8,9 @@ use Rattle.smith_types.specs.Expressions.{Context}
 use Rattle.smith_types.specs.Grown.{Extends}
 use Rattle.smith_types.specs.GroupedTypes.{GroupedTypes}
 use Rattle.smith_config.specs.declared.config.Config.{Config}
-use Rattle.smith_draw.specs.RecGroups.{types_until_at, new_group_at, clone_rec_group_at, clone_wanted_at, cloned_or_new_at, rec_group_at, least_types_at, more_types_at, types_at, with_clone, may_be_cloned, members}
-use Rattle.smith_draw.specs.Choices.{chosen_at}
-use Rattle.smith_draw.proofs.RecGroupLemmas.{least_keeps, more_keeps}
+use Rattle.smith_draw_types.specs.RecGroups.{types_until_at, new_group_at, clone_rec_group_at, clone_wanted_at, cloned_or_new_at, rec_group_at, least_types_at, more_types_at, types_at, with_clone, may_be_cloned, members}
+use Rattle.smith_draw_types.specs.Choices.{chosen_at}
+use Rattle.smith_draw_types.proofs.RecGroupLemmas.{least_keeps, more_keeps}
 use Rattle.smith_defined.proofs.ExtensionLemmas.{all_kept}
 use Rattle.smith_defined.proofs.RequiredExportsLoop.{extends_both}
 use Rattle.smith_defined.proofs.StandsBehindLemmas.{one_more}

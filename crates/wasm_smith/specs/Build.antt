@@ -10,7 +10,7 @@ use Rattle.smith_types.specs.Imports.{EntitySpaces, flattened, imported_spaces}
 use Rattle.smith_config.specs.declared.config.Config.{Config}
 use Rattle.smith_config.specs.declared.shape.Shape.{Shape}
 use Rattle.smith_config.specs.Features.{features_of}
-use Rattle.smith_draw.specs.RecGroups.{types_at}
+use Rattle.smith_draw_types.specs.RecGroups.{types_at}
 use Rattle.smith_imports.specs.Importing.{imports_at}
 use Rattle.smith_bytes.specs.Steps.{◌>>=◌, section_flag_at, Returns, is_lack}
 use Rattle.smith_contents.specs.AllExports.{exports_at}

@@ -14,8 +14,8 @@ use Rattle.smith_config.specs.Faults.{Passes}
 use Rattle.smith_config.specs.Features.{features_of}
 use Rattle.smith_config.specs.InUse.{HasNoShapes}
 use Rattle.smith_config.specs.Sanitized.{IsSanitized}
-use Rattle.smith_draw.specs.FuncSizes.{IsSmall}
-use Rattle.smith_draw.specs.declared.spaces.Spaces.{Spaces}
+use Rattle.smith_draw_types.specs.FuncSizes.{IsSmall}
+use Rattle.smith_draw_types.specs.declared.spaces.Spaces.{Spaces}
 use Rattle.smith_contents.specs.DrawnElements.{MayLackItem}
 use Rattle.smith_contents.specs.Exported.{IsIndexed, HasSizeIn32Bits}
 use Rattle.smith_rules.specs.Refusals.{MayRefuse}

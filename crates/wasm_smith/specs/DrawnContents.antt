@@ -17,7 +17,7 @@ use Rattle.smith_config.specs.declared.config.Config.{Config}
 use Rattle.smith_config.specs.Features.{features_of}
 use Rattle.smith_config.specs.InUse.{FixesExports}
 use Rattle.smith_config.specs.Granted.{IsGranted, HasGroundedItems, HasGroundedElements}
-use Rattle.smith_draw.specs.Grounding.{without_globals}
+use Rattle.smith_draw_types.specs.Grounding.{without_globals}
 use Rattle.smith_rules.specs.Held.{HasItems, expressions_of}
 use Rattle.smith_rules.specs.ExportedItems.{AreAllExported, exported_size}
 use Rattle.smith_contents.specs.DataSegments.{data_at}

@@ -14,8 +14,8 @@ use Rattle.smith_config.specs.declared.shape.Shape.{Shape}
 use Rattle.smith_config.specs.Faults.{minimum_of}
 use Rattle.smith_config.specs.InUse.{HasNoShapes, FixesImports, shapes_of}
 use Rattle.smith_config.specs.Shapes.{most_listed, shape_imports, shape_spaces, shape_types, space_of}
-use Rattle.smith_draw.specs.HeldFields.{HoldsUngroundedField}
-use Rattle.smith_draw.specs.FuncSizes.{HasFewValues, IsSmall}
+use Rattle.smith_draw_types.specs.HeldFields.{HoldsUngroundedField}
+use Rattle.smith_draw_types.specs.FuncSizes.{HasFewValues, IsSmall}
 use Rattle.smith_config.specs.Granted.{AreTypesGranted, HasGroundedElements, HasGroundedValue}
 use Rattle.smith_imports.specs.Imported.{HasNoImports}
 use Rattle.smith_rules.specs.ShapeImports.{kept_groups, taken_from, count_in}

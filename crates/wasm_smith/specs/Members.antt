@@ -6,7 +6,7 @@ use Rattle.smith_data.specs.declared.const_instr.ConstInstr.{ConstInstr}
 use Rattle.smith_data.specs.declared.const_instr.ConstInstr.TheVariants.{I32Const}
 use Rattle.smith_data.specs.declared.segments.DataSegmentKind.TheVariants.{Passive}
 use Rattle.smith_config.specs.Shapes.{space_of}
-use Rattle.smith_draw.specs.SpelledGlobals.{mutable_i32}
+use Rattle.smith_draw_types.specs.SpelledGlobals.{mutable_i32}
 use Rattle.smith_rules.specs.Module.{ModuleParts}
 
 -- a module has these types and functions

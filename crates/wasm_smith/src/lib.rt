@@ -16,7 +16,7 @@ pub use smith_bytes::{
 };
 pub use smith_config::{Config, MemoryOffsetChoices, OffsetChoicesFault, Shape};
 pub use smith_const_expr::{arbitrary_const_expr, arbitrary_table_init, globals_for_const_expr};
-pub use smith_draw::{
+pub use smith_draw_types::{
     Entities, Spaces, TypeUse, add_type, arbitrary_composite_type, arbitrary_field_type,
     arbitrary_func_type, arbitrary_global_type, arbitrary_heap_type, arbitrary_limits64,
     arbitrary_locals, arbitrary_matching_field_type, arbitrary_matching_func_type,

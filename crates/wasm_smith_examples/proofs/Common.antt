@@ -32,13 +32,13 @@ unfoldable pub use Rattle.smith_contents.specs.ElementSegments.{element_kinds_at
 unfoldable pub use Rattle.smith_contents.specs.Exporting.{export_at, export_name_at, exports_from, free_exports_at}
 unfoldable pub use Rattle.smith_contents.specs.Start.{start_at, start_wanted_at}
 unfoldable pub use Rattle.smith_defined.specs.Definitions.{definitions_at, funcs_at, globals_at, items_defined_at, memories_at, tables_at, tags_at, type_indices_at}
-unfoldable pub use Rattle.smith_draw.specs.Choices.{chosen_at}
-unfoldable pub use Rattle.smith_draw.specs.CompositeTypes.{composite_type_at, func_type_at, val_types_at}
-unfoldable pub use Rattle.smith_draw.specs.GlobalTypes.{global_type_at}
-unfoldable pub use Rattle.smith_draw.specs.RecGroups.{least_types_at, more_types_at, new_group_at, rec_group_at, types_at, types_until_at}
-unfoldable pub use Rattle.smith_draw.specs.SubTypes.{root_type_at, sub_type_at, sub_type_of_at, supertypes}
-unfoldable pub use Rattle.smith_draw.specs.TypeUses.{is_tag_type, is_unshared_function}
-unfoldable pub use Rattle.smith_draw.specs.ValueTypes.{sharedness_at, val_type_at}
+unfoldable pub use Rattle.smith_draw_types.specs.Choices.{chosen_at}
+unfoldable pub use Rattle.smith_draw_types.specs.CompositeTypes.{composite_type_at, func_type_at, val_types_at}
+unfoldable pub use Rattle.smith_draw_types.specs.GlobalTypes.{global_type_at}
+unfoldable pub use Rattle.smith_draw_types.specs.RecGroups.{least_types_at, more_types_at, new_group_at, rec_group_at, types_at, types_until_at}
+unfoldable pub use Rattle.smith_draw_types.specs.SubTypes.{root_type_at, sub_type_at, sub_type_of_at, supertypes}
+unfoldable pub use Rattle.smith_draw_types.specs.TypeUses.{is_tag_type, is_unshared_function}
+unfoldable pub use Rattle.smith_draw_types.specs.ValueTypes.{sharedness_at, val_type_at}
 unfoldable pub use Rattle.smith_imports.specs.ImportGroups.{group_kind_at}
 unfoldable pub use Rattle.smith_imports.specs.ImportNames.{import_name_at}
 unfoldable pub use Rattle.smith_imports.specs.ImportedEntities.{entity_at, entity_of_kind_at, kind_at}

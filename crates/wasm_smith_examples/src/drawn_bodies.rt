@@ -17,7 +17,7 @@ fn raw_bytes()
 {}
 
 // The locals of a body come before its instructions, and one body before the next.
-#[tactic(auto, unfolding(smith_contents::specs::DrawnBodies::bodies_at, smith_contents::specs::DrawnBodies::body_at, smith_contents::specs::DrawnBodies::instructions_at, smith_contents::specs::DrawnBodies::is_raw_at, smith_contents::specs::DrawnBodies::raw_bytes_at, smith_draw::specs::Locals::locals_at, smith_draw::specs::CompositeTypes::val_types_at, smith_draw::specs::ValueTypes::val_type_at, smith_draw::specs::Choices::chosen_at, smith_bytes::specs::Growth::grow_at, smith_bytes::specs::Draws::bool_at, smith_bytes::specs::Draws::len_at, smith_bytes::specs::Draws::range_at, smith_bytes::specs::Draws::digit_count))]
+#[tactic(auto, unfolding(smith_contents::specs::DrawnBodies::bodies_at, smith_contents::specs::DrawnBodies::body_at, smith_contents::specs::DrawnBodies::instructions_at, smith_contents::specs::DrawnBodies::is_raw_at, smith_contents::specs::DrawnBodies::raw_bytes_at, smith_draw_types::specs::Locals::locals_at, smith_draw_types::specs::CompositeTypes::val_types_at, smith_draw_types::specs::ValueTypes::val_type_at, smith_draw_types::specs::Choices::chosen_at, smith_bytes::specs::Growth::grow_at, smith_bytes::specs::Draws::bool_at, smith_bytes::specs::Draws::len_at, smith_bytes::specs::Draws::range_at, smith_bytes::specs::Draws::digit_count))]
 fn bodies()
     ensures of_no_function { bodies_at default_config (context_of_types []) 0 (1 ∷ [])
         ≡ ([], 1 ∷ []) }

@@ -11,7 +11,7 @@ ghost use Rattle.smith_data.specs.declared.entity_type.ExportKind.TheVariants as
 ghost use Rattle.smith_data.specs.declared.imports.Imports.TheVariants.{Single, Compact1};
 ghost use Rattle.smith_data.specs.declared.imports.Imports.TheVariants.{Compact2};
 ghost use Rattle.smith_config.specs.Config.{default_config};
-ghost use Rattle.smith_draw.specs.Choices.{enabled};
+ghost use Rattle.smith_draw_types.specs.Choices.{enabled};
 ghost use Rattle.smith_config.specs.ExampleMembers.{final, taking_a_number, giving_two};
 ghost use Rattle.smith_config.specs.ExampleMembers.{plain_function};
 ghost use Rattle.smith_imports.specs.ImportNames.{is_taken, import_name_at};
@@ -54,7 +54,7 @@ fn drawn_imports()
         ) }
 {}
 
-#[tactic(auto, unfolding(smith_draw::specs::TypeUses::is_tag_type))]
+#[tactic(auto, unfolding(smith_draw_types::specs::TypeUses::is_tag_type))]
 fn offered_kinds()
     ensures without_types { enabled (kind_rows default_config [] (imported_spaces []))
         ≡ kind.Global ∷ kind.Memory ∷ kind.Table ∷ [] }
@@ -74,7 +74,7 @@ fn offered_kinds()
 {}
 
 // An imported function grounds the references of later imports.
-#[tactic(auto, unfolding(smith_imports::specs::ImportedEntities::entity_at, smith_imports::specs::ImportedEntities::kind_at, smith_imports::specs::ImportedEntities::entity_of_kind_at, smith_draw::specs::TypeUses::is_tag_type, smith_draw::specs::GlobalTypes::global_type_at, smith_draw::specs::ValueTypes::val_type_at, smith_draw::specs::ValueTypes::ref_type_at, smith_draw::specs::ValueTypes::granted_at, smith_draw::specs::ValueTypes::heap_type_at, smith_draw::specs::ValueTypes::type_index_at, smith_draw::specs::ValueTypes::abstract_heap_type_at, smith_draw::specs::ValueTypes::sharedness_at, smith_draw::specs::Choices::chosen_at, smith_draw::specs::Grounding::is_grounded, smith_draw::specs::Below::is_heap_below, smith_draw::specs::Offered::ancestors, smith_bytes::specs::Draws::bool_at, smith_bytes::specs::Draws::range_at, smith_bytes::specs::Draws::digit_count))]
+#[tactic(auto, unfolding(smith_imports::specs::ImportedEntities::entity_at, smith_imports::specs::ImportedEntities::kind_at, smith_imports::specs::ImportedEntities::entity_of_kind_at, smith_draw_types::specs::TypeUses::is_tag_type, smith_draw_types::specs::GlobalTypes::global_type_at, smith_draw_types::specs::ValueTypes::val_type_at, smith_draw_types::specs::ValueTypes::ref_type_at, smith_draw_types::specs::ValueTypes::granted_at, smith_draw_types::specs::ValueTypes::heap_type_at, smith_draw_types::specs::ValueTypes::type_index_at, smith_draw_types::specs::ValueTypes::abstract_heap_type_at, smith_draw_types::specs::ValueTypes::sharedness_at, smith_draw_types::specs::Choices::chosen_at, smith_draw_types::specs::Grounding::is_grounded, smith_draw_types::specs::Below::is_heap_below, smith_draw_types::specs::Offered::ancestors, smith_bytes::specs::Draws::bool_at, smith_bytes::specs::Draws::range_at, smith_bytes::specs::Draws::digit_count))]
 fn entities()
     ensures after_a_function { entity_at (record default_config { non_nullable_enabled = true })
         (final plain_function ∷ []) (imported_spaces (import_named [] (Func 0) ∷ [])) 0

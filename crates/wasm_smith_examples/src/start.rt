@@ -14,7 +14,7 @@ fn start_funcs()
 {}
 
 // The bytes decide whether a function starts the module, then which.
-#[tactic(auto, unfolding(smith_contents::specs::Start::start_at, smith_contents::specs::Start::start_wanted_at, smith_draw::specs::Choices::chosen_at, smith_bytes::specs::Draws::bool_at, smith_bytes::specs::Draws::range_at, smith_bytes::specs::Draws::digit_count))]
+#[tactic(auto, unfolding(smith_contents::specs::Start::start_at, smith_contents::specs::Start::start_wanted_at, smith_draw_types::specs::Choices::chosen_at, smith_bytes::specs::Draws::bool_at, smith_bytes::specs::Draws::range_at, smith_bytes::specs::Draws::digit_count))]
 fn start()
     ensures none_to_choose { start_at default_config (final taking_a_number ∷ []) (0 ∷ []) (1 ∷ [])
         ≡ (None, 1 ∷ []) }

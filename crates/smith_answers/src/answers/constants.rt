@@ -9,7 +9,7 @@ use smith_case::arguments::{value, word};
 use smith_case::call::ConstantCall;
 use smith_case::shapes::{ref_type_of, val_type_of};
 use smith_case::{Case, Fault, Obstacle};
-use smith_const_expr::{arbitrary_const_expr, arbitrary_table_init, globals_for_const_expr};
+use smith_draw::{arbitrary_const_expr, arbitrary_table_init, globals_for_const_expr};
 use smith_types::{ConstInstr, Items, RefType, ValType};
 use smith_validity::{are_types_valid, is_ref_type_valid, is_val_type_valid};
 

@@ -1,5 +1,5 @@
 ghost use Rattle.smith_config.specs.Sanitized.{IsSanitized};
-ghost use Rattle.smith_draw.specs.Callers.{PassesButImports};
+ghost use Rattle.smith_draw_types.specs.Callers.{PassesButImports};
 
 use crate::answers::constants::answer_constant;
 use crate::answers::entities::answer_entity;
@@ -18,7 +18,7 @@ use std::alloc::Global;
 
 /// Appends the result of the draw `call` from `input` over the types of `case`, and the bytes left.
 /// Sanitises `config` first. Fails with `NotCallable` if `config` does not pass its check.
-#[tactic(auto, using(smith_draw::proofs::CallerLemmas::passes_but_imports))]
+#[tactic(auto, using(smith_draw_types::proofs::CallerLemmas::passes_but_imports))]
 pub(crate) fn answer_draw(
     alloc: Global,
     case: &Case,

@@ -1,5 +1,5 @@
 ghost use Rattle.smith_config.specs.Sanitized.{IsSanitized};
-ghost use Rattle.smith_draw.specs.Callers.{PassesButImports};
+ghost use Rattle.smith_draw_types.specs.Callers.{PassesButImports};
 
 use crate::told::{tell_line, tell_refusal, tell_types};
 use smith_bytes::Unstructured;

@@ -1,13 +1,13 @@
 //! The record of the heap types that functions ground, while a module is drawn.
 
 ghost use Rattle.std.specs.Prelude.{◌≡◌, ◌≤◌, length, IsTrue, IfOk, IfErr};
-ghost use Rattle.smith_draw.specs.KeptGrounds.{AreKeptGrounds, HasBegun};
+ghost use Rattle.smith_draw_types.specs.KeptGrounds.{AreKeptGrounds, HasBegun};
 ghost use Rattle.wasm_smith.specs.DrawnSteps.{drawn_next};
 
 use crate::build::parts_so_far::PartsSoFar;
 use smith_bytes::Error;
 use smith_config::Config;
-use smith_draw::{Entities, KeptGrounds, Spaces};
+use smith_draw_types::{Entities, KeptGrounds, Spaces};
 use std::alloc::Global;
 
 /// Records the heap types that the functions of `drawn` ground. More functions may be noted, but

@@ -1,7 +1,7 @@
 ghost use Rattle.std.specs.Prelude.{◌≡◌, ◌<◌, true};
 ghost use Rattle.smith_bytes.specs.Spelling.{SpellsBool};
 ghost use Rattle.smith_bytes.specs.Takes.{Takes};
-ghost use Rattle.smith_draw.specs.Drawing.{AlwaysDraws};
+ghost use Rattle.smith_draw_types.specs.Drawing.{AlwaysDraws};
 ghost use Rattle.smith_bytes.specs.Steps.{section_flag_at};
 
 use smith_bytes::Unstructured;

@@ -1,7 +1,7 @@
 ghost use Rattle.smith_types.specs.EntitySpaces.{spaces_in};
 ghost use Rattle.wasm_smith.specs.Contents.{AreSpacesOver};
 
-use smith_draw::{Entities, Spaces};
+use smith_draw_types::{Entities, Spaces};
 use smith_types::{EntitySpaces, TypeSpace};
 
 /// Returns the types and entities that a segment may refer to: all of `types` and of `spaces`.

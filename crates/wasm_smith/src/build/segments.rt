@@ -1,7 +1,7 @@
 ghost use Rattle.std.specs.Prelude.{◌≡◌, [], IfOk, IfErr, All};
 ghost use Rattle.smith_bytes.specs.Source.{KeepsPieces};
 ghost use Rattle.smith_types.specs.Floats.{HasNoFloat};
-ghost use Rattle.smith_draw.specs.KeptGrounds.{AreKeptGrounds};
+ghost use Rattle.smith_draw_types.specs.KeptGrounds.{AreKeptGrounds};
 ghost use Rattle.smith_defined.specs.Defined.{drawn_beside};
 ghost use Rattle.wasm_smith.specs.Contents.{MayHoldContents, MayRefuseContents};
 ghost use Rattle.wasm_smith.specs.DrawnContents.{TellsImported, AreSegmentsFit, HaveNoFloatItems};
@@ -15,7 +15,7 @@ use smith_bytes::{Error, Unstructured};
 use smith_config::Config;
 use smith_contents::{arbitrary_data, arbitrary_elements};
 use smith_defined::Definitions;
-use smith_draw::KeptGrounds;
+use smith_draw_types::KeptGrounds;
 use smith_imports::Imported;
 use smith_types::{DataSegment, ElementSegment, Items, TypeSpace};
 use std::alloc::Global;

@@ -5,7 +5,7 @@ ghost use Rattle.smith_bytes.specs.Source.{KeepsPieces};
 ghost use Rattle.smith_config.specs.Faults.{Passes};
 ghost use Rattle.smith_config.specs.InUse.{FixesImports};
 ghost use Rattle.smith_config.specs.Sanitized.{IsSanitized};
-ghost use Rattle.smith_draw.specs.KeptGrounds.{AreKeptGrounds};
+ghost use Rattle.smith_draw_types.specs.KeptGrounds.{AreKeptGrounds};
 ghost use Rattle.wasm_smith.specs.FirstParts.{HasNothing, module_so_far};
 ghost use Rattle.smith_bytes.specs.Steps.{Returns, is_lack};
 ghost use Rattle.wasm_smith.specs.Build.{first_parts_typed_at, imported_at, defined_at};
@@ -20,7 +20,7 @@ use crate::build::types::add_more_types;
 use smith_bytes::{Error, Unstructured};
 use smith_config::Config;
 use smith_defined::define;
-use smith_draw::KeptGrounds;
+use smith_draw_types::KeptGrounds;
 use smith_imports::arbitrary_imports;
 use std::alloc::Global;
 

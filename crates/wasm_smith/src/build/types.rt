@@ -5,23 +5,23 @@ ghost use Rattle.smith_types.specs.ValidTypes.{AreTypesValid};
 ghost use Rattle.smith_config.specs.Faults.{Passes};
 ghost use Rattle.smith_config.specs.Features.{features_of};
 ghost use Rattle.smith_config.specs.Sanitized.{IsSanitized};
-ghost use Rattle.smith_draw.specs.HeldFields.{HoldsUngroundedField};
-ghost use Rattle.smith_draw.specs.Drawing.{DrawsInto};
-ghost use Rattle.smith_draw.specs.FuncSizes.{HasFewValues};
+ghost use Rattle.smith_draw_types.specs.HeldFields.{HoldsUngroundedField};
+ghost use Rattle.smith_draw_types.specs.Drawing.{DrawsInto};
+ghost use Rattle.smith_draw_types.specs.FuncSizes.{HasFewValues};
 ghost use Rattle.smith_config.specs.Granted.{AreTypesGranted};
-ghost use Rattle.smith_draw.specs.Grounding.{over};
-ghost use Rattle.smith_draw.specs.RecGroups.{types_at};
+ghost use Rattle.smith_draw_types.specs.Grounding.{over};
+ghost use Rattle.smith_draw_types.specs.RecGroups.{types_at};
 ghost use Rattle.wasm_smith.specs.Build.{functions_over};
 
 use smith_bytes::{Error, Unstructured};
 use smith_config::Config;
-use smith_draw::{Entities, arbitrary_types};
+use smith_draw_types::{Entities, arbitrary_types};
 use smith_types::TypeSpace;
 use std::alloc::Global;
 
 /// Draws types to follow those of `types`, which stay. `funcs` are the functions so far, of which
 /// the first `imported_funcs` are imported.
-#[tactic(auto, using(smith_draw::proofs::CallerLemmas::passes_but_imports))]
+#[tactic(auto, using(smith_draw_types::proofs::CallerLemmas::passes_but_imports))]
 pub(crate) fn add_more_types(
     alloc: Global,
     config: &Config,

@@ -10,9 +10,9 @@ use Rattle.smith_data.specs.declared.instruction_kind.InstructionKind.TheVariant
 use Rattle.smith_data.specs.declared.value_type.AbstractHeapType.TheVariants as heap
 use Rattle.smith_data.specs.declared.value_type.ValType.TheVariants.{I32}
 use Rattle.smith_bytes.specs.Draws.{choose_at, digit_count, range_at}
-use Rattle.smith_draw.specs.Below.{is_heap_below}
-use Rattle.smith_draw.specs.Choices.{chosen_at}
-use Rattle.smith_draw.specs.Offered.{ancestors}
+use Rattle.smith_draw_types.specs.Below.{is_heap_below}
+use Rattle.smith_draw_types.specs.Choices.{chosen_at}
+use Rattle.smith_draw_types.specs.Offered.{ancestors}
 use Rattle.smith_instr.specs.AggregateTypes.{internal}
 use Rattle.smith_instr.specs.Contexts.{BodyContext, created_reference, reference_to_function}
 use Rattle.smith_instr.specs.Enabled.{is_enabled}

@@ -3,9 +3,9 @@ use Rattle.std.specs.Prelude.{pos}
 use Rattle.smith_data.specs.declared.value_type.AbstractHeapType.TheVariants as heap
 use Rattle.smith_data.specs.declared.value_type.ValType.TheVariants.{I32}
 use Rattle.smith_bytes.specs.Draws.{choose_at, digit_count, range_at}
-use Rattle.smith_draw.specs.Below.{is_heap_below}
-use Rattle.smith_draw.specs.Choices.{chosen_at}
-use Rattle.smith_draw.specs.Offered.{ancestors}
+use Rattle.smith_draw_types.specs.Below.{is_heap_below}
+use Rattle.smith_draw_types.specs.Choices.{chosen_at}
+use Rattle.smith_draw_types.specs.Offered.{ancestors}
 use Rattle.smith_config.specs.Config.{default_config}
 use Rattle.smith_instr.specs.Enabled.{is_enabled}
 use Rattle.smith_instr.specs.declared.aggregate.AggregateInstr.TheVariants as aggregate

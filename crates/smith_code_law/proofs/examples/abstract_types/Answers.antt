@@ -3,7 +3,7 @@ use Rattle.smith_types.specs.ExampleTypes.{empty_struct, plain}
 use Rattle.smith_types.specs.Subtyping.{by_step, itself}
 use Rattle.smith_data.specs.declared.value_type.AbstractHeapType.TheVariants as heap
 use Rattle.smith_code_law.proofs.examples.abstract_types.Goals as goal
-use Rattle.smith_draw.specs.Below.{is_heap_below}
+use Rattle.smith_draw_types.specs.Below.{is_heap_below}
 use Rattle.smith_code_law.specs.ExampleContexts.{with_type}
 use Rattle.smith_code_law.proofs.ExampleLemmas.{both_apart, no_array_there, no_struct_below, is_barren}
 

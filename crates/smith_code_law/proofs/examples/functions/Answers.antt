@@ -2,7 +2,7 @@ use Rattle.std.proofs.Common.{[], refl, arith}
 use Rattle.smith_types.specs.ExampleTypes.{plain_func}
 use Rattle.smith_types.specs.Subtyping.{itself}
 use Rattle.smith_data.specs.declared.value_type.HeapType.TheVariants.{Concrete}
-use Rattle.smith_draw.specs.Below.{is_heap_below}
+use Rattle.smith_draw_types.specs.Below.{is_heap_below}
 use Rattle.smith_code_law.specs.ExampleContexts.{naming}
 use Rattle.smith_code_law.proofs.ExampleLemmas.{both_apart, no_array_there, no_struct_there, is_barren}
 use Rattle.smith_code_law.proofs.examples.functions.Goals as goal

@@ -3,7 +3,7 @@ use Rattle.smith_types.specs.ExampleTypes.{not_null, plain}
 use Rattle.smith_types.specs.Subtyping.{itself}
 use Rattle.smith_data.specs.declared.value_type.AbstractHeapType.TheVariants as heap
 use Rattle.smith_data.specs.declared.value_type.HeapType.TheVariants.{Concrete}
-use Rattle.smith_draw.specs.Below.{is_heap_below}
+use Rattle.smith_draw_types.specs.Below.{is_heap_below}
 use Rattle.smith_code_law.specs.ExampleContexts.{with_type}
 use Rattle.smith_code_law.proofs.ExampleLemmas.{both_apart, holding, no_array_there, no_defaults, is_barren}
 use Rattle.smith_code_law.proofs.examples.structs.Goals as goal

@@ -2,7 +2,7 @@ use Rattle.std.proofs.Common.{◌≡◌, ℕ, List, length, ap, refl, arith}
 use Rattle.smith_types.specs.ExampleTypes.{plain, plain_func}
 use Rattle.smith_types.specs.Subtyping.{itself}
 use Rattle.smith_data.specs.declared.value_type.AbstractHeapType.TheVariants as heap
-use Rattle.smith_draw.specs.Below.{is_heap_below}
+use Rattle.smith_draw_types.specs.Below.{is_heap_below}
 use Rattle.smith_code_law.proofs.ExampleLemmas.{never_named, no_function_below, no_struct_there}
 use Rattle.smith_code_law.proofs.examples.unnamed_functions.Goals as goal
 

@@ -1,4 +1,4 @@
-use Rattle.smith_draw.proofs.BelowLemmas.{val_tested}
+use Rattle.smith_draw_types.proofs.BelowLemmas.{val_tested}
 use Rattle.smith_code_nodes.proofs.locals.is_sub_type.Goals as goal
 
 pub returns : goal.returns

@@ -1,6 +1,6 @@
 use Rattle.std.proofs.Common.{◌≡◌, ◌++◌, map, drop}
 use Rattle.smith_types.specs.Expressions.{field_values}
-use Rattle.smith_draw.specs.HeldFields.{fields_of}
+use Rattle.smith_draw_types.specs.HeldFields.{fields_of}
 use Rattle.smith_const_expr.specs.declared.node.Operand.TheVariants.{Value}
 use Rattle.smith_const_expr.proofs.node.push_fields_of.Given as goal
 

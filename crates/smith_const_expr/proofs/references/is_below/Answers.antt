@@ -1,4 +1,4 @@
-use Rattle.smith_draw.proofs.BelowLemmas.{val_tested}
+use Rattle.smith_draw_types.proofs.BelowLemmas.{val_tested}
 use Rattle.smith_const_expr.proofs.references.is_below.Goals as goal
 
 pub returns : goal.returns

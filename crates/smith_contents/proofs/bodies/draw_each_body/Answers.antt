@@ -1,6 +1,6 @@
 use Rattle.std.proofs.Common.{rules}
 use Rattle.smith_bytes.proofs.GrowingLoop.{grow_full}
-use Rattle.smith_draw.proofs.UntilLoop.{until_go}
+use Rattle.smith_draw_types.proofs.UntilLoop.{until_go}
 use Rattle.smith_contents.proofs.bodies.draw_each_body.Goals as goal
 
 pub loop-made-preserved : goal.loop-made-preserved

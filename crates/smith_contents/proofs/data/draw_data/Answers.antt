@@ -3,7 +3,7 @@ use Rattle.std.proofs.lemmas.Result.{IfOk-weaker}
 use Rattle.smith_data.specs.declared.segments.DataSegment.{DataSegment}
 use Rattle.smith_config.specs.Features.{features_of}
 use Rattle.smith_const_expr.specs.ConstScopes.{seen_by}
-use Rattle.smith_draw.proofs.ValueTypeLemmas.{drawn_is}
+use Rattle.smith_draw_types.proofs.ValueTypeLemmas.{drawn_is}
 use Rattle.smith_contents.proofs.DataSegmentLemmas.{segments_most, segments_least, target_pages}
 use Rattle.smith_contents.proofs.data.draw_data.Goals as goal
 

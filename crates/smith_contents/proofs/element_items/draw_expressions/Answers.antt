@@ -2,7 +2,7 @@ use Rattle.std.proofs.Common.{true, ◌≤◌, List, length}
 use Rattle.std.proofs.lemmas.Result.{IfOk-weaker}
 use Rattle.smith_data.specs.declared.const_instr.ConstInstr.{ConstInstr}
 use Rattle.smith_const_expr.specs.ConstScopes.{seen_by}
-use Rattle.smith_draw.proofs.ValueTypeLemmas.{drawn_is}
+use Rattle.smith_draw_types.proofs.ValueTypeLemmas.{drawn_is}
 use Rattle.smith_contents.proofs.ElementFitLemmas.{expressions_fit}
 use Rattle.smith_contents.proofs.ElementItemLemmas.{expressions_few}
 use Rattle.smith_contents.proofs.element_items.draw_expressions.Goals as goal

@@ -1,5 +1,5 @@
 use Rattle.std.proofs.Common.{ℕ, ◌≤◌, List, length}
-use Rattle.smith_draw.proofs.DrawingLemmas.{of_drawn}
+use Rattle.smith_draw_types.proofs.DrawingLemmas.{of_drawn}
 use Rattle.smith_contents.proofs.ElementItemLemmas.{functions_few}
 use Rattle.smith_contents.proofs.element_items.draw_unshared.Goals as goal
 

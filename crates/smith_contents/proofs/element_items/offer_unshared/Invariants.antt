@@ -1,5 +1,5 @@
 use Rattle.std.proofs.Common.{◌≡◌, ◌++◌, drop}
-use Rattle.smith_draw.specs.TypeUses.{places_from}
+use Rattle.smith_draw_types.specs.TypeUses.{places_from}
 use Rattle.smith_contents.specs.ElementSegments.{is_unshared_type, unshared_funcs}
 use Rattle.smith_contents.proofs.element_items.offer_unshared.Given as goal
 

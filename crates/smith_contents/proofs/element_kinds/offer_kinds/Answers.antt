@@ -1,6 +1,6 @@
 use Rattle.std.proofs.Common.{◌≡◌, List, length, false}
 use Rattle.std.specs.Prelude.{All}
-use Rattle.smith_draw.proofs.ValueTypeLemmas.{drawn_is}
+use Rattle.smith_draw_types.proofs.ValueTypeLemmas.{drawn_is}
 use Rattle.smith_contents.specs.DrawnElements.{IsKindOffered}
 use Rattle.smith_contents.specs.ElementSegments.{KindChoice}
 use Rattle.smith_contents.proofs.ElementKindLemmas.{kinds_offered, no_kind}

@@ -4,7 +4,7 @@ use Rattle.std.proofs.lemmas.Result.{IfOk-weaker}
 use Rattle.smith_bytes.specs.declared.error.Count.TheVariants as counts
 use Rattle.smith_data.specs.declared.segments.ElementSegment.{ElementSegment}
 use Rattle.smith_const_expr.specs.ConstScopes.{seen_by}
-use Rattle.smith_draw.specs.Grounding.{standing_in}
+use Rattle.smith_draw_types.specs.Grounding.{standing_in}
 use Rattle.smith_rules.specs.Held.{HasItems}
 use Rattle.smith_config.specs.Granted.{HasGroundedItems}
 use Rattle.smith_contents.specs.DrawnElements.{IsElementFit}

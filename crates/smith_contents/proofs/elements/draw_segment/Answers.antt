@@ -2,14 +2,15 @@ use Rattle.std.proofs.Common.{true, arith}
 use Rattle.smith_data.specs.declared.segments.Elements.{Elements}
 use Rattle.smith_const_expr.specs.ConstScopes.{seen_by}
 use Rattle.smith_const_expr.proofs.ConstStepLemmas.{passed_on}
-use Rattle.smith_draw.specs.Grounding.{standing_in}
-use Rattle.smith_draw.proofs.SupertypeLemmas.{chosen_of}
-use Rattle.smith_draw.proofs.ValueTypeLemmas.{drawn_is}
+use Rattle.smith_draw_types.specs.Grounding.{standing_in}
+use Rattle.smith_draw_types.proofs.SupertypeLemmas.{chosen_of}
+use Rattle.smith_draw_types.proofs.ValueTypeLemmas.{drawn_is}
 use Rattle.smith_contents.specs.DrawnElements.{IsKindOffered}
 use Rattle.smith_contents.specs.declared.element_kinds.KindChoice.TheVariants.{Passive}
 use Rattle.smith_contents.proofs.ElementFitLemmas.{element_fit}
 use Rattle.smith_contents.proofs.ElementItemLemmas.{fits_addresses, segment_refused}
-use Rattle.smith_contents.proofs.ElementsLoop.{segment_drawn, segment_not_drawn, refused_by, memory_lacks}
+use Rattle.smith_bytes.proofs.StepLemmas.{refused_by}
+use Rattle.smith_contents.proofs.ElementsLoop.{segment_drawn, segment_not_drawn, memory_lacks}
 use Rattle.smith_contents.proofs.elements.draw_segment.Goals as goal
 
 pub draw_item_type-requires-clause-offered : goal.draw_item_type-requires-clause-offered

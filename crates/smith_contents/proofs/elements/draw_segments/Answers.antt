@@ -4,7 +4,8 @@ use Rattle.smith_bytes.specs.declared.error.Count.TheVariants as counts
 use Rattle.smith_data.specs.declared.segments.ElementSegment.{ElementSegment}
 use Rattle.smith_const_expr.specs.ConstScopes.{seen_by}
 use Rattle.smith_contents.specs.DrawnElements.{IsElementFit}
-use Rattle.smith_contents.proofs.ElementsLoop.{segments_go, segments_stop, segments_full, segments_refused, refused_by}
+use Rattle.smith_bytes.proofs.StepLemmas.{refused_by}
+use Rattle.smith_contents.proofs.ElementsLoop.{segments_go, segments_stop, segments_full, segments_refused}
 use Rattle.smith_contents.proofs.elements.draw_segments.Goals as goal
 
 pub returns-then-not-goes_on-clause-exact : goal.returns-then-not-goes_on-clause-exact

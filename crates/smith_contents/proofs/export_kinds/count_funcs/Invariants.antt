@@ -1,5 +1,5 @@
 use Rattle.std.proofs.Common.{◌≡◌, ◌+◌, ◌≤◌, length, drop}
-use Rattle.smith_draw.specs.TypeUses.{places_from}
+use Rattle.smith_draw_types.specs.TypeUses.{places_from}
 use Rattle.smith_contents.specs.Exporting.{is_func_below}
 use Rattle.smith_contents.proofs.export_kinds.count_funcs.Given as goal
 

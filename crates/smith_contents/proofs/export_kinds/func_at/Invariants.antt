@@ -1,5 +1,5 @@
 use Rattle.std.proofs.Common.{◌≡◌, get_or, drop}
-use Rattle.smith_draw.specs.TypeUses.{places_from}
+use Rattle.smith_draw_types.specs.TypeUses.{places_from}
 use Rattle.smith_contents.specs.Exporting.{is_func_below}
 use Rattle.smith_contents.proofs.export_kinds.func_at.Given as goal
 

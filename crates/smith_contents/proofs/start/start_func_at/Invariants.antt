@@ -1,5 +1,5 @@
 use Rattle.std.proofs.Common.{◌≡◌, get_or, drop}
-use Rattle.smith_draw.specs.TypeUses.{places_from, is_start_type}
+use Rattle.smith_draw_types.specs.TypeUses.{places_from, is_start_type}
 use Rattle.smith_contents.specs.Start.{start_funcs}
 use Rattle.smith_contents.proofs.start.start_func_at.Given as goal
 

@@ -1,11 +1,12 @@
 use Rattle.std.proofs.Common.{ℕ, inl, inr, refl, subst}
 use Rattle.smith_types.specs.EntitySpaces.{spaces_in}
 use Rattle.smith_config.specs.Features.{features_of}
-use Rattle.smith_draw.specs.Grounding.{function_context}
-use Rattle.smith_draw.specs.KeptGrounds.{AreKeptGrounds}
+use Rattle.smith_draw_types.specs.Grounding.{function_context}
+use Rattle.smith_draw_types.specs.KeptGrounds.{AreKeptGrounds}
 use Rattle.smith_const_expr.proofs.ConstStepLemmas.{passed_on}
 use Rattle.smith_defined.proofs.DrawnStepLemmas.{functions_noted, may_initialise, refused_before}
-use Rattle.smith_defined.proofs.DefinitionStepLemmas.{tags_refused, funcs_refused, definitions_drawn, refused_by, lack_left}
+use Rattle.smith_bytes.proofs.StepLemmas.{refused_by}
+use Rattle.smith_defined.proofs.DefinitionStepLemmas.{tags_refused, funcs_refused, definitions_drawn, lack_left}
 use Rattle.smith_defined.proofs.DefinedGrowthLemmas.{defined_more, still_imported}
 use Rattle.smith_defined.proofs.definitions.define.Goals as goal
 

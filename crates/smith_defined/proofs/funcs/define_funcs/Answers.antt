@@ -1,7 +1,7 @@
 use Rattle.std.proofs.lemmas.Result.{on_ok_weaker}
 use Rattle.smith_bytes.specs.declared.error.Count.TheVariants.{Funcs}
 use Rattle.smith_defined.specs.Definitions.{funcs_at}
-use Rattle.smith_draw.specs.SpelledParts.{SpellsFuncs}
+use Rattle.smith_draw_types.specs.SpelledParts.{SpellsFuncs}
 use Rattle.smith_defined.proofs.FuncRefusalLemmas.{funcs_refuse}
 use Rattle.smith_bytes.proofs.StepLemmas.{given_takes}
 use Rattle.smith_defined.proofs.TypedLemmas.{funcs_are, funcs_read}

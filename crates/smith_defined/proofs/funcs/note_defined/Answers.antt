@@ -2,9 +2,9 @@ use Rattle.std.proofs.Common.{refl, subst, arith, List, ℕ}
 use Rattle.std.proofs.lemmas.Bool.{le-leb}
 use Rattle.std.proofs.lemmas.List.{take_all}
 use Rattle.smith_config.specs.Features.{features_of}
-use Rattle.smith_draw.specs.Grounding.{function_context}
-use Rattle.smith_draw.specs.KeptGrounds.{AreKeptGrounds}
-use Rattle.smith_draw.proofs.KeptGroundLemmas.{function_added}
+use Rattle.smith_draw_types.specs.Grounding.{function_context}
+use Rattle.smith_draw_types.specs.KeptGrounds.{AreKeptGrounds}
+use Rattle.smith_draw_types.proofs.KeptGroundLemmas.{function_added}
 use Rattle.smith_defined.proofs.funcs.note_defined.Goals as goal
 
 pub loop-function-preserved : goal.loop-function-preserved

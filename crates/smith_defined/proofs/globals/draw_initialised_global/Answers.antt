@@ -1,4 +1,4 @@
-use Rattle.smith_draw.specs.Grounding.{standing_in}
+use Rattle.smith_draw_types.specs.Grounding.{standing_in}
 use Rattle.smith_const_expr.proofs.ConstStepLemmas.{passed_on}
 use Rattle.smith_defined.proofs.DrawnStepLemmas.{drawn_refused}
 use Rattle.smith_defined.proofs.globals.draw_initialised_global.Goals as goal

@@ -1,7 +1,7 @@
 use Rattle.std.proofs.lemmas.Result.{on_ok_weaker}
 use Rattle.smith_bytes.specs.declared.error.Count.TheVariants.{Memories}
 use Rattle.smith_bytes.proofs.SpelledLemmas.{takes_by}
-use Rattle.smith_draw.proofs.DrawingLemmas.{of_state}
+use Rattle.smith_draw_types.proofs.DrawingLemmas.{of_state}
 use Rattle.smith_defined.specs.Defined.{IsFilled}
 use Rattle.smith_defined.specs.Definitions.{memories_at}
 use Rattle.smith_defined.proofs.DefinedMemoryLemmas.{memories_filled, memories_several, no_memory_read}

@@ -3,8 +3,8 @@ use Rattle.std.proofs.lemmas.List.Elements.{All-push}
 use Rattle.smith_types.specs.Entities.{IsMemoryValid}
 use Rattle.smith_config.specs.Features.{features_of}
 use Rattle.smith_config.specs.EntityBounds.{IsMemoryWithin}
-use Rattle.smith_draw.specs.Memories.{memtype_at}
-use Rattle.smith_draw.proofs.CallerLemmas.{passes_but_imports}
+use Rattle.smith_draw_types.specs.Memories.{memtype_at}
+use Rattle.smith_draw_types.proofs.CallerLemmas.{passes_but_imports}
 use Rattle.smith_defined.specs.Definitions.{memories_at}
 use Rattle.smith_defined.proofs.DefinedLemmas.{none_added, one_added}
 use Rattle.smith_defined.proofs.DefinedLoop.{behind_start, behind_go, behind_stop, behind_full}

@@ -2,7 +2,7 @@ use Rattle.std.specs.List.{All}
 use Rattle.smith_types.specs.Entities.{IsMemoryValid}
 use Rattle.smith_config.specs.Features.{features_of}
 use Rattle.smith_config.specs.EntityBounds.{IsMemoryWithin}
-use Rattle.smith_draw.specs.Memories.{memtype_at}
+use Rattle.smith_draw_types.specs.Memories.{memtype_at}
 use Rattle.smith_defined.specs.Defined.{AreAdded}
 use Rattle.smith_defined.proofs.DefinedLoop.{IsBehind}
 use Rattle.smith_defined.proofs.memories.push_memories.Given as goal

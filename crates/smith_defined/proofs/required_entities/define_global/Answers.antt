@@ -2,7 +2,7 @@ use Rattle.std.proofs.Common.{true, sym, subst}
 use Rattle.std.proofs.lemmas.Result.{IfOk-weaker, on_ok_weaker}
 use Rattle.smith_types.specs.EntitySpaces.{spaces_in}
 use Rattle.smith_types.specs.Expressions.{Context}
-use Rattle.smith_draw.specs.Grounding.{standing_in}
+use Rattle.smith_draw_types.specs.Grounding.{standing_in}
 use Rattle.smith_const_expr.specs.KeptOffers.{AreKeptOffers}
 use Rattle.smith_const_expr.proofs.ConstStepLemmas.{passed_on}
 use Rattle.smith_defined.proofs.RequiredEntityLemmas.{answered, refused_initial, refused_beside, global_lacking, global_made}

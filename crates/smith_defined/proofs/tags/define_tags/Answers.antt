@@ -2,7 +2,7 @@ use Rattle.std.proofs.lemmas.Result.{on_ok_weaker}
 use Rattle.smith_bytes.specs.declared.error.Count.TheVariants.{Tags}
 use Rattle.smith_bytes.specs.Spelling.{SpellsEmpty}
 use Rattle.smith_defined.specs.Definitions.{tags_at}
-use Rattle.smith_draw.specs.SpelledParts.{SpellsNoTag}
+use Rattle.smith_draw_types.specs.SpelledParts.{SpellsNoTag}
 use Rattle.smith_bytes.proofs.StepLemmas.{given_takes}
 use Rattle.smith_defined.proofs.TypedLemmas.{tags_are, tags_enabled, no_tag_read}
 use Rattle.smith_defined.proofs.tags.define_tags.Goals as goal

@@ -1,5 +1,5 @@
 use Rattle.std.proofs.Common.{rules}
-use Rattle.smith_draw.specs.Choices.{chosen_at}
+use Rattle.smith_draw_types.specs.Choices.{chosen_at}
 use Rattle.smith_defined.proofs.DefinedLoop.{behind_start, behind_go, behind_stop, behind_full}
 use Rattle.smith_defined.proofs.typed.choose_types.Goals as goal
 

@@ -1,4 +1,4 @@
-use Rattle.smith_draw.specs.Choices.{chosen_at}
+use Rattle.smith_draw_types.specs.Choices.{chosen_at}
 use Rattle.smith_defined.proofs.DefinedLoop.{IsBehind}
 use Rattle.smith_defined.proofs.typed.choose_types.Given as goal
 

@@ -4,7 +4,7 @@ use Rattle.std.proofs.lemmas.List.Elements.{All-head, All-nil, All-tail, All-fro
 use Rattle.smith_types.specs.Expressions.{Context, function_reference}
 use Rattle.smith_types.specs.ExampleContexts.{context_with}
 use Rattle.smith_types.specs.ExampleFeatures.{usual_features}
-use Rattle.smith_draw.specs.Below.{is_heap_below}
+use Rattle.smith_draw_types.specs.Below.{is_heap_below}
 use Rattle.smith_const_expr.specs.KeptOffers.{AreManyKept, IsEntry, IsKeptOffer, readable}
 use Rattle.smith_const_expr.specs.declared.kept_offers.KeptOffer.{KeptOffer}
 use Rattle.smith_const_expr.specs.declared.kept_offers.ManyItems.{ManyItems}

@@ -1,4 +1,4 @@
-use Rattle.smith_draw.proofs.AncestorLemmas.{ancestors_up}
+use Rattle.smith_draw_types.proofs.AncestorLemmas.{ancestors_up}
 use Rattle.smith_draw_examples.proofs.offered.ancestors_are_all.Goals as goal
 
 pub returns : goal.returns

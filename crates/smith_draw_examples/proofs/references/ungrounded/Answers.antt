@@ -12,10 +12,10 @@ use Rattle.smith_types.specs.Subtyping.{itself}
 use Rattle.smith_types.specs.ExampleTypes.{open_type, final_type, struct_and_below, empty_struct, struct, array, constant, plain, not_null}
 use Rattle.smith_types.proofs.GroundedLemmas.{grounded_at}
 use Rattle.smith_config.specs.Config.{default_config}
-use Rattle.smith_draw.specs.HeldFields.{fields_of}
+use Rattle.smith_draw_types.specs.HeldFields.{fields_of}
 use Rattle.smith_config.specs.Granted.{IsUngrounded}
 use Rattle.smith_const_expr.specs.ExampleConstExprs.{context_of_types}
-use Rattle.smith_draw.proofs.FilledLemmas.{each_none}
+use Rattle.smith_draw_types.proofs.FilledLemmas.{each_none}
 use Rattle.smith_draw_examples.proofs.references.ungrounded.Goals as goal
 
 pub returns-clause-to_a_struct : goal.returns-clause-to_a_struct

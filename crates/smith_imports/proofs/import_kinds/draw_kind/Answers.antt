@@ -2,7 +2,7 @@ use Rattle.std.proofs.Common.{◌≡◌, ◌∙◌, sym, refl, List, ◌∷◌, 
 use Rattle.smith_data.specs.declared.entity_type.ExportKind.{ExportKind}
 use Rattle.smith_imports.specs.Imported.{spaces_of}
 use Rattle.smith_imports.specs.ImportedEntities.{kind_rows}
-use Rattle.smith_draw.proofs.EnabledLemmas.{length_enabled}
+use Rattle.smith_draw_types.proofs.EnabledLemmas.{length_enabled}
 use Rattle.smith_imports.proofs.ImportedEntityLemmas.{row_offered}
 use Rattle.smith_imports.proofs.import_kinds.draw_kind.Goals as goal
 

@@ -1,10 +1,10 @@
 use Rattle.std.proofs.Common.{◌≡◌, ◌+◌, refl, sym, subst, arith}
 use Rattle.smith_bytes.specs.declared.error.Count.TheVariants as counts
-use Rattle.smith_draw.specs.KeptGrounds.{AreKeptGrounds}
+use Rattle.smith_draw_types.specs.KeptGrounds.{AreKeptGrounds}
 use Rattle.smith_imports.specs.ImportedEntities.{import_scope}
 use Rattle.smith_types.specs.Imports.{EntitySpaces, import_of, flattened}
 use Rattle.smith_imports.specs.Imported.{IsNext, spaces_of}
-use Rattle.smith_draw.proofs.GroupsLoop.{piece_short}
+use Rattle.smith_draw_types.proofs.GroupsLoop.{piece_short}
 use Rattle.smith_imports.proofs.ImportsGrownLemmas.{ends_counted, single_added}
 use Rattle.smith_imports.proofs.imports.add_single.Goals as goal
 

@@ -1,7 +1,7 @@
 use Rattle.std.proofs.Common.{◌≡◌, ◌∙◌, ◌+◌, ◌++◌, ◌∷◌, [], sym, ap, refl, subst, List, arith, append_assoc}
 use Rattle.smith_bytes.specs.declared.error.Count.TheVariants as counts
 use Rattle.smith_data.specs.declared.imports.Import.{Import}
-use Rattle.smith_draw.specs.KeptGrounds.{AreKeptGrounds}
+use Rattle.smith_draw_types.specs.KeptGrounds.{AreKeptGrounds}
 use Rattle.smith_imports.specs.ImportedEntities.{import_scope}
 use Rattle.smith_types.specs.Imports.{EntitySpaces, import_of, imports_of, flattened}
 use Rattle.smith_imports.specs.Importing.{module_name, with_import}

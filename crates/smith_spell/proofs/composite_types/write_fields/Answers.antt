@@ -1,5 +1,5 @@
 use Rattle.std.proofs.Common.{refl}
-use Rattle.smith_draw.specs.Spelling.{SpellsField}
+use Rattle.smith_draw_types.specs.Spelling.{SpellsField}
 use Rattle.smith_spell.proofs.WritingLoop.{leads_each, each_written}
 use Rattle.smith_spell.proofs.composite_types.write_fields.Goals as goal
 

@@ -1,8 +1,8 @@
 use Rattle.std.proofs.Common.{◌≡◌, ◌-◌, ℕ, Some, length, get_or, refl, sym, subst, ◌∙◌, arith}
 use Rattle.std.specs.Prelude.{slice_get}
 use Rattle.std.proofs.lemmas.Result.{on_ok_weaker}
-use Rattle.smith_draw.specs.Spelling.{SpellsPlace}
-use Rattle.smith_draw.specs.TypeUses.{func_types}
+use Rattle.smith_draw_types.specs.Spelling.{SpellsPlace}
+use Rattle.smith_draw_types.specs.TypeUses.{func_types}
 use Rattle.smith_spell.proofs.WrittenLemmas.{nothing_written}
 use Rattle.smith_spell.proofs.WrittenTypeLemmas.{place_within, place_written}
 use Rattle.smith_spell.proofs.WritingLoop.{leads_listed, listed_written}

@@ -1,6 +1,6 @@
 use Rattle.std.proofs.Common.{◌≡◌, ◌+◌, ◌++◌, List, take, drop}
 use Rattle.smith_data.specs.declared.composite_type.SubType.{SubType}
-use Rattle.smith_draw.specs.Spelling.{SpellsSubTypes}
+use Rattle.smith_draw_types.specs.Spelling.{SpellsSubTypes}
 use Rattle.smith_spell.specs.Written.{IsSummary}
 use Rattle.smith_spell.proofs.WritingLoop.{Leads}
 use Rattle.smith_spell.proofs.sub_types.write_sub_types.Given as goal

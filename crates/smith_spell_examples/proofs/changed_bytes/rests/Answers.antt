@@ -4,10 +4,10 @@ use Rattle.std.specs.Int.{cast_signed, w32}
 use Rattle.smith_bytes.specs.Draws.{big_endian, little_endian, digit_count}
 use Rattle.smith_bytes.specs.Spelling.{SpellsBool, SpellsNumber, SpellsAnyByte, Joined, Listed, SpellsNone}
 use Rattle.smith_config.specs.Config.{default_config}
-use Rattle.smith_draw.specs.Spelling.{SpellsUnshared}
-use Rattle.smith_draw.specs.SpelledConstants.{SpellsI32}
+use Rattle.smith_draw_types.specs.Spelling.{SpellsUnshared}
+use Rattle.smith_draw_types.specs.SpelledConstants.{SpellsI32}
 use Rattle.smith_spell.specs.Spelling.{SpellsRest, SpellsSegments}
-use Rattle.smith_draw.specs.SpelledParts.{SpellsGlobal, SpellsBytes, SpellsNoStart}
+use Rattle.smith_draw_types.specs.SpelledParts.{SpellsGlobal, SpellsBytes, SpellsNoStart}
 use Rattle.smith_spell_examples.proofs.SpelledExamples.{one_odd, bool_first, any_first, digit_first, this_first, word_first, without_nothing, global_parts, opened}
 use Rattle.smith_spell_examples.proofs.changed_bytes.rests.Goals as goal
 

@@ -2,9 +2,9 @@ use Rattle.std.proofs.Common.{true, false, [], ◌∷◌, refl}
 use Rattle.smith_bytes.specs.Draws.{digit_count}
 use Rattle.smith_bytes.specs.Spelling.{SpellsNothing, Joined}
 use Rattle.smith_data.specs.declared.value_type.AbstractHeapType.TheVariants.{Func}
-use Rattle.smith_draw.specs.Choices.{enabled}
-use Rattle.smith_draw.specs.ValueTypes.{abstract_heap_types}
-use Rattle.smith_draw.specs.Spelling.{SpellsPlace, SpellsValType}
+use Rattle.smith_draw_types.specs.Choices.{enabled}
+use Rattle.smith_draw_types.specs.ValueTypes.{abstract_heap_types}
+use Rattle.smith_draw_types.specs.Spelling.{SpellsPlace, SpellsValType}
 use Rattle.smith_config.specs.ExampleMembers.{with_non_nullable}
 use Rattle.smith_spell_examples.proofs.SpelledExamples.{joined, go, stop, one_odd, zero_even, place_first, without_nothing, opened, after_reference}
 use Rattle.smith_spell_examples.proofs.spelled_types.nullability.Goals as goal

@@ -11,7 +11,7 @@ use Rattle.smith_types.specs.ExampleTypes.{plain, nullable, not_null}
 use Rattle.smith_data.specs.declared.composite_type.SubType.{SubType}
 use Rattle.smith_config.specs.Config.{default_config}
 use Rattle.smith_config.specs.Shapes.{space_of}
-use Rattle.smith_draw.specs.Spelling.{RefersTo, ReferBack, GroupsFit, SpellsGroup, SpellsGroups, SpellsSubTypes, SpellsFuncType}
+use Rattle.smith_draw_types.specs.Spelling.{RefersTo, ReferBack, GroupsFit, SpellsGroup, SpellsGroups, SpellsSubTypes, SpellsFuncType}
 use Rattle.smith_config.specs.ExampleMembers.{final, alone, one_function_type, struct_of, struct_of_bytes, struct_with, bytes_array, plain_function, with_non_nullable}
 use Rattle.smith_spell_examples.proofs.GroundedExamples.{grounds_itself, none_grounded}
 use Rattle.smith_spell_examples.proofs.SpelledExamples.{joined, go, stop, bool_first, digit_first, without_nothing, opened}

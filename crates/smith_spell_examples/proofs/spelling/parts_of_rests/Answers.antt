@@ -3,7 +3,7 @@ use Rattle.std.specs.Prelude.{pos}
 use Rattle.smith_bytes.specs.Draws.{digit_count}
 use Rattle.smith_bytes.specs.Spelling.{Listed}
 use Rattle.smith_config.specs.Config.{default_config}
-use Rattle.smith_draw.specs.SpelledParts.{SpellsGlobal, SpellsBytes}
+use Rattle.smith_draw_types.specs.SpelledParts.{SpellsGlobal, SpellsBytes}
 use Rattle.smith_spell_examples.proofs.SpelledExamples.{joined, go, stop, one_odd, bool_first, digit_first, this_first, without_nothing, not_shared, global_parts}
 use Rattle.smith_spell_examples.proofs.spelling.parts_of_rests.Goals as goal
 

@@ -2,7 +2,7 @@ use Rattle.std.proofs.Common.{[], ◌∷◌, refl}
 use Rattle.smith_bytes.specs.Spelling.{Listed}
 use Rattle.smith_bytes.specs.Draws.{digit_count}
 use Rattle.smith_spell.specs.Spelling.{SpellsRest}
-use Rattle.smith_draw.specs.SpelledParts.{SpellsGlobal, SpellsBytes}
+use Rattle.smith_draw_types.specs.SpelledParts.{SpellsGlobal, SpellsBytes}
 use Rattle.smith_spell_examples.proofs.SpelledExamples.{joined, go, stop, any_byte}
 use Rattle.smith_spell_examples.proofs.spelling.rests.Goals as goal
 

@@ -1,7 +1,7 @@
 use Rattle.std.proofs.Common.{sym, subst}
 use Rattle.std.proofs.lemmas.Result.{on_ok_weaker, IfErr-weaker}
 use Rattle.smith_types.specs.Expressions.{Context}
-use Rattle.smith_draw.specs.KeptGrounds.{AreKeptGrounds}
+use Rattle.smith_draw_types.specs.KeptGrounds.{AreKeptGrounds}
 use Rattle.wasm_smith.proofs.AddedImportLemmas.{imports_beyond, imports_drawn, in_scope, may_import, none_there}
 use Rattle.wasm_smith.proofs.RefusalLemmas.{imports_refuse}
 use Rattle.wasm_smith.proofs.build.steps.add_imports.Goals as goal

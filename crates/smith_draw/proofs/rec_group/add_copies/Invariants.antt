@@ -1,8 +1,0 @@
-use Rattle.std.proofs.Common.{◌≡◌, ◌-◌, ◌++◌, take, drop}
-use Rattle.smith_draw.proofs.rec_group.add_copies.Given as goal
-
-abbrev pub invariant-loop-index : goal.invariant-loop-index
-invariant-loop-index l = record {
-  types : l.types.types ≡ l.fn.types.types ++ take (l.index - l.start) (drop l.start l.fn.types.types);
-  groups : l.types.groups ≡ l.fn.types.groups;
-}

@@ -1,5 +1,0 @@
-use Rattle.smith_draw.proofs.SupertypeLemmas.{extensible_are}
-use Rattle.smith_draw.proofs.sub_type.supertypes.Goals as goal
-
-pub returns : goal.returns
-returns c = extensible_are _ c.extensible.ensures.sound.orderly _ c.extensible.ensures.value

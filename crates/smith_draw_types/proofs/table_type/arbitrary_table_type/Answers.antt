@@ -1,0 +1,14 @@
+use Rattle.std.proofs.Common.{refl}
+use Rattle.smith_draw_types.proofs.table_type.arbitrary_table_type.Goals as goal
+
+pub returns : goal.returns
+returns c =
+    let drawn = rw (c.standing-standing.ensures, c.unread-call.ensures) at c.draw_table_type-drawn.ensures in
+    record {
+      ok = refl;
+      draws = record { exact = drawn.draws.exact; memory = tt; left = drawn.draws.left };
+      valid = λ valid. drawn.valid c.args.spaces.now.types.now refl valid;
+      within = drawn.within;
+      nullable = drawn.nullable;
+      grounded = drawn.grounded;
+    }

@@ -1,0 +1,45 @@
+-- The record of functions kept for many draws.
+use Rattle.std.specs.Prelude.{◌≡◌, ℕ, ◌<◌, ◌≤◌, List, Some, slice_get, take, length, IfSome, IsSome}
+use Rattle.smith_types.specs.Expressions.{Context}
+use Rattle.smith_types.specs.FuncGrounds.{AreFuncGrounds}
+use Rattle.smith_types.specs.declared.func_grounds.FuncGrounds.{FuncGrounds}
+use Rattle.smith_draw_types.specs.Grounding.{over}
+use Rattle.smith_draw_types.specs.declared.early_grounds.EarlyGrounds.{EarlyGrounds}
+use Rattle.smith_draw_types.specs.declared.kept_grounds.KeptGrounds.{KeptGrounds}
+
+-- the record, if there is one, is correct for the functions of a context
+abbrev pub AreKeptGrounds : Context → KeptGrounds → Type 0
+AreKeptGrounds context grounds = IfSome grounds.kept (AreFuncGrounds context)
+
+-- there is a record, so that functions are noted in it
+abbrev pub HasBegun : KeptGrounds → Type 0
+HasBegun grounds = IsSome grounds.kept
+
+-- what one call draws references over, and its record of functions
+pub record CallOver : Type 0 where
+  pub context : Context
+  pub grounds : KeptGrounds
+
+-- the record was made over the first types and is correct over these, and each function whose type
+-- exists has one of them
+pub record IsRecordOver (context : Context) (grounds : FuncGrounds) : Type 0 where
+  pub count : ℕ
+  pub within : count ≤ length context.types
+  pub right : AreFuncGrounds (over context (take count context.types)) grounds
+  pub named : (function index : ℕ) → slice_get context.funcs function ≡ Some index → index < length context.types → index < count
+
+-- the type of each function is among the first types, as many as given
+abbrev pub HaveTypes : List ℕ → ℕ → Type 0
+HaveTypes funcs count = (function index : ℕ) → slice_get funcs function ≡ Some index → index < count
+
+-- the record was made before types were added and is correct over the types that there were then,
+-- and each function has one of these
+pub record IsEarlyRecord (context : Context) (grounds : FuncGrounds) : Type 0 where
+  pub count : ℕ
+  pub within : count ≤ length context.types
+  pub right : AreFuncGrounds (over context (take count context.types)) grounds
+  pub named : HaveTypes context.funcs count
+
+-- the record that was made before types were added, if there is one, is as above
+abbrev pub AreEarlyGrounds : Context → EarlyGrounds → Type 0
+AreEarlyGrounds context grounds = IfSome grounds.kept (IsEarlyRecord context)

@@ -1,0 +1,12 @@
+-- Drawn offsets of active segments. A rule of this project.
+use Rattle.std.specs.Prelude.{ℕ, ◌-◌, List, nat_lt, if◌then◌else◌}
+use Rattle.smith_bytes.specs.Draws.{range_at}
+use Rattle.smith_draw_types.specs.Limits.{gradually_at}
+
+-- the start of a segment of this size in a table or a memory with the minimum size `least`: at most
+-- `most`; any number if the segment does not fit into `least`, otherwise mostly near the start and
+-- such that it fits
+unfoldable pub offset_at : ℕ → ℕ → ℕ → List ℕ → ℕ × List ℕ
+offset_at least most size bytes =
+    if nat_lt least size then range_at 0 most bytes
+    else gradually_at 0 (least - size) most bytes
