@@ -36,12 +36,12 @@ front_fits digits n number fits =
     omega arith
 
 -- digits after a number
-read_behind : (number : ℕ) (digits : List ℕ) → fold (λ x b. 256 * x + b) number digits ≡ number * 256 ^ length digits + big_endian digits
-read_behind number [] = omega arith
-read_behind number (digit ∷ digits) =
+read_after : (number : ℕ) (digits : List ℕ) → fold (λ x b. 256 * x + b) number digits ≡ number * 256 ^ length digits + big_endian digits
+read_after number [] = omega arith
+read_after number (digit ∷ digits) =
     let size : 256 ^ length (digit ∷ digits) ≡ 256 * 256 ^ length digits = rw pow-succ' refl in
     let all : fold (λ x b. 256 * x + b) (256 * number + digit) digits ≡ number * (256 * 256 ^ length digits) + fold (λ x b. 256 * x + b) (256 * 0 + digit) digits =
-    omega (arith, read_behind (256 * number + digit) digits, read_behind (256 * 0 + digit) digits) in
+    omega (arith, read_after (256 * number + digit) digits, read_after (256 * 0 + digit) digits) in
     rw size all
 
 -- a number split into the digits before the last eight and the last eight
@@ -51,5 +51,5 @@ big_endian_halves digits (suc k) is =
     let parts : big_endian digits ≡ fold (λ x b. 256 * x + b) (big_endian (take (suc k) digits)) (drop (suc k) digits) =
     ap big_endian (sym (take-append-drop (suc k) digits)) ∙ fold-append (λ x b. 256 * x + b) 0 (take (suc k) digits) (drop (suc k) digits) in
     let eight : length (drop (suc k) digits) ≡ 8 = omega (arith, length-drop (suc k) digits) in
-    let read = rw eight at (read_behind (big_endian (take (suc k) digits)) (drop (suc k) digits)) in
+    let read = rw eight at (read_after (big_endian (take (suc k) digits)) (drop (suc k) digits)) in
     omega (arith, parts, read)

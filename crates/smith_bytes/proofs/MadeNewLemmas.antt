@@ -56,7 +56,7 @@ no_sooner {names = names} {first = first} a b sooner =
 pub new_alone : {S : Type 0} {names : HashSet (String Global) S} {text first second : List ℕ} → IsMadeNew names text first → IsMadeNew names text second → first ≡ second
 new_alone a b =
     let not_before = no_sooner a b in
-    let not_behind = no_sooner b a in
+    let not_after = no_sooner b a in
     let same : a.copies ≡ b.copies = omega arith in
     a.made ∙ (rw same (sym b.made))
 

@@ -131,7 +131,7 @@ valid_len_by_rest bs start within begins =
     let most = utf8_valid_len_le bs in
     ⊎_elim
     (λ before. omega arith)
-    (λ behind.
+    (λ following.
     let same : start + (m - start) ≡ m = omega arith in
     let long = length-take m bs in
     let boundary : IsCharBoundary (take m bs) start = (omega arith, λ inside some. subst (λ b. 192 ≤ b) (sym (get_or-take m bs start 0 (omega arith))) (begins (omega arith))) in

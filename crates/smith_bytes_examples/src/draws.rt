@@ -16,7 +16,7 @@ ghost use Rattle.smith_bytes.specs.Draws.{
 fn numbers_of_bytes()
     ensures little { little_endian (1 ∷ 2 ∷ 3 ∷ []) ≡ 197121 }
     ensures little_of_none { little_endian [] ≡ 0 }
-    ensures little_with_a_zero_behind { little_endian (1 ∷ 0 ∷ []) ≡ 1 }
+    ensures little_with_a_zero_after { little_endian (1 ∷ 0 ∷ []) ≡ 1 }
     ensures big { big_endian (1 ∷ 2 ∷ 3 ∷ []) ≡ 66051 }
     ensures big_of_none { big_endian [] ≡ 0 }
     ensures big_with_a_zero_before { big_endian (0 ∷ 1 ∷ []) ≡ 1 }

@@ -24,6 +24,6 @@ fn growing()
         ≡ (40 ∷ 41 ∷ [], 9 ∷ []) }
     ensures needed_past_the_end { grow_at any_byte 2 3 [] [] ≡ (0 ∷ 0 ∷ [], []) }
     ensures what_stands_counts { grow_at any_byte 1 2 (7 ∷ []) (0 ∷ 9 ∷ []) ≡ (7 ∷ [], 9 ∷ []) }
-    ensures behind_what_stands { grow_at any_byte 2 2 (7 ∷ []) (40 ∷ 0 ∷ 9 ∷ [])
+    ensures after_what_stands { grow_at any_byte 2 2 (7 ∷ []) (40 ∷ 0 ∷ 9 ∷ [])
         ≡ (7 ∷ 40 ∷ [], 9 ∷ []) }
 {}

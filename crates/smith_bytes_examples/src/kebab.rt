@@ -17,7 +17,7 @@ fn characters()
     ensures no_dash_at_the_front { character [] 36 ≡ 97 }
     ensures first_digit { character (codes "a") 26 ≡ 48 }
     ensures last_digit { character (codes "a") 35 ≡ 57 }
-    ensures digit_behind_a_dash { character (codes "a-") 26 ≡ 48 }
+    ensures digit_after_a_dash { character (codes "a-") 26 ≡ 48 }
     ensures dash { character (codes "a") 36 ≡ 45 }
     ensures no_second_dash { character (codes "a-") 36 ≡ 97 }
 {}
@@ -42,7 +42,7 @@ fn drawn_names()
     ensures of_one_byte { kebab_at 9 (7 ∷ []) ≡ (codes "a", []) }
     ensures cut { kebab_at 2 (0 ∷ 36 ∷ 27 ∷ 3 ∷ []) ≡ (codes "a-a", 27 ∷ []) }
     ensures cut_to_nothing { kebab_at 0 (1 ∷ 1 ∷ []) ≡ (codes "a", 1 ∷ []) }
-    ensures digit_behind_a_letter { kebab_at 9 (26 ∷ 26 ∷ 2 ∷ []) ≡ (codes "a0", []) }
+    ensures digit_after_a_letter { kebab_at 9 (26 ∷ 26 ∷ 2 ∷ []) ≡ (codes "a0", []) }
     ensures dashes_alone { kebab_at 9 (36 ∷ 36 ∷ 36 ∷ 3 ∷ []) ≡ (codes "a-a", []) }
     ensures single_dashes { kebab_at 9 (1 ∷ 36 ∷ 36 ∷ 3 ∷ []) ≡ (codes "b-a", []) }
 {}

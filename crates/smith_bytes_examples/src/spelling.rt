@@ -52,7 +52,7 @@ fn conditions()
 
 #[tactic(auto, unfolding(smith_bytes::specs::Draws::digit_count))]
 fn joined_pieces()
-    ensures one_behind_another { Joined (SpellsBool true) (SpellsByte 6) (1 ∷ 6 ∷ []) }
+    ensures one_after_another { Joined (SpellsBool true) (SpellsByte 6) (1 ∷ 6 ∷ []) }
     ensures turned_round { ¬ Joined (SpellsBool true) (SpellsByte 6) (6 ∷ 1 ∷ []) }
     ensures second_changed { ¬ Joined (SpellsBool true) (SpellsByte 6) (1 ∷ 7 ∷ []) }
     ensures second_missing { ¬ Joined (SpellsBool true) (SpellsByte 6) (1 ∷ []) }

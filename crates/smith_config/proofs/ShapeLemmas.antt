@@ -130,8 +130,8 @@ entity_values P shape values =
     let of_global : GlobalType → ValType = λ global. global.val_type in
     let tables = (shape_spaces shape).tables in
     let globals = (shape_spaces shape).globals in
-    let behind = (parts_of_all P of_types (map of_table tables ++ map of_global globals) (recursion_from_All P (shape_values shape) values)).1 in
-    let apart = parts_of_all P (map of_table tables) (map of_global globals) behind in (
+    let following = (parts_of_all P of_types (map of_table tables ++ map of_global globals) (recursion_from_All P (shape_values shape) values)).1 in
+    let apart = parts_of_all P (map of_table tables) (map of_global globals) following in (
       All-from_recursion (λ (table : TableType). P (Ref table.element_type)) tables (before_map P of_table tables apart.0),
       All-from_recursion (λ (global : GlobalType). P global.val_type) globals (before_map P of_global globals apart.1),
     )

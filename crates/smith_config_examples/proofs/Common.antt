@@ -42,4 +42,4 @@ pub use Rattle.smith_data.specs.declared.entity_type.GlobalType.{GlobalType}
 pub use Rattle.smith_data.specs.declared.entity_type.MemoryType.{MemoryType}
 pub use Rattle.smith_data.specs.declared.entity_type.TableType.{TableType}
 pub use Rattle.smith_data.specs.declared.value_type.ValType.TheVariants.{F32, I32, I64, V128}
-pub use Rattle.smith_types_examples.proofs.TypeExamples.{referring_behind}
+pub use Rattle.smith_types_examples.proofs.TypeExamples.{referring_after}

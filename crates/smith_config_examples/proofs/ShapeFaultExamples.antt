@@ -1,5 +1,5 @@
 -- Lemmas for the examples of faulty shapes: types that are not valid.
-use Rattle.smith_config_examples.proofs.Common.{◌≡◌, ◌<◌, true, false, List, [], ◌∷◌, Some, None, refl, sym, subst, arith, All-head, same_Some, Features, IsAlike, IsTypeValid, IsGroupValid, AreTypesValid, IsShareable, Val, SubType, open_type, final_type, shared_type, struct, empty_struct, plain_func, constant, range, anyref, referring_type, referring_behind, space_of}
+use Rattle.smith_config_examples.proofs.Common.{◌≡◌, ◌<◌, true, false, List, [], ◌∷◌, Some, None, refl, sym, subst, arith, All-head, same_Some, Features, IsAlike, IsTypeValid, IsGroupValid, AreTypesValid, IsShareable, Val, SubType, open_type, final_type, shared_type, struct, empty_struct, plain_func, constant, range, anyref, referring_type, referring_after, space_of}
 use Rattle.smith_data.specs.declared.value_type.AbstractHeapType.TheVariants as heap
 
 module _ (features : Features) where
@@ -22,8 +22,8 @@ module _ (features : Features) where
       let never : true ≡ false = subst (λ (t : SubType). t.is_final ≡ false) (sym same) h.not_final in
       cc never
 
-  pub reference_behind_its_group : ¬ AreTypesValid features (space_of ((referring_type ∷ []) ∷ (final_type empty_struct ∷ []) ∷ []))
-  reference_behind_its_group valid = referring_behind features (valid.groups 0 (range 0 1) (omega arith))
+  pub reference_after_its_group : ¬ AreTypesValid features (space_of ((referring_type ∷ []) ∷ (final_type empty_struct ∷ []) ∷ []))
+  reference_after_its_group valid = referring_after features (valid.groups 0 (range 0 1) (omega arith))
 
   pub shared_field_of_unshared : ¬ AreTypesValid features (space_of ((shared_type (struct (constant (Val anyref) ∷ [])) ∷ []) ∷ []))
   shared_field_of_unshared valid =

@@ -371,13 +371,13 @@ fn first_faults()
     ensures pair_first { IsFirstFault
         (record default_config { max_types = 2 ^ 31 + 1; min_tables = 2 })
         (MinAboveMax counts.Tables) }
-    ensures maximum_behind_pairs { ¬ IsFirstFault
+    ensures maximum_after_pairs { ¬ IsFirstFault
         (record default_config { min_types = 2 ^ 31 + 2; max_types = 2 ^ 31 + 1 })
         (MaxTooLarge counts.Types) }
     ensures narrow_bytes_first { IsFirstFault
         (record default_config { max_memory32_bytes = 2 ^ 32 + 1; max_memory64_bytes = 2 ^ 64 + 1 })
         Memory32Bytes }
-    ensures wide_bytes_behind_pairs { ¬ IsFirstFault
+    ensures wide_bytes_after_pairs { ¬ IsFirstFault
         (record default_config { min_types = 101; max_memory64_bytes = 2 ^ 64 + 1 }) Memory64Bytes }
 {}
 

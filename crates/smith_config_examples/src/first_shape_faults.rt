@@ -12,7 +12,7 @@ ghost use Rattle.smith_config.specs.ExampleShapes.{empty_shape, of_types};
 fn first_faults()
     ensures type_before_index { IsFirstShapeFault ModuleShape default_config
         (record (of_types (open_type (Some 0) empty_struct ∷ [])) { funcs = 5 ∷ [] }) BadType }
-    ensures index_behind_type { ¬ IsFirstShapeFault ModuleShape default_config
+    ensures index_after_type { ¬ IsFirstShapeFault ModuleShape default_config
         (record (of_types (open_type (Some 0) empty_struct ∷ [])) { funcs = 5 ∷ [] }) Index }
     ensures length_before_all { (tags : List ℕ) → length tags ≡ 2 ^ 29 + 1
         → IsFirstShapeFault ModuleShape default_config

@@ -38,7 +38,7 @@ fn types()
         (of_types (final_type empty_struct ∷ open_type (Some 0) empty_struct ∷ [])) BadType }
     ensures below_another_kind { HasShapeFault ModuleShape default_config
         (of_types (open_type None plain_func ∷ open_type (Some 0) empty_struct ∷ [])) BadType }
-    ensures reference_behind_its_group { HasShapeFault ModuleShape default_config
+    ensures reference_after_its_group { HasShapeFault ModuleShape default_config
         (record empty_shape {
           groups = (referring_type ∷ []) ∷ (final_type empty_struct ∷ []) ∷ [];
         }) BadType }

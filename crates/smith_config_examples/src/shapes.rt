@@ -64,7 +64,7 @@ fn used()
 {}
 
 fn ranges()
-    ensures one_behind_another { ranges_from 0 (chain 2 ∷ [] ∷ chain 1 ∷ [])
+    ensures one_after_another { ranges_from 0 (chain 2 ∷ [] ∷ chain 1 ∷ [])
         ≡ range 0 2 ∷ range 2 2 ∷ range 2 3 ∷ [] }
 {}
 

@@ -12,7 +12,7 @@ use Rattle.smith_config.specs.declared.config.Config.{Config}
 use Rattle.smith_const_expr.specs.Constants.{extended_at}
 use Rattle.smith_const_expr.specs.ConstOffers.{offers}
 use Rattle.smith_const_expr.specs.ConstNodes.{is_extended, node_at}
-use Rattle.smith_const_expr.specs.ConstExprs.{State, state_of, behind, operand_at, operands_at, after_choice, expression_at, expression_alone_at}
+use Rattle.smith_const_expr.specs.ConstExprs.{State, state_of, add_instruction, operand_at, operands_at, after_choice, expression_at, expression_alone_at}
 use Rattle.smith_const_expr.specs.ConstSteps.{Reads, ReadsValue}
 use Rattle.smith_const_expr.specs.declared.node_choice.Choice.{Choice}
 use Rattle.smith_const_expr.specs.declared.node.Node.{Node}
@@ -47,7 +47,7 @@ module _ (context : Context) (config : Config) where
 
   -- a node
   pub node_read : (wanted : ValType) (s : State) (choice : Choice) (node : Node) (after bytes : List ℕ) (depth : ℕ) → choose_at (offers config context wanted s.fuel) s.bytes ≡ (Some choice, after) → is_extended choice ≡ false → node_at context.types wanted choice after ≡ (node, bytes) → s.fuel < depth
-      → expression_at context config depth wanted s ≡ option_map (behind node.instruction) (operands_at (operand_at config (expression_at context config (depth - 1))) node.operands (state_of s.made (s.fuel - 1) bytes))
+      → expression_at context config depth wanted s ≡ option_map (add_instruction node.instruction) (operands_at (operand_at config (expression_at context config (depth - 1))) node.operands (state_of s.made (s.fuel - 1) bytes))
   node_read wanted s choice node after bytes depth chosen other drawn deep =
       turn depth wanted s (omega arith) (Some choice) after chosen ∙ (rw (other, drawn) refl)
 

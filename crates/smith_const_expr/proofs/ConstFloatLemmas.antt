@@ -29,7 +29,7 @@ use Rattle.smith_const_expr.specs.Constants.{constant_at, is_wide, operation, op
 use Rattle.smith_draw_types.specs.HeldFields.{fields_of}
 use Rattle.smith_const_expr.specs.ConstOffers.{offers}
 use Rattle.smith_const_expr.specs.ConstNodes.{fields_there, field_operands, repeated, converted, is_extended, node_at}
-use Rattle.smith_const_expr.specs.ConstExprs.{State, state_of, behind, length_at, operand_at, operands_at, after_choice, expression_at, expression_alone_at}
+use Rattle.smith_const_expr.specs.ConstExprs.{State, state_of, add_instruction, length_at, operand_at, operands_at, after_choice, expression_at, expression_alone_at}
 use Rattle.smith_const_expr.specs.ConstSteps.{operand_type}
 use Rattle.smith_const_expr.specs.declared.node_choice.Choice.{Choice}
 use Rattle.smith_const_expr.specs.declared.node_choice.Choice.TheVariants as choice
@@ -151,9 +151,9 @@ then_stays : (f : State → Option State) (drawn : Option State) → ((s : State
 then_stays f None each h = tt
 then_stays f (Some s) each h = each s h
 
-behind_stays : (instruction : ConstInstr) (drawn : Option State) → GivesNoFloat instruction → Stays drawn → Stays (option_map (behind instruction) drawn)
-behind_stays instruction None gives h = tt
-behind_stays instruction (Some s) gives h = All-push GivesNoFloat s.made instruction h gives
+after_stays : (instruction : ConstInstr) (drawn : Option State) → GivesNoFloat instruction → Stays drawn → Stays (option_map (add_instruction instruction) drawn)
+after_stays instruction None gives h = tt
+after_stays instruction (Some s) gives h = All-push GivesNoFloat s.made instruction h gives
 
 operands_stay : (draw : Operand → State → Option State) → ((operand : Operand) (s : State) → IsNoFloatOperand operand → All GivesNoFloat s.made → Stays (draw operand s)) → (operands : List Operand) (s : State) → Each IsNoFloatOperand operands → All GivesNoFloat s.made
     → Stays (operands_at draw operands s)
@@ -176,9 +176,9 @@ module _ (context : Context) (config : Config) (calm : All HasNoFloat context.ty
       let whole = extended_at wanted s.bytes in
       let before = operands_at (operand_at config draw) drawn.0.operands (state_of s.made (s.fuel - 1) drawn.1) in
       let calm_node = node context.types wanted choice s.bytes calm h in
-      cond_both Stays (is_extended choice) (Some (state_of (s.made ++ whole.0) (s.fuel - 1) whole.1)) (option_map (behind drawn.0.instruction) before)
+      cond_both Stays (is_extended choice) (Some (state_of (s.made ++ whole.0) (s.fuel - 1) whole.1)) (option_map (add_instruction drawn.0.instruction) before)
       (All-append GivesNoFloat s.made whole.0 so_far (extended_whole wanted s.bytes h))
-      (behind_stays drawn.0.instruction before calm_node.instruction (operands_stay (operand_at config draw) (operand_stays draw each) drawn.0.operands (state_of s.made (s.fuel - 1) drawn.1) calm_node.operands so_far))
+      (after_stays drawn.0.instruction before calm_node.instruction (operands_stay (operand_at config draw) (operand_stays draw each) drawn.0.operands (state_of s.made (s.fuel - 1) drawn.1) calm_node.operands so_far))
 
   expression_stays : (depth : ℕ) (wanted : ValType) (s : State) → IsNoFloat wanted → All GivesNoFloat s.made → Stays (expression_at context config depth wanted s)
   unfolding expression_at

@@ -431,9 +431,9 @@ unfolding choose_at
 chosen_fits config context wanted fuel scope valid items is bytes after x chosen =
     chosen_each (IsFit config context wanted fuel) items (range_at 0 (length items - 1) bytes).0 x (subst (Each (IsFit config context wanted fuel)) (sym is) (offers_fit config context wanted fuel scope valid)) (ap (λ (d : Option Choice × List ℕ). d.0) chosen)
 
-constants_some : (context : Context) (value : ValType) (before behind : List Choice) → is_defaultable value ≡ true → 0 < length (before ++ (constant_offers context value ++ behind))
-constants_some context value [] behind default = rw default (omega arith)
-constants_some context value (x ∷ before) behind default = omega arith
+constants_some : (context : Context) (value : ValType) (before following : List Choice) → is_defaultable value ≡ true → 0 < length (before ++ (constant_offers context value ++ following))
+constants_some context value [] following default = rw default (omega arith)
+constants_some context value (x ∷ before) following default = omega arith
 
 -- a choice offered by one item of a list is offered by the list
 some_join : {A : Type 0} (xs ys : List A) → 0 < length ys → 0 < length (xs ++ ys)
@@ -504,8 +504,8 @@ grounded_offered config context r fuel scope (inr (function, index, at, lower)) 
     some_front (each_from (function_offers context (Ref r)) 0 context.funcs) (cond context.features.gc (created_offers config context r fuel) [])
     (some_each (function_offers context (Ref r)) 0 function function context.funcs index at (omega arith) (rw below (omega arith)))
 
-references_some : (context : Context) (value : ValType) (before behind : List Choice) → 0 < length behind → 0 < length (before ++ (constant_offers context value ++ behind))
-references_some context value before behind some = some_join before (constant_offers context value ++ behind) (some_join (constant_offers context value) behind some)
+references_some : (context : Context) (value : ValType) (before following : List Choice) → 0 < length following → 0 < length (before ++ (constant_offers context value ++ following))
+references_some context value before following some = some_join before (constant_offers context value ++ following) (some_join (constant_offers context value) following some)
 
 not_true : (b : Bool) → (b ≡ true → ⊥) → b ≡ false
 not_true true h = absurd (h refl)

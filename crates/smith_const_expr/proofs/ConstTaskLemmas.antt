@@ -19,7 +19,7 @@ use Rattle.smith_const_expr.specs.Constants.{extended_at}
 use Rattle.smith_const_expr.specs.ConstOffers.{offers}
 use Rattle.smith_const_expr.specs.ConstNodes.{is_extended, node_at}
 use Rattle.smith_const_expr.specs.ConstBounds.{widest, MayLack, MayRefuseConstExpr}
-use Rattle.smith_const_expr.specs.ConstExprs.{State, state_of, behind, length_at, operand_at, operands_at, expression_at}
+use Rattle.smith_const_expr.specs.ConstExprs.{State, state_of, add_instruction, length_at, operand_at, operands_at, expression_at}
 use Rattle.smith_const_expr.specs.ConstSteps.{operand_type, IsDrawn, IsNode, ReadsValue}
 use Rattle.smith_const_expr.specs.ConstTasks.{IsOperandBegun, IsStep, IsGrowthPaid, MayRefuseTask}
 use Rattle.smith_const_expr.specs.declared.node.Operand.{Operand}
@@ -50,7 +50,7 @@ LeadsTo end next (Some now) = next now
 abbrev pub Ends : Context → Config → Option State → List Task → State → Type 0
 Ends context config end [] now = end ≡ Some now
 Ends context config end (Draw operand ∷ tasks) now = (given : Option State) × Gives context config operand now given × LeadsTo end (Ends context config end tasks) given
-Ends context config end (Write instruction ∷ tasks) now = Ends context config end tasks (behind instruction now)
+Ends context config end (Write instruction ∷ tasks) now = Ends context config end tasks (add_instruction instruction now)
 
 more_drawn : (context : Context) (value : ValType) (values : List ValType) (old middle : State) (given : Option State) → IsDrawn context (value ∷ []) old.made old.fuel middle.made middle.fuel → IfSome given (λ (new : State). IsDrawn context values middle.made middle.fuel new.made new.fuel)
     → IfSome given (λ (new : State). IsDrawn context (value ∷ values) old.made old.fuel new.made new.fuel)
@@ -88,20 +88,20 @@ begun_ends context config end operand todo todo' old new begun h =
     let node = begun.node in
     let fits = begun.fits in
     let (given, all, onward) = operands_end context config end node.operands (Write node.instruction ∷ todo) (state_of old.made (old.fuel - 1) begun.bytes) (rw (begun.tasks, begun.state) at h) in (
-      option_map (behind node.instruction) given,
+      option_map (add_instruction node.instruction) given,
       record {
-        read = λ depth deep. begun.read depth deep ∙ ap (option_map (behind node.instruction)) (all.read (depth - 1) (λ some. let positive = fits.paid some in omega arith));
+        read = λ depth deep. begun.read depth deep ∙ ap (option_map (add_instruction node.instruction)) (all.read (depth - 1) (λ some. let positive = fits.paid some in omega arith));
         drawn = node_drawn given all.drawn;
       },
       written given onward,
     )
   where
     node_drawn : (given : Option State) → IfSome given (λ (new : State). IsDrawn context (map operand_type begun.node.operands) old.made (old.fuel - 1) new.made new.fuel)
-        → IfSome (option_map (behind begun.node.instruction) given) (λ (new : State). IsDrawn context (operand_type operand ∷ []) old.made old.fuel new.made new.fuel)
+        → IfSome (option_map (add_instruction begun.node.instruction) given) (λ (new : State). IsDrawn context (operand_type operand ∷ []) old.made old.fuel new.made new.fuel)
     node_drawn None h = tt
     node_drawn (Some middle) h = drawn_by begun.fits h refl
 
-    written : (given : Option State) → LeadsTo end (Ends context config end (Write begun.node.instruction ∷ todo)) given → LeadsTo end (Ends context config end todo) (option_map (behind begun.node.instruction) given)
+    written : (given : Option State) → LeadsTo end (Ends context config end (Write begun.node.instruction ∷ todo)) given → LeadsTo end (Ends context config end todo) (option_map (add_instruction begun.node.instruction) given)
     written None h = h
     written (Some middle) h = h
 

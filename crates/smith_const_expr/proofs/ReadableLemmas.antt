@@ -52,9 +52,9 @@ passed : {A : Type 0} (test : A → Bool) (start : ℕ) (xs : List A) (index : �
 passed test start [] index h = absurd h
 passed test start (x ∷ xs) index h = passes_first test start x xs index (test x) refl (passed test (start + 1) xs index) h
 
-behind_first : (b : Bool) (start index : ℕ) (more : List ℕ) → Among index more → Among index (offered_if b start ++ more)
-behind_first true start index more h = inr h
-behind_first false start index more h = h
+unless_first : (b : Bool) (start index : ℕ) (more : List ℕ) → Among index more → Among index (offered_if b start ++ more)
+unless_first true start index more h = inr h
+unless_first false start index more h = h
 
 passing_at : {A : Type 0} (test : A → Bool) (start : ℕ) (xs : List A) (k index : ℕ) (x : A) → slice_get xs k ≡ Some x → test x ≡ true → start + k ≡ index → Among index (passing test start xs)
 passing_at test start [] k index x at passes is = cc
@@ -62,7 +62,7 @@ passing_at test start (y ∷ xs) zero index x at passes is =
     let here : test y ≡ true = subst (λ z. test z ≡ true) (sym (same_Some y x at)) passes in
     rw here (inl (omega arith))
 passing_at test start (y ∷ xs) (suc k) index x at passes is =
-    behind_first (test y) start index (passing test (start + 1) xs) (passing_at test (start + 1) xs k index x at passes (omega arith))
+    unless_first (test y) start index (passing test (start + 1) xs) (passing_at test (start + 1) xs k index x at passes (omega arith))
 
 -- the items of a prefix of a list
 front_stands : {A : Type 0} (n : ℕ) (xs : List A) (k : ℕ) (x : A) → slice_get (take n xs) k ≡ Some x → (k < n) × (slice_get xs k ≡ Some x)

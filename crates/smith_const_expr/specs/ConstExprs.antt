@@ -28,8 +28,8 @@ abbrev pub state_of : List ConstInstr → ℕ → List ℕ → State
 state_of made fuel bytes = record { made = made; fuel = fuel; bytes = bytes }
 
 -- the state with an instruction appended
-abbrev pub behind : ConstInstr → State → State
-behind instruction s = record s { made = s.made ++ instruction ∷ [] }
+abbrev pub add_instruction : ConstInstr → State → State
+add_instruction instruction s = record s { made = s.made ++ instruction ∷ [] }
 
 -- a length that is at most the fuel, and is subtracted from it
 abbrev pub length_at : State → State
@@ -51,7 +51,7 @@ made_at context config draw wanted s choice =
     let extended = extended_at wanted s.bytes in
     let node = node_at context.types wanted choice s.bytes in
     if is_extended choice then Some (state_of (s.made ++ extended.0) (s.fuel - 1) extended.1)
-    else option_map (behind node.0.instruction) (operands_at (operand_at config draw) node.0.operands (state_of s.made (s.fuel - 1) node.1))
+    else option_map (add_instruction node.0.instruction) (operands_at (operand_at config draw) node.0.operands (state_of s.made (s.fuel - 1) node.1))
 
 -- the draw after a choice, if there is one
 abbrev pub after_choice : Context → Config → (ValType → State → Option State) → ValType → State → Option Choice → Option State

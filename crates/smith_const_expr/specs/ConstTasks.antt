@@ -7,7 +7,7 @@ use Rattle.smith_bytes.specs.declared.error.Error.{Error}
 use Rattle.smith_bytes.specs.declared.error.Error.TheVariants as errors
 use Rattle.smith_config.specs.declared.config.Config.{Config}
 use Rattle.smith_const_expr.specs.ConstBounds.{widest, MayLack}
-use Rattle.smith_const_expr.specs.ConstExprs.{State, state_of, behind, operand_at, operands_at, expression_at}
+use Rattle.smith_const_expr.specs.ConstExprs.{State, state_of, add_instruction, operand_at, operands_at, expression_at}
 use Rattle.smith_const_expr.specs.ConstSteps.{operand_type, IsDrawn, IsNode}
 use Rattle.smith_const_expr.specs.declared.node.Operand.{Operand}
 use Rattle.smith_const_expr.specs.declared.node.Node.{Node}
@@ -34,12 +34,12 @@ pub record IsOperandBegun (context : Context) (config : Config) (operand : Opera
   pub fits : IsNode config context (operand_type operand) old.fuel node
   pub some : 0 < length node.operands
   pub read : (depth : ℕ) → old.fuel < depth
-      → operand_at config (expression_at context config depth) operand old ≡ option_map (behind node.instruction) (operands_at (operand_at config (expression_at context config (depth - 1))) node.operands (state_of old.made (old.fuel - 1) bytes))
+      → operand_at config (expression_at context config depth) operand old ≡ option_map (add_instruction node.instruction) (operands_at (operand_at config (expression_at context config (depth - 1))) node.operands (state_of old.made (old.fuel - 1) bytes))
 
 -- a task was carried out, and the remaining tasks became these
 abbrev pub IsStep : Context → Config → Task → List Task → State → List Task → State → Type 0
 IsStep context config (Draw operand) todo old todo' new = ((todo' ≡ todo) × IsOperandDrawn context config operand old new) ⊎ IsOperandBegun context config operand todo old todo' new
-IsStep context config (Write instruction) todo old todo' new = (todo' ≡ todo) × (new ≡ behind instruction old)
+IsStep context config (Write instruction) todo old todo' new = (todo' ≡ todo) × (new ≡ add_instruction instruction old)
 
 -- a step adds at most the operands of one node and its instruction to the tasks, and makes them
 -- more only if it spends fuel

@@ -185,8 +185,8 @@ fn spelled_constants()
     ensures four_bytes { SpellsI32 (negsuc 0) (255 ∷ 255 ∷ 255 ∷ 255 ∷ []) }
     ensures three_bytes { ¬ SpellsI32 (pos 7) (7 ∷ 0 ∷ 0 ∷ []) }
     ensures the_highest_first { ¬ SpellsI32 (pos 7) (0 ∷ 0 ∷ 0 ∷ 7 ∷ []) }
-    ensures behind_a_choice { SpellsConstant default_config (pos 7) (0 ∷ 7 ∷ 0 ∷ 0 ∷ 0 ∷ []) }
-    ensures behind_the_other_choice { ¬ SpellsConstant default_config (pos 7)
+    ensures after_a_choice { SpellsConstant default_config (pos 7) (0 ∷ 7 ∷ 0 ∷ 0 ∷ 0 ∷ []) }
+    ensures after_the_other_choice { ¬ SpellsConstant default_config (pos 7)
         (1 ∷ 7 ∷ 0 ∷ 0 ∷ 0 ∷ []) }
     ensures without_a_choice { SpellsConstant
         (record default_config { extended_const_enabled = false }) (pos 7) (7 ∷ 0 ∷ 0 ∷ 0 ∷ []) }

@@ -3,7 +3,7 @@ use Rattle.std.proofs.Common.{◌≡◌, ℕ, zero, suc, ◌+◌, ◌<◌, List,
 use Rattle.std.specs.Prelude.{All, slice_get, Some}
 use Rattle.std.proofs.lemmas.List.Elements.{All-nil, All-cons, All-append}
 use Rattle.std.proofs.lemmas.Option.{slice_get-get_or}
-use Rattle.smith_types.proofs.ListLemmas.{slice_get-grown, slice_get-behind}
+use Rattle.smith_types.proofs.ListLemmas.{slice_get-grown, slice_get-after}
 use Rattle.smith_types.specs.Imports.{EntitySpaces}
 use Rattle.smith_data.specs.declared.entity_type.EntityType.TheVariants as entity
 use Rattle.smith_data.specs.declared.entity_type.ExportKind.{ExportKind}
@@ -32,7 +32,7 @@ first : (of_kind : ExportKind) (count index : ℕ) (more : List Item) → index 
 first of_kind count index more below = slice_get-grown (numbered_from of_kind 0 count) more index (of_kind, index) (alone of_kind count index below)
 
 past : (of_kind : ExportKind) (count index : ℕ) (more : List Item) → slice_get (numbered_from of_kind 0 count ++ more) (count + index) ≡ slice_get more index
-past of_kind count index more = rw (length-numbered of_kind 0 count) at (slice_get-behind (numbered_from of_kind 0 count) more index)
+past of_kind count index more = rw (length-numbered of_kind 0 count) at (slice_get-after (numbered_from of_kind 0 count) more index)
 
 -- the item at each place: functions come first, then tables, memories, globals and tags
 module _ (spaces : EntitySpaces) where
@@ -50,14 +50,14 @@ module _ (spaces : EntitySpaces) where
   pub global_at : (place index : ℕ) → place ≡ length spaces.funcs + length spaces.tables + length spaces.memories + index → index < length spaces.globals → slice_get (every_item spaces) place ≡ Some (kind.Global, index)
   global_at place index is below =
       let parts : place ≡ length spaces.funcs + (length spaces.tables + (length spaces.memories + index)) = omega arith in
-      let behind = past kind.Memory (length spaces.memories) index _ ∙ first kind.Global (length spaces.globals) index _ below in
-      rw parts (past kind.Func (length spaces.funcs) _ _ ∙ (past kind.Table (length spaces.tables) _ _ ∙ behind))
+      let following = past kind.Memory (length spaces.memories) index _ ∙ first kind.Global (length spaces.globals) index _ below in
+      rw parts (past kind.Func (length spaces.funcs) _ _ ∙ (past kind.Table (length spaces.tables) _ _ ∙ following))
 
   pub tag_at : (place index : ℕ) → place ≡ length spaces.funcs + length spaces.tables + length spaces.memories + length spaces.globals + index → index < length spaces.tags → slice_get (every_item spaces) place ≡ Some (kind.Tag, index)
   tag_at place index is below =
       let parts : place ≡ length spaces.funcs + (length spaces.tables + (length spaces.memories + (length spaces.globals + index))) = omega arith in
-      let behind = past kind.Memory (length spaces.memories) _ _ ∙ (past kind.Global (length spaces.globals) index _ ∙ alone kind.Tag (length spaces.tags) index below) in
-      rw parts (past kind.Func (length spaces.funcs) _ _ ∙ (past kind.Table (length spaces.tables) _ _ ∙ behind))
+      let following = past kind.Memory (length spaces.memories) _ _ ∙ (past kind.Global (length spaces.globals) index _ ∙ alone kind.Tag (length spaces.tags) index below) in
+      rw parts (past kind.Func (length spaces.funcs) _ _ ∙ (past kind.Table (length spaces.tables) _ _ ∙ following))
 
 numbered_all : (P : Item → Type 0) (of_kind : ExportKind) (start count : ℕ) → ((index : ℕ) → index < start + count → P (of_kind, index)) → All P (numbered_from of_kind start count)
 numbered_all P of_kind start zero each = All-nil P

@@ -21,9 +21,9 @@ use Rattle.smith_contents.specs.declared.element_kinds.KindChoice.TheVariants.{P
 use Rattle.smith_bytes.proofs.StepLemmas.{given_takes}
 
 -- a property that the next step has for every result of a step holds after both
-behind : {A B : Type 0} (P : B → Type 0) (first : Result A Why) (next : A → Result B Why) → ((x : A) → IfOk (next x) P) → IfOk (first >>= next) P
-behind P (Ok x) next each = each x
-behind P (Err why) next each = tt
+following : {A B : Type 0} (P : B → Type 0) (first : Result A Why) (next : A → Result B Why) → ((x : A) → IfOk (next x) P) → IfOk (first >>= next) P
+following P (Ok x) next each = each x
+following P (Err why) next each = tt
 
 stops_by : (b : Bool) (bytes : List ℕ) → (goes_at b bytes).0 ≡ false → b ≡ false
 stops_by true bytes off = cc
@@ -37,7 +37,7 @@ segments_least config context kinds (suc most) made bytes enough =
     let go = goes_at (ltb (length made) config.min_element_segments) bytes in
     let Least = λ (drawn : List ElementSegment × List ℕ). config.min_element_segments ≤ length drawn.0 in
     cond_both go.0 _ _ (λ (r : Result (List ElementSegment × List ℕ) Why). IfOk r Least)
-    (λ on. behind Least _ _ (λ segment. segments_least config context kinds most (made ++ segment.0 ∷ []) segment.1 (omega (arith, length-append made (segment.0 ∷ [])))))
+    (λ on. following Least _ _ (λ segment. segments_least config context kinds most (made ++ segment.0 ∷ []) segment.1 (omega (arith, length-append made (segment.0 ∷ [])))))
     (λ off. ltb-false (length made) config.min_element_segments (stops_by (ltb (length made) config.min_element_segments) bytes off))
 
 -- at least the minimum

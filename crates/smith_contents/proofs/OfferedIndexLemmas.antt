@@ -52,14 +52,14 @@ offered_same skipped end (suc count) few = rw (offered_same skipped end count (o
 
 -- if a list is divided at a place, the number of counted items is that place
 count_divided : (most : ℕ) (numbers : List ℕ) (n : ℕ) → n ≤ length numbers → AllWithin (λ x. nat_le x most ≡ true) numbers 0 n → AllWithin (λ x. nat_le x most ≡ false) numbers n (length numbers) → count_up_to most numbers ≡ n
-count_divided most [] n few before behind = omega arith
-count_divided most (x ∷ numbers) zero few before behind =
-    let first : nat_le x most ≡ false = behind 0 x (omega arith) (omega arith) in
-    let rest = count_divided most numbers 0 (omega arith) (λ k d low high. absurd (omega arith)) (λ k d low high. behind (suc k) d (omega arith) (omega arith)) in
+count_divided most [] n few before following = omega arith
+count_divided most (x ∷ numbers) zero few before following =
+    let first : nat_le x most ≡ false = following 0 x (omega arith) (omega arith) in
+    let rest = count_divided most numbers 0 (omega arith) (λ k d low high. absurd (omega arith)) (λ k d low high. following (suc k) d (omega arith) (omega arith)) in
     rw first rest
-count_divided most (x ∷ numbers) (suc n) few before behind =
+count_divided most (x ∷ numbers) (suc n) few before following =
     let first : nat_le x most ≡ true = before 0 x (omega arith) (omega arith) in
-    let rest = count_divided most numbers n (omega arith) (λ k d low high. before (suc k) d (omega arith) (omega arith)) (λ k d low high. behind (suc k) d (omega arith) (omega arith)) in
+    let rest = count_divided most numbers n (omega arith) (λ k d low high. before (suc k) d (omega arith) (omega arith)) (λ k d low high. following (suc k) d (omega arith) (omega arith)) in
     rw first (omega (arith, rest))
 
 module _ (count : ℕ) (skipped : List ℕ) (now : AreSkipped count skipped) where

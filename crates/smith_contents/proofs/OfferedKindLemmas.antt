@@ -55,20 +55,20 @@ pub record AreTablesDrawn (tables : List TableType) (index : ℕ) (drawn : Indic
   pub left : KeepsPieces start bytes
 
 -- the kinds after a table for which it is known whether it is offered
-abbrev behind : Config → List KindChoice → ℕ → List TableType → TableType → Bool × List ℕ → List KindChoice × List ℕ
-behind config kinds index rest table offered =
+abbrev following : Config → List KindChoice → ℕ → List TableType → TableType → Bool × List ℕ → List KindChoice × List ℕ
+following config kinds index rest table offered =
     table_kinds_at config (cond offered.0 (with_named config index table (with_unnamed index table kinds)) kinds) (suc index) rest offered.1
 
 module _ {tables : List TableType} {index : ℕ} {drawn : Indices} {start bytes after : List ℕ} {table : TableType} {b : Bool} where
-  one_behind : AreTablesDrawn tables index drawn start bytes → index < length tables → table ≡ get_or tables index table → is_offered_at table bytes ≡ (b, after) → (config : Config)
-      → behind config (kinds_over config tables drawn.offered) index (drop (index + 1) tables) table (b, after) ≡ element_kinds_at config tables start
+  one_after : AreTablesDrawn tables index drawn start bytes → index < length tables → table ≡ get_or tables index table → is_offered_at table bytes ≡ (b, after) → (config : Config)
+      → following config (kinds_over config tables drawn.offered) index (drop (index + 1) tables) table (b, after) ≡ element_kinds_at config tables start
   unfolding table_kinds_at
-  one_behind now inside at draws config =
+  one_after now inside at draws config =
       let kinds = kinds_over config tables drawn.offered in
       let rest = drop (index + 1) tables in
       let here = at_drop_more (λ (left : List TableType). table_kinds_at config kinds index left bytes) tables index table inside in
       let same = ap (λ (one : TableType). table_kinds_at config kinds index (one ∷ rest) bytes) at in
-      ap (behind config kinds index rest table) (sym draws) ∙ (same ∙ (sym here ∙ now.so_far config))
+      ap (following config kinds index rest table) (sym draws) ∙ (same ∙ (sym here ∙ now.so_far config))
 
   -- a table is offered
   pub tables_more : {more : Indices} → AreTablesDrawn tables index drawn start bytes → index < length tables → table ≡ get_or tables index table → is_offered_at table bytes ≡ (b, after) → b ≡ true
@@ -81,7 +81,7 @@ module _ {tables : List TableType} {index : ℕ} {drawn : Indices} {start bytes 
         within = All-push (λ one. one < length tables) drawn.offered index now.within inside;
         so_far = λ config.
             let kinds = kinds_over config tables drawn.offered in
-            let turn = rw on at (one_behind now inside at draws config) in
+            let turn = rw on at (one_after now inside at draws config) in
             rw (← kind_offered config tables drawn.offered index table now.few found) (rw (← add-one index) at turn);
         left = λ whole h. kept whole (now.left whole h);
       })
@@ -94,7 +94,7 @@ module _ {tables : List TableType} {index : ℕ} {drawn : Indices} {start bytes 
         end = refl;
         few = omega (arith, now.few);
         within = now.within;
-        so_far = λ config. let turn = rw off at (one_behind now inside at draws config) in rw (← add-one index) at turn;
+        so_far = λ config. let turn = rw off at (one_after now inside at draws config) in rw (← add-one index) at turn;
         left = λ whole h. kept whole (now.left whole h);
       })
 

@@ -17,10 +17,10 @@ use Rattle.smith_config.specs.declared.config.Config.{Config}
 use Rattle.smith_config.specs.Faults.{Passes}
 use Rattle.smith_config.specs.Features.{features_of}
 use Rattle.smith_config.specs.Sanitized.{IsSanitized}
-use Rattle.smith_types.proofs.ListLemmas.{slice_get-behind}
+use Rattle.smith_types.proofs.ListLemmas.{slice_get-after}
 use Rattle.smith_types.specs.Floats.{HasNoFloatValue}
 use Rattle.smith_config.specs.Granted.{HasGroundedElements, HasGroundedValue}
-use Rattle.smith_defined.specs.Defined.{nothing_defined, AreAdded, HasRoom, AreWithin, MayDefine, StandsBehind, AreFilled, AreDefinedMore, AreGlobalsDefined, HaveNoFloats, drawn_over, scope_in}
+use Rattle.smith_defined.specs.Defined.{nothing_defined, AreAdded, HasRoom, AreWithin, MayDefine, StandsAfter, AreFilled, AreDefinedMore, AreGlobalsDefined, HaveNoFloats, drawn_over, scope_in}
 use Rattle.smith_defined.specs.DefinedTables.{IsTableFit, AreTablesDrawn}
 use Rattle.smith_defined.specs.Definitions.{InitialiserScope, Table, scope_over, scope_among, context_at, table_scope}
 use Rattle.smith_rules.specs.Module.{IsTableInitialised}
@@ -28,7 +28,7 @@ use Rattle.smith_defined.specs.declared.definitions.Definitions.{Definitions}
 use Rattle.smith_defined.proofs.ExtensionLemmas.{all_kept}
 use Rattle.smith_defined.proofs.DefinedTableLemmas.{initialised_at, tables_added}
 use Rattle.smith_rules.proofs.InitialLemmas.{IsTableInitialised-grown}
-use Rattle.smith_defined.proofs.StandsBehindLemmas.{IsTablePlaced, defined_end, left_over, table_kept, global_kept}
+use Rattle.smith_defined.proofs.StandsAfterLemmas.{IsTablePlaced, defined_end, left_over, table_kept, global_kept}
 
 -- the types, functions and globals that initialisers refer to after functions are defined
 abbrev pub standing_more : List SubType → EntitySpaces → Definitions → EntitySpaces → InitialiserScope
@@ -51,7 +51,7 @@ pub filled_grown : {config : Config} {before later : EntitySpaces} → AreFilled
 filled_grown filled = record { tags = filled.tags.extends; funcs = filled.funcs.extends; tables = filled.tables.extends; memories = filled.memories.extends; globals = filled.globals.extends }
 
 -- there are no more definitions than items
-pub stands_within : {config : Config} {imported : EntitySpaces} {space : GroupedTypes} {spaces : EntitySpaces} {defined : Definitions} → StandsBehind config imported space spaces defined → AreWithin spaces defined
+pub stands_within : {config : Config} {imported : EntitySpaces} {space : GroupedTypes} {spaces : EntitySpaces} {defined : Definitions} → StandsAfter config imported space spaces defined → AreWithin spaces defined
 stands_within stands = record {
   tags = omega (arith, defined_end stands.tags);
   funcs = omega (arith, defined_end stands.funcs);
@@ -89,7 +89,7 @@ tables_counted {before = before} {old = old} so_far =
       length-map so_far.drawn (λ (one : Table). one.1),
     )
 
-module _ (config : Config) (imported : EntitySpaces) (space : GroupedTypes) (before later : EntitySpaces) (so_far defined : Definitions) (adds : AddsTo config space before so_far later defined) (now : StandsBehind config imported space before so_far) where
+module _ (config : Config) (imported : EntitySpaces) (space : GroupedTypes) (before later : EntitySpaces) (so_far defined : Definitions) (adds : AddsTo config space before so_far later defined) (now : StandsAfter config imported space before so_far) where
   abbrev standing : InitialiserScope
   standing = scope_in space.types imported later
 
@@ -128,8 +128,8 @@ module _ (config : Config) (imported : EntitySpaces) (space : GroupedTypes) (bef
       subst (λ (s : InitialiserScope). AreGlobalsDefined config s later.globals defined.globals) standing_is
       (adds.globals (subst (λ (s : InitialiserScope). AreGlobalsDefined config s before.globals so_far.globals) (sym standing_is) globals_stood))
 
-  globals_behind : Defines imported.globals (length defined.globals) later.globals
-  globals_behind =
+  globals_after : Defines imported.globals (length defined.globals) later.globals
+  globals_after =
       let whole = ap length grown.globals.parts ∙ length-append before.globals grown.globals.more in
       grown_by now.globals grown.globals (omega (arith, whole, globals_stand.count, defined_end now.globals))
 
@@ -139,7 +139,7 @@ module _ (config : Config) (imported : EntitySpaces) (space : GroupedTypes) (bef
     features = refl;
     types = all_kept space.types;
     funcs = all_kept later.funcs;
-    globals = record { more = globals_behind.defined; parts = globals_behind.parts };
+    globals = record { more = globals_after.defined; parts = globals_after.parts };
     imported_funcs = refl;
     imported_globals = refl;
     visible = omega arith;
@@ -153,14 +153,14 @@ module _ (config : Config) (imported : EntitySpaces) (space : GroupedTypes) (bef
         let all = All-weaker (IsTableFit config standing) (λ (one : Table). IsTableInitialised scope one.0 one.1) (λ one fit. fit.initialised) drawn.drawn drawn.fit in
         let (table, there, initialised) = initialised_at (IsTableInitialised scope) drawn.drawn (recursion_from_All _ drawn.drawn all) i initial new in
         let end : length imported.tables + place ≡ length before.tables + i = omega (arith, is, defined_end now.tables) in
-        let behind = slice_get-behind before.tables (map (λ (one : Table). one.0) drawn.drawn) i ∙ there in (
+        let following = slice_get-after before.tables (map (λ (one : Table). one.0) drawn.drawn) i ∙ there in (
           table,
-          ap (λ (n : ℕ). slice_get later.tables n) end ∙ (ap (λ (all : List TableType). slice_get all (length before.tables + i)) drawn.tables ∙ behind),
+          ap (λ (n : ℕ). slice_get later.tables n) end ∙ (ap (λ (all : List TableType). slice_get all (length before.tables + i)) drawn.tables ∙ following),
           IsTableInitialised-grown scope (context_at config standing later.globals (length imported.globals)) table_scope_grown table initial initialised,
         )
   ]
 
-  pub stands_later : StandsBehind config imported space later defined
+  pub stands_later : StandsAfter config imported space later defined
   stands_later = record {
     types = now.types;
     entities = adds.entities;
@@ -169,7 +169,7 @@ module _ (config : Config) (imported : EntitySpaces) (space : GroupedTypes) (bef
     funcs = grown_by now.funcs grown.funcs adds.num_funcs;
     tables = grown_by now.tables grown.tables (tables_counted drawn);
     memories = grown_by now.memories grown.memories adds.num_memories;
-    globals = globals_behind;
+    globals = globals_after;
     each_table = table_stands;
     each_global = globals_stand.each;
   }
@@ -190,9 +190,9 @@ defined_more config space before later so_far defined adds =
     }
 
 -- items may be defined after the entities that follow imports
-pub may_define_behind : {config : Config} {imported : EntitySpaces} {space : GroupedTypes} {spaces : EntitySpaces} {defined : Definitions} → Passes config → IsSanitized config → config.min_types ≤ length space.types → length space.types < 2 ^ 32 → HasRoom spaces 0
-    → StandsBehind config imported space spaces defined → MayDefine config space spaces defined
-may_define_behind passes sanitized least few room stands = record {
+pub may_define_after : {config : Config} {imported : EntitySpaces} {space : GroupedTypes} {spaces : EntitySpaces} {defined : Definitions} → Passes config → IsSanitized config → config.min_types ≤ length space.types → length space.types < 2 ^ 32 → HasRoom spaces 0
+    → StandsAfter config imported space spaces defined → MayDefine config space spaces defined
+may_define_after passes sanitized least few room stands = record {
   passes = passes;
   sanitized = sanitized;
   valid = stands.types;

@@ -57,8 +57,8 @@ several_so true most before n one within stood several = refl
 several_so false most before n one within stood several = stood (omega (arith, one refl))
 
 -- a property of the items before and of the added ones holds for all
-pub all_behind : {A : Type 0} (Holds : A → Type 0) {before space : List A} → All Holds before → AreAdded Holds before space → All Holds space
-all_behind Holds {before = before} stood added = rw added.parts (All-append Holds before added.more stood added.each)
+pub all_after : {A : Type 0} (Holds : A → Type 0) {before space : List A} → All Holds before → AreAdded Holds before space → All Holds space
+all_after Holds {before = before} stood added = rw added.parts (All-append Holds before added.more stood added.each)
 
 pub added_weaker : {A : Type 0} (Holds Others : A → Type 0) {before space : List A} → ((x : A) → Holds x → Others x) → AreAdded Holds before space → AreAdded Others before space
 added_weaker Holds Others each added = record { more = added.more; parts = added.parts; each = All-weaker Holds Others each added.more added.each }

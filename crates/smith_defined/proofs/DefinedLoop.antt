@@ -8,7 +8,7 @@ use Rattle.smith_bytes.specs.Growth.{goes_at, grow_at}
 use Rattle.smith_bytes.specs.Source.{KeepsPieces}
 use Rattle.smith_bytes.proofs.GrowingLoop.{IsGrowing, grow_go, grow_stop, grow_full}
 use Rattle.smith_bytes.proofs.GrownLemmas.{grow_most}
-use Rattle.smith_defined.specs.Definitions.{items_defined_at, behind}
+use Rattle.smith_defined.specs.Definitions.{items_defined_at, appended_to}
 
 -- the items that are defined so far, after a number of imported ones
 pub record IsDefining {A : Type 0} (draw : List A → List ℕ → A × List ℕ) (least most imported n : ℕ) (made : List A) (start bytes : List ℕ) : Type 0 where
@@ -55,29 +55,29 @@ defined_full {draw = draw} {least = least} {most = most} {imported = imported} {
     rw (grown, full) (full_turn (nat_lt 0 imported && nat_lt 0 most) made bytes after is)
 
 -- the items that are defined so far follow the imported ones
-pub record IsBehind {A : Type 0} (draw : List A → List ℕ → A × List ℕ) (least most : ℕ) (imported space : List A) (n : ℕ) (start bytes : List ℕ) : Type 0 where
+pub record IsAfter {A : Type 0} (draw : List A → List ℕ → A × List ℕ) (least most : ℕ) (imported space : List A) (n : ℕ) (start bytes : List ℕ) : Type 0 where
   pub made : List A
   pub parts : space ≡ imported ++ made
   pub defining : IsDefining draw least most (length imported) n made start bytes
 
-pub behind_start : {A : Type 0} (draw : List A → List ℕ → A × List ℕ) (least most : ℕ) (imported : List A) (start : List ℕ) → IsBehind draw least most imported imported 0 start start
-behind_start draw least most imported start = record { made = []; parts = rw append-nil refl; defining = defined_start draw least most (length imported) start }
+pub after_start : {A : Type 0} (draw : List A → List ℕ → A × List ℕ) (least most : ℕ) (imported : List A) (start : List ℕ) → IsAfter draw least most imported imported 0 start start
+after_start draw least most imported start = record { made = []; parts = rw append-nil refl; defining = defined_start draw least most (length imported) start }
 
-pub behind_go : {A : Type 0} {draw : List A → List ℕ → A × List ℕ} {least most n : ℕ} {imported space more : List A} {start bytes mid : List ℕ} {b : Bool} {x : A} {after : List ℕ}
-    → (now : IsBehind draw least most imported space n start bytes) → n < most - length imported → goes_at (nat_lt n (least - length imported)) bytes ≡ (b, mid) → b ≡ true → draw now.made mid ≡ (x, after) → more ≡ space ++ x ∷ [] → KeepsPieces bytes mid → KeepsPieces mid after
-    → IsBehind draw least most imported more (n + 1) start after
-behind_go {imported = imported} {x = x} now lt go odd drawn longer p q = record {
+pub after_go : {A : Type 0} {draw : List A → List ℕ → A × List ℕ} {least most n : ℕ} {imported space more : List A} {start bytes mid : List ℕ} {b : Bool} {x : A} {after : List ℕ}
+    → (now : IsAfter draw least most imported space n start bytes) → n < most - length imported → goes_at (nat_lt n (least - length imported)) bytes ≡ (b, mid) → b ≡ true → draw now.made mid ≡ (x, after) → more ≡ space ++ x ∷ [] → KeepsPieces bytes mid → KeepsPieces mid after
+    → IsAfter draw least most imported more (n + 1) start after
+after_go {imported = imported} {x = x} now lt go odd drawn longer p q = record {
   made = now.made ++ x ∷ [];
   parts = longer ∙ (ap (λ (xs : List _). xs ++ x ∷ []) now.parts ∙ append_assoc imported now.made (x ∷ []));
   defining = defined_go now.defining lt go odd drawn refl p q;
 }
 
-pub behind_stop : {A : Type 0} {draw : List A → List ℕ → A × List ℕ} {least most n : ℕ} {imported space : List A} {start bytes : List ℕ} {b : Bool} {after : List ℕ}
-    → IsBehind draw least most imported space n start bytes → n < most - length imported → goes_at (nat_lt n (least - length imported)) bytes ≡ (b, after) → b ≡ false
-    → behind imported (items_defined_at draw least most (length imported) start) ≡ (space, after)
-behind_stop now lt go even = rw (defined_stop now.defining lt go even, now.parts) refl
+pub after_stop : {A : Type 0} {draw : List A → List ℕ → A × List ℕ} {least most n : ℕ} {imported space : List A} {start bytes : List ℕ} {b : Bool} {after : List ℕ}
+    → IsAfter draw least most imported space n start bytes → n < most - length imported → goes_at (nat_lt n (least - length imported)) bytes ≡ (b, after) → b ≡ false
+    → appended_to imported (items_defined_at draw least most (length imported) start) ≡ (space, after)
+after_stop now lt go even = rw (defined_stop now.defining lt go even, now.parts) refl
 
-pub behind_full : {A : Type 0} {draw : List A → List ℕ → A × List ℕ} {least most n : ℕ} {imported space : List A} {start bytes after : List ℕ}
-    → IsBehind draw least most imported space n start bytes → most - length imported ≤ n → after ≡ (if nat_lt 0 (length imported) && nat_lt 0 most then (bool_at bytes).1 else bytes)
-    → behind imported (items_defined_at draw least most (length imported) start) ≡ (space, after)
-behind_full now le is = rw (defined_full now.defining le is, now.parts) refl
+pub after_full : {A : Type 0} {draw : List A → List ℕ → A × List ℕ} {least most n : ℕ} {imported space : List A} {start bytes after : List ℕ}
+    → IsAfter draw least most imported space n start bytes → most - length imported ≤ n → after ≡ (if nat_lt 0 (length imported) && nat_lt 0 most then (bool_at bytes).1 else bytes)
+    → appended_to imported (items_defined_at draw least most (length imported) start) ≡ (space, after)
+after_full now le is = rw (defined_full now.defining le is, now.parts) refl

@@ -31,7 +31,7 @@ use Rattle.smith_defined.specs.DefinedTables.{IsTableFit, AreTablesDrawn}
 use Rattle.smith_defined.specs.Definitions.{InitialiserScope, Table, table_at, tables_at, table_scope}
 use Rattle.smith_rules.specs.Promises.{initial_of}
 use Rattle.smith_bytes.specs.Spelling.{SpellsNone}
-use Rattle.smith_defined.proofs.DefinedLemmas.{parts_filled, several_so, all_behind, defined_none}
+use Rattle.smith_defined.proofs.DefinedLemmas.{parts_filled, several_so, all_after, defined_none}
 
 -- with defined globals invisible, the imported ones are visible
 imported_seen : (on : Bool) (globals imported : ℕ) → cond (on && false) globals imported ≡ imported
@@ -102,7 +102,7 @@ tables_added P {config = config} {standing = standing} {imported = imported} fit
 
 pub tables_all : (P : TableType → Type 0) {config : Config} {standing : InitialiserScope} {imported space : List TableType} {old initials : List (Option (List ConstInstr))}
     → ((one : Table) → IsTableFit config standing one → P one.0) → AreTablesDrawn config standing imported space old initials → All P imported → All P space
-tables_all P fits so_far all = all_behind P all (tables_added P fits so_far)
+tables_all P fits so_far all = all_after P all (tables_added P fits so_far)
 
 -- each initialiser is that of the table that was drawn with it
 pub initialised_at : (P : TableType → Option (List ConstInstr) → Type 0) (drawn : List Table) → Each (λ (one : Table). P one.0 one.1) drawn

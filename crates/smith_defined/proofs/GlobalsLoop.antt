@@ -129,7 +129,7 @@ pub define_more : {config : Config} {standing : InitialiserScope} {before : List
     → more ≡ globals ++ one.0 ∷ [] → longer ≡ initials ++ one.1 ∷ [] → KeepsPieces bytes mid → KeepsPieces mid after
     → AreDefining config standing before old (n + 1) more longer start after
 define_more {config = config} {standing = standing} {before = before} {old = old} {globals = globals} {initials = initials} {mid = mid} {after = after} {one = one} now fewer go odd drawn valid typed calm grounded plain next last p q =
-    let behind = drawn_in config standing before now.made globals mid now.globals_are ∙ drawn in
+    let following = drawn_in config standing before now.made globals mid now.globals_are ∙ drawn in
     let place = index_is config (global_scope config standing globals) mid one after drawn in
     rw (next, last) (record {
       made = now.made ++ one ∷ [];
@@ -139,7 +139,7 @@ define_more {config = config} {standing = standing} {before = before} {old = old
       initials_are = ap (λ (xs : List (ℕ × List ConstInstr)). xs ++ one.1 ∷ []) now.initials_are
           ∙ (append_assoc old (map (λ (g : Global). g.1) now.made) (one.1 ∷ [])
           ∙ ap (λ (xs : List (ℕ × List ConstInstr)). old ++ xs) (sym (map-append (λ (g : Global). g.1) now.made (one ∷ []))));
-      defining = defined_go now.defining fewer go odd behind refl p q;
+      defining = defined_go now.defining fewer go odd following refl p q;
       valid = All-push (IsGlobalValid (features_of config) standing.types) globals one.0 now.valid valid;
       defined = λ stood. subst (λ (k : ℕ). AreGlobalsDefined config standing (globals ++ one.0 ∷ []) (initials ++ (k, one.1.1) ∷ [])) (sym place) (defined_more config standing globals one.0 initials one.1.1 (now.defined stood) typed);
       floats = λ off imported. All-push (λ (g : GlobalType). IsNoFloat g.val_type) globals one.0 (now.floats off imported) (calm off);

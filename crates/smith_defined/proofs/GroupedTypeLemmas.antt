@@ -11,10 +11,10 @@ in_front [] ys i inside = absurd (omega arith)
 in_front (x ∷ xs) ys zero inside = refl
 in_front (x ∷ xs) ys (suc i) inside = in_front xs ys i (omega arith)
 
-pub behind : {A : Type 0} (xs ys : List A) (i : ℕ) → length xs ≤ i → slice_get (xs ++ ys) i ≡ slice_get ys (i - length xs)
-behind {A = A} [] ys i past = let same : i - length {A = A} [] ≡ i = omega arith in rw same refl
-behind (x ∷ xs) ys zero past = absurd (omega arith)
-behind (x ∷ xs) ys (suc i) past = let same : suc i - length (x ∷ xs) ≡ i - length xs = omega arith in rw same (behind xs ys i (omega arith))
+pub past_first : {A : Type 0} (xs ys : List A) (i : ℕ) → length xs ≤ i → slice_get (xs ++ ys) i ≡ slice_get ys (i - length xs)
+past_first {A = A} [] ys i past = let same : i - length {A = A} [] ≡ i = omega arith in rw same refl
+past_first (x ∷ xs) ys zero past = absurd (omega arith)
+past_first (x ∷ xs) ys (suc i) past = let same : suc i - length (x ∷ xs) ≡ i - length xs = omega arith in rw same (past_first xs ys i (omega arith))
 
 -- the types of groups together
 abbrev joined : List (List SubType) → List SubType
@@ -30,6 +30,6 @@ module _ (groups : List (List SubType)) (i left index : ℕ) (now : slice_get (j
       sym now ∙ (ap (λ (types : List SubType). slice_get types left) (cut groups i group inside is) ∙ (in_front group (joined (drop (i + 1) groups)) left short ∙ (slice_get-get_or group left t short ∙ ap (λ (one : SubType). Some one) (sym at))))
 
   -- it is after that group
-  pub found_behind : (group : List SubType) (less : ℕ) → i < length groups → group ≡ get_or groups i group → length group ≤ left → less ≡ left - length group → slice_get (joined (drop (i + 1) groups)) less ≡ slice_get (joined groups) index
-  found_behind group less inside is past fewer =
-      rw fewer (sym (behind group (joined (drop (i + 1) groups)) left past) ∙ (ap (λ (types : List SubType). slice_get types left) (sym (cut groups i group inside is)) ∙ now))
+  pub found_further : (group : List SubType) (less : ℕ) → i < length groups → group ≡ get_or groups i group → length group ≤ left → less ≡ left - length group → slice_get (joined (drop (i + 1) groups)) less ≡ slice_get (joined groups) index
+  found_further group less inside is past fewer =
+      rw fewer (sym (past_first group (joined (drop (i + 1) groups)) left past) ∙ (ap (λ (types : List SubType). slice_get types left) (sym (cut groups i group inside is)) ∙ now))

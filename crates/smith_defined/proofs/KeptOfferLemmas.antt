@@ -24,7 +24,7 @@ use Rattle.smith_defined.specs.declared.definitions.Definitions.{Definitions}
 use Rattle.smith_defined.proofs.ExtensionLemmas.{all_kept}
 use Rattle.smith_defined.proofs.KeptGrowthLemmas.{AreValidOver, HasMore, kept_grown}
 use Rattle.smith_defined.proofs.RequiredExportLemmas.{still_imported}
-use Rattle.smith_defined.proofs.StandsBehindLemmas.{spaces_grown}
+use Rattle.smith_defined.proofs.StandsAfterLemmas.{spaces_grown}
 
 -- the kept globals and functions stay correct with one more defined global
 pub kept_pushed : (config : Config) (standing : InitialiserScope) (globals more : List GlobalType) (one : GlobalType) (kept : KeptOffers) → IsOrderly standing.types → All (IsFuncTypeIndex standing.types) standing.funcs → All (IsGlobalValid (features_of config) standing.types) globals → more ≡ globals ++ one ∷ []

@@ -14,7 +14,7 @@ pub mod DefinedTableLemmas
 pub mod RequiredEntityLemmas
 pub mod PlainEntityLemmas
 pub mod GroupedTypeLemmas
-pub mod StandsBehindLemmas
+pub mod StandsAfterLemmas
 pub mod RequiredLimitLemmas
 pub mod BelowGrowthLemmas
 pub mod KeptGrowthLemmas

@@ -66,9 +66,9 @@ use Rattle.smith_rules.specs.ExportedItems.{Export}
 use Rattle.smith_rules.specs.ShapesKept.{IsSameFuncType, IsSameType}
 use Rattle.smith_defined.specs.declared.definitions.Definitions.{Definitions}
 use Rattle.smith_defined.proofs.ExtensionLemmas.{all_kept}
-use Rattle.smith_defined.proofs.GroupedTypeLemmas.{behind}
+use Rattle.smith_defined.proofs.GroupedTypeLemmas.{past_first}
 use Rattle.smith_defined.proofs.PlainEntityLemmas.{all_at, table_over, global_over, types_over_valid}
-use Rattle.smith_defined.proofs.StandsBehindLemmas.{one_more, spaces_grown, entities_more, entities_longer, stands_more}
+use Rattle.smith_defined.proofs.StandsAfterLemmas.{one_more, spaces_grown, entities_more, entities_longer, stands_more}
 
 made_some : {A B : Type 0} (f : A → B) (found : Option A) (y : B) → option_map f found ≡ Some y → (x : A) × (found ≡ Some x) × (y ≡ f x)
 made_some f (Some x) y is = (x, refl, cc)
@@ -456,8 +456,8 @@ mapped f [] i x at = absurd cc
 mapped f (y ∷ xs) zero x at = ap (option_map f) at
 mapped f (y ∷ xs) (suc i) x at = mapped f xs i x at
 
-found_behind : {A : Type 0} (xs ys : List A) (i : ℕ) (x : A) → slice_get ys i ≡ Some x → slice_get (xs ++ ys) (length xs + i) ≡ Some x
-found_behind xs ys i x at = let same : length xs + i - length xs ≡ i = omega arith in behind xs ys (length xs + i) (omega arith) ∙ (ap (λ (n : ℕ). slice_get ys n) same ∙ at)
+found_further : {A : Type 0} (xs ys : List A) (i : ℕ) (x : A) → slice_get ys i ≡ Some x → slice_get (xs ++ ys) (length xs + i) ≡ Some x
+found_further xs ys i x at = let same : length xs + i - length xs ≡ i = omega arith in past_first xs ys (length xs + i) (omega arith) ∙ (ap (λ (n : ℕ). slice_get ys n) same ∙ at)
 
 module _ (types : List SubType) (spaces : EntitySpaces) where
   abbrev of_types : List ValType
@@ -479,11 +479,11 @@ module _ (types : List SubType) (spaces : EntitySpaces) where
   held kind.Table index one (table, at, is) strict =
       let value = Ref table.element_type in
       any_at (length of_types + index) value
-      (found_behind of_types (of_tables ++ of_globals) index value (slice_get-grown of_tables of_globals index value (mapped (λ (each : TableType). Ref each.element_type) spaces.tables index table at))) (subst IsNeverNull is strict)
+      (found_further of_types (of_tables ++ of_globals) index value (slice_get-grown of_tables of_globals index value (mapped (λ (each : TableType). Ref each.element_type) spaces.tables index table at))) (subst IsNeverNull is strict)
   held kind.Global index one (global, at, is) strict =
       any_at (length of_types + (length of_tables + index)) global.val_type
-      (found_behind of_types (of_tables ++ of_globals) (length of_tables + index) global.val_type
-      (found_behind of_tables of_globals index global.val_type (mapped (λ (each : GlobalType). each.val_type) spaces.globals index global at))) (subst IsNeverNull is strict)
+      (found_further of_types (of_tables ++ of_globals) (length of_tables + index) global.val_type
+      (found_further of_tables of_globals index global.val_type (mapped (λ (each : GlobalType). each.val_type) spaces.globals index global at))) (subst IsNeverNull is strict)
 
 never_null : (own_types : Bool) (space : GroupedTypes) (theirs : EntityType) → IsNeverNull (entity_over own_types space theirs) → IsNeverNull theirs
 never_null false space theirs strict = strict

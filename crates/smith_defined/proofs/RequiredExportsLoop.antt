@@ -32,7 +32,7 @@ use Rattle.smith_rules.specs.Bounds.{counts_as}
 use Rattle.smith_rules.specs.ShapeImports.{count_in}
 use Rattle.smith_rules.specs.ExportedItems.{IsStanding, Export}
 use Rattle.smith_defined.proofs.RequiredLimitLemmas.{no_limits, limits_both, no_types, types_both}
-use Rattle.smith_defined.specs.Defined.{StandsBehind, drawn_beside}
+use Rattle.smith_defined.specs.Defined.{StandsAfter, drawn_beside}
 use Rattle.smith_defined.specs.Required.{AddsLimitsOf, AddsTypesOf, IsKeptType, MayRequire, MayDefineMore, IsRequiredMore, AreRequired, MayLackIn, MayRefuseExported, MayRefuseRequired}
 use Rattle.smith_bytes.specs.Steps.{Returns, is_memory}
 use Rattle.smith_defined.specs.RequiredExports.{Required, entity_of, standing_with, export_required_at, required_from, required_at}
@@ -104,7 +104,7 @@ pub record AreRequiring (own_types : Bool) (config : Config) (shape : Shape) (ol
   pub few_values : All (HasFewValues most_listed) old_types.types → All (HasFewValues most_listed) types.types
   pub may : MayDefineMore config types spaces defined (length shape.exports - place)
   pub shape_may : MayRequire own_types config shape types
-  pub stands : (imported : EntitySpaces) → StandsBehind config imported old_types old old_defined → StandsBehind config imported types spaces defined
+  pub stands : (imported : EntitySpaces) → StandsAfter config imported old_types old old_defined → StandsAfter config imported types spaces defined
   pub left : KeepsPieces start bytes
 
 -- none is made yet

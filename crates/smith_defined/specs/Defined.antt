@@ -136,7 +136,7 @@ abbrev pub scope_in : List SubType → EntitySpaces → EntitySpaces → Initial
 scope_in types imported spaces = scope_over types spaces.funcs (length imported.funcs) imported.globals
 
 -- the types, the entities that follow these imports, and each initialiser at its place are valid
-pub record StandsBehind (config : Config) (imported : EntitySpaces) (space : GroupedTypes) (spaces : EntitySpaces) (defined : Definitions) : Type 0 where
+pub record StandsAfter (config : Config) (imported : EntitySpaces) (space : GroupedTypes) (spaces : EntitySpaces) (defined : Definitions) : Type 0 where
   pub types : AreTypesValid (features_of config) space
   pub entities : AreEntitiesValid (features_of config) space.types spaces
   pub counts : AreCountsEnabled (features_of config) spaces
@@ -166,7 +166,7 @@ pub record AreDefinedMore (config : Config) (space : GroupedTypes) (before : Ent
   pub filled : AreFilled config before spaces
   pub grounded_tables : AreAdded (HasGroundedElements config (drawn_beside config space.types spaces defined)) before.tables spaces.tables
   pub grounded_globals : AreAdded (HasGroundedValue config (drawn_beside config space.types spaces defined)) before.globals spaces.globals
-  pub stands : (imported : EntitySpaces) → StandsBehind config imported space before so_far → StandsBehind config imported space spaces defined
+  pub stands : (imported : EntitySpaces) → StandsAfter config imported space before so_far → StandsAfter config imported space spaces defined
 
 -- no global and no constant of the definitions is a float
 pub record HaveNoFloats (spaces : EntitySpaces) (defined : Definitions) : Type 0 where

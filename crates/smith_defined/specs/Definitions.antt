@@ -36,15 +36,15 @@ items_defined_at draw least most before bytes =
     if (nat_lt 0 before && nat_lt 0 most) && nat_le most (before + length grown.0) then (grown.0, (bool_at grown.1).1) else grown
 
 -- items after those before
-abbrev pub behind : {A : Type 0} → List A → List A × List ℕ → List A × List ℕ
-behind before drawn = (before ++ drawn.0, drawn.1)
+abbrev pub appended_to : {A : Type 0} → List A → List A × List ℕ → List A × List ℕ
+appended_to before drawn = (before ++ drawn.0, drawn.1)
 
 -- tags or functions after those before, each as the index of its type, which is drawn from these
 -- indices; without an index none is defined, and too few are refused
 unfoldable pub type_indices_at : Count → List ℕ → ℕ → ℕ → List ℕ → List ℕ → Result (List ℕ × List ℕ) Why
 type_indices_at count choices least most before bytes =
     if length choices == 0 then (if nat_lt (length before) least then Err (Unmet count) else Ok (before, bytes))
-    else Ok (behind before (items_defined_at (λ _. chosen_at 0 choices) least most (length before) bytes))
+    else Ok (appended_to before (items_defined_at (λ _. chosen_at 0 choices) least most (length before) bytes))
 
 -- the types that tags may have: function types without results, if exceptions are enabled
 abbrev pub tag_types : Config → List SubType → List ℕ
@@ -59,7 +59,7 @@ funcs_at config types before bytes = type_indices_at counts.Funcs (types_for use
 
 unfoldable pub memories_at : Config → List MemoryType → List ℕ → List MemoryType × List ℕ
 memories_at config before bytes =
-    behind before (items_defined_at (λ _. memtype_at config) config.min_memories config.max_memories (length before) bytes)
+    appended_to before (items_defined_at (λ _. memtype_at config) config.min_memories config.max_memories (length before) bytes)
 
 -- the types, functions and globals that initialisers may refer to; imported globals come first
 pub record InitialiserScope : Type 0 where

@@ -31,7 +31,7 @@ use Rattle.smith_draw_types.specs.HeldFields.{HoldsUngroundedField}
 use Rattle.smith_draw_types.specs.FuncSizes.{HasFewValues}
 use Rattle.smith_rules.specs.Bounds.{counts_as, items_of_exports}
 use Rattle.smith_rules.specs.ShapeImports.{count_in}
-use Rattle.smith_defined.specs.Defined.{AreWithin, HasRoom, StandsBehind, drawn_beside}
+use Rattle.smith_defined.specs.Defined.{AreWithin, HasRoom, StandsAfter, drawn_beside}
 use Rattle.smith_types.specs.Exports.{entity_kind}
 use Rattle.smith_rules.specs.Module.{IsTableInitialised}
 use Rattle.smith_defined.specs.RequiredExports.{several, scope_beside, with_table, with_global}
@@ -127,7 +127,7 @@ pub record IsRequiredMore (own_types : Bool) (config : Config) (shape : Shape) (
   pub types_of : AddsTypesOf shape old_types.types types.types
   pub few_values : All (HasFewValues most_listed) old_types.types → All (HasFewValues most_listed) types.types
   pub may : (more : ℕ) → MayDefineMore config old_types old old_defined (more + 1) → MayDefineMore config types spaces defined more
-  pub stands : (imported : EntitySpaces) → StandsBehind config imported old_types old old_defined → StandsBehind config imported types spaces defined
+  pub stands : (imported : EntitySpaces) → StandsAfter config imported old_types old old_defined → StandsAfter config imported types spaces defined
 
 -- the exports of a shape are made: the same in order, valid, of entities defined after those before
 pub record AreRequired (own_types : Bool) (config : Config) (shape : Shape) (old_types : GroupedTypes) (old : EntitySpaces) (old_defined : Definitions) (types : GroupedTypes) (spaces : EntitySpaces) (defined : Definitions) (exports : List Export) : Type 0 where
@@ -142,7 +142,7 @@ pub record AreRequired (own_types : Bool) (config : Config) (shape : Shape) (old
   pub lacking : HoldsUngroundedField config (drawn_beside config types.types spaces defined) → HoldsUngroundedField config (drawn_beside config old_types.types old old_defined)
   pub types_of : AddsTypesOf shape old_types.types types.types
   pub few_values : All (HasFewValues most_listed) old_types.types → All (HasFewValues most_listed) types.types
-  pub stands : (imported : EntitySpaces) → StandsBehind config imported old_types old old_defined → StandsBehind config imported types spaces defined
+  pub stands : (imported : EntitySpaces) → StandsAfter config imported old_types old old_defined → StandsAfter config imported types spaces defined
 
 -- a shape holds a reference that is not nullable, or a type holds one that is neither nullable nor,
 -- with `non_nullable_enabled`, grounded

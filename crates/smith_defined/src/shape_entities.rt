@@ -11,7 +11,7 @@ use smith_types::{EntitySpaces, EntityType, ExportKind};
 
 /// Finds the item at `index` of an index space that has the items `imported`, then the items
 /// `defined`.
-fn item_behind<T: Copy>(imported: &[T], defined: &[T], index: usize) -> T
+fn item_after<T: Copy>(imported: &[T], defined: &[T], index: usize) -> T
     requires { index < length (imported.now ++ defined.now) }
     ensures { slice_get (imported.now ++ defined.now) index ≡ Some result }
 {
@@ -35,27 +35,27 @@ pub(crate) fn entity_of_shape(
 {
     let index = index as usize;
     match kind {
-        ExportKind::Func => EntityType::Func(item_behind(
+        ExportKind::Func => EntityType::Func(item_after(
             imported.funcs.as_slice(),
             shape.funcs.as_slice(),
             index,
         )),
-        ExportKind::Table => EntityType::Table(item_behind(
+        ExportKind::Table => EntityType::Table(item_after(
             imported.tables.as_slice(),
             shape.tables.as_slice(),
             index,
         )),
-        ExportKind::Memory => EntityType::Memory(item_behind(
+        ExportKind::Memory => EntityType::Memory(item_after(
             imported.memories.as_slice(),
             shape.memories.as_slice(),
             index,
         )),
-        ExportKind::Global => EntityType::Global(item_behind(
+        ExportKind::Global => EntityType::Global(item_after(
             imported.globals.as_slice(),
             shape.globals.as_slice(),
             index,
         )),
-        ExportKind::Tag => EntityType::Tag(item_behind(
+        ExportKind::Tag => EntityType::Tag(item_after(
             imported.tags.as_slice(),
             shape.tags.as_slice(),
             index,

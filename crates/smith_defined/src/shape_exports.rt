@@ -17,7 +17,7 @@ ghost use Rattle.smith_draw_types.specs.FuncSizes.{HasFewValues};
 ghost use Rattle.smith_rules.specs.Bounds.{items_of_exports};
 ghost use Rattle.smith_rules.specs.ShapeImports.{count_in};
 ghost use Rattle.smith_rules.specs.ExportedItems.{IsStanding, Export};
-ghost use Rattle.smith_defined.specs.Defined.{StandsBehind, drawn_beside};
+ghost use Rattle.smith_defined.specs.Defined.{StandsAfter, drawn_beside};
 ghost use Rattle.smith_defined.specs.Required.{AddsLimitsOf, AddsTypesOf, MayDefineMore};
 ghost use Rattle.smith_defined.specs.Required.{MayRequire, IsRequiredMore, AreRequired, MayLackIn};
 ghost use Rattle.smith_defined.specs.Required.{MayRefuseRequired, MayRefuseExported};
@@ -171,9 +171,9 @@ pub fn make_required_exports(
     // Validity.
     ensures valid { IfOk result (AreExportsValid (spaces_in spaces.new)) }
     ensures stands { (imported : EntityLists)
-        → StandsBehind config.now imported types.old (spaces_in spaces.old) definitions.old
+        → StandsAfter config.now imported types.old (spaces_in spaces.old) definitions.old
         → OnOk result
-        (StandsBehind config.now imported types.new (spaces_in spaces.new) definitions.new) }
+        (StandsAfter config.now imported types.new (spaces_in spaces.new) definitions.new) }
 
     // The types.
     ensures types { OnOk result (Extends types.old.types types.new.types) }
@@ -253,9 +253,9 @@ pub fn make_shape_exports(
     // Validity.
     ensures valid { IfOk result (AreExportsValid (spaces_in spaces.new)) }
     ensures stands { (imported : EntityLists)
-        → StandsBehind config.now imported types.old (spaces_in spaces.old) definitions.old
+        → StandsAfter config.now imported types.old (spaces_in spaces.old) definitions.old
         → OnOk result
-        (StandsBehind config.now imported types.new (spaces_in spaces.new) definitions.new) }
+        (StandsAfter config.now imported types.new (spaces_in spaces.new) definitions.new) }
 
     // The types and the entities.
     ensures types { OnOk result (types.new ≡ types.old) }

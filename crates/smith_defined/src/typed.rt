@@ -3,7 +3,7 @@ ghost use Rattle.smith_bytes.specs.Source.{KeepsPieces};
 ghost use Rattle.smith_draw_types.specs.Choices.{chosen_at};
 ghost use Rattle.smith_draw_types.specs.Drawing.{DrawsInto};
 ghost use Rattle.smith_bytes.specs.Steps.{ReturnsWhy};
-ghost use Rattle.smith_defined.specs.Definitions.{items_defined_at, behind, type_indices_at};
+ghost use Rattle.smith_defined.specs.Definitions.{items_defined_at, appended_to, type_indices_at};
 
 use crate::past_maximum::discard_past_maximum;
 use smith_bytes::{Count, Error, Unstructured, Why, goes_on};
@@ -19,7 +19,7 @@ fn choose_types(
     u: &mut Unstructured<'_>,
 ) -> Result<(), Error>
     requires some { 0 < length choices.now }
-    ensures { DrawsInto (behind items.old
+    ensures { DrawsInto (appended_to items.old
         (items_defined_at (λ _. chosen_at 0 choices.now) least most (length items.old) u.old))
         items.new result u.old u.new }
 {

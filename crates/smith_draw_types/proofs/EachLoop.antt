@@ -5,12 +5,12 @@ use Rattle.smith_bytes.specs.Source.{KeepsPieces}
 use Rattle.smith_draw_types.specs.MatchingTypes.{each_at}
 
 -- a list prepended to drawn items
-abbrev pub behind : {A : Type 0} → List A → List A × List ℕ → List A × List ℕ
-behind made drawn = (made ++ drawn.0, drawn.1)
+abbrev pub following : {A : Type 0} → List A → List A × List ℕ → List A × List ℕ
+following made drawn = (made ++ drawn.0, drawn.1)
 
 -- an item is drawn for each of the first `n`, and the items drawn for the others complete the whole
 pub record IsDrawing {A : Type 0} (draw : A → List ℕ → A × List ℕ) (xs : List A) (n : ℕ) (made : List A) (start bytes : List ℕ) : Type 0 where
-  pub so_far : each_at draw xs start ≡ behind made (each_at draw (drop n xs) bytes)
+  pub so_far : each_at draw xs start ≡ following made (each_at draw (drop n xs) bytes)
   pub left : KeepsPieces start bytes
 
 -- one more item is drawn
@@ -22,7 +22,7 @@ each_more {A = A} {draw = draw} {xs = xs} {n = n} {made = made} {start = start} 
     let rest = each_at draw (drop (n + 1) xs) after in
     let here : drop n xs ≡ x ∷ drop (n + 1) xs = drop_more xs n x inside ∙ ap (λ (z : A). z ∷ drop (n + 1) xs) (sym at) in
     let turn : each_at draw (drop n xs) bytes ≡ (y ∷ rest.0, rest.1) = rw (here, drawn) refl in
-    let whole : each_at draw xs start ≡ behind (made ++ y ∷ []) rest = now.so_far ∙ ap (behind made) turn ∙ ap (λ (zs : List A). (zs, rest.1)) (sym (append_assoc made (y ∷ []) rest.0)) in
+    let whole : each_at draw xs start ≡ following (made ++ y ∷ []) rest = now.so_far ∙ ap (following made) turn ∙ ap (λ (zs : List A). (zs, rest.1)) (sym (append_assoc made (y ∷ []) rest.0)) in
     rw longer (record { so_far = whole; left = λ w h. kept w (now.left w h) })
 
 -- all items are drawn
@@ -30,4 +30,4 @@ pub each_all : {A : Type 0} {draw : A → List ℕ → A × List ℕ} {xs : List
     → IsDrawing draw xs n made start bytes → length xs ≤ n → each_at draw xs start ≡ (made, bytes)
 unfolding each_at
 each_all {A = A} {draw = draw} {xs = xs} {n = n} {made = made} {bytes = bytes} now done =
-    now.so_far ∙ ap (behind made) (at_drop_all (λ (zs : List A). each_at draw zs bytes) xs n done) ∙ ap (λ (zs : List A). (zs, bytes)) (append-nil made)
+    now.so_far ∙ ap (following made) (at_drop_all (λ (zs : List A). each_at draw zs bytes) xs n done) ∙ ap (λ (zs : List A). (zs, bytes)) (append-nil made)

@@ -50,7 +50,7 @@ mutable_i32_read : (config : Config) (context : Context) (piece after : List ℕ
 unfolding global_type_at SpellsValType
 mutable_i32_read config context piece after h =
     let rest = h.is_second in
-    let behind = rest.first ++ (rest.second ++ after) in
+    let following = rest.first ++ (rest.second ++ after) in
     let class : SpellsValType config (length context.types) I32 h.first = record {
       first = h.first;
       second = [];
@@ -61,7 +61,7 @@ mutable_i32_read config context piece after h =
     rw (
       joined_parts h after,
       joined_parts rest after,
-      val_type_read config context (length context.types) I32 h.first behind tt class,
+      val_type_read config context (length context.types) I32 h.first following tt class,
       unshared_read config rest.first (rest.second ++ after) rest.is_first,
       bool_read true rest.second after rest.is_second,
     ) refl

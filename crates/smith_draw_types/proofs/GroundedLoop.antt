@@ -41,8 +41,8 @@ module _ {A : Type 0} (test : A → Bool) (xs : List A) (n : ℕ) (x : A) (at : 
       let here = passing (λ (ys : List A). slice_get ys left ≡ item) on h in
       subst (λ (m : ℕ). slice_get (x ∷ filter test (drop (n + 1) xs)) m ≡ item) next here
 
-  pub found_behind : (left : ℕ) (item : Option A) → test x ≡ false → slice_get (filter test (drop n xs)) left ≡ item → slice_get (filter test (drop (n + 1) xs)) left ≡ item
-  found_behind left item off h = failing (λ (ys : List A). slice_get ys left ≡ item) off h
+  pub found_further : (left : ℕ) (item : Option A) → test x ≡ false → slice_get (filter test (drop n xs)) left ≡ item → slice_get (filter test (drop (n + 1) xs)) left ≡ item
+  found_further left item off h = failing (λ (ys : List A). slice_get ys left ≡ item) off h
 
 -- nothing remains at the end
 pub none_left : {A : Type 0} (xs : List A) (n : ℕ) → length xs ≤ n → drop n xs ≡ []

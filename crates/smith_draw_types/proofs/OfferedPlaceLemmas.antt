@@ -26,10 +26,10 @@ use Rattle.smith_draw_types.specs.Offered.{is_of_kind, is_kind, offered_direct_s
 use Rattle.smith_draw_types.proofs.AncestorLemmas.{ancestors_up, ancestors_none}
 
 -- an item of the second of two lists comes after the first in their concatenation
-pub slice_get-behind : {A : Type 0} (xs ys : List A) (n k : ℕ) (x : A) → n ≡ length xs + k → slice_get ys k ≡ Some x → slice_get (xs ++ ys) n ≡ Some x
-slice_get-behind [] ys n k x is at = let same : n ≡ k = omega (arith, is) in rw same at
-slice_get-behind (y ∷ xs) ys zero k x is at = absurd (omega (arith, is))
-slice_get-behind (y ∷ xs) ys (suc n) k x is at = slice_get-behind xs ys n k x (omega (arith, is)) at
+pub slice_get-after : {A : Type 0} (xs ys : List A) (n k : ℕ) (x : A) → n ≡ length xs + k → slice_get ys k ≡ Some x → slice_get (xs ++ ys) n ≡ Some x
+slice_get-after [] ys n k x is at = let same : n ≡ k = omega (arith, is) in rw same at
+slice_get-after (y ∷ xs) ys zero k x is at = absurd (omega (arith, is))
+slice_get-after (y ∷ xs) ys (suc n) k x is at = slice_get-after xs ys n k x (omega (arith, is)) at
 
 -- the two tests of a kind agree
 same_shared : (kind : AbstractHeapType) (is_shared : Bool) (inner : CompositeInnerType) → (is_shared && is_of_kind kind inner) ≡ is_inner_of_kind true kind is_shared inner
@@ -96,7 +96,7 @@ pub kinds_later : (types : List SubType) (s : Bool) (ks : List AbstractHeapType)
 kinds_later types s ks i n place kind d x inside is count past at =
     let long : length (map Concrete (indices_of_kind types s (get_or ks i d))) ≡ n = length-map (indices_of_kind types s (get_or ks i d)) Concrete ∙ ap (λ k. length (indices_of_kind types s k)) (sym is) ∙ sym count in
     rw (kinds_turn types s ks i d inside)
-    (slice_get-behind (map Concrete (indices_of_kind types s (get_or ks i d))) (of_kinds types s (drop (i + 1) ks)) place (place - n) x (omega (arith, long, past)) at)
+    (slice_get-after (map Concrete (indices_of_kind types s (get_or ks i d))) (of_kinds types s (drop (i + 1) ks)) place (place - n) x (omega (arith, long, past)) at)
 
 -- the proper supertypes: one for each smaller depth
 pub ancestors_long : (types : List SubType) → IsOrderly types → {i d : ℕ} → HasDepth types i d → length (ancestors types i) + 1 ≡ d
@@ -158,7 +158,7 @@ pub up_found : (types : List SubType) → IsOrderly types → (i d n place a : �
 up_found types o i d n place a deep up past high below =
     let kinds : length (kinds_at types i) ≡ n = up.kinds in
     let near : place - n + 2 ≤ d = up.near in
-    slice_get-behind (kinds_at types i) (ancestors types i) place (place - n) (Concrete a) (omega (arith, kinds, past))
+    slice_get-after (kinds_at types i) (ancestors types i) place (place - n) (Concrete a) (omega (arith, kinds, past))
     (ancestor_at types o i d (place - n) a (d - 1 - (place - n)) deep high below (omega (arith, near)))
 
 -- the direct subtypes of a type, by their indices
@@ -178,8 +178,8 @@ direct_found types i place found at =
     ∙ ap (λ (o : Option ℕ). option_map Concrete o) at
 
 -- a position after the type itself and its direct subtypes
-pub behind_direct : (own : HeapType) (direct more : List HeapType) (place n : ℕ) (x : HeapType) → n ≡ length direct → n < place → slice_get more (place - 1 - n) ≡ Some x → slice_get (own ∷ direct ++ more) place ≡ Some x
-behind_direct own direct more place n x count past at = slice_get-behind (own ∷ direct) more place (place - 1 - n) x (omega (arith, count, past)) at
+pub after_direct : (own : HeapType) (direct more : List HeapType) (place n : ℕ) (x : HeapType) → n ≡ length direct → n < place → slice_get more (place - 1 - n) ≡ Some x → slice_get (own ∷ direct ++ more) place ≡ Some x
+after_direct own direct more place n x count past at = slice_get-after (own ∷ direct) more place (place - 1 - n) x (omega (arith, count, past)) at
 
 pub exact_most : (b : Bool) (n : ℕ) → (if b then 1 + n else 0) ≤ 1 + n
 exact_most true n = omega arith

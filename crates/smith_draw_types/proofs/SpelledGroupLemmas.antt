@@ -31,9 +31,9 @@ size_without false drawn bytes e = refl
 
 -- no clone is drawn, and a size is drawn
 record IsSized (config : Config) (space : GroupedTypes) (size : ℕ) (bytes after : List ℕ) : Type 0 where
-  pub behind : List ℕ
-  pub new : clone_wanted_at config space bytes ≡ (false, behind)
-  pub sized : group_size_at config true (types_left config space) behind ≡ (size, after)
+  pub following : List ℕ
+  pub new : clone_wanted_at config space bytes ≡ (false, following)
+  pub sized : group_size_at config true (types_left config space) following ≡ (size, after)
 
 size_read : (gc : Bool) (config : Config) (space : GroupedTypes) (size : ℕ) (piece after : List ℕ) → config.gc_enabled ≡ gc → SpellsSize gc config (nat_lt 0 (length space.groups)) (types_left config space) size piece
     → IsSized config space size (piece ++ after) after
@@ -42,7 +42,7 @@ size_read true config space size piece after e h =
     let rest = h.second ++ after in
     let refusal = subst (λ (asked : Bool). Where asked (SpellsRefusal 255) h.first) (sym (and_on config.gc_enabled some e)) h.is_first in
     record {
-      behind = rest;
+      following = rest;
       new = rw (joined_parts h after) (refused_where (config.gc_enabled && some) 255 h.first rest refusal);
       sized = size_with config.gc_enabled (range_at 0 (types_left config space) rest) rest e ∙ number_read size 0 (types_left config space) h.second after h.is_second;
     }
@@ -51,15 +51,15 @@ size_read false config space size piece after e h =
     let bytes = piece ++ after in
     let none : bytes ≡ after = ap (λ (front : List ℕ). front ++ after) h.1 in
     record {
-      behind = bytes;
+      following = bytes;
       new = none_asked (config.gc_enabled && some) (ratio_at 1 255 bytes) bytes (and_off config.gc_enabled some e);
       sized = size_without config.gc_enabled (range_at 0 (types_left config space) bytes) bytes e ∙ rw (none, h.0) refl;
     }
 
-group_of : (config : Config) (context : Context) (space : GroupedTypes) (group : List SubType) (bytes behind mid after : List ℕ) → clone_wanted_at config space bytes ≡ (false, behind) → group_size_at config true (types_left config space) behind ≡ (length group, mid)
+group_of : (config : Config) (context : Context) (space : GroupedTypes) (group : List SubType) (bytes following mid after : List ℕ) → clone_wanted_at config space bytes ≡ (false, following) → group_size_at config true (types_left config space) following ≡ (length group, mid)
     → types_until_at config context (length space.types + length group) space.types mid ≡ (space.types ++ group, after) → rec_group_at config context true space bytes ≡ (with_group (space.types ++ group) space.groups, after)
 unfolding rec_group_at new_group_at
-group_of config context space group bytes behind mid after new sized types = rw (new, sized, types) refl
+group_of config context space group bytes following mid after new sized types = rw (new, sized, types) refl
 
 -- a group is drawn, and no type has a supertype afterwards
 pub record IsAdded (config : Config) (context : Context) (space : GroupedTypes) (group : List SubType) (bytes after : List ℕ) : Type 0 where
@@ -73,12 +73,12 @@ group_read config context same space group piece after sanitized roots back h =
     let rest = h.second ++ after in
     let limit = length space.types + length group in
     let sized = size_read config.gc_enabled config space (length group) h.first rest refl h.is_first in
-    let behind = sub_types_read config context same limit space.types group h.second after sanitized roots back refl h.is_second in
+    let following = sub_types_read config context same limit space.types group h.second after sanitized roots back refl h.is_second in
     let count : limit - length space.types ≡ length group = omega arith in
-    let types : types_until_at config context limit space.types rest ≡ (space.types ++ group, after) = rw count behind.made in
+    let types : types_until_at config context limit space.types rest ≡ (space.types ++ group, after) = rw count following.made in
     record {
-      made = rw (joined_parts h after) (group_of config context space group (h.first ++ rest) sized.behind rest after sized.new sized.sized types);
-      roots = behind.roots;
+      made = rw (joined_parts h after) (group_of config context space group (h.first ++ rest) sized.following rest after sized.new sized.sized types);
+      roots = following.roots;
     }
 
 -- a space with groups appended

@@ -90,14 +90,14 @@ declared_read : (config : Config) (context : Context) (limit : ℕ) (t : SubType
 declared_read config context limit t piece after on roots stands root unshared h =
     let rest = h.is_second in
     let last = rest.is_second in
-    let behind = rest.second ++ after in
+    let following = rest.second ++ after in
     let kind = subst (λ (gc : Bool). SpellsKind gc config limit t.composite_type.inner last.second) (sym on) last.is_second in
     let composite : SpellsCompositeType config limit t.composite_type rest.second =
     record { unshared = unshared; form = record { first = last.first; second = last.second; is_first = last.is_first; is_second = kind; whole = last.whole } } in
-    let final = final_with config.gc_enabled (bool_at (rest.first ++ behind)) (rest.first ++ behind) on ∙ bool_read t.is_final rest.first behind rest.is_first in
+    let final = final_with config.gc_enabled (bool_at (rest.first ++ following)) (rest.first ++ following) on ∙ bool_read t.is_final rest.first following rest.is_first in
     rw (joined_parts h after, joined_parts rest after)
-    (sub_type_of config context limit t (h.first ++ (rest.first ++ behind)) (rest.first ++ behind) after (none_wanted config context.types h.first (rest.first ++ behind) on roots h.is_first)
-    (root_of config context limit t (rest.first ++ behind) behind after root final (composite_type_read config context limit t.composite_type rest.second after stands composite)))
+    (sub_type_of config context limit t (h.first ++ (rest.first ++ following)) (rest.first ++ following) after (none_wanted config context.types h.first (rest.first ++ following) on roots h.is_first)
+    (root_of config context limit t (rest.first ++ following) following after root final (composite_type_read config context limit t.composite_type rest.second after stands composite)))
 
 -- nothing is shared without garbage collection
 none_shared : (config : Config) → IsSanitized config → config.gc_enabled ≡ false → (on : Bool) → config.shared_everything_threads_enabled ≡ on → on ≡ false
@@ -134,12 +134,12 @@ roots_orderly types roots = record {
 }
 
 -- the draw that extends the types before, after which no type has a supertype
-pub record Behind (before more : List SubType) (drawn : List SubType × List ℕ) (after : List ℕ) : Type 0 where
+pub record Following (before more : List SubType) (drawn : List SubType × List ℕ) (after : List ℕ) : Type 0 where
   pub made : drawn ≡ (before ++ more, after)
   pub roots : All IsRoot (before ++ more)
 
 pub sub_types_read : (config : Config) (context : Context) (same : context.features.custom_descriptors ≡ config.custom_descriptors_enabled) (limit : ℕ) (before more : List SubType) (piece after : List ℕ) → IsSanitized config → All IsRoot before → ReferBack config before more → limit ≡ length before + length more
-    → SpellsSubTypes config before limit more piece → Behind before more (grow_at (λ made. sub_type_at config (over context made) limit) limit (length more) before (piece ++ after)) after
+    → SpellsSubTypes config before limit more piece → Following before more (grow_at (λ made. sub_type_at config (over context made) limit) limit (length more) before (piece ++ after)) after
 unfolding grow_at SpellsSubTypes
 sub_types_read config context same limit before [] piece after sanitized roots back ends h =
     record { made = rw (h, append-nil) refl; roots = subst (λ (types : List SubType). All IsRoot types) (sym (append-nil before)) roots }

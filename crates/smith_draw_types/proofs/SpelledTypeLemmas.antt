@@ -47,7 +47,7 @@ val_types_read : (config : Config) (context : Context) (limit most : ℕ) (value
 unfolding val_types_at
 val_types_read config context limit most values piece after stand h =
     listed_read (SpellsSuch (IsReadable context) (SpellsValType config limit)) (λ _. val_type_at config context false limit) most [] values piece after
-    (λ _ value part behind such. val_type_read config context limit value part behind such.holds such.spelled)
+    (λ _ value part following such. val_type_read config context limit value part following such.holds such.spelled)
     (listed_such (IsReadable context) (SpellsValType config limit) most values piece (recursion_from_All (IsReadable context) values stand) h)
 
 pub func_type_read : (config : Config) (context : Context) (limit : ℕ) (function : FuncType) (piece after : List ℕ) → AreHeld (IsReadable context) (Func function) → SpellsFuncType config limit function piece
@@ -69,7 +69,7 @@ fields_read config context limit fields piece after stand h =
     let enough : length fields ≡ 0 + length fields = omega arith in
     rw count
     (each_read (SpellsSuch Holds (SpellsField config limit)) (λ _. field_type_at config context false limit) (length fields) [] fields piece after
-    (λ _ field part behind such. field_read config context limit field part behind such.holds such.spelled) enough
+    (λ _ field part following such. field_read config context limit field part following such.holds such.spelled) enough
     (each_such Holds (SpellsField config limit) fields piece (recursion_from_All Holds fields stand) h))
 
 pub struct_type_read : (config : Config) (context : Context) (limit : ℕ) (structure : StructType) (piece after : List ℕ) → AreHeld (IsReadable context) (Struct structure) → SpellsStructType config limit structure piece
@@ -86,14 +86,14 @@ number_with false number bytes drawn on read = cc
 inner_read : (config : Config) (context : Context) (limit : ℕ) (inner : CompositeInnerType) (piece after : List ℕ) → config.gc_enabled ≡ true → AreHeld (IsReadable context) inner → SpellsInner config limit inner piece
     → (let number = inner_number_at config (piece ++ after) in inner_of_number_at config context false limit number.0 number.1) ≡ (inner, after)
 inner_read config context limit (Array array) piece after on stands h =
-    let behind = h.second ++ after in
-    rw (joined_parts h after, number_with config.gc_enabled 0 (h.first ++ behind) behind on (number_read 0 0 2 h.first behind h.is_first), field_read config context limit array.0 h.second after stands h.is_second) refl
+    let following = h.second ++ after in
+    rw (joined_parts h after, number_with config.gc_enabled 0 (h.first ++ following) following on (number_read 0 0 2 h.first following h.is_first), field_read config context limit array.0 h.second after stands h.is_second) refl
 inner_read config context limit (Func function) piece after on stands h =
-    let behind = h.second ++ after in
-    rw (joined_parts h after, number_with config.gc_enabled 1 (h.first ++ behind) behind on (number_read 1 0 2 h.first behind h.is_first), func_type_read config context limit function h.second after stands h.is_second) refl
+    let following = h.second ++ after in
+    rw (joined_parts h after, number_with config.gc_enabled 1 (h.first ++ following) following on (number_read 1 0 2 h.first following h.is_first), func_type_read config context limit function h.second after stands h.is_second) refl
 inner_read config context limit (Struct structure) piece after on stands h =
-    let behind = h.second ++ after in
-    rw (joined_parts h after, number_with config.gc_enabled 2 (h.first ++ behind) behind on (number_read 2 0 2 h.first behind h.is_first), struct_type_read config context limit structure h.second after stands h.is_second) refl
+    let following = h.second ++ after in
+    rw (joined_parts h after, number_with config.gc_enabled 2 (h.first ++ following) following on (number_read 2 0 2 h.first following h.is_first), struct_type_read config context limit structure h.second after stands h.is_second) refl
 
 number_without : (gc : Bool) (drawn : ℕ × List ℕ) (bytes : List ℕ) → gc ≡ false → cond gc drawn (1, bytes) ≡ (1, bytes)
 number_without true drawn bytes off = cc
@@ -112,18 +112,18 @@ kind_read true config context limit inner piece after e stands h = inner_read co
 kind_read false config context limit inner piece after e stands h = plain_read config context limit inner piece after e stands h
 
 -- the part drawn first: that the type is unshared
-composite_of : (config : Config) (context : Context) (limit : ℕ) (composite : CompositeType) (bytes behind after : List ℕ) → composite.shared ≡ false → sharedness_at config false bytes ≡ (false, behind)
-    → (let number = inner_number_at config behind in inner_of_number_at config context false limit number.0 number.1) ≡ (composite.inner, after) → composite_type_at config context limit bytes ≡ (composite, after)
+composite_of : (config : Config) (context : Context) (limit : ℕ) (composite : CompositeType) (bytes following after : List ℕ) → composite.shared ≡ false → sharedness_at config false bytes ≡ (false, following)
+    → (let number = inner_number_at config following in inner_of_number_at config context false limit number.0 number.1) ≡ (composite.inner, after) → composite_type_at config context limit bytes ≡ (composite, after)
 unfolding composite_type_at
-composite_of config context limit composite bytes behind after unshared first inner = rw (first, inner, ← unshared) refl
+composite_of config context limit composite bytes following after unshared first inner = rw (first, inner, ← unshared) refl
 
 pub composite_type_read : (config : Config) (context : Context) (limit : ℕ) (composite : CompositeType) (piece after : List ℕ) → AreHeld (IsReadable context) composite.inner → SpellsCompositeType config limit composite piece
     → composite_type_at config context limit (piece ++ after) ≡ (composite, after)
 composite_type_read config context limit composite piece after stands h =
     let parts = h.form in
-    let behind = parts.second ++ after in
+    let following = parts.second ++ after in
     rw (joined_parts parts after)
-    (composite_of config context limit composite (parts.first ++ behind) behind after h.unshared (unshared_read config parts.first behind parts.is_first)
+    (composite_of config context limit composite (parts.first ++ following) following after h.unshared (unshared_read config parts.first following parts.is_first)
     (kind_read config.gc_enabled config context limit composite.inner parts.second after refl stands parts.is_second))
 
 -- value types that refer only to these types, and are grounded by them, are read

@@ -24,7 +24,7 @@ use Rattle.smith_draw_types.specs.declared.value_type.ValueClass.TheVariants.{I3
 use Rattle.smith_draw_types.specs.Choices.{enabled, chosen_at}
 use Rattle.smith_draw_types.specs.Grounding.{is_grounded}
 use Rattle.smith_draw_types.specs.ValueTypes.{value_classes, abstract_heap_types, sharedness_at, abstract_heap_type_at, index_wanted_at, type_index_at, heap_type_at, granted_at, ref_type_at, value_of_class_at, val_type_at}
-use Rattle.smith_draw_types.specs.Spelling.{SpellsPlace, SpellsUnshared, SpellsConcrete, SpellsHeapType, SpellsNullable, SpellsRefType, SpellsBehindClass, SpellsValType, class_of, RefersTo}
+use Rattle.smith_draw_types.specs.Spelling.{SpellsPlace, SpellsUnshared, SpellsConcrete, SpellsHeapType, SpellsNullable, SpellsRefType, SpellsAfterClass, SpellsValType, class_of, RefersTo}
 use Rattle.smith_draw_types.proofs.GroundingLemmas.{by_structs}
 
 pub chosen_read : {A : Type 0} (other : A) (items : List A) (item : A) (piece after : List ℕ) → SpellsPlace items item piece → chosen_at other items (piece ++ after) ≡ (item, after)
@@ -62,11 +62,11 @@ abstract_read config types limit shared ty piece after h =
     let unshared = h.0 in
     let parts = h.1 in
     let rest = parts.is_second in
-    let behind = rest.first ++ (rest.second ++ after) in
+    let following = rest.first ++ (rest.second ++ after) in
     rw (
       joined_parts parts after,
       joined_parts rest after,
-      wanted_read config limit false parts.first behind (λ no. cc) parts.is_first,
+      wanted_read config limit false parts.first following (λ no. cc) parts.is_first,
       unshared_read config rest.first (rest.second ++ after) rest.is_first,
       chosen_read Func (enabled (abstract_heap_types config)) ty rest.second after rest.is_second,
       unshared,
@@ -150,7 +150,7 @@ ref_type_read config context limit reference piece after stands h =
     let granted = granted_read config context reference.heap_type reference.nullable parts.second after stands.1 parts.is_second in
     rw (joined_parts parts after) (drawn_where config.reference_types_enabled _ _ reference after h.enabled (rw (read, granted, not_twice reference.nullable) refl))
 
-rest_read : (config : Config) (context : Context) (limit : ℕ) (value : ValType) (piece after : List ℕ) → IsReadable context value → SpellsBehindClass config limit value piece
+rest_read : (config : Config) (context : Context) (limit : ℕ) (value : ValType) (piece after : List ℕ) → IsReadable context value → SpellsAfterClass config limit value piece
     → value_of_class_at config context false limit (class_of value) (piece ++ after) ≡ (value, after)
 rest_read config context limit vals.I32 piece after stands h = rw h refl
 rest_read config context limit vals.I64 piece after stands h = rw h refl

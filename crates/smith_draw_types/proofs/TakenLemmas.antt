@@ -92,7 +92,7 @@ pub rec_group_taken : (config : Config) (context : Context) (same : context.feat
     → rec_group_at config context allow_empty space old ≡ (drawn, new) → Takes (SpellsAdded config space) old drawn new
 rec_group_taken config context same allow_empty space old drawn new sanitized may roots made =
     takes_by (rec_group_at config context true space)
-    (λ more piece after h. (group_read config context same space h.added piece after sanitized roots h.back h.spelled).made ∙ ap (λ (space : GroupedTypes). (space, after)) (sym h.is_behind))
+    (λ more piece after h. (group_read config context same space h.added piece after sanitized roots h.back h.spelled).made ∙ ap (λ (space : GroupedTypes). (space, after)) (sym h.is_after))
     (subst (λ (may : Bool). rec_group_at config context may space old ≡ (drawn, new)) may made)
 
 pub types_taken : (config : Config) (context : Context) (same : context.features.custom_descriptors ≡ config.custom_descriptors_enabled) (space : GroupedTypes) (old : List ℕ) (drawn : GroupedTypes) (new : List ℕ) → IsSanitized config → config.min_types ≡ 0 → space ≡ space_of []

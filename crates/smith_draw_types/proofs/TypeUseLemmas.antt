@@ -23,19 +23,19 @@ places_turn : {A : Type 0} (test : A → Bool) (xs : List A) (n : ℕ) (b : Bool
 places_turn test xs n true places here rest = (here refl, rest)
 places_turn test xs n false places here rest = rest
 
-places_behind : {A : Type 0} (test : A → Bool) (front xs : List A) → ByRecursion (IsPassing test (front ++ xs)) (places_from test (length front) xs)
-places_behind test front [] = tt
-places_behind test front (x ∷ xs) =
+places_after : {A : Type 0} (test : A → Bool) (front xs : List A) → ByRecursion (IsPassing test (front ++ xs)) (places_from test (length front) xs)
+places_after test front [] = tt
+places_after test front (x ∷ xs) =
     let regrouped : (front ++ x ∷ []) ++ xs ≡ front ++ x ∷ xs = append_assoc front (x ∷ []) xs in
     let longer : length (front ++ x ∷ []) ≡ suc (length front) = simp length-append (omega arith) in
-    let later = places_behind test (front ++ x ∷ []) xs in
+    let later = places_after test (front ++ x ∷ []) xs in
     places_turn test (front ++ x ∷ xs) (length front) (test x) (places_from test (suc (length front)) xs)
     (λ on. record { item = x; stands = rw (← regrouped) (slice_get-grown (front ++ x ∷ []) xs (length front) x (slice_get-last front x)); passes = on })
     (rw (← longer, ← regrouped) later)
 
 -- each position at which a test holds has an item that passes it
 pub places_pass : {A : Type 0} (test : A → Bool) (xs : List A) → All (IsPassing test xs) (places_from test 0 xs)
-places_pass test xs = All-from_recursion (IsPassing test xs) (places_from test 0 xs) (places_behind test [] xs)
+places_pass test xs = All-from_recursion (IsPassing test xs) (places_from test 0 xs) (places_after test [] xs)
 
 no_results : (results : List ValType) → (length results == 0) ≡ true → results ≡ []
 no_results [] none = refl

@@ -73,13 +73,13 @@ class_of vals.V128 = V128
 class_of (vals.Ref reference) = Reference
 
 -- the bytes after the class: the reference type of a reference
-abbrev pub SpellsBehindClass : Config → ℕ → ValType → List ℕ → Type 0
-SpellsBehindClass config limit (vals.Ref reference) piece = SpellsRefType config limit reference piece
-SpellsBehindClass config limit _ piece = piece ≡ []
+abbrev pub SpellsAfterClass : Config → ℕ → ValType → List ℕ → Type 0
+SpellsAfterClass config limit (vals.Ref reference) piece = SpellsRefType config limit reference piece
+SpellsAfterClass config limit _ piece = piece ≡ []
 
 -- a value type: the position of its class, and the bytes after it
 unfoldable pub SpellsValType : Config → ℕ → ValType → List ℕ → Type 0
-SpellsValType config limit value = Joined (SpellsPlace (enabled (value_classes config)) (class_of value)) (SpellsBehindClass config limit value)
+SpellsValType config limit value = Joined (SpellsPlace (enabled (value_classes config)) (class_of value)) (SpellsAfterClass config limit value)
 
 -- a storage type: its number, and the value type unless it is packed
 abbrev pub SpellsStorage : Config → ℕ → StorageType → List ℕ → Type 0
@@ -195,7 +195,7 @@ GroupsFit config before (group ∷ groups) =
 -- non-nullable references
 pub record SpellsAdded (config : Config) (before space : GroupedTypes) (piece : List ℕ) : Type 0 where
   pub added : List SubType
-  pub is_behind : space ≡ with_group (before.types ++ added) before.groups
+  pub is_after : space ≡ with_group (before.types ++ added) before.groups
   pub back : ReferBack config before.types added
   pub spelled : SpellsGroup config before.types (nat_lt 0 (length before.groups)) added piece
 

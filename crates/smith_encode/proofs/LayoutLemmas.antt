@@ -41,8 +41,8 @@ pub both_as : {A B V W : List ℕ → Type 0} (piece : List ℕ) → ((p : List 
 both_as piece one other h = record { first = h.first; second = h.second; is_first = one h.first h.is_first; is_second = other h.second h.is_second; whole = h.whole }
 
 -- a piece, then another with a property that implies another
-behind : {First Second Other : List ℕ → Type 0} → ((piece : List ℕ) → Second piece → Other piece) → (piece : List ℕ) → Joined First Second piece → Joined First Other piece
-behind weaker piece h = both_as piece (λ p same. same) weaker h
+following : {First Second Other : List ℕ → Type 0} → ((piece : List ℕ) → Second piece → Other piece) → (piece : List ℕ) → Joined First Second piece → Joined First Other piece
+following weaker piece h = both_as piece (λ p same. same) weaker h
 
 -- a section that is left out if it is empty
 optional : (is_written : Bool) (id : ℕ) (SaysNothing : Type 0) (Content Other : List ℕ → Type 0) → (is_written ≡ false → SaysNothing) → ((p : List ℕ) → Content p → Other p) → (piece : List ℕ) → IsSectionIf is_written id Content piece
@@ -130,7 +130,7 @@ module_around m Bodies piece h = both_as piece (λ p preamble. preamble) (λ p r
 pub around_as : (m : Contents) (Code Other : List ℕ → Type 0) → ((piece : List ℕ) → Code piece → Other piece) → (piece : List ℕ) → IsModuleAround m Code piece → IsModuleAround m Other piece
 around_as m Code Other weaker piece h =
     let last : (p : List ℕ) → Joined Code (IsListSection 11 IsData m.datas) p → Joined Other (IsListSection 11 IsData m.datas) p = λ p. both_as p weaker (λ q same. same) in
-    behind (behind (behind (behind (behind (behind (behind (behind (behind (behind (behind (behind last))))))))))) piece h
+    following (following (following (following (following (following (following (following (following (following (following (following last))))))))))) piece h
 
 -- the section of a list of bodies, by the meaning of the bodies as they are written
 pub code_section : {A B : Type 0} (Written P : B → List ℕ → Type 0) (f : A → B) → ((y : B) (piece : List ℕ) → Written y piece → P y piece) → (xs : List A) (piece : List ℕ) → IsSectionIf (is_filled xs) 10 (IsList (λ (x : A). Written (f x)) xs) piece

@@ -47,9 +47,9 @@ no_import : (imports : List Import) → nat_lt 0 (length imports) ≡ false → 
 no_import [] none = refl
 no_import (one ∷ imports) none = absurd (let some : nat_lt 0 (length (one ∷ imports)) ≡ true = lt-ltb 0 (length (one ∷ imports)) (omega arith) in cc)
 
-behind_filled : (filled : Bool) (group : Imports) (groups : List Imports) → is_filled group ≡ filled → flattened (cond filled (group ∷ groups) groups) ≡ imports_of group ++ flattened groups
-behind_filled true group groups is = refl
-behind_filled false group groups is = ap (λ (imports : List Import). imports ++ flattened groups) (sym (no_import (imports_of group) is))
+after_filled : (filled : Bool) (group : Imports) (groups : List Imports) → is_filled group ≡ filled → flattened (cond filled (group ∷ groups) groups) ≡ imports_of group ++ flattened groups
+after_filled true group groups is = refl
+after_filled false group groups is = ap (λ (imports : List Import). imports ++ flattened groups) (sym (no_import (imports_of group) is))
 
 singles_flat : (imports : List Import) → flattened (map Single imports) ≡ imports
 singles_flat [] = refl
@@ -59,7 +59,7 @@ singles_flat (one ∷ imports) = ap (λ (l : List Import). one ∷ l) (singles_f
 pub kept_flat : (compact : Bool) (groups : List Imports) → flattened (kept compact groups) ≡ flattened groups
 kept_flat false groups = singles_flat (flattened groups)
 kept_flat true [] = refl
-kept_flat true (group ∷ groups) = behind_filled (is_filled group) group (kept true groups) refl ∙ ap (λ (l : List Import). imports_of group ++ l) (kept_flat true groups)
+kept_flat true (group ∷ groups) = after_filled (is_filled group) group (kept true groups) refl ∙ ap (λ (l : List Import). imports_of group ++ l) (kept_flat true groups)
 
 module _ (features : Features) where
   may_be_compact : (group : Imports) → IsTrue features.compact_imports → IsImportsEnabled features group

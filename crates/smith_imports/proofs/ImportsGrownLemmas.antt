@@ -178,17 +178,17 @@ fit_more config types distinct imports one fit next room fresh =
     }
 
 -- an entity after index spaces
-entity_behind : (spaces : EntitySpaces) (added : EntityType) → with_entity spaces added ≡ joined spaces (entity_spaces added)
-entity_behind spaces (entity.Tag x) = simp append-nil refl
-entity_behind spaces (entity.Func x) = simp append-nil refl
-entity_behind spaces (entity.Table x) = simp append-nil refl
-entity_behind spaces (entity.Memory x) = simp append-nil refl
-entity_behind spaces (entity.Global x) = simp append-nil refl
+entity_after : (spaces : EntitySpaces) (added : EntityType) → with_entity spaces added ≡ joined spaces (entity_spaces added)
+entity_after spaces (entity.Tag x) = simp append-nil refl
+entity_after spaces (entity.Func x) = simp append-nil refl
+entity_after spaces (entity.Table x) = simp append-nil refl
+entity_after spaces (entity.Memory x) = simp append-nil refl
+entity_after spaces (entity.Global x) = simp append-nil refl
 
 pub counts_more : {types : List SubType} {distinct : Bool} {old new : Imported} {imports : List Import} {pairs : HashSet (String Global × String Global) (BuildHasherDefault FoldHasher)} (one : Import)
     → Counts types distinct old imports → KnowsPairs distinct pairs (imports ++ one ∷ []) → AreImportsCounted types one.entity_type (record old { pairs = pairs }) new → Counts types distinct new (imports ++ one ∷ [])
 counts_more {types = types} {old = old} {imports = imports} one counts knows counted = record {
-  spaces = counted.spaces ∙ entity_behind (spaces_of old) one.entity_type ∙ ap (λ spaces. joined spaces (entity_spaces one.entity_type)) counts.spaces ∙ sym (spaces_more imports one);
+  spaces = counted.spaces ∙ entity_after (spaces_of old) one.entity_type ∙ ap (λ spaces. joined spaces (entity_spaces one.entity_type)) counts.spaces ∙ sym (spaces_more imports one);
   count = counted.count ∙ rw (counts.count, length-append) refl;
   type_size = counted.type_size ∙ rw (counts.type_size, sizes_more types imports one) refl;
   pairs = rw counted.pairs knows;
@@ -201,7 +201,7 @@ import_added (Compact1 from items) name one compact of_group = map-append (λ (i
 import_added (Compact2 from entity_type names) name one compact of_group = rw of_group (map-append (λ (n : List ℕ). import_of from n entity_type) names (name ∷ []))
 
 funcs_grown : (spaces : EntitySpaces) (added : EntityType) → (with_entity spaces added).funcs ≡ spaces.funcs ++ func_of added
-funcs_grown spaces added = ap (λ (all : EntitySpaces). all.funcs) (entity_behind spaces added)
+funcs_grown spaces added = ap (λ (all : EntitySpaces). all.funcs) (entity_after spaces added)
 
 fit_later : (config : Config) (types : List SubType) (spaces : EntitySpaces) (one added : EntityType) → IsFitBeside config types spaces one → IsFitBeside config types (with_entity spaces added) one
 fit_later config types spaces one added h = record {
@@ -251,11 +251,11 @@ ends_counted {config = config} {types = types} {imports = imports} counts fit at
 
 -- an empty group has no import
 pub none_added : (imports : List Import) (group : Imports) → (0 < length (imports_of group) → ⊥) → imports ++ imports_of group ≡ imports
-none_added imports group none = nothing_behind (imports_of group) none
+none_added imports group none = nothing_after (imports_of group) none
   where
-    nothing_behind : (more : List Import) → (0 < length more → ⊥) → imports ++ more ≡ imports
-    nothing_behind [] none = append-nil imports
-    nothing_behind (one ∷ more) none = absurd (none (omega arith))
+    nothing_after : (more : List Import) → (0 < length more → ⊥) → imports ++ more ≡ imports
+    nothing_after [] none = append-nil imports
+    nothing_after (one ∷ more) none = absurd (none (omega arith))
 
 -- a single import after the groups
 pub single_added : {config : Config} {types : List SubType} {distinct : Bool} {old counted : Imported} {pairs : HashSet (String Global × String Global) (BuildHasherDefault FoldHasher)} {groups : List Imports} (one : Import)

@@ -35,7 +35,7 @@ pub fn entity_kind(added: &EntityType) -> ExportKind
 
 /// Returns the context in which the entity after `imported` is drawn: `types` and the functions
 /// imported so far. `grounds` holds the heap types that these functions ground.
-fn standing_behind<'a>(
+fn standing_after<'a>(
     config: &'a Config,
     types: &'a TypeSpace,
     imported: &'a Imported,
@@ -75,7 +75,7 @@ fn draw_entity_of_kind(
     ensures kind { IfOk result (λ added. entity_kind added ≡ kind) }
     ensures fit { IfOk result (IsFitBeside config.now types.now.types (spaces_of imported.now)) }
 {
-    let standing = standing_behind(config, types.space(), imported, grounds);
+    let standing = standing_after(config, types.space(), imported, grounds);
     match kind {
         ExportKind::Tag => Ok(EntityType::Tag(choose(types.for_tags(), u))),
         ExportKind::Func => Ok(EntityType::Func(choose(types.for_funcs(), u))),

@@ -75,9 +75,9 @@ code_read false counters codes bodies nothing piece h =
     (([], tt), IsOptionalSection.absent refl h)
 
 -- a piece, then another of some kind
-behind_some : {X : Type 0} {First Other : List ℕ → Type 0} {Second : X → List ℕ → Type 0} → ((piece : List ℕ) → Other piece → (x : X) × Second x piece) → (piece : List ℕ) → Joined First Other piece
+after_some : {X : Type 0} {First Other : List ℕ → Type 0} {Second : X → List ℕ → Type 0} → ((piece : List ℕ) → Other piece → (x : X) × Second x piece) → (piece : List ℕ) → Joined First Other piece
     → (x : X) × Joined First (Second x) piece
-behind_some some piece h =
+after_some some piece h =
     let (x, is) = some h.second h.is_second in
     (x, record { first = h.first; second = h.second; is_first = h.is_first; is_second = is; whole = h.whole })
 
@@ -87,7 +87,7 @@ around_some : {X : Type 0} (m : Contents) (Code : List ℕ → Type 0) (Some : X
 around_some {X = X} m Code Some some piece h =
     let last : (p : List ℕ) → Joined Code (IsListSection 11 IsData m.datas) p → (x : X) × Joined (Some x) (IsListSection 11 IsData m.datas) p =
     λ p code. let (x, is) = some code.first code.is_first in (x, record { first = code.first; second = code.second; is_first = is; is_second = code.is_second; whole = code.whole }) in
-    behind_some (behind_some (behind_some (behind_some (behind_some (behind_some (behind_some (behind_some (behind_some (behind_some (behind_some (behind_some last))))))))))) piece h
+    after_some (after_some (after_some (after_some (after_some (after_some (after_some (after_some (after_some (after_some (after_some (after_some last))))))))))) piece h
 
 -- a module around the bodies of a program
 pub program_is : (m : ModuleParts) (bodies : List Body) (piece : List ℕ) → IsModuleAround (contents_of m) (IsSectionIf (is_filled m.code) 10 (AreBodiesOf m.fuel_globals m.code bodies)) piece → IsProgramBinary m bodies piece

@@ -27,8 +27,8 @@ pub use Rattle.smith_rules.specs.Promises.{HasDistinctImports, HoldsGranted, IsI
 pub use Rattle.smith_rules.specs.Refusals.{HoldsNonNullable}
 unfoldable pub use Rattle.smith_rules.specs.ShapeImports.{is_fitting}
 pub use Rattle.smith_rules.specs.ShapesKept.{IsSameExport, IsSameFuncType, IsSameType, KeepsAvailableImports, KeepsExports}
-pub use Rattle.smith_rules_examples.specs.ExampleGiven.{counting_behind, counting_fuel, counting_once, exported_number, last_byte, null_table, raw_bytes, sixty_elements, three_numbers, without_gc}
-pub use Rattle.smith_rules_examples.specs.ExampleModules.{arrays, elements_asked_for, exported_twice, filled_table, group_of, named_imports, null_of_no_null, one_data_segment, one_function, one_memory, one_number, one_of_each, one_table, one_tag, passive_bytes, referring_to, table_behind, table_from_a_number, table_from_import, three_arrays, two_elements, two_exports, two_imports, types_together}
+pub use Rattle.smith_rules_examples.specs.ExampleGiven.{counting_after, counting_fuel, counting_once, exported_number, last_byte, null_table, raw_bytes, sixty_elements, three_numbers, without_gc}
+pub use Rattle.smith_rules_examples.specs.ExampleModules.{arrays, elements_asked_for, exported_twice, filled_table, group_of, named_imports, null_of_no_null, one_data_segment, one_function, one_memory, one_number, one_of_each, one_table, one_tag, passive_bytes, referring_to, table_after, table_from_a_number, table_from_import, three_arrays, two_elements, two_exports, two_imports, types_together}
 pub use Rattle.smith_rules_examples.specs.ExampleParts.{active_data, global, into_a_table, memory, no_function, number, passive_elements, shared_memory, table}
 pub use Rattle.smith_rules_examples.specs.ExampleReferences.{holding_reference, imported_read, refers_to_function, with_references}
 pub use Rattle.smith_rules_examples.specs.ExampleShapes.{empty_shape, environment, equal_types, exported, exporting, five_exports, for_exports, for_module, memories_in_and_out, of_equal_types, with_environment}

@@ -73,8 +73,8 @@ counting_fuel = record without_gc {
 }
 
 -- a global that counts fuel, after two imported numbers
-abbrev pub counting_behind : ModuleParts
-counting_behind = record two_imports { globals = number ∷ number ∷ global I32 true ∷ []; defined_globals = (2, I32Const (pos 5) ∷ []) ∷ []; fuel_globals = 2 ∷ [] }
+abbrev pub counting_after : ModuleParts
+counting_after = record two_imports { globals = number ∷ number ∷ global I32 true ∷ []; defined_globals = (2, I32Const (pos 5) ∷ []) ∷ []; fuel_globals = 2 ∷ [] }
 
 -- an import of a number with this name
 abbrev pub number_named : List ℕ → Imports

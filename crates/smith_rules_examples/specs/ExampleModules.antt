@@ -190,8 +190,8 @@ table_from_definition = record (empty_module default_config) {
 }
 
 -- a table of references to functions, after an imported table of other references
-abbrev pub table_behind : List ConstInstr → ModuleParts
-table_behind initial = record (empty_module default_config) {
+abbrev pub table_after : List ConstInstr → ModuleParts
+table_after initial = record (empty_module default_config) {
   imports = Single (import_named [] (entity.Table (table (nullable (plain heap.Extern)) 1 None))) ∷ [];
   num_imports = 1;
   tables = table (nullable (plain heap.Extern)) 1 None ∷ table funcref 1 None ∷ [];
@@ -292,8 +292,8 @@ abbrev pub table_from_a_number : Bool → ModuleParts
 table_from_a_number gc = record (filled_table (Global 0)) { config = record default_config { gc_enabled = gc }; globals = number ∷ []; defined_globals = (0, I32Const (pos 0) ∷ []) ∷ [] }
 
 -- an imported memory, and an index space of these memories
-abbrev pub memories_behind : List MemoryType → ModuleParts
-memories_behind memories = record (empty_module (record default_config { max_memories = 2 })) {
+abbrev pub memories_after : List MemoryType → ModuleParts
+memories_after memories = record (empty_module (record default_config { max_memories = 2 })) {
   imports = Single (import_named [] (entity.Memory (memory 1 None))) ∷ [];
   num_imports = 1;
   memories = memories;

@@ -14,7 +14,7 @@ ghost use Rattle.smith_rules_examples.specs.ExampleGiven.{
   raw_body,
   counting_once,
   counting_fuel,
-  counting_behind,
+  counting_after,
   two_singles,
   memories_one_by_one,
   null_table,
@@ -38,7 +38,7 @@ fn bodies()
     ensures raw_bytes { IsValid raw_body }
     ensures a_counter_of_fuel { IsValid counting_once }
     ensures counters_of_fuel { IsValid counting_fuel }
-    ensures a_counter_behind_imported_numbers { IsValid counting_behind }
+    ensures a_counter_after_imported_numbers { IsValid counting_after }
 {}
 
 fn imports()

@@ -27,17 +27,17 @@ ghost use Rattle.smith_rules_examples.specs.ExampleModules.{empty_module, referr
 ghost use Rattle.smith_rules_examples.specs.ExampleModules.{types_together, types_apart};
 ghost use Rattle.smith_rules_examples.specs.ExampleModules.{table_from_import};
 ghost use Rattle.smith_rules_examples.specs.ExampleModules.{table_from_definition};
-ghost use Rattle.smith_rules_examples.specs.ExampleModules.{table_without_gc, table_behind};
+ghost use Rattle.smith_rules_examples.specs.ExampleModules.{table_without_gc, table_after};
 ghost use Rattle.smith_rules_examples.specs.ExampleModules.{null_of_no_null, one_table, one_memory};
 ghost use Rattle.smith_rules_examples.specs.ExampleModules.{one_number, one_tag, one_of_each};
 ghost use Rattle.smith_rules_examples.specs.ExampleModules.{two_memories, two_elements};
-ghost use Rattle.smith_rules_examples.specs.ExampleModules.{two_imports, memories_behind};
+ghost use Rattle.smith_rules_examples.specs.ExampleModules.{two_imports, memories_after};
 ghost use Rattle.smith_rules_examples.specs.ExampleModules.{filled_table, table_from_a_number};
 ghost use Rattle.smith_rules_examples.specs.ExampleModules.{passive_bytes, exported_twice};
 ghost use Rattle.smith_rules_examples.specs.ExampleModules.{bodiless, imported_counter};
 ghost use Rattle.smith_rules_examples.specs.ExampleModules.{out_of_order, one_function, one_import};
 ghost use Rattle.smith_rules_examples.specs.ExampleGiven.{without_gc, raw_body, counting_once};
-ghost use Rattle.smith_rules_examples.specs.ExampleGiven.{counting_behind, last_byte};
+ghost use Rattle.smith_rules_examples.specs.ExampleGiven.{counting_after, last_byte};
 ghost use Rattle.smith_rules_examples.specs.ExampleGiven.{three_numbers};
 
 fn types()
@@ -53,10 +53,10 @@ fn types()
 {}
 
 fn spaces()
-    ensures behind_an_import { AreSpacesMade
-        (memories_behind (memory 1 None ∷ memory 2 None ∷ [])) }
+    ensures after_an_import { AreSpacesMade
+        (memories_after (memory 1 None ∷ memory 2 None ∷ [])) }
     ensures before_an_import { ¬ AreSpacesMade
-        (memories_behind (memory 2 None ∷ memory 1 None ∷ [])) }
+        (memories_after (memory 2 None ∷ memory 1 None ∷ [])) }
     ensures imports_that_are_not_there { ¬ AreSpacesMade (record one_import { imports = [] }) }
     ensures imports_that_are_not_counted { ¬ AreSpacesMade (record one_import { num_imports = 0 }) }
     ensures a_tag_that_is_not_counted { ¬ AreSpacesMade (record one_tag { num_defined_tags = 0 }) }
@@ -117,16 +117,16 @@ fn tables()
     ensures with_an_initialiser_without_gc { ¬ AreDefinitionsValid table_without_gc }
     ensures from_a_number { ¬ AreDefinitionsValid
         (record one_table { defined_tables = Some (I32Const (pos 0) ∷ []) ∷ [] }) }
-    ensures behind_an_imported_one { AreDefinitionsValid (table_behind no_function) }
+    ensures after_an_imported_one { AreDefinitionsValid (table_after no_function) }
     ensures by_the_references_of_an_imported_one { ¬ AreDefinitionsValid
-        (table_behind (RefNull (plain heap.Extern) ∷ [])) }
+        (table_after (RefNull (plain heap.Extern) ∷ [])) }
     ensures of_no_null_without_an_initialiser { ¬ AreDefinitionsValid null_of_no_null }
     ensures that_is_not_there { ¬ AreDefinitionsValid (record one_table { tables = [] }) }
 {}
 
 fn globals()
     ensures counted_from_the_first_definition { ¬ AreDefinitionsValid
-        (record counting_behind { defined_globals = (0, I32Const (pos 5) ∷ []) ∷ [] }) }
+        (record counting_after { defined_globals = (0, I32Const (pos 5) ∷ []) ∷ [] }) }
     ensures out_of_order { ¬ AreDefinitionsValid out_of_order }
     ensures that_is_not_there { ¬ AreDefinitionsValid (record one_number { globals = [] }) }
     ensures from_a_float { ¬ AreDefinitionsValid

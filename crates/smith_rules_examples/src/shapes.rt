@@ -58,7 +58,7 @@ fn module_shapes()
 
 fn types()
     ensures kept { KeepsTypes environment with_environment }
-    ensures more_behind { KeepsTypes environment (record with_environment {
+    ensures more_after { KeepsTypes environment (record with_environment {
       types = final taking_a_number ∷ foo_type ∷ [];
       groups = group_of 0 1 ∷ group_of 1 2 ∷ [];
     }) }

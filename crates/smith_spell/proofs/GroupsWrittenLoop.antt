@@ -32,10 +32,10 @@ at_place [] k d inside = absurd (omega arith)
 at_place (x ∷ xs) zero d inside = refl
 at_place (x ∷ xs) (suc k) d inside = at_place xs k d (omega arith)
 
-at_behind : {A : Type 0} (front xs : List A) (n k : ℕ) (d : A) → n ≡ length front + k → k < length xs → slice_get (front ++ xs) n ≡ Some (get_or xs k d)
-at_behind [] xs n k d is inside = let same : n ≡ k = omega arith in rw same (at_place xs k d inside)
-at_behind (y ∷ front) xs zero k d is inside = absurd (omega arith)
-at_behind (y ∷ front) xs (suc n) k d is inside = at_behind front xs n k d (omega arith) inside
+at_after : {A : Type 0} (front xs : List A) (n k : ℕ) (d : A) → n ≡ length front + k → k < length xs → slice_get (front ++ xs) n ≡ Some (get_or xs k d)
+at_after [] xs n k d is inside = let same : n ≡ k = omega arith in rw same (at_place xs k d inside)
+at_after (y ∷ front) xs zero k d is inside = absurd (omega arith)
+at_after (y ∷ front) xs (suc n) k d is inside = at_after front xs n k d (omega arith) inside
 
 -- each type of a group is a member after some types, no more than those up to the end of the group
 pub group_members : (config : Config) (groups : List (List SubType)) (i : ℕ) (group d : List SubType) → i < length groups → group ≡ get_or groups i d → AreMembers config (space_of groups).types
@@ -43,7 +43,7 @@ pub group_members : (config : Config) (groups : List (List SubType)) (i : ℕ) (
 group_members config groups i group d inside read each = λ k other small.
     let front = (space_of (take i groups)).types in
     let rest = flat_map (λ (group : List SubType). group) (drop (suc i) groups) in
-    let at = slice_get-grown (front ++ group) rest (length front + k) _ (at_behind front group (length front + k) k other refl small) in
+    let at = slice_get-grown (front ++ group) rest (length front + k) _ (at_after front group (length front + k) k other refl small) in
     let there : slice_get (space_of groups).types (length front + k) ≡ Some (get_or group k other) = rw (groups_cut groups i group d inside read) at in
     let short = length-take (length front + k) (space_of groups).types in
     record { types = take (length front + k) (space_of groups).types; few = omega (arith, short); holds = each (length front + k) (get_or group k other) there }
@@ -73,8 +73,8 @@ pub leads_groups : (config : Config) (groups : List (List SubType)) (i : ℕ) (s
 unfolding SpellsGroups
 leads_groups config groups i stands group d inside read so_far go one =
     let next : drop i groups ≡ group ∷ drop (i + 1) groups = rw (read, add-one) (drop-cons groups i d inside) in
-    let behind = types_turn groups i group d inside read in
-    leads_over (leads_over (leads_as (λ piece h. rw (next, behind) h) so_far) go) one
+    let following = types_turn groups i group d inside read in
+    leads_over (leads_over (leads_as (λ piece h. rw (next, following) h) so_far) go) one
 
 -- no group is left
 pub groups_written : (config : Config) (groups : List (List SubType)) (i : ℕ) (stands : Bool) (before : Before) {Whole : List ℕ → Type 0} {start now later : List ℕ} → length groups ≤ i → IsSummary (space_of (take i groups)).types before

@@ -35,8 +35,8 @@ pub leads_sub_types : (config : Config) (others : List SubType) (limit i : ℕ) 
 unfolding SpellsSubTypes
 leads_sub_types config others limit i types t d inside read so_far one =
     let next : drop i types ≡ t ∷ drop (i + 1) types = rw (read, add-one) (drop-cons types i d inside) in
-    let behind = next_before others types i t d inside read in
-    leads_over (leads_as (λ piece h. rw (next, behind) h) so_far) one
+    let following = next_before others types i t d inside read in
+    leads_over (leads_as (λ piece h. rw (next, following) h) so_far) one
 
 -- the summary with one more type
 pub summary_more : (others types : List SubType) (i : ℕ) (t d : SubType) (after : Before) → i < length types → t ≡ get_or types i d → IsSummary ((others ++ take i types) ++ t ∷ []) after → IsSummary (others ++ take (i + 1) types) after

@@ -12,7 +12,7 @@ use Rattle.smith_data.specs.declared.value_type.ValType.TheVariants as vals
 use Rattle.smith_config.specs.declared.config.Config.{Config}
 use Rattle.smith_draw_types.specs.Choices.{enabled}
 use Rattle.smith_draw_types.specs.ValueTypes.{value_classes, abstract_heap_types}
-use Rattle.smith_draw_types.specs.Spelling.{SpellsPlace, SpellsConcrete, SpellsUnshared, SpellsHeapType, SpellsNullable, SpellsRefType, SpellsBehindClass, SpellsValType, class_of}
+use Rattle.smith_draw_types.specs.Spelling.{SpellsPlace, SpellsConcrete, SpellsUnshared, SpellsHeapType, SpellsNullable, SpellsRefType, SpellsAfterClass, SpellsValType, class_of}
 use Rattle.smith_spell.specs.Written.{Writes}
 use Rattle.smith_spell.proofs.WrittenLemmas.{nothing_written, joined_written, written_as}
 
@@ -54,18 +54,18 @@ ref_type_written config limit reference on heap_type nullable = written_as (λ p
 pub reference_written : (config : Config) (limit : ℕ) (reference : RefType) {old between new : List ℕ} → Writes (SpellsPlace (enabled (value_classes config)) (class_of (vals.Ref reference))) old between → Writes (SpellsRefType config limit reference) between new
     → Writes (SpellsValType config limit (vals.Ref reference)) old new
 unfolding SpellsValType
-reference_written config limit reference class behind = joined_written class behind
+reference_written config limit reference class following = joined_written class following
 
-nothing_behind : (config : Config) (limit : ℕ) (value : ValType) → ((reference : RefType) → value ≡ vals.Ref reference → ⊥) → SpellsBehindClass config limit value []
-nothing_behind config limit vals.I32 other = refl
-nothing_behind config limit vals.I64 other = refl
-nothing_behind config limit vals.F32 other = refl
-nothing_behind config limit vals.F64 other = refl
-nothing_behind config limit vals.V128 other = refl
-nothing_behind config limit (vals.Ref reference) other = absurd (other reference refl)
+nothing_after : (config : Config) (limit : ℕ) (value : ValType) → ((reference : RefType) → value ≡ vals.Ref reference → ⊥) → SpellsAfterClass config limit value []
+nothing_after config limit vals.I32 other = refl
+nothing_after config limit vals.I64 other = refl
+nothing_after config limit vals.F32 other = refl
+nothing_after config limit vals.F64 other = refl
+nothing_after config limit vals.V128 other = refl
+nothing_after config limit (vals.Ref reference) other = absurd (other reference refl)
 
 -- any other value type: its class alone
 pub number_written : (config : Config) (limit : ℕ) (value : ValType) {old new : List ℕ} → ((reference : RefType) → value ≡ vals.Ref reference → ⊥) → Writes (SpellsPlace (enabled (value_classes config)) (class_of value)) old new
     → Writes (SpellsValType config limit value) old new
 unfolding SpellsValType
-number_written config limit value other class = joined_written class (nothing_written (nothing_behind config limit value other))
+number_written config limit value other class = joined_written class (nothing_written (nothing_after config limit value other))

@@ -166,8 +166,8 @@ refused_first {chances} {Second} {byte} {rest} one both =
     let refusal = both.is_first in
     let numbered : Joined (SpellsNumber refusal.drawn 1 chances) Second (byte ∷ rest) =
     record { first = both.first; second = both.second; is_first = refusal.number; is_second = both.is_second; whole = both.whole } in
-    let (read, behind) = digit_first {value = refusal.drawn} {lo = 1} {hi = chances} {Second = Second} one numbered in
-    (subst (λ n. 1 < n) read refusal.later, behind)
+    let (read, following) = digit_first {value = refusal.drawn} {lo = 1} {hi = chances} {Second = Second} one numbered in
+    (subst (λ n. 1 < n) read refusal.later, following)
 
 -- the first byte decides a leading place of one byte
 pub place_first : {A : Type 0} {items : List A} {item : A} {Second : List ℕ → Type 0} {byte : ℕ} {rest : List ℕ}
@@ -176,8 +176,8 @@ place_first {A} {items} {item} {Second} {byte} {rest} one both =
     let place = both.is_first in
     let numbered : Joined (SpellsNumber place.place 0 (length items - 1)) Second (byte ∷ rest) =
     record { first = both.first; second = both.second; is_first = place.number; is_second = both.is_second; whole = both.whole } in
-    let (read, behind) = digit_first {value = place.place} {lo = 0} {hi = length items - 1} {Second = Second} one numbered in
-    (subst (λ n. slice_get items n ≡ Some item) read place.stands, behind)
+    let (read, following) = digit_first {value = place.place} {lo = 0} {hi = length items - 1} {Second = Second} one numbered in
+    (subst (λ n. slice_get items n ≡ Some item) read place.stands, following)
 
 -- the place in a list of one item takes no byte
 pub place_alone : {A : Type 0} {one item : A} {Second : List ℕ → Type 0} {piece : List ℕ} → Joined (SpellsPlace (one ∷ []) item) Second piece → Second piece

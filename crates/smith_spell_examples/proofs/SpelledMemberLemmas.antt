@@ -26,8 +26,8 @@ use Rattle.smith_spell.specs.Spelling.{SpellsMember}
 use Rattle.smith_draw_types.specs.SpelledParts.{SpellsNoTag, SpellsFuncs}
 
 -- the bytes after the groups
-abbrev pub SpellsBehindGroups : Config → List SubType → List ℕ → List ℕ → Type 0
-SpellsBehindGroups config types funcs = Joined (SpellsNone config.max_imports) (Joined SpellsAnyByte (Joined (SpellsNoTag config types) (SpellsFuncs config types funcs)))
+abbrev pub SpellsAfterGroups : Config → List SubType → List ℕ → List ℕ → Type 0
+SpellsAfterGroups config types funcs = Joined (SpellsNone config.max_imports) (Joined SpellsAnyByte (Joined (SpellsNoTag config types) (SpellsFuncs config types funcs)))
 
 -- no functions exist
 abbrev pub no_functions : Config → Context
@@ -35,13 +35,13 @@ no_functions config = record { features = features_of config; types = []; funcs 
 
 pub member_read : (config : Config) (groups : List (List SubType)) (funcs bytes left : List ℕ) (space : GroupedTypes) → IsSanitized config → config.min_types ≡ 0 → GroupsFit config [] groups
     → types_at config (no_functions config) (space_of []) bytes ≡ (space, left) → SpellsMember config groups funcs bytes
-    → (space ≡ space_of groups) × SpellsBehindGroups config (space_of groups).types funcs left
+    → (space ≡ space_of groups) × SpellsAfterGroups config (space_of groups).types funcs left
 unfolding SpellsMember
 member_read config groups funcs bytes left space sanitized least fit drawn h =
     let read = types_read config (no_functions config) refl groups h.first h.second sanitized least fit h.is_first in
     let same : (space, left) ≡ (space_of groups, h.second) = sym drawn ∙ (ap (λ piece. types_at config (no_functions config) (space_of []) piece) h.whole ∙ read) in
-    let behind : left ≡ h.second = ap (λ pair. pair.1) same in
-    (ap (λ pair. pair.0) same, subst (SpellsBehindGroups config (space_of groups).types funcs) (sym behind) h.is_second)
+    let following : left ≡ h.second = ap (λ pair. pair.1) same in
+    (ap (λ pair. pair.0) same, subst (SpellsAfterGroups config (space_of groups).types funcs) (sym following) h.is_second)
 
 -- a number that distinguishes the heap types of the examples
 abbrev heap_number : HeapType → ℕ

@@ -98,11 +98,11 @@ fn types()
         (record { inner = bytes_array; shared = true }) (0 ∷ 0 ∷ 0 ∷ 0 ∷ []) }
     ensures a_list_as_an_array { ¬ SpellsCompositeType default_config 0
         (record { inner = bytes_array; shared = false }) (1 ∷ 0 ∷ 0 ∷ []) }
-    ensures behind_an_open_type { SpellsSubType default_config
+    ensures after_an_open_type { SpellsSubType default_config
         (a_type bytes_array false None ∷ []) 2 (final bytes_array) (1 ∷ 1 ∷ 0 ∷ 0 ∷ 0 ∷ []) }
     ensures below_an_open_type { ¬ SpellsSubType default_config
         (a_type bytes_array false None ∷ []) 2 (final bytes_array) (0 ∷ 1 ∷ 0 ∷ 0 ∷ 0 ∷ []) }
-    ensures behind_a_final_type { SpellsSubType default_config (final bytes_array ∷ []) 2
+    ensures after_a_final_type { SpellsSubType default_config (final bytes_array ∷ []) 2
         (final bytes_array) (1 ∷ 0 ∷ 0 ∷ 0 ∷ []) }
     ensures with_a_supertype { ¬ SpellsSubType default_config (a_type bytes_array false None ∷ []) 2
         (a_type bytes_array true (Some 0)) (0 ∷ 0 ∷ 0 ∷ 1 ∷ []) }

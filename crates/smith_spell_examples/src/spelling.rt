@@ -6,7 +6,7 @@ ghost use Rattle.smith_data.specs.declared.value_type.ValType.TheVariants.{Ref};
 ghost use Rattle.smith_data.specs.declared.composite_type.StorageType.TheVariants.{I8, I16};
 ghost use Rattle.smith_types.specs.ExampleTypes.{plain, not_null};
 ghost use Rattle.smith_draw_types.specs.Spelling.{SpellsGroups, SpellsStorage, SpellsHeapType};
-ghost use Rattle.smith_draw_types.specs.Spelling.{SpellsUnshared, SpellsSize, SpellsBehindClass};
+ghost use Rattle.smith_draw_types.specs.Spelling.{SpellsUnshared, SpellsSize, SpellsAfterClass};
 ghost use Rattle.smith_bytes.specs.Spelling.{SpellsNone};
 ghost use Rattle.smith_spell.specs.Spelling.{SpellsMember, SpellsRest, SpellsSegments, IsRest};
 ghost use Rattle.smith_draw_types.specs.SpelledParts.{SpellsNoTag, SpellsFuncs, SpellsGlobal};
@@ -123,13 +123,13 @@ fn types()
     ensures abstract_type { SpellsHeapType default_config 0 (plain heap.Func) (0 ∷ []) }
     ensures type_of_an_index { ¬ SpellsHeapType default_config 1 (Concrete 1) (1 ∷ 1 ∷ []) }
     ensures exact_type { ¬ SpellsHeapType default_config 1 (Exact 0) (1 ∷ []) }
-    ensures not_null { ¬ SpellsBehindClass default_config 0
+    ensures not_null { ¬ SpellsAfterClass default_config 0
         (Ref (not_null (plain heap.Func))) (0 ∷ []) }
     ensures sharedness { SpellsUnshared
         (record default_config { shared_everything_threads_enabled = true }) (1 ∷ []) }
     ensures no_sharedness { ¬ SpellsUnshared default_config (1 ∷ []) }
     ensures one_type_without_gc { SpellsSize false default_config false 100 1 [] }
     ensures two_types_without_gc { ¬ SpellsSize false default_config false 100 2 [] }
-    ensures a_group_behind_another { SpellsSize true default_config true 99 1 (1 ∷ 1 ∷ []) }
+    ensures a_group_after_another { SpellsSize true default_config true 99 1 (1 ∷ 1 ∷ []) }
     ensures a_group_that_is_cloned { ¬ SpellsSize true default_config true 99 1 (0 ∷ 1 ∷ []) }
 {}

@@ -59,7 +59,7 @@ AreTypesOpen-at features end space open_types i t at =
           let within = open_types.within in
           let room = open_types.room in
           IsTypeValid-later features group.end end (omega arith) space.types t (h.members i t low high at)
-      | inr behind ↦ open_types.behind i t behind at
+      | inr following ↦ open_types.following i t following at
     ]
 
 -- valid types, before anything is added
@@ -72,7 +72,7 @@ AreTypesOpen-start features end space le valid =
       room = le;
       orderly = valid.orderly;
       groups = valid.groups;
-      behind = λ i t low at. let inside = slice_get_within space.types i t at in absurd (omega arith);
+      following = λ i t low at. let inside = slice_get_within space.types i t at in absurd (omega arith);
     }
 
 -- with one more type
@@ -90,8 +90,8 @@ AreTypesOpen-push features end types groups t now lt below h =
       room = omega arith;
       orderly = IsOrderly-push types t now.orderly below;
       groups = λ k d inside. IsGroupValid-grown features types t (slice_index_or groups k d) (let last = ends k d inside in omega arith) (now.groups k d inside);
-      behind = λ i u low at. elim (slice_get-push types t i u at) [
-        | inl old ↦ IsTypeValid-grown features types (t ∷ []) end u (now.behind i u low old)
+      following = λ i u low at. elim (slice_get-push types t i u at) [
+        | inl old ↦ IsTypeValid-grown features types (t ∷ []) end u (now.following i u low old)
         | inr (is, same) ↦ IsTypeValid-grown features types (t ∷ []) end u (subst (λ (u : SubType). IsTypeValid features types end u) same h)
       ];
     }
@@ -107,5 +107,5 @@ AreTypesOpen-close features types groups now single =
         whole = next_start-push types groups;
       };
       orderly = now.orderly;
-      groups = All-push (IsGroupValid features types) groups group now.groups (record { members = λ i t low high at. now.behind i t low at; single = single });
+      groups = All-push (IsGroupValid features types) groups group now.groups (record { members = λ i t low high at. now.following i t low at; single = single });
     }

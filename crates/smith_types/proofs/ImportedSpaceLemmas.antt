@@ -18,8 +18,8 @@ with_entities_append spaces [] ys = refl
 with_entities_append spaces (x ∷ xs) ys = with_entities_append (with_entity spaces x) xs ys
 
 -- the spaces with these entities appended
-abbrev behind : EntitySpaces → List EntityType → EntitySpaces
-behind spaces more = record {
+abbrev followed_by : EntitySpaces → List EntityType → EntitySpaces
+followed_by spaces more = record {
   tags = spaces.tags ++ flat_map tag_of more;
   funcs = spaces.funcs ++ flat_map func_of more;
   tables = spaces.tables ++ flat_map table_of more;
@@ -27,13 +27,13 @@ behind spaces more = record {
   globals = spaces.globals ++ flat_map global_of more;
 }
 
-with_entities_behind : (spaces : EntitySpaces) (more : List EntityType) → with_entities spaces more ≡ behind spaces more
-with_entities_behind spaces [] = simp append-nil refl
-with_entities_behind spaces (entity.Tag index ∷ more) = with_entities_behind (with_entity spaces (entity.Tag index)) more ∙ simp append_assoc refl
-with_entities_behind spaces (entity.Func index ∷ more) = with_entities_behind (with_entity spaces (entity.Func index)) more ∙ simp append_assoc refl
-with_entities_behind spaces (entity.Table table ∷ more) = with_entities_behind (with_entity spaces (entity.Table table)) more ∙ simp append_assoc refl
-with_entities_behind spaces (entity.Memory memory ∷ more) = with_entities_behind (with_entity spaces (entity.Memory memory)) more ∙ simp append_assoc refl
-with_entities_behind spaces (entity.Global global ∷ more) = with_entities_behind (with_entity spaces (entity.Global global)) more ∙ simp append_assoc refl
+with_entities_after : (spaces : EntitySpaces) (more : List EntityType) → with_entities spaces more ≡ followed_by spaces more
+with_entities_after spaces [] = simp append-nil refl
+with_entities_after spaces (entity.Tag index ∷ more) = with_entities_after (with_entity spaces (entity.Tag index)) more ∙ simp append_assoc refl
+with_entities_after spaces (entity.Func index ∷ more) = with_entities_after (with_entity spaces (entity.Func index)) more ∙ simp append_assoc refl
+with_entities_after spaces (entity.Table table ∷ more) = with_entities_after (with_entity spaces (entity.Table table)) more ∙ simp append_assoc refl
+with_entities_after spaces (entity.Memory memory ∷ more) = with_entities_after (with_entity spaces (entity.Memory memory)) more ∙ simp append_assoc refl
+with_entities_after spaces (entity.Global global ∷ more) = with_entities_after (with_entity spaces (entity.Global global)) more ∙ simp append_assoc refl
 
 module _ {A : Type 0} (of_kind : EntityType → List A) where
   group_same : (group : Imports) → imported of_kind (imports_of group) ≡ flat_map of_kind (entities_of group)
@@ -53,7 +53,7 @@ module _ {A : Type 0} (of_kind : EntityType → List A) where
 
 pub imported_is_grown : (groups : List Imports) → with_entities (record { tags = []; funcs = []; tables = []; memories = []; globals = [] }) (flat_map entities_of groups) ≡ imported_spaces (flattened groups)
 imported_is_grown groups =
-    with_entities_behind (record { tags = []; funcs = []; tables = []; memories = []; globals = [] }) (flat_map entities_of groups)
+    with_entities_after (record { tags = []; funcs = []; tables = []; memories = []; globals = [] }) (flat_map entities_of groups)
     ∙ rw (imported_same tag_of groups, imported_same func_of groups, imported_same table_of groups, imported_same memory_of groups, imported_same global_of groups) refl
 
 -- one turn of the loop over groups

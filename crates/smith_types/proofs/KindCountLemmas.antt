@@ -13,16 +13,16 @@ use Rattle.smith_types.specs.KindCounts.{is_inner_of_kind, is_of_kind, indices_f
 counted : (counts : KindCounts) (s : Bool) (kind : AbstractHeapType) (is_shared : Bool) (inner : CompositeInnerType) → kind_count_at (counts_with is_shared inner counts) s kind ≡ (if is_inner_of_kind s kind is_shared inner then kind_count_at counts s kind + 1 else kind_count_at counts s kind)
 counted counts s kind is_shared inner = search rules
 
-one_behind : (b : Bool) (n m l : ℕ) (c : Bool) → l ≡ (if c then m + 1 else m) → n ≡ (if b then l + 1 else l) → n ≡ (if c then (if b then m + 1 else m) + 1 else (if b then m + 1 else m))
-one_behind true n m l true is same = omega arith
-one_behind true n m l false is same = omega arith
-one_behind false n m l true is same = omega arith
-one_behind false n m l false is same = omega arith
+one_after : (b : Bool) (n m l : ℕ) (c : Bool) → l ≡ (if c then m + 1 else m) → n ≡ (if b then l + 1 else l) → n ≡ (if c then (if b then m + 1 else m) + 1 else (if b then m + 1 else m))
+one_after true n m l true is same = omega arith
+one_after true n m l false is same = omega arith
+one_after false n m l true is same = omega arith
+one_after false n m l false is same = omega arith
 
 -- the number of types that satisfy a test, with one more type
 count_push : (test : SubType → Bool) (types : List SubType) (t : SubType) → count_where test (types ++ t ∷ []) ≡ (if test t then count_where test types + 1 else count_where test types)
 count_push test [] t = refl
-count_push test (u ∷ types) t = one_behind (test u) _ (count_where test types) _ (test t) (count_push test types t) refl
+count_push test (u ∷ types) t = one_after (test u) _ (count_where test types) _ (test t) (count_push test types t) refl
 
 pub AreCounts-push : (types : List SubType) (t : SubType) (counts : KindCounts) → AreCounts types counts → AreCounts (types ++ t ∷ []) (counts_with (shared t) t.composite_type.inner counts)
 AreCounts-push types t counts before = record {

@@ -52,6 +52,6 @@ mapped_at {f = f} (x ∷ xs) zero y at = (x, refl, cc)
 mapped_at {f = f} (x ∷ xs) (suc i) y at = mapped_at xs i y at
 
 -- an item after the end of the first of two lists is in the second
-pub slice_get-behind : {A : Type 0} (xs ys : List A) (i : ℕ) → slice_get (xs ++ ys) (length xs + i) ≡ slice_get ys i
-slice_get-behind {A = A} [] ys i = let none : length {A = A} [] + i ≡ i = omega arith in rw none refl
-slice_get-behind (x ∷ xs) ys i = let one : length (x ∷ xs) + i ≡ suc (length xs + i) = omega arith in rw one (slice_get-behind xs ys i)
+pub slice_get-after : {A : Type 0} (xs ys : List A) (i : ℕ) → slice_get (xs ++ ys) (length xs + i) ≡ slice_get ys i
+slice_get-after {A = A} [] ys i = let none : length {A = A} [] + i ≡ i = omega arith in rw none refl
+slice_get-after (x ∷ xs) ys i = let one : length (x ∷ xs) + i ≡ suc (length xs + i) = omega arith in rw one (slice_get-after xs ys i)

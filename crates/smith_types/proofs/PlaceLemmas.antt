@@ -116,39 +116,39 @@ IsAncestor-grown types more i depth ancestor h = record {
 
 -- a place is unchanged as the list and the table grow
 IsPlace-grown : (types more : List SubType) (table longer : List ℕ) (i : ℕ) (place : Place) → i < length types → IsLonger table longer → IsPlace types table i place → IsPlace (types ++ more) longer i place
-IsPlace-grown types more table longer i place inside behind h =
+IsPlace-grown types more table longer i place inside following h =
     let within : place.start + place.depth ≤ length table + 1 = h.within in record {
       depth = HasDepth-grown types more h.depth;
-      within = subst (λ l. place.start + place.depth ≤ length l + 1) (sym behind.joined) (simp length-append (omega (arith, within)));
+      within = subst (λ l. place.start + place.depth ≤ length l + 1) (sym following.joined) (simp length-append (omega (arith, within)));
       counts = rw (take-append-le (suc i) types more (omega (arith, inside))) h.counts;
       row = λ k small.
-          let read : slice_index longer (place.start + k) ≡ slice_index table (place.start + k) = ap (λ l. slice_index l (place.start + k)) behind.joined ∙ get_or_append_left table behind.more 0 (place.start + k) (omega (arith, within, small)) in
+          let read : slice_index longer (place.start + k) ≡ slice_index table (place.start + k) = ap (λ l. slice_index l (place.start + k)) following.joined ∙ get_or_append_left table following.more 0 (place.start + k) (omega (arith, within, small)) in
           subst (λ n. IsAncestor (types ++ more) i (suc k) n) (sym read) (IsAncestor-grown types more i (suc k) (slice_index table (place.start + k)) (h.row k small));
     }
 
 -- the places are unchanged as the table grows
 pub ArePlaces-longer : (types : List SubType) (table longer : List ℕ) (places : List Place) → IsLonger table longer → ArePlaces types table places → ArePlaces types longer places
-ArePlaces-longer types table longer places behind before = record {
+ArePlaces-longer types table longer places following before = record {
   long = before.long;
   each = λ i place at.
       let h = before.each i place at in
       let within : place.start + place.depth ≤ length table + 1 = h.within in record {
         depth = h.depth;
-        within = subst (λ l. place.start + place.depth ≤ length l + 1) (sym behind.joined) (simp length-append (omega (arith, within)));
+        within = subst (λ l. place.start + place.depth ≤ length l + 1) (sym following.joined) (simp length-append (omega (arith, within)));
         counts = h.counts;
         row = λ k small.
-            let read : slice_index longer (place.start + k) ≡ slice_index table (place.start + k) = ap (λ l. slice_index l (place.start + k)) behind.joined ∙ get_or_append_left table behind.more 0 (place.start + k) (omega (arith, within, small)) in
+            let read : slice_index longer (place.start + k) ≡ slice_index table (place.start + k) = ap (λ l. slice_index l (place.start + k)) following.joined ∙ get_or_append_left table following.more 0 (place.start + k) (omega (arith, within, small)) in
             subst (λ n. IsAncestor types i (suc k) n) (sym read) (h.row k small);
       };
 }
 
 pub ArePlaces-push : (types : List SubType) (t : SubType) (table longer : List ℕ) (places : List Place) (place : Place) → ArePlaces types table places → IsLonger table longer → IsPlace (types ++ t ∷ []) longer (length types) place → ArePlaces (types ++ t ∷ []) longer (places ++ place ∷ [])
-ArePlaces-push types t table longer places place before behind last = record {
+ArePlaces-push types t table longer places place before following last = record {
   long = simp length-append (ap (λ n. n + 1) before.long);
   each = λ i p at. elim (slice_get-push places place i p at) [
     | inl old ↦
         let inside : i < length places = slice_get_within places i p old in
-        IsPlace-grown types (t ∷ []) table longer i p (omega (arith, inside, before.long)) behind (before.each i p old)
+        IsPlace-grown types (t ∷ []) table longer i p (omega (arith, inside, before.long)) following (before.each i p old)
     | inr (is, same) ↦
         subst (λ n. IsPlace (types ++ t ∷ []) longer n p) (sym (is ∙ before.long))
         (subst (λ q. IsPlace (types ++ t ∷ []) longer (length types) q) same last)

@@ -104,9 +104,9 @@ end_from-last start (g ∷ h ∷ groups) some =
     let fewer : length (g ∷ h ∷ groups) - 1 ≡ suc (length (h ∷ groups) - 1) = omega arith in
     rw fewer (end_from-last g.end (h ∷ groups) (omega arith))
 
-added_behind : (b : Bool) (i : ℕ) (xs ys more : List ℕ) → ys ≡ xs ++ more → (if b then i ∷ ys else ys) ≡ (if b then i ∷ xs else xs) ++ more
-added_behind true i xs ys more e = ap (λ (l : List ℕ). i ∷ l) e
-added_behind false i xs ys more e = e
+added_after : (b : Bool) (i : ℕ) (xs ys more : List ℕ) → ys ≡ xs ++ more → (if b then i ∷ ys else ys) ≡ (if b then i ∷ xs else xs) ++ more
+added_after true i xs ys more e = ap (λ (l : List ℕ). i ∷ l) e
+added_after false i xs ys more e = e
 
 -- the indices of the types that may have subtypes, with one more type
 pub extensible-push : (first last : ℕ) (types : List SubType) (t : SubType) (depths : List ℕ) (d : ℕ) → length depths ≡ length types → last ≡ first + length types
@@ -115,4 +115,4 @@ extensible-push first last [] t [] d long is = let same : last ≡ first = omega
 extensible-push first last [] t (e ∷ depths) d long is = absurd (omega arith)
 extensible-push first last (u ∷ types) t [] d long is = absurd (omega arith)
 extensible-push first last (u ∷ types) t (e ∷ depths) d long is =
-    added_behind (not u.is_final && nat_lt e 60) first _ _ _ (extensible-push (first + 1) last types t depths d (omega arith) (omega arith))
+    added_after (not u.is_final && nat_lt e 60) first _ _ _ (extensible-push (first + 1) last types t depths d (omega arith) (omega arith))

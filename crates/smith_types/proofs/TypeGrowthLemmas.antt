@@ -24,8 +24,8 @@ end_from-append start [] further = refl
 end_from-append start (group ∷ groups) further = end_from-append group.end groups further
 
 AreConsecutive-append : (start : ℕ) (groups further : List (Range ℕ)) → AreConsecutive start groups → AreConsecutive (end_from start groups) further → AreConsecutive start (groups ++ further)
-AreConsecutive-append start [] further h behind = behind
-AreConsecutive-append start (group ∷ groups) further (begins, ordered, rest) behind = (begins, ordered, AreConsecutive-append group.end groups further rest behind)
+AreConsecutive-append start [] further h following = following
+AreConsecutive-append start (group ∷ groups) further (begins, ordered, rest) following = (begins, ordered, AreConsecutive-append group.end groups further rest following)
 
 pub AreTypesValid-more : (features : Features) (types more : List SubType) (groups further : List (Range ℕ)) → AreTypesValid features (record { types = types; groups = groups }) → AreGroupsAdded features types more further
     → AreTypesValid features (record { types = types ++ more; groups = groups ++ further })

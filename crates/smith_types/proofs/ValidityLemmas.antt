@@ -104,7 +104,7 @@ group_at P start [] i c each low high = absurd (omega arith)
 group_at P start (group ∷ groups) i (begins, ordered, rest) (h, more) low high =
     elim (before_or_not i group.end) [
       | inl inside ↦ (group, h, omega arith, inside)
-      | inr behind ↦ group_at P group.end groups i rest more behind high
+      | inr following ↦ group_at P group.end groups i rest more following high
     ]
 
 -- each type is valid for the end of its group

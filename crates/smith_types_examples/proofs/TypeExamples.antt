@@ -29,8 +29,8 @@ referring_alone features types first =
     let (enabled, inside) = held.heap_type in
     omega (arith, inside)
 
-pub referring_behind : (features : Features) → ¬ IsGroupValid features referring (range 0 1)
-referring_behind features valid = referring_alone features referring (valid.members 0 referring_type (omega arith) (omega arith) refl)
+pub referring_after : (features : Features) → ¬ IsGroupValid features referring (range 0 1)
+referring_after features valid = referring_alone features referring (valid.members 0 referring_type (omega arith) (omega arith) refl)
 
 -- a property of two types holds for each type of their list
 of_both : (P : SubType → Type 0) (t u v : SubType) (i : ℕ) → P t → P u → slice_get (t ∷ u ∷ []) i ≡ Some v → P v

@@ -16,7 +16,7 @@ ghost use Rattle.smith_types.specs.ExampleEntities.{memory, table, constant_glob
 ghost use Rattle.smith_types.specs.ExampleEntities.{one_of_each};
 
 fn groups()
-    ensures one_behind_another { ranges_from 1 (struct_and_below ∷ [] ∷ below_itself ∷ [])
+    ensures one_after_another { ranges_from 1 (struct_and_below ∷ [] ∷ below_itself ∷ [])
         ≡ range 1 3 ∷ range 3 3 ∷ range 3 4 ∷ [] }
     ensures none { space_of [] ≡ record { types = []; groups = [] } }
     ensures types_of_all { space_of ((final_type plain_func ∷ []) ∷ [] ∷ struct_and_below ∷ [])

@@ -45,7 +45,7 @@ fn spaces()
 {}
 
 fn added_groups()
-    ensures behind { AreGroupsAdded usual_features (final_type plain_func ∷ [])
+    ensures following { AreGroupsAdded usual_features (final_type plain_func ∷ [])
         (final_type plain_func ∷ []) (range 1 2 ∷ []) }
     ensures none { AreGroupsAdded usual_features (final_type plain_func ∷ []) [] [] }
     ensures before { ¬ AreGroupsAdded usual_features (final_type plain_func ∷ [])

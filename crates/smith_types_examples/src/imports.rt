@@ -51,7 +51,7 @@ fn imported_entities()
 {}
 
 fn definitions()
-    ensures behind_imports { Defines {A = ℕ} (3 ∷ []) 2 (3 ∷ 5 ∷ 4 ∷ []) }
+    ensures after_imports { Defines {A = ℕ} (3 ∷ []) 2 (3 ∷ 5 ∷ 4 ∷ []) }
     ensures nothing_defined { Defines {A = ℕ} (3 ∷ []) 0 (3 ∷ []) }
     ensures an_import_lost { ¬ Defines {A = ℕ} (3 ∷ []) 0 [] }
     ensures another_count { ¬ Defines {A = ℕ} (3 ∷ []) 1 (3 ∷ 5 ∷ 4 ∷ []) }

@@ -10,7 +10,7 @@ fn open_types()
         (record { types = referring_type ∷ []; groups = [] }) }
     ensures referring_past_the_end { ¬ AreTypesOpen usual_features 1
         (record { types = referring_type ∷ []; groups = [] }) }
-    ensures behind_a_group { AreTypesOpen usual_features 3 (record {
+    ensures after_a_group { AreTypesOpen usual_features 3 (record {
       types = final_type plain_func ∷ final_type empty_struct ∷ [];
       groups = range 0 1 ∷ [];
     }) }

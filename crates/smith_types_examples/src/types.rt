@@ -20,7 +20,7 @@ fn orderly()
     ensures kinds_apart { ¬ IsAlike (final_type plain_func) (final_type empty_struct) }
     ensures one_shared { ¬ IsAlike (shared_type plain_func) (final_type plain_func) }
     ensures supertype_before { IsOrderly struct_and_below }
-    ensures supertype_behind { ¬ IsOrderly
+    ensures supertype_after { ¬ IsOrderly
         (open_type (Some 1) empty_struct ∷ open_type None empty_struct ∷ []) }
     ensures its_own_supertype { ¬ IsOrderly below_itself }
     ensures supertype_past_the_end { ¬ IsOrderly (open_type (Some 7) empty_struct ∷ []) }
@@ -86,7 +86,7 @@ fn depths()
 fn extensible()
     ensures a_type_on_its_own { AreExtensible (open_type None empty_struct ∷ []) (0 ∷ []) }
     ensures a_final_one { ¬ AreExtensible (final_type empty_struct ∷ []) (0 ∷ []) }
-    ensures behind_a_final_one { extensible_from 2
+    ensures after_a_final_one { extensible_from 2
         (final_type empty_struct ∷ open_type None empty_struct ∷ []) (1 ∷ 1 ∷ []) ≡ 3 ∷ [] }
     ensures not_too_deep { extensible_from 5
         (open_type None empty_struct ∷ open_type None empty_struct ∷ []) (59 ∷ 60 ∷ []) ≡ 5 ∷ [] }

@@ -133,10 +133,10 @@ fn types()
         (shared_type (struct (constant (Val shared_anyref) ∷ []))) }
     ensures holding_unshared { ¬ IsTypeValid usual_features [] 0
         (shared_type (struct (constant (Val anyref) ∷ []))) }
-    ensures holding_a_shared_type_behind { IsTypeValid usual_features
+    ensures holding_a_shared_type_after { IsTypeValid usual_features
         (shared_type (struct (refers_to 1 ∷ [])) ∷ shared_type plain_func ∷ []) 2
         (shared_type (struct (refers_to 1 ∷ []))) }
-    ensures holding_an_unshared_type_behind { ¬ IsTypeValid usual_features
+    ensures holding_an_unshared_type_after { ¬ IsTypeValid usual_features
         (shared_type (struct (refers_to 1 ∷ [])) ∷ final_type plain_func ∷ []) 2
         (shared_type (struct (refers_to 1 ∷ []))) }
     ensures taking_unshared { ¬ IsTypeValid usual_features [] 0
@@ -148,8 +148,8 @@ fn types()
 fn groups()
     ensures empty { IsGroupValid gc_alone [] (range 0 0) }
     ensures referring_within { IsGroupValid usual_features referring (range 0 2) }
-    ensures referring_behind { ¬ IsGroupValid usual_features referring (range 0 1) }
-    ensures second_referring_behind { ¬ IsGroupValid usual_features
+    ensures referring_after { ¬ IsGroupValid usual_features referring (range 0 1) }
+    ensures second_referring_after { ¬ IsGroupValid usual_features
         (final_type plain_func ∷ final_type (struct (refers_to 2 ∷ [])) ∷ []) (range 0 2) }
     ensures single_without_gc { IsGroupValid no_features
         (final_type plain_func ∷ final_type plain_func ∷ []) (range 0 1) }

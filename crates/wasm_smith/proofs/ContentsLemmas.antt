@@ -19,7 +19,7 @@ use Rattle.wasm_smith.specs.Contents.{MayHoldContents, AreSpacesOver}
 use Rattle.wasm_smith.specs.DrawnContents.{TellsImported, imported_in}
 use Rattle.wasm_smith.specs.DrawnSteps.{AreExportsDrawn}
 use Rattle.wasm_smith.specs.declared.build.parts_so_far.PartsSoFar.{PartsSoFar}
-use Rattle.smith_defined.proofs.StandsBehindLemmas.{defined_end}
+use Rattle.smith_defined.proofs.StandsAfterLemmas.{defined_end}
 use Rattle.smith_contents.specs.DrawnElements.{MayDrawElements}
 use Rattle.smith_contents.specs.Exported.{MayExport, MayExportFreely, MayDrawExports}
 

@@ -9,7 +9,7 @@ use Rattle.wasm_smith.specs.Build.{parts_of}
 use Rattle.wasm_smith.specs.DrawnParts.{IsDrawnFor}
 use Rattle.smith_rules.specs.Module.{ModuleParts, IsValid, AreSpacesMade, IsTableDefined, IsGlobalDefined, module_imports}
 use Rattle.wasm_smith.specs.declared.build.parts_so_far.PartsSoFar.{PartsSoFar}
-use Rattle.smith_defined.proofs.StandsBehindLemmas.{defined_end}
+use Rattle.smith_defined.proofs.StandsAfterLemmas.{defined_end}
 
 module _ (distinct : Bool) (config : Config) (drawn : PartsSoFar) (h : IsDrawnFor distinct config drawn) where
   abbrev m : ModuleParts

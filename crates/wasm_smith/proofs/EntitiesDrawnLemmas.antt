@@ -26,9 +26,9 @@ use Rattle.smith_defined.specs.declared.definitions.Definitions.{Definitions}
 use Rattle.wasm_smith.specs.declared.build.parts_so_far.PartsSoFar.{PartsSoFar}
 use Rattle.wasm_smith.proofs.ShapeItemLemmas.{few_items_of_shapes}
 use Rattle.smith_defined.proofs.ExtensionLemmas.{all_kept}
-use Rattle.smith_defined.proofs.StandsBehindLemmas.{defined_end}
-use Rattle.smith_defined.proofs.DefinedLemmas.{all_behind}
-use Rattle.smith_defined.proofs.DefinedGrowthLemmas.{filled_grown, may_define_behind}
+use Rattle.smith_defined.proofs.StandsAfterLemmas.{defined_end}
+use Rattle.smith_defined.proofs.DefinedLemmas.{all_after}
+use Rattle.smith_defined.proofs.DefinedGrowthLemmas.{filled_grown, may_define_after}
 use Rattle.wasm_smith.proofs.ExportsGrownLemmas.{exports_grown}
 use Rattle.wasm_smith.proofs.GrantedLaterLemmas.{elements_later, globals_later, types_later}
 use Rattle.wasm_smith.proofs.NonNullableLemmas.{holds_or_not}
@@ -48,7 +48,7 @@ room_so_far config drawn more passes valid now few = record {
 pub may_define_drawn : (config : Config) (drawn : PartsSoFar) → Passes config → IsSanitized config → AreShapesValid config → AreImportsDrawn config drawn → MayDefine config drawn.types (spaces_in drawn.imported.spaces) drawn.definitions
 may_define_drawn config drawn passes sanitized valid so_far =
     let now : StandsSoFar config drawn = so_far.may.so_far in
-    may_define_behind passes sanitized so_far.may.least_types (omega (arith, now.most_types, passes.few counts.Types, few_items_of_shapes config valid counts.Types)) (room_so_far config drawn 0 passes valid now (omega arith)) now.stands
+    may_define_after passes sanitized so_far.may.least_types (omega (arith, now.most_types, passes.few counts.Types, few_items_of_shapes config valid counts.Types)) (room_so_far config drawn 0 passes valid now (omega arith)) now.stands
 
 at_least : (config : Config) (before spaces : EntitySpaces) → AreFilled config before spaces → (count : Count) → IsOfEntities count → minimum_of config count ≤ count_in spaces count
 at_least config before spaces filled counts.Tags is = filled.tags.enough
@@ -78,8 +78,8 @@ grounded_later config drawn spaces defined now made old =
     record {
       fields = λ lacks. old.fields (fields_before config before later growth refl lacks);
       types = types_later config before later was drawn.types.types old.types;
-      element_types = all_behind (HasGroundedElements config later) (elements_later config before later was drawn.imported.spaces.tables old.element_types) made.grounded_tables;
-      globals = all_behind (HasGroundedValue config later) (globals_later config before later was drawn.imported.spaces.globals old.globals) made.grounded_globals;
+      element_types = all_after (HasGroundedElements config later) (elements_later config before later was drawn.imported.spaces.tables old.element_types) made.grounded_tables;
+      globals = all_after (HasGroundedValue config later) (globals_later config before later was drawn.imported.spaces.globals old.globals) made.grounded_globals;
     }
 
 -- the state after entities are defined

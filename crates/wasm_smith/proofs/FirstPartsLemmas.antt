@@ -26,7 +26,7 @@ use Rattle.smith_defined.specs.Defined.{nothing_defined}
 use Rattle.smith_rules.specs.Bounds.{items_of_module_shape, items_of_exports}
 use Rattle.smith_defined.specs.Defined.{HasRoom}
 use Rattle.smith_rules.specs.Refusals.{AreShapesValid, shape_for}
-use Rattle.smith_defined.specs.Defined.{StandsBehind}
+use Rattle.smith_defined.specs.Defined.{StandsAfter}
 use Rattle.smith_defined.specs.Required.{AddsLimitsOf, MayDefineMore}
 use Rattle.smith_bytes.specs.Steps.{Returns, is_memory}
 use Rattle.smith_defined.specs.RequiredExports.{then_with}
@@ -82,7 +82,7 @@ defines_none : {A : Type 0} (xs : List A) → Defines xs 0 xs
 defines_none xs = record { defined = []; count_is = refl; parts = sym (append-nil xs) }
 
 pub stands_alone : (config : Config) (space : GroupedTypes) (spaces : EntitySpaces) → AreTypesValid (features_of config) space → AreEntitiesValid (features_of config) space.types spaces → AreCountsEnabled (features_of config) spaces
-    → StandsBehind config spaces space spaces nothing_defined
+    → StandsAfter config spaces space spaces nothing_defined
 stands_alone config space spaces types entities counts = record {
   types = types;
   entities = entities;

@@ -106,7 +106,7 @@ by_shapes config bytes drawn None (Some shape) none given valid first = by_impor
 by_shapes config bytes drawn None None none free valid first = freely config drawn (first.freely (none_fixes config none free))
 
 -- types after those that a module begins with: the properties that drawing these types preserves
-pub record AreTypesBehind (config : Config) (functions : Context) (old new : GroupedTypes) : Type 0 where
+pub record AreTypesAfter (config : Config) (functions : Context) (old new : GroupedTypes) : Type 0 where
   valid : AreTypesValid (features_of config) new
   longer : Extends old.types new.types
   most : length new.types ≤ max config.max_types (length old.types)
@@ -118,7 +118,7 @@ pub record AreTypesBehind (config : Config) (functions : Context) (old new : Gro
 
 -- grounded references stay grounded as types are added, and the references of the added types are
 -- grounded
-grounded_later : (config : Config) (functions : Context) (old new : GroupedTypes) (spaces : EntitySpaces) → AreTypesBehind config functions old new → HoldsGrounded config (over functions old.types) spaces → HoldsGrounded config (over functions new.types) spaces
+grounded_later : (config : Config) (functions : Context) (old new : GroupedTypes) (spaces : EntitySpaces) → AreTypesAfter config functions old new → HoldsGrounded config (over functions old.types) spaces → HoldsGrounded config (over functions new.types) spaces
 grounded_later config functions old new spaces more h =
     let before = over functions old.types in
     let later = over functions new.types in
@@ -139,7 +139,7 @@ grounded_later config functions old new spaces more h =
     }
 
 -- more may be drawn over the first parts of a module after such types are added
-types_drawn : (config : Config) (bytes : List ℕ) (drawn : PartsSoFar) (types : GroupedTypes) → AreShapesValid config → AreFirstParts config bytes drawn → AreTypesBehind config (drawn_next config drawn) drawn.types types → AreTypesDrawn config (record drawn { types = types })
+types_drawn : (config : Config) (bytes : List ℕ) (drawn : PartsSoFar) (types : GroupedTypes) → AreShapesValid config → AreFirstParts config bytes drawn → AreTypesAfter config (drawn_next config drawn) drawn.types types → AreTypesDrawn config (record drawn { types = types })
 types_drawn config bytes drawn types valid first more =
     let may = by_shapes config bytes drawn config.module_shape config.available_imports refl refl valid first in
     record {
@@ -164,18 +164,18 @@ stays_within most old new few full = grind arith
 
 -- properties of drawn types, if drawing succeeds
 module _ {X : Type 0} (config : Config) (functions : Context) (old new : GroupedTypes) where
-  pub types_behind : (result : Result X Error) → OnOk result (AreTypesValid (features_of config) new) → OnOk result (Extends old.types new.types)
+  pub types_after : (result : Result X Error) → OnOk result (AreTypesValid (features_of config) new) → OnOk result (Extends old.types new.types)
       → (length old.types ≤ config.max_types → OnOk result (length new.types ≤ config.max_types)) → (config.max_types ≤ length old.types → OnOk result (new ≡ old)) → OnOk result (config.min_types ≤ length new.types)
       → (config.allow_floats ≡ false → All HasNoFloat old.types → OnOk result (All HasNoFloat new.types)) → ((most : ℕ) → 20 ≤ most → All (HasFewValues most) old.types → OnOk result (All (HasFewValues most) new.types))
       → (¬ HoldsUngroundedField config (over functions old.types) → OnOk result (¬ HoldsUngroundedField config (over functions new.types)))
-      → (AreTypesGranted config (over functions old.types) → OnOk result (AreTypesGranted config (over functions new.types))) → OnOk result (AreTypesBehind config functions old new)
-  types_behind (Ok made) valid longer most full least floats few_values grounded granted =
+      → (AreTypesGranted config (over functions old.types) → OnOk result (AreTypesGranted config (over functions new.types))) → OnOk result (AreTypesAfter config functions old new)
+  types_after (Ok made) valid longer most full least floats few_values grounded granted =
       let same : config.max_types ≤ length old.types → length new.types ≡ length old.types = λ filled. ap (λ (space : GroupedTypes). length space.types) (full filled) in
       record { valid = valid; longer = longer; most = stays_within config.max_types (length old.types) (length new.types) most same; least = least; floats = floats; few_values = few_values; grounded = grounded; granted = granted }
-  types_behind (Err e) valid longer most full least floats few_values grounded granted = tt
+  types_after (Err e) valid longer most full least floats few_values grounded granted = tt
 
 -- after drawn types, more may be drawn over the first parts of a module
-pub drawn_behind : {X : Type 0} (config : Config) (bytes : List ℕ) (drawn : PartsSoFar) (types : GroupedTypes) (result : Result X Error) → AreShapesValid config → AreFirstParts config bytes drawn → OnOk result (AreTypesBehind config (drawn_next config drawn) drawn.types types)
+pub drawn_after : {X : Type 0} (config : Config) (bytes : List ℕ) (drawn : PartsSoFar) (types : GroupedTypes) (result : Result X Error) → AreShapesValid config → AreFirstParts config bytes drawn → OnOk result (AreTypesAfter config (drawn_next config drawn) drawn.types types)
     → OnOk result (AreTypesDrawn config (record drawn { types = types }))
-drawn_behind config bytes drawn types (Ok made) valid first more = types_drawn config bytes drawn types valid first more
-drawn_behind config bytes drawn types (Err e) valid first more = tt
+drawn_after config bytes drawn types (Ok made) valid first more = types_drawn config bytes drawn types valid first more
+drawn_after config bytes drawn types (Err e) valid first more = tt

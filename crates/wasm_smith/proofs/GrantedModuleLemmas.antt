@@ -14,7 +14,7 @@ use Rattle.smith_config.specs.declared.config.Config.{Config}
 use Rattle.smith_config.specs.Granted.{IsUngrounded, IsGranted, HasGroundedItems}
 use Rattle.smith_rules.specs.Module.{ModuleParts, module_context}
 use Rattle.smith_rules.specs.Promises.{HasGrantedLocals, HoldsGranted}
-use Rattle.smith_defined.proofs.StandsBehindLemmas.{left_over}
+use Rattle.smith_defined.proofs.StandsAfterLemmas.{left_over}
 use Rattle.wasm_smith.specs.FirstParts.{StandsWhole}
 use Rattle.wasm_smith.specs.Build.{parts_of}
 use Rattle.wasm_smith.specs.DrawnContents.{HasGrantedContents}

@@ -21,7 +21,7 @@ use Rattle.smith_config.specs.declared.config.Config.{Config}
 use Rattle.smith_config.specs.Features.{features_of}
 use Rattle.wasm_smith.specs.FirstParts.{StandsSoFar, size_of_imports}
 use Rattle.wasm_smith.specs.declared.build.parts_so_far.PartsSoFar.{PartsSoFar}
-use Rattle.smith_defined.proofs.StandsBehindLemmas.{stands_over}
+use Rattle.smith_defined.proofs.StandsAfterLemmas.{stands_over}
 
 same_place : {A : Type 0} (xs more : List A) (i : ℕ) → i < length xs → slice_get (xs ++ more) i ≡ slice_get xs i
 same_place [] more i inside = absurd (omega arith)

@@ -34,7 +34,7 @@ use Rattle.wasm_smith.specs.FirstParts.{ModuleSoFar, IsOfEntities, StandsSoFar, 
 use Rattle.smith_rules.specs.Bounds.{items_of_exports}
 use Rattle.wasm_smith.specs.Build.{size_so_far, exports_of}
 use Rattle.wasm_smith.specs.Contents.{MayHoldContents}
-use Rattle.smith_defined.specs.Defined.{StandsBehind, drawn_beside}
+use Rattle.smith_defined.specs.Defined.{StandsAfter, drawn_beside}
 use Rattle.wasm_smith.specs.DrawnSteps.{AreEntitiesDrawn, AreExportsDrawn, HoldsGrounded, IsBeyond, MayGoOn, drawn_next}
 use Rattle.smith_rules.specs.Refusals.{AreShapesValid, HoldsNonNullable, MayRefuse, shape_for}
 use Rattle.smith_defined.specs.Required.{AddsLimitsOf, AddsTypesOf, MayDefineMore, MayLackIn, MayRefuseRequired}
@@ -43,7 +43,7 @@ use Rattle.wasm_smith.specs.declared.build.parts_so_far.PartsSoFar.{PartsSoFar}
 use Rattle.wasm_smith.proofs.ShapeItemLemmas.{few_items_of_export_shape, few_items_of_shapes}
 use Rattle.smith_defined.proofs.ExtensionLemmas.{all_kept}
 use Rattle.smith_defined.proofs.DefinedGrowthLemmas.{stands_within}
-use Rattle.smith_defined.proofs.StandsBehindLemmas.{defined_end}
+use Rattle.smith_defined.proofs.StandsAfterLemmas.{defined_end}
 use Rattle.wasm_smith.proofs.GrantedLaterLemmas.{elements_later, globals_later, types_later}
 use Rattle.wasm_smith.proofs.LackingLemmas.{shape_granted}
 use Rattle.wasm_smith.proofs.NonNullableLemmas.{holds_or_not}
@@ -146,7 +146,7 @@ module _ (config : Config) (shape : Shape) (drawn : PartsSoFar) (none : config.m
 
   required_grounded : (types : GroupedTypes) (spaces : Held) (defined : Definitions) → Extends drawn.types.types types.types → AreSpacesGrown (spaces_in drawn.imported.spaces) (spaces_in spaces)
       → (HoldsUngroundedField config (drawn_beside config types.types (spaces_in spaces) defined) → HoldsUngroundedField config (drawn_next config drawn)) → AddsTypesOf shape drawn.types.types types.types → AddsLimitsOf shape (spaces_in drawn.imported.spaces) (spaces_in spaces)
-      → StandsBehind config (imported_spaces (flattened drawn.imported.groups)) types (spaces_in spaces) defined → (HoldsNonNullable config → ⊥) → HoldsGrounded config (drawn_beside config types.types (spaces_in spaces) defined) (spaces_in spaces)
+      → StandsAfter config (imported_spaces (flattened drawn.imported.groups)) types (spaces_in spaces) defined → (HoldsNonNullable config → ⊥) → HoldsGrounded config (drawn_beside config types.types (spaces_in spaces) defined) (spaces_in spaces)
   required_grounded types spaces defined longer grown lacking listed limits stands never =
       let old = drawn_next config drawn in
       let new = drawn_beside config types.types (spaces_in spaces) defined in
@@ -186,7 +186,7 @@ module _ (config : Config) (shape : Shape) (drawn : PartsSoFar) (types : Grouped
       → AreSpacesGrown (spaces_in drawn.imported.spaces) (spaces_in spaces)
       → AddsTypesOf shape drawn.types.types types.types
       → AddsLimitsOf shape (spaces_in drawn.imported.spaces) (spaces_in spaces)
-      → StandsBehind config (imported_spaces (flattened drawn.imported.groups)) types (spaces_in spaces) defined
+      → StandsAfter config (imported_spaces (flattened drawn.imported.groups)) types (spaces_in spaces) defined
       → AreExportsDrawn config (record drawn { types = types; imported = record drawn.imported { spaces = spaces }; definitions = defined })
   required_drawn now longer most lacking few counted grown listed limits stands = record {
     whole = stands_required config shape drawn types spaces defined none given now.may.so_far longer most counted limits stands;

@@ -34,7 +34,7 @@ use Rattle.smith_bytes.specs.Steps.{Returns, is_lack, ◌>>=◌, section_flag_at
 use Rattle.wasm_smith.specs.Build.{IsGiven, as_drawn, size_so_far, first_parts_typed_at, defined_at, exported_at, exported_for, exports_of, functions_so_far, imported_at, in_full, module_at, module_of, with_types_at}
 use Rattle.smith_defined.specs.Defined.{nothing_defined}
 use Rattle.smith_defined.specs.Definitions.{defined_in, definitions_at, scope_over, tables_at, memories_at, globals_at}
-use Rattle.wasm_smith.specs.DrawnContents.{segment_scope, all_segments_at, behind_exports_at}
+use Rattle.wasm_smith.specs.DrawnContents.{segment_scope, all_segments_at, after_exports_at}
 use Rattle.wasm_smith.specs.Members.{HasMember, HasRest}
 use Rattle.smith_rules.specs.Module.{ModuleParts}
 use Rattle.smith_contents.specs.PassiveData.{passive_data}
@@ -73,8 +73,8 @@ abbrev nothing : EntitySpaces
 nothing = imported_spaces (flattened [])
 
 -- the tables, memories and globals that the bytes after functions produce, without imports
-abbrev behind_funcs_at : Config → List SubType → List ℕ → List ℕ → (EntitySpaces × Definitions) × List ℕ
-behind_funcs_at config types funcs bytes =
+abbrev after_funcs_at : Config → List SubType → List ℕ → List ℕ → (EntitySpaces × Definitions) × List ℕ
+after_funcs_at config types funcs bytes =
     let standing = scope_over types funcs 0 [] in
     let tables = tables_at config standing [] [] bytes in
     let memories = memories_at config [] tables.1 in
@@ -83,7 +83,7 @@ behind_funcs_at config types funcs bytes =
     ((spaces, defined_in nothing nothing_defined spaces tables.0.1 globals.0.1), globals.1)
 
 definitions_read : (config : Config) (types : List SubType) (funcs piece after : List ℕ) → HasNoMinimums config → Joined (SpellsNoTag config types) (SpellsFuncs config types funcs) piece
-    → definitions_at config types nothing nothing_defined (piece ++ after) ≡ Ok (behind_funcs_at config types funcs after)
+    → definitions_at config types nothing nothing_defined (piece ++ after) ≡ Ok (after_funcs_at config types funcs after)
 unfolding definitions_at
 definitions_read config types funcs piece after least h =
     rw (
@@ -99,7 +99,7 @@ with_entities groups made = record nothing_so_far { types = space_of groups; spa
 -- the module that the bytes after exports produce, with this flag of imports
 abbrev whole_at : Config → Bool → ModuleSoFar → List ℕ → Result (ModuleParts × List ℕ) Error
 whole_at config flag whole bytes =
-    in_full (behind_exports_at config whole.types.types (imported_spaces (flattened whole.groups)) whole.spaces (exports_of config whole) bytes) >>= λ (contents : Contents × List ℕ). Ok (module_of config whole contents.0 flag, contents.1)
+    in_full (after_exports_at config whole.types.types (imported_spaces (flattened whole.groups)) whole.spaces (exports_of config whole) bytes) >>= λ (contents : Contents × List ℕ). Ok (module_of config whole contents.0 flag, contents.1)
 
 -- the module that the bytes after entities produce
 abbrev ending_at : Config → Bool → ModuleSoFar → List ℕ → Result (ModuleParts × List ℕ) Error
@@ -122,12 +122,12 @@ freely_exported config so_far bytes none =
     ap (λ (given : Option Shape). exported_for config given config.exports so_far bytes) none.module_shape ∙ ap (λ (given : Option Shape). exported_for config None given so_far bytes) none.exports
 
 entities_defined : (config : Config) (groups : List (List SubType)) (funcs piece after : List ℕ) → HasNoMinimums config → Joined (SpellsNoTag config (space_of groups).types) (SpellsFuncs config (space_of groups).types funcs) piece
-    → (let drawn = behind_funcs_at config (space_of groups).types funcs after in defined_at config (with_entities groups (nothing, nothing_defined)) (piece ++ after) ≡ Ok (with_entities groups drawn.0, drawn.1))
+    → (let drawn = after_funcs_at config (space_of groups).types funcs after in defined_at config (with_entities groups (nothing, nothing_defined)) (piece ++ after) ≡ Ok (with_entities groups drawn.0, drawn.1))
 unfolding defined_at
 entities_defined config groups funcs piece after least h = rw (definitions_read config (space_of groups).types funcs piece after least h) refl
 
 member_read : (distinct : Bool) (config : Config) (groups : List (List SubType)) (funcs piece after : List ℕ) → IsSanitized config → HasNoShapes config → HasNoMinimums config → IsInFamily config groups funcs → SpellsMember config groups funcs piece
-    → (let drawn = behind_funcs_at config (space_of groups).types funcs after in (flag : Bool) × (module_at distinct config (piece ++ after) ≡ ending_at config flag (with_entities groups drawn.0) drawn.1))
+    → (let drawn = after_funcs_at config (space_of groups).types funcs after in (flag : Bool) × (module_at distinct config (piece ++ after) ≡ ending_at config flag (with_entities groups drawn.0) drawn.1))
 unfolding module_at SpellsMember
 member_read distinct config groups funcs piece after sanitized none least member h =
     let imports = h.is_second in
@@ -158,14 +158,14 @@ member_ended : (config : Config) (groups : List (List SubType)) (made : EntitySp
     → IfOk (then_with (λ exports. record (with_entities groups made) { exports = exports }) (in_full exports) >>= λ (exported : ModuleSoFar × List ℕ). whole_at config flag exported.0 exported.1) (λ drawn. HasMember groups made.0.funcs drawn.0)
 member_ended config groups made flag (Ok drawn) =
     let whole : ModuleSoFar = record (with_entities groups made) { exports = drawn.0 } in
-    whole_ended config groups whole flag (behind_exports_at config whole.types.types (imported_spaces (flattened whole.groups)) whole.spaces (exports_of config whole) drawn.1) refl
+    whole_ended config groups whole flag (after_exports_at config whole.types.types (imported_spaces (flattened whole.groups)) whole.spaces (exports_of config whole) drawn.1) refl
 member_ended config groups made flag (Err why) = tt
 
 member_reached : (distinct : Bool) (config : Config) (groups : List (List SubType)) (funcs piece after : List ℕ) → IsSanitized config → HasNoShapes config → HasNoMinimums config → IsInFamily config groups funcs → SpellsMember config groups funcs piece
     → IfOk (module_at distinct config (piece ++ after)) (λ drawn. HasMember groups funcs drawn.0)
 member_reached distinct config groups funcs piece after sanitized none least member h =
     let read = member_read distinct config groups funcs piece after sanitized none least member h in
-    let drawn = behind_funcs_at config (space_of groups).types funcs after in
+    let drawn = after_funcs_at config (space_of groups).types funcs after in
     let so_far = with_entities groups drawn.0 in
     rw (read.1, freely_exported config so_far drawn.1 none) (member_ended config groups drawn.0 read.0 (exports_at config so_far.types.types so_far.spaces (size_so_far config so_far) drawn.1))
 
@@ -188,18 +188,18 @@ segments_read config types imported spaces passive piece after least tables memo
     ) refl
 
 -- the bytes after the exports
-abbrev SpellsBehindExports : Config → List SubType → List ℕ → List (List ℕ) → List ℕ → Type 0
-SpellsBehindExports config types funcs passive = Joined (Where (length types == 0) SpellsAnyByte) (Joined (SpellsNoStart config types funcs) (SpellsSegments config passive))
+abbrev SpellsAfterExports : Config → List SubType → List ℕ → List (List ℕ) → List ℕ → Type 0
+SpellsAfterExports config types funcs passive = Joined (Where (length types == 0) SpellsAnyByte) (Joined (SpellsNoStart config types funcs) (SpellsSegments config passive))
 
 contents_read : (config : Config) (types : List SubType) (imported spaces : EntitySpaces) (made : Exports) (passive : List (List ℕ)) (piece after : List ℕ) → HasNoMinimums config → made.exports ≡ []
-    → spaces.tables ≡ [] → spaces.memories ≡ [] → SpellsBehindExports config types spaces.funcs passive piece → IfOk (behind_exports_at config types imported spaces made (piece ++ after)) (λ drawn. IsBare passive drawn.0)
-unfolding behind_exports_at
+    → spaces.tables ≡ [] → spaces.memories ≡ [] → SpellsAfterExports config types spaces.funcs passive piece → IfOk (after_exports_at config types imported spaces made (piece ++ after)) (λ drawn. IsBare passive drawn.0)
+unfolding after_exports_at
 contents_read config types imported spaces made passive piece after least exports tables memories h =
     let start = h.is_second in
-    let behind_flag = h.second ++ after in
+    let after_flag = h.second ++ after in
     rw (
       joined_parts h after,
-      flag_read (length types) h.first behind_flag h.is_first,
+      flag_read (length types) h.first after_flag h.is_first,
       joined_parts start after,
       start_none config types spaces.funcs start.first (start.second ++ after) start.is_first,
       segments_read config types imported spaces passive start.second after least tables memories start.is_second,
@@ -218,7 +218,7 @@ record AreNumbered (numbers : List ℤ) (drawn : (EntitySpaces × Definitions) �
   left : drawn.1 ≡ after
 
 entities_read : (config : Config) (types : List SubType) (funcs : List ℕ) (numbers : List ℤ) (tables memories globals after : List ℕ) → HasNoMinimums config → SpellsNone config.max_tables tables → SpellsNone config.max_memories memories
-    → Listed (SpellsGlobal config) config.max_globals numbers globals → AreNumbered numbers (behind_funcs_at config types funcs (tables ++ (memories ++ (globals ++ after)))) after
+    → Listed (SpellsGlobal config) config.max_globals numbers globals → AreNumbered numbers (after_funcs_at config types funcs (tables ++ (memories ++ (globals ++ after)))) after
 entities_read config types funcs numbers tables memories globals after least no_table no_memory h =
     let standing = scope_over types funcs 0 [] in
     let none = no_table_read config standing [] [] tables (memories ++ (globals ++ after)) (least counts.Tables) refl no_table in
@@ -267,19 +267,19 @@ rest_reached distinct config groups funcs numbers passive piece rest after sanit
     let memories = h.is_second in
     let globals = memories.is_second in
     let exports = globals.is_second in
-    let behind_exports = exports.second ++ after in
-    let later = exports.first ++ behind_exports in
+    let after_exports = exports.second ++ after in
+    let later = exports.first ++ after_exports in
     let read = member_read distinct config groups funcs piece (rest ++ after) sanitized none least member spelled in
     let parts : rest ++ after ≡ h.first ++ (memories.first ++ (globals.first ++ later)) = rw (joined_parts h after, joined_parts memories after, joined_parts globals after, joined_parts exports after) refl in
-    let drawn = behind_funcs_at config types funcs (h.first ++ (memories.first ++ (globals.first ++ later))) in
+    let drawn = after_funcs_at config types funcs (h.first ++ (memories.first ++ (globals.first ++ later))) in
     let so_far = with_entities groups drawn.0 in
     let numbered = entities_read config types funcs numbers h.first memories.first globals.first later least h.is_first memories.is_first globals.is_first in
-    let made = no_export_made config so_far exports.first behind_exports none least some exports.is_first in
+    let made = no_export_made config so_far exports.first after_exports none least some exports.is_first in
     let whole : ModuleSoFar = record so_far { exports = [] } in
     let bare = contents_read config types nothing drawn.0.0 (exports_of config whole) passive exports.second after least refl numbered.tables numbered.memories exports.is_second in
-    let ended = rest_ended config groups numbers passive drawn later read.0 (behind_exports_at config types nothing drawn.0.0 (exports_of config whole) behind_exports) numbered bare in
+    let ended = rest_ended config groups numbers passive drawn later read.0 (after_exports_at config types nothing drawn.0.0 (exports_of config whole) after_exports) numbered bare in
     let ending : IfOk (ending_at config read.0 so_far drawn.1) (λ made. HasRest numbers passive made.0) = rw (numbered.left, made) ended in
-    rw read.1 (subst (λ (bytes : List ℕ). let all = behind_funcs_at config types funcs bytes in IfOk (ending_at config read.0 (with_entities groups all.0) all.1) (λ made. HasRest numbers passive made.0)) (sym parts) ending)
+    rw read.1 (subst (λ (bytes : List ℕ). let all = after_funcs_at config types funcs bytes in IfOk (ending_at config read.0 (with_entities groups all.0) all.1) (λ made. HasRest numbers passive made.0)) (sym parts) ending)
 
 -- a property of every module of these bytes, apart from interesting values, holds for the result
 answered : (Holds : ModuleParts → Type 0) (distinct : Bool) (config : Config) (bytes left : List ℕ) (answer : Result ModuleParts Error) → ((m : ModuleParts) → Holds (as_drawn m) → Holds m) → Returns is_lack (λ m. (as_drawn m, left)) answer (module_at distinct config bytes)
@@ -304,14 +304,14 @@ spellable_asks config groups funcs fit = record {
 module _ {distinct : Bool} {config : Config} {bytes left : List ℕ} {answer : Result ModuleParts Error} (sanitized : IsSanitized config) (given : IsGiven distinct config bytes answer left)
     (needless : AsksNothingImpossible config → IfErr answer (λ e. e ≡ errors.Memory)) where
   pub members_reached : ReachesMembers config bytes answer
-  members_reached = λ groups funcs behind h.
+  members_reached = λ groups funcs remaining h.
       let fit = h.spellable in
       let asks = spellable_asks config groups funcs fit in
-      let held = member_reached distinct config groups funcs h.piece behind sanitized fit.no_shapes fit.no_minimums fit.member h.spelled in
+      let held = member_reached distinct config groups funcs h.piece remaining sanitized fit.no_shapes fit.no_minimums fit.member h.spelled in
       answered (HasMember groups funcs) distinct config bytes left answer (λ m has. record { types = has.types; groups_are = has.groups_are; funcs_are = has.funcs_are }) (given.exact asks.may_give) (needless asks) (rw h.parts held)
 
   pub rests_reached : ReachesRests config bytes answer
-  rests_reached = λ groups funcs behind numbers passive h r.
+  rests_reached = λ groups funcs remaining numbers passive h r.
       let fit = h.spellable in
       let asks = spellable_asks config groups funcs fit in
       let held = rest_reached distinct config groups funcs numbers passive h.piece r.piece r.after sanitized fit.no_shapes fit.no_minimums fit.not_everything fit.member h.spelled r.spelled in

@@ -14,7 +14,7 @@ use Rattle.wasm_smith.specs.FirstParts.{IsMemoryKept, IsOfEntities, IsTableKept,
 use Rattle.smith_defined.specs.Defined.{AreDefinedMore, AreFilled}
 use Rattle.smith_defined.specs.declared.definitions.Definitions.{Definitions}
 use Rattle.wasm_smith.specs.declared.build.parts_so_far.PartsSoFar.{PartsSoFar}
-use Rattle.smith_defined.proofs.DefinedLemmas.{added_weaker, all_behind}
+use Rattle.smith_defined.proofs.DefinedLemmas.{added_weaker, all_after}
 
 -- each kind has at most its maximum number of items, or as many as before
 no_more_than : (config : Config) (before spaces : EntitySpaces) → AreFilled config before spaces → (count : Count) → IsOfEntities count → count_in spaces count ≤ max (maximum_of config count) (count_in before count)
@@ -35,8 +35,8 @@ stands_defined config drawn spaces defined now made = record {
   most = λ count is. let before = now.most count is in let here = no_more_than config (spaces_in drawn.imported.spaces) (spaces_in spaces) made.filled count is in omega (arith, before, here);
   most_types = now.most_types;
   most_imports = now.most_imports;
-  tables = all_behind (IsTableKept config) now.tables (added_weaker (IsTableWithin config) (IsTableKept config) (λ table h. inr h) made.filled.each_table);
-  memories = all_behind (IsMemoryKept config) now.memories (added_weaker (IsMemoryWithin config) (IsMemoryKept config) (λ memory h. inr h) made.filled.each_memory);
+  tables = all_after (IsTableKept config) now.tables (added_weaker (IsTableWithin config) (IsTableKept config) (λ table h. inr h) made.filled.each_table);
+  memories = all_after (IsMemoryKept config) now.memories (added_weaker (IsMemoryWithin config) (IsMemoryKept config) (λ memory h. inr h) made.filled.each_memory);
   type_size = now.type_size;
   within = now.within;
 }

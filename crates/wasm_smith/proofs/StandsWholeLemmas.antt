@@ -19,7 +19,7 @@ use Rattle.smith_config.specs.Shapes.{shape_spaces}
 use Rattle.smith_rules.specs.ShapeImports.{count_in}
 use Rattle.wasm_smith.specs.FirstParts.{IsMemoryKept, IsOfEntities, IsTableKept, StandsSoFar, StandsWhole}
 use Rattle.smith_rules.specs.Bounds.{items_of_export_shape, items_of_exports}
-use Rattle.smith_defined.specs.Defined.{StandsBehind}
+use Rattle.smith_defined.specs.Defined.{StandsAfter}
 use Rattle.smith_defined.specs.Required.{AddsLimitsOf}
 use Rattle.smith_defined.specs.declared.definitions.Definitions.{Definitions}
 use Rattle.wasm_smith.specs.declared.build.parts_so_far.PartsSoFar.{PartsSoFar}
@@ -67,7 +67,7 @@ module _ (config : Config) (shape : Shape) (drawn : PartsSoFar) (types : Grouped
   pub stands_required : config.module_shape ≡ None → config.exports ≡ Some shape → StandsSoFar config drawn → Extends drawn.types.types types.types → length types.types ≤ length drawn.types.types + items_of_exports counts.Types shape
       → ((count : Count) → (count ≡ counts.Types → ⊥) → count_in (spaces_in spaces) count ≡ count_in (spaces_in drawn.imported.spaces) count + items_of_exports count shape)
       → AddsLimitsOf shape (spaces_in drawn.imported.spaces) (spaces_in spaces)
-      → StandsBehind config (imported_spaces (flattened drawn.imported.groups)) types (spaces_in spaces) defined
+      → StandsAfter config (imported_spaces (flattened drawn.imported.groups)) types (spaces_in spaces) defined
       → StandsWhole config (record drawn { types = types; imported = record drawn.imported { spaces = spaces }; definitions = defined })
   stands_required none given now longer few counted limits stands =
       let all = imported_spaces (flattened drawn.imported.groups) in

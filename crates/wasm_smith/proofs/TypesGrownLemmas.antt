@@ -13,7 +13,7 @@ use Rattle.smith_draw_types.specs.Choices.{chosen_at}
 use Rattle.smith_draw_types.proofs.RecGroupLemmas.{least_keeps, more_keeps}
 use Rattle.smith_defined.proofs.ExtensionLemmas.{all_kept}
 use Rattle.smith_defined.proofs.RequiredExportsLoop.{extends_both}
-use Rattle.smith_defined.proofs.StandsBehindLemmas.{one_more}
+use Rattle.smith_defined.proofs.StandsAfterLemmas.{one_more}
 
 -- a list that grows extends the list before
 grow_extends : {A : Type 0} (draw : List A → List ℕ → A × List ℕ) (least most : ℕ) (made : List A) (bytes : List ℕ) → Extends made (grow_at draw least most made bytes).0
@@ -26,48 +26,48 @@ grow_extends {A = A} draw least (suc most) made bytes =
     (extends_both (one_more made x.0) (grow_extends draw least most (made ++ x.0 ∷ []) x.1)) (all_kept made)
 
 -- a space begins with the types and the groups of another
-pub record IsBehind (old new : GroupedTypes) : Type 0 where
+pub record IsAfter (old new : GroupedTypes) : Type 0 where
   pub types : Extends old.types new.types
   pub groups : Extends old.groups new.groups
 
-same_space : (space : GroupedTypes) → IsBehind space space
+same_space : (space : GroupedTypes) → IsAfter space space
 same_space space = record { types = all_kept space.types; groups = all_kept space.groups }
 
-behind_both : {first second third : GroupedTypes} → IsBehind first second → IsBehind second third → IsBehind first third
-behind_both one two = record { types = extends_both one.types two.types; groups = extends_both one.groups two.groups }
+after_both : {first second third : GroupedTypes} → IsAfter first second → IsAfter second third → IsAfter first third
+after_both one two = record { types = extends_both one.types two.types; groups = extends_both one.groups two.groups }
 
-new_group_behind : (config : Config) (functions : Context) (allow_empty : Bool) (space : GroupedTypes) (bytes : List ℕ) → IsBehind space (new_group_at config functions allow_empty space bytes).0
+new_group_after : (config : Config) (functions : Context) (allow_empty : Bool) (space : GroupedTypes) (bytes : List ℕ) → IsAfter space (new_group_at config functions allow_empty space bytes).0
 unfolding new_group_at types_until_at
-new_group_behind config functions allow_empty space bytes = record {
+new_group_after config functions allow_empty space bytes = record {
   types = grow_extends _ _ _ space.types _;
   groups = one_more space.groups _;
 }
 
-clone_behind : (config : Config) (allow_empty : Bool) (space : GroupedTypes) (bytes : List ℕ) → IsBehind space (clone_rec_group_at config allow_empty space bytes).1.0
+clone_after : (config : Config) (allow_empty : Bool) (space : GroupedTypes) (bytes : List ℕ) → IsAfter space (clone_rec_group_at config allow_empty space bytes).1.0
 unfolding clone_rec_group_at
-clone_behind config allow_empty space bytes =
+clone_after config allow_empty space bytes =
     let group = chosen_at (record { start = 0; end = 0 }) space.groups bytes in
-    cond_both (IsBehind space) (may_be_cloned config allow_empty space group.0) (with_clone space group.0) space
+    cond_both (IsAfter space) (may_be_cloned config allow_empty space group.0) (with_clone space group.0) space
     (record { types = record { more = members space.types group.0; parts = refl }; groups = one_more space.groups _ }) (same_space space)
 
-rec_group_behind : (config : Config) (functions : Context) (allow_empty : Bool) (space : GroupedTypes) (bytes : List ℕ) → IsBehind space (rec_group_at config functions allow_empty space bytes).0
+rec_group_after : (config : Config) (functions : Context) (allow_empty : Bool) (space : GroupedTypes) (bytes : List ℕ) → IsAfter space (rec_group_at config functions allow_empty space bytes).0
 unfolding rec_group_at
-rec_group_behind config functions allow_empty space bytes =
+rec_group_after config functions allow_empty space bytes =
     let wanted = clone_wanted_at config space bytes in
     let clone = clone_rec_group_at config allow_empty space wanted.1 in
-    let P = λ (r : GroupedTypes × List ℕ). IsBehind space r.0 in
+    let P = λ (r : GroupedTypes × List ℕ). IsAfter space r.0 in
     cond_both P wanted.0 (cloned_or_new_at config functions allow_empty space wanted.1) (new_group_at config functions allow_empty space wanted.1)
-    (cond_both P _ clone.1 (new_group_at config functions allow_empty clone.1.0 clone.1.1) (clone_behind config allow_empty space wanted.1)
-    (behind_both (clone_behind config allow_empty space wanted.1) (new_group_behind config functions allow_empty clone.1.0 clone.1.1)))
-    (new_group_behind config functions allow_empty space wanted.1)
+    (cond_both P _ clone.1 (new_group_at config functions allow_empty clone.1.0 clone.1.1) (clone_after config allow_empty space wanted.1)
+    (after_both (clone_after config allow_empty space wanted.1) (new_group_after config functions allow_empty clone.1.0 clone.1.1)))
+    (new_group_after config functions allow_empty space wanted.1)
 
 -- existing types and groups are unchanged
-pub types_behind : (config : Config) (functions : Context) (space : GroupedTypes) (bytes : List ℕ) → IsBehind space (types_at config functions space bytes).0
+pub types_after : (config : Config) (functions : Context) (space : GroupedTypes) (bytes : List ℕ) → IsAfter space (types_at config functions space bytes).0
 unfolding types_at
-types_behind config functions space bytes =
+types_after config functions space bytes =
     let least = least_types_at config functions config.min_types space bytes in
-    more_keeps config functions (IsBehind space) (λ s after room h. behind_both h (rec_group_behind config functions true s after)) (length least.1 + 1) least.0 least.1
-    (least_keeps config functions (IsBehind space) (λ s after few h. behind_both h (rec_group_behind config functions false s after)) config.min_types space bytes (same_space space))
+    more_keeps config functions (IsAfter space) (λ s after room h. after_both h (rec_group_after config functions true s after)) (length least.1 + 1) least.0 least.1
+    (least_keeps config functions (IsAfter space) (λ s after few h. after_both h (rec_group_after config functions false s after)) config.min_types space bytes (same_space space))
 
 not_less : (a b : ℕ) (less : Bool) → nat_lt a b ≡ less → b ≤ a → less ≡ false
 not_less a b true is most = let few = ltb-true a b is in absurd (omega (arith, few, most))

@@ -18,7 +18,7 @@ use Rattle.smith_rules.specs.ExportedItems.{exported_size}
 use Rattle.smith_contents.specs.declared.exported.Exports.{Exports}
 use Rattle.wasm_smith.specs.FirstParts.{ModuleSoFar, first_parts_at, module_so_far, size_of_imports}
 use Rattle.smith_defined.specs.Definitions.{definitions_at}
-use Rattle.wasm_smith.specs.DrawnContents.{behind_exports_at}
+use Rattle.wasm_smith.specs.DrawnContents.{after_exports_at}
 use Rattle.smith_rules.specs.Module.{ModuleParts}
 use Rattle.smith_rules.specs.Refusals.{MayGive}
 use Rattle.smith_defined.specs.RequiredExports.{Required, required_at, then_with}
@@ -124,7 +124,7 @@ module_at distinct config bytes = do
   defined ← defined_at config imported.0 import_flag.1
   exported ← exported_at config defined.0 defined.1
   let whole = exported.0
-  contents ← in_full (behind_exports_at config whole.types.types (imported_spaces (flattened whole.groups)) whole.spaces (exports_of config whole) exported.1)
+  contents ← in_full (after_exports_at config whole.types.types (imported_spaces (flattened whole.groups)) whole.spaces (exports_of config whole) exported.1)
   Ok (module_of config whole contents.0 import_flag.0, contents.1)
 
 -- the parts that were drawn, as a module

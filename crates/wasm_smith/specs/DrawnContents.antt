@@ -55,8 +55,8 @@ all_segments_at config types imported spaces bytes = do
 
 -- the contents that the bytes produce after exports, over types and index spaces that begin with
 -- imports: whether a type section is written, a start function, segments and bodies
-unfoldable pub behind_exports_at : Config → List SubType → EntitySpaces → EntitySpaces → Exports → List ℕ → Result (Contents × List ℕ) Why
-behind_exports_at config types imported spaces made bytes = do
+unfoldable pub after_exports_at : Config → List SubType → EntitySpaces → EntitySpaces → Exports → List ℕ → Result (Contents × List ℕ) Why
+after_exports_at config types imported spaces made bytes = do
   let type_flag = section_flag_at (length types) bytes
   let start = start_at config types spaces.funcs type_flag.1
   segments ← all_segments_at config types imported spaces start.1

@@ -27,7 +27,7 @@ use Rattle.smith_bytes.specs.declared.error.Count.TheVariants as counts
 use Rattle.smith_config.specs.EntityBounds.{IsTableWithin, IsMemoryWithin}
 use Rattle.smith_rules.specs.ExportedItems.{Export}
 use Rattle.smith_rules.specs.Bounds.{items_of_export_shape, items_of_shapes, items_of_module_shape, of_shapes}
-use Rattle.smith_defined.specs.Defined.{StandsBehind, drawn_beside, nothing_defined}
+use Rattle.smith_defined.specs.Defined.{StandsAfter, drawn_beside, nothing_defined}
 use Rattle.smith_defined.specs.Required.{MayRefuseRequired}
 use Rattle.smith_defined.specs.RequiredExports.{Required, required_at, then_with}
 use Rattle.smith_rules.specs.ShapesKept.{IsSameExport}
@@ -92,7 +92,7 @@ pub record AreFirstPartsByModule (config : Config) (shape : Shape) (drawn : Part
   pub count : drawn.imported.count ≡ length (shape_imports shape)
   pub type_size : drawn.imported.type_size ≡ 0
   pub valid : All (IsImportsValid (features_of config)) drawn.imported.groups
-  pub stands : StandsBehind config (imported_spaces (shape_imports shape)) drawn.types (spaces_in drawn.imported.spaces) drawn.definitions
+  pub stands : StandsAfter config (imported_spaces (shape_imports shape)) drawn.types (spaces_in drawn.imported.spaces) drawn.definitions
   pub counted : (count : Count) → (count ≡ counts.Types → ⊥) → (count ≡ counts.Imports → ⊥) → count_in (spaces_in drawn.imported.spaces) count ≡ items_of_module_shape count shape
   pub tables : All (Contains (shape_spaces shape).tables) drawn.imported.spaces.tables
   pub memories : All (Contains (shape_spaces shape).memories) drawn.imported.spaces.memories
@@ -107,7 +107,7 @@ pub record AreFirstPartsByImports (config : Config) (shape : Shape) (bytes : Lis
   pub count : drawn.imported.count ≡ length (flattened drawn.imported.groups)
   pub type_size : drawn.imported.type_size ≡ sizes_of (shape_types shape) (flattened drawn.imported.groups)
   pub valid : All (IsImportsValid (features_of config)) drawn.imported.groups
-  pub stands : StandsBehind config (imported_spaces (flattened drawn.imported.groups)) drawn.types (spaces_in drawn.imported.spaces) drawn.definitions
+  pub stands : StandsAfter config (imported_spaces (flattened drawn.imported.groups)) drawn.types (spaces_in drawn.imported.spaces) drawn.definitions
   pub within : AreImportsWithin config (shape_types shape) (flattened drawn.imported.groups)
   pub tables : All (Contains (shape_spaces shape).tables) drawn.imported.spaces.tables
   pub memories : All (Contains (shape_spaces shape).memories) drawn.imported.spaces.memories
@@ -154,7 +154,7 @@ IsMemoryKept config memory = Contains (of_shapes (λ spaces. spaces.memories) co
 pub record StandsSoFar (config : Config) (drawn : PartsSoFar) : Type 0 where
   pub groups : All (IsImportsValid (features_of config)) drawn.imported.groups
   pub count : drawn.imported.count ≡ length (flattened drawn.imported.groups)
-  pub stands : StandsBehind config (imported_spaces (flattened drawn.imported.groups)) drawn.types (spaces_in drawn.imported.spaces) drawn.definitions
+  pub stands : StandsAfter config (imported_spaces (flattened drawn.imported.groups)) drawn.types (spaces_in drawn.imported.spaces) drawn.definitions
   pub most : (count : Count) → IsOfEntities count → count_in (spaces_in drawn.imported.spaces) count ≤ max (maximum_of config count) (items_of_shapes config count)
   pub most_types : length drawn.types.types ≤ max config.max_types (items_of_shapes config counts.Types)
   pub most_imports : length (flattened drawn.imported.groups) ≤ max config.max_imports (items_of_shapes config counts.Imports)
@@ -168,7 +168,7 @@ pub record StandsSoFar (config : Config) (drawn : PartsSoFar) : Type 0 where
 pub record StandsWhole (config : Config) (drawn : PartsSoFar) : Type 0 where
   pub groups : All (IsImportsValid (features_of config)) drawn.imported.groups
   pub count : drawn.imported.count ≡ length (flattened drawn.imported.groups)
-  pub stands : StandsBehind config (imported_spaces (flattened drawn.imported.groups)) drawn.types (spaces_in drawn.imported.spaces) drawn.definitions
+  pub stands : StandsAfter config (imported_spaces (flattened drawn.imported.groups)) drawn.types (spaces_in drawn.imported.spaces) drawn.definitions
   pub most : (count : Count) → IsOfEntities count → count_in (spaces_in drawn.imported.spaces) count ≤ max (maximum_of config count) (items_of_shapes config count) + items_of_export_shape config count
   pub most_types : length drawn.types.types ≤ max config.max_types (items_of_shapes config counts.Types) + items_of_export_shape config counts.Types
   pub most_imports : length (flattened drawn.imported.groups) ≤ max config.max_imports (items_of_shapes config counts.Imports)

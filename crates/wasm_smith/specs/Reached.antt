@@ -10,12 +10,12 @@ use Rattle.smith_spell.specs.Spelling.{SpellsMember, SpellsRest, IsRest}
 use Rattle.wasm_smith.specs.Members.{HasMember, HasRest}
 use Rattle.smith_rules.specs.Module.{ModuleParts}
 
--- the source begins with bytes that spell these lists, which can be spelled; `behind` follows
-pub record BeginsWithMember (config : Config) (groups : List (List SubType)) (funcs bytes behind : List ℕ) : Type 0 where
+-- the source begins with bytes that spell these lists, which can be spelled, and then has the bytes `remaining`
+pub record BeginsWithMember (config : Config) (groups : List (List SubType)) (funcs bytes remaining : List ℕ) : Type 0 where
   pub spellable : IsSpellable config groups funcs
   pub piece : List ℕ
   pub spelled : SpellsMember config groups funcs piece
-  pub parts : bytes ≡ piece ++ behind
+  pub parts : bytes ≡ piece ++ remaining
 
 -- the rest after such lists begins with bytes that spell these numbers and byte lists, which may
 -- follow
@@ -29,10 +29,10 @@ pub record BeginsWithRest (config : Config) (groups : List (List SubType)) (func
 -- the module has the lists that a source begins with, unless memory runs out
 abbrev pub ReachesMembers : Config → List ℕ → Result ModuleParts Error → Type 0
 ReachesMembers config bytes answer =
-    (groups : List (List SubType)) (funcs behind : List ℕ) → BeginsWithMember config groups funcs bytes behind → MatchResult answer (HasMember groups funcs) (λ e. e ≡ Memory)
+    (groups : List (List SubType)) (funcs remaining : List ℕ) → BeginsWithMember config groups funcs bytes remaining → MatchResult answer (HasMember groups funcs) (λ e. e ≡ Memory)
 
 -- the module has the rest that follows these lists, unless memory runs out
 abbrev pub ReachesRests : Config → List ℕ → Result ModuleParts Error → Type 0
 ReachesRests config bytes answer =
-    (groups : List (List SubType)) (funcs behind : List ℕ) (numbers : List ℤ) (passive : List (List ℕ)) → BeginsWithMember config groups funcs bytes behind
-    → BeginsWithRest config groups funcs numbers passive behind → MatchResult answer (HasRest numbers passive) (λ e. e ≡ Memory)
+    (groups : List (List SubType)) (funcs remaining : List ℕ) (numbers : List ℤ) (passive : List (List ℕ)) → BeginsWithMember config groups funcs bytes remaining
+    → BeginsWithRest config groups funcs numbers passive remaining → MatchResult answer (HasRest numbers passive) (λ e. e ≡ Memory)

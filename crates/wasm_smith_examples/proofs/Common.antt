@@ -54,7 +54,7 @@ pub use Rattle.smith_data.specs.declared.composite_type.SubType.{SubType}
 pub use Rattle.smith_data.specs.declared.value_type.HeapType.TheVariants.{Concrete}
 pub use Rattle.smith_data.specs.declared.value_type.ValType.TheVariants.{Ref}
 pub use Rattle.wasm_smith.specs.CheckedShapes.{ComesBefore, IsFaultOf, IsFirstFaulty}
-unfoldable pub use Rattle.wasm_smith.specs.DrawnContents.{all_segments_at, behind_exports_at}
+unfoldable pub use Rattle.wasm_smith.specs.DrawnContents.{all_segments_at, after_exports_at}
 unfoldable pub use Rattle.wasm_smith.specs.FirstParts.{first_parts_at}
 pub use Rattle.wasm_smith.specs.Reached.{BeginsWithMember}
 unfoldable pub use lib.Utf8.{encode}

@@ -34,7 +34,7 @@ fn tags()
         ≡ Ok (3 ∷ 2 ∷ [], 9 ∷ []) }
     ensures until_a_bool_ends_them { tags_at two_of_each several_types [] (1 ∷ 2 ∷ 0 ∷ 9 ∷ [])
         ≡ Ok (4 ∷ [], 9 ∷ []) }
-    ensures behind_an_imported_one { tags_at (record two_of_each { min_tags = 2 }) several_types
+    ensures after_an_imported_one { tags_at (record two_of_each { min_tags = 2 }) several_types
         (2 ∷ []) (1 ∷ 1 ∷ 9 ∷ [])
         ≡ Ok (2 ∷ 3 ∷ [], 9 ∷ []) }
     ensures enough_imported { tags_at (record two_of_each { min_tags = 1 }) several_types
@@ -63,7 +63,7 @@ fn funcs()
     ensures one_asked_for { funcs_at (record two_of_each { min_funcs = 1 }) several_types []
         (2 ∷ 1 ∷ 0 ∷ 9 ∷ [])
         ≡ Ok (3 ∷ 0 ∷ [], 9 ∷ []) }
-    ensures behind_an_imported_one { funcs_at (record two_of_each { min_funcs = 2 }) several_types
+    ensures after_an_imported_one { funcs_at (record two_of_each { min_funcs = 2 }) several_types
         (4 ∷ []) (1 ∷ 0 ∷ 9 ∷ [])
         ≡ Ok (4 ∷ 2 ∷ [], 9 ∷ []) }
     ensures of_no_type { funcs_at (record two_of_each { min_funcs = 1 })
@@ -96,7 +96,7 @@ fn tables()
         (beside_globals (global (Ref funcref) false ∷ [])) [] []
         (0 ∷ 0 ∷ 0 ∷ 0 ∷ 0 ∷ 0 ∷ 0 ∷ 0 ∷ 0 ∷ 9 ∷ [])
         ≡ ((table funcref 0 None ∷ [], Some (GlobalGet 0 ∷ []) ∷ []), 9 ∷ []) }
-    ensures behind_an_imported_one { tables_at (record two_of_each { min_tables = 2 })
+    ensures after_an_imported_one { tables_at (record two_of_each { min_tables = 2 })
         (beside_globals []) (table funcref 5 None ∷ []) [] (0 ∷ 0 ∷ 0 ∷ 0 ∷ 0 ∷ 0 ∷ 1 ∷ 0 ∷ 9 ∷ [])
         ≡ ((table funcref 5 None ∷ table funcref 0 None ∷ [], None ∷ []), 9 ∷ []) }
     ensures enough_imported { tables_at (record two_of_each { min_tables = 1 }) (beside_globals [])
@@ -109,7 +109,7 @@ fn memories()
     ensures one_asked_for { memories_at (record two_of_each { min_memories = 1 }) []
         (0 ∷ 0 ∷ 0 ∷ 0 ∷ 1 ∷ 0 ∷ 0 ∷ 3 ∷ 0 ∷ 9 ∷ [])
         ≡ (up_to_three ∷ [], 9 ∷ []) }
-    ensures behind_an_imported_one { memories_at (record two_of_each { min_memories = 2 })
+    ensures after_an_imported_one { memories_at (record two_of_each { min_memories = 2 })
         (memory 5 None ∷ []) (0 ∷ 0 ∷ 0 ∷ 0 ∷ 1 ∷ 0 ∷ 0 ∷ 3 ∷ 0 ∷ 9 ∷ [])
         ≡ (memory 5 None ∷ up_to_three ∷ [], 9 ∷ []) }
     ensures enough_imported { memories_at (record two_of_each { min_memories = 1 })
@@ -228,7 +228,7 @@ fn spaces()
           ),
           9 ∷ [],
         ) }
-    ensures behind_one_imported_of_each { definitions_at
+    ensures after_one_imported_of_each { definitions_at
         (record two_at_least_of_each { gc_enabled = false }) several_types one_imported_of_each
         nothing_defined (1 ∷ 0 ∷ 0 ∷ 0 ∷ 0 ∷ 0 ∷ 0 ∷ 0 ∷ 0 ∷ 0 ∷ 0 ∷ 0 ∷ 0 ∷ 0 ∷ 0 ∷ 1 ∷ 0 ∷ 0
         ∷ 3 ∷ 0 ∷ 0 ∷ 1 ∷ 0 ∷ 0 ∷ 9 ∷ [])
@@ -282,7 +282,7 @@ fn spaces()
         ) }
 {}
 
-#[tactic(auto, unfolding(smith_draw_types::specs::RecGroups::types_at, smith_draw_types::specs::RecGroups::least_types_at, smith_draw_types::specs::RecGroups::more_types_at, smith_imports::specs::Importing::imports_at, smith_imports::specs::Importing::groups_at, wasm_smith::specs::Build::module_at, wasm_smith::specs::Build::first_parts_typed_at, wasm_smith::specs::FirstParts::first_parts_at, wasm_smith::specs::Build::imported_at, wasm_smith::specs::Build::defined_at, wasm_smith::specs::Build::exported_at, smith_defined::specs::Definitions::definitions_at, smith_bytes::specs::Steps::section_flag_at, wasm_smith::specs::DrawnContents::behind_exports_at, wasm_smith::specs::DrawnContents::all_segments_at, smith_contents::specs::AllExports::exports_at, smith_contents::specs::Exporting::free_exports_at, smith_contents::specs::Exporting::exports_from, smith_contents::specs::Start::start_at, smith_contents::specs::Start::start_wanted_at, smith_contents::specs::ElementSegments::all_element_segments_at, smith_contents::specs::ElementSegments::element_kinds_at, smith_contents::specs::ElementSegments::table_kinds_at, smith_contents::specs::DataSegments::data_at, smith_contents::specs::DataSegments::counting_at, smith_contents::specs::DrawnBodies::bodies_at, smith_defined::specs::Definitions::items_defined_at, smith_bytes::specs::Growth::grow_at, smith_defined::specs::Definitions::type_indices_at, smith_defined::specs::Definitions::tags_at, smith_defined::specs::Definitions::funcs_at, smith_draw_types::specs::TypeUses::is_tag_type, smith_draw_types::specs::TypeUses::is_unshared_function, smith_defined::specs::Definitions::tables_at, smith_defined::specs::Definitions::table_at, smith_draw_types::specs::TableTypes::table_type_at, smith_draw_types::specs::TableTypes::drawn_elements, smith_draw_types::specs::Memories::memory64_at, smith_const_expr::specs::ConstExprs::table_init_at, smith_defined::specs::Definitions::memories_at, smith_draw_types::specs::Memories::memtype_at, smith_draw_types::specs::Memories::shared_memory_at, smith_draw_types::specs::Memories::page_size_at, smith_draw_types::specs::Memories::drawn_pages, smith_draw_types::specs::Memories::likely_pages, smith_defined::specs::Definitions::globals_at, smith_defined::specs::Definitions::global_at, smith_defined::specs::Definitions::initialised_at, smith_draw_types::specs::GlobalTypes::global_type_at, smith_draw_types::specs::Limits::limits64_at, smith_draw_types::specs::Limits::gradually_at, smith_draw_types::specs::Limits::gradual, smith_draw_types::specs::Limits::sixth_power, smith_draw_types::specs::Limits::scaled, smith_draw_types::specs::ValueTypes::val_type_at, smith_draw_types::specs::ValueTypes::ref_type_at, smith_draw_types::specs::ValueTypes::granted_at, smith_draw_types::specs::ValueTypes::heap_type_at, smith_draw_types::specs::ValueTypes::type_index_at, smith_draw_types::specs::ValueTypes::abstract_heap_type_at, smith_draw_types::specs::ValueTypes::sharedness_at, smith_draw_types::specs::Choices::chosen_at, smith_const_expr::specs::ConstExprs::expression_alone_at, smith_const_expr::specs::ConstExprs::expression_at, smith_const_expr::specs::ConstNodes::node_at, smith_const_expr::specs::Constants::constant_at, smith_const_expr::specs::ConstOffers::offers, smith_draw_types::specs::Offered::ancestors, smith_draw_types::specs::Below::is_heap_below, smith_bytes::specs::Draws::choose_at, smith_bytes::specs::Draws::whole_at, smith_bytes::specs::Draws::bool_at, smith_bytes::specs::Draws::range_at, smith_bytes::specs::Draws::digit_count))]
+#[tactic(auto, unfolding(smith_draw_types::specs::RecGroups::types_at, smith_draw_types::specs::RecGroups::least_types_at, smith_draw_types::specs::RecGroups::more_types_at, smith_imports::specs::Importing::imports_at, smith_imports::specs::Importing::groups_at, wasm_smith::specs::Build::module_at, wasm_smith::specs::Build::first_parts_typed_at, wasm_smith::specs::FirstParts::first_parts_at, wasm_smith::specs::Build::imported_at, wasm_smith::specs::Build::defined_at, wasm_smith::specs::Build::exported_at, smith_defined::specs::Definitions::definitions_at, smith_bytes::specs::Steps::section_flag_at, wasm_smith::specs::DrawnContents::after_exports_at, wasm_smith::specs::DrawnContents::all_segments_at, smith_contents::specs::AllExports::exports_at, smith_contents::specs::Exporting::free_exports_at, smith_contents::specs::Exporting::exports_from, smith_contents::specs::Start::start_at, smith_contents::specs::Start::start_wanted_at, smith_contents::specs::ElementSegments::all_element_segments_at, smith_contents::specs::ElementSegments::element_kinds_at, smith_contents::specs::ElementSegments::table_kinds_at, smith_contents::specs::DataSegments::data_at, smith_contents::specs::DataSegments::counting_at, smith_contents::specs::DrawnBodies::bodies_at, smith_defined::specs::Definitions::items_defined_at, smith_bytes::specs::Growth::grow_at, smith_defined::specs::Definitions::type_indices_at, smith_defined::specs::Definitions::tags_at, smith_defined::specs::Definitions::funcs_at, smith_draw_types::specs::TypeUses::is_tag_type, smith_draw_types::specs::TypeUses::is_unshared_function, smith_defined::specs::Definitions::tables_at, smith_defined::specs::Definitions::table_at, smith_draw_types::specs::TableTypes::table_type_at, smith_draw_types::specs::TableTypes::drawn_elements, smith_draw_types::specs::Memories::memory64_at, smith_const_expr::specs::ConstExprs::table_init_at, smith_defined::specs::Definitions::memories_at, smith_draw_types::specs::Memories::memtype_at, smith_draw_types::specs::Memories::shared_memory_at, smith_draw_types::specs::Memories::page_size_at, smith_draw_types::specs::Memories::drawn_pages, smith_draw_types::specs::Memories::likely_pages, smith_defined::specs::Definitions::globals_at, smith_defined::specs::Definitions::global_at, smith_defined::specs::Definitions::initialised_at, smith_draw_types::specs::GlobalTypes::global_type_at, smith_draw_types::specs::Limits::limits64_at, smith_draw_types::specs::Limits::gradually_at, smith_draw_types::specs::Limits::gradual, smith_draw_types::specs::Limits::sixth_power, smith_draw_types::specs::Limits::scaled, smith_draw_types::specs::ValueTypes::val_type_at, smith_draw_types::specs::ValueTypes::ref_type_at, smith_draw_types::specs::ValueTypes::granted_at, smith_draw_types::specs::ValueTypes::heap_type_at, smith_draw_types::specs::ValueTypes::type_index_at, smith_draw_types::specs::ValueTypes::abstract_heap_type_at, smith_draw_types::specs::ValueTypes::sharedness_at, smith_draw_types::specs::Choices::chosen_at, smith_const_expr::specs::ConstExprs::expression_alone_at, smith_const_expr::specs::ConstExprs::expression_at, smith_const_expr::specs::ConstNodes::node_at, smith_const_expr::specs::Constants::constant_at, smith_const_expr::specs::ConstOffers::offers, smith_draw_types::specs::Offered::ancestors, smith_draw_types::specs::Below::is_heap_below, smith_bytes::specs::Draws::choose_at, smith_bytes::specs::Draws::whole_at, smith_bytes::specs::Draws::bool_at, smith_bytes::specs::Draws::range_at, smith_bytes::specs::Draws::digit_count))]
 fn modules()
     ensures flags { module_at false (record two_of_each {
       max_types = 0;

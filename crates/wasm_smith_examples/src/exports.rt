@@ -122,7 +122,7 @@ fn exported_items()
 fn names()
     ensures taken { is_exported ((codes "b", Global, 0) ∷ []) (codes "b") ≡ true }
     ensures not_taken { is_exported ((codes "b", Global, 0) ∷ []) (codes "a") ≡ false }
-    ensures number_behind { export_name_at (([], Global, 0) ∷ []) [] ≡ (codes "1", []) }
+    ensures number_after { export_name_at (([], Global, 0) ∷ []) [] ≡ (codes "1", []) }
     ensures number_twice { export_name_at (([], Global, 0) ∷ (codes "2", Global, 0) ∷ []) []
         ≡ (codes "22", []) }
     ensures new_as_it_is { export_name_at ((codes "b", Global, 0) ∷ []) [] ≡ ([], []) }

@@ -34,16 +34,16 @@ fn available_imports_and_exports()
     ensures available_imports { IsFirstFaulty
         (for_imports untyped (for_exports untyped default_config))
         (Misshapen AvailableImports BadType) }
-    ensures exports_behind_their_fault { ¬ IsFirstFaulty
+    ensures exports_after_their_fault { ¬ IsFirstFaulty
         (for_imports untyped (for_exports untyped default_config)) (Misshapen Exports BadType) }
-    ensures exports_behind_valid_imports { IsFirstFaulty
+    ensures exports_after_valid_imports { IsFirstFaulty
         (for_imports memory_available (for_exports untyped default_config))
         (Misshapen Exports BadType) }
     ensures exports_alone { IsFirstFaulty (for_exports untyped default_config)
         (Misshapen Exports BadType) }
     ensures a_fault_for_another_use { ¬ IsFirstFaulty (for_exports untyped default_config)
         (Misshapen ModuleShape BadType) }
-    ensures want_of_memory_behind_valid_imports { IsFirstFaulty
+    ensures want_of_memory_after_valid_imports { IsFirstFaulty
         (for_imports memory_available (for_exports exporting default_config)) Memory }
     ensures no_choice { ¬ IsFirstFaulty (for_exports exporting default_config) EmptyChoose }
     ensures want_of_memory_without_shapes { ¬ IsFirstFaulty default_config Memory }

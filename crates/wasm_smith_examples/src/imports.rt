@@ -106,7 +106,7 @@ fn names()
     ensures taken { is_taken (import_named (codes "b") (Global number) ∷ []) [] (codes "b") ≡ true }
     ensures of_another_module { is_taken (import_named (codes "b") (Global number) ∷ []) (codes "a")
         (codes "b") ≡ false }
-    ensures number_behind { import_name_at true (import_named [] (Global number) ∷ []) [] []
+    ensures number_after { import_name_at true (import_named [] (Global number) ∷ []) [] []
         ≡ (codes "1", []) }
     ensures number_twice { new_name (is_taken
         (import_named [] (Global number) ∷ import_named (codes "2") (Global number) ∷ []) [])

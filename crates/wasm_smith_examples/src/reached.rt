@@ -48,7 +48,7 @@ fn sources()
     ensures a_function_of_no_type { ¬ BeginsWithMember default_config one_function_type
         (1 ∷ []) function_bytes [] }
     ensures too_few_bytes { ¬ BeginsWithMember default_config [] [] [] (255 ∷ []) }
-    ensures a_flag_behind { BeginsWithRest nothing_may_be [] [] [] [] (1 ∷ 255 ∷ []) }
+    ensures a_flag_after { BeginsWithRest nothing_may_be [] [] [] [] (1 ∷ 255 ∷ []) }
     ensures no_room_for_a_number { ¬ BeginsWithRest nothing_may_be [] [] (pos 7 ∷ []) []
         (1 ∷ 255 ∷ []) }
 {}

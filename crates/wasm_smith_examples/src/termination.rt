@@ -9,11 +9,11 @@ ghost use Rattle.smith_rules_examples.specs.ExampleParts.{number, trapping};
 ghost use Rattle.smith_rules_examples.specs.ExampleModules.{empty_module, two_imports};
 ghost use Rattle.smith_rules_examples.specs.ExampleGiven.{without_gc, raw_body, raw_bytes};
 ghost use Rattle.smith_rules_examples.specs.ExampleGiven.{counting_once, counting_fuel};
-ghost use Rattle.smith_rules_examples.specs.ExampleGiven.{counting_behind};
+ghost use Rattle.smith_rules_examples.specs.ExampleGiven.{counting_after};
 
 fn raw_bodies()
     ensures alone { HasRawBody raw_body }
-    ensures behind_another { HasRawBody (record without_gc { code = trapping ∷ raw_bytes ∷ [] }) }
+    ensures after_another { HasRawBody (record without_gc { code = trapping ∷ raw_bytes ∷ [] }) }
     ensures only_traps { ¬ HasRawBody without_gc }
     ensures no_body { ¬ HasRawBody (empty_module default_config) }
 {}
@@ -21,7 +21,7 @@ fn raw_bodies()
 fn fuel()
     ensures the_first { AddsCounter 4294967295 0 without_gc counting_once }
     ensures the_second { AddsCounter 5 1 counting_once counting_fuel }
-    ensures behind_imported_numbers { AddsCounter 5 2 two_imports counting_behind }
+    ensures after_imported_numbers { AddsCounter 5 2 two_imports counting_after }
     ensures of_another_index { ¬ AddsCounter 5 0 counting_once counting_fuel }
     ensures of_other_fuel { ¬ AddsCounter 6 1 counting_once counting_fuel }
     ensures none { ¬ AddsCounter 5 0 without_gc without_gc }

@@ -15,7 +15,7 @@ ghost use Rattle.smith_rules.specs.Refusals.{AreShapesValid, MayRefuse};
 ghost use Rattle.wasm_smith.specs.Contents.{MayHoldContents, MayRefuseContents};
 ghost use Rattle.wasm_smith.specs.DrawnContents.{TellsImported, AreExportsMade, AreContents};
 ghost use Rattle.wasm_smith.specs.DrawnContents.{HasGrantedContents, HasNoFloatContents};
-ghost use Rattle.wasm_smith.specs.DrawnContents.{imported_in, behind_exports_at};
+ghost use Rattle.wasm_smith.specs.DrawnContents.{imported_in, after_exports_at};
 ghost use Rattle.smith_imports.specs.Imported.{spaces_of};
 
 use crate::build::parts_so_far::PartsSoFar;
@@ -73,8 +73,8 @@ impl Contents {
 
 /// Draws, after the exports `made`, whether a type section is written, a start function, segments
 /// and bodies, in this order, over all imported and defined entities.
-#[tactic(auto, unfolding(crate::specs::DrawnContents::behind_exports_at))]
-pub(crate) fn draw_behind_exports(
+#[tactic(auto, unfolding(crate::specs::DrawnContents::after_exports_at))]
+pub(crate) fn draw_after_exports(
     alloc: Global,
     config: &Config,
     types: &TypeSpace,
@@ -94,7 +94,7 @@ pub(crate) fn draw_behind_exports(
         (spaces_of imported.now) imported.now.type_size made }
 
     // The draw.
-    ensures exact { ReturnsWhy (λ contents. (contents, u.new)) result (behind_exports_at config.now
+    ensures exact { ReturnsWhy (λ contents. (contents, u.new)) result (after_exports_at config.now
         types.now.types (imported_in imported.now) (spaces_of imported.now) made u.old) }
     ensures kept { IfOk result (AreContents config.now types.now.types (imported_in imported.now)
         (spaces_of imported.now) imported.now.type_size) }
@@ -130,7 +130,7 @@ pub(crate) fn draw_behind_exports(
     })
 }
 
-/// Draws the contents after the exports `made`, as [`draw_behind_exports`] does, over all parts of
+/// Draws the contents after the exports `made`, as [`draw_after_exports`] does, over all parts of
 /// `drawn`.
 pub(crate) fn draw_contents(
     alloc: Global,
@@ -150,7 +150,7 @@ pub(crate) fn draw_contents(
 
     // The draw.
     ensures exact { Returns is_lack (λ contents. (contents, u.new)) result
-        (in_full (behind_exports_at config.now drawn.now.types.types
+        (in_full (after_exports_at config.now drawn.now.types.types
         (imported_in drawn.now.imported) (spaces_in drawn.now.imported.spaces) made u.old)) }
     ensures kept { IfOk result
         (AreContents config.now drawn.now.types.types (imported_in drawn.now.imported)
@@ -168,7 +168,7 @@ pub(crate) fn draw_contents(
     ensures left { KeepsPieces u.old u.new }
 {
     let imported = &drawn.imported;
-    draw_behind_exports(
+    draw_after_exports(
         alloc,
         config,
         &drawn.types,

@@ -24,7 +24,7 @@ type_earlier (first ∷ second ∷ before) after order earlier =
 pub returns : goal.returns
 returns c = record {
   type_before_index = first_bad_type ModuleShape default_config twice_wrong short wrong_type;
-  index_behind_type = λ first. type_earlier first.before first.after first.order first.earlier wrong_type;
+  index_after_type = λ first. type_earlier first.before first.after first.order first.earlier wrong_type;
   length_before_all = λ tags long.
       first_too_long ModuleShape default_config (record empty_shape { tags = tags }) (λ short. let few = short.tags in absurd (omega (arith, few, long)));
 }

@@ -3,17 +3,17 @@ use Rattle.smith_bytes.specs.Draws.{range_at, digit_count}
 use Rattle.smith_bytes.proofs.SpelledLemmas.{number_read}
 use Rattle.smith_const_expr.proofs.examples.spelled_constants.Goals as goal
 
-pub returns-clause-behind_a_choice : goal.returns-clause-behind_a_choice
+pub returns-clause-after_a_choice : goal.returns-clause-after_a_choice
 unfolding digit_count
-returns-clause-behind_a_choice c =
+returns-clause-after_a_choice c =
     record { first = 0 ∷ []; second = 7 ∷ 0 ∷ 0 ∷ 0 ∷ []; is_first = record { digits = refl; read = refl }; is_second = record { four = refl; read = refl }; whole = refl }
 
-pub returns-clause-behind_the_other_choice : goal.returns-clause-behind_the_other_choice
+pub returns-clause-after_the_other_choice : goal.returns-clause-after_the_other_choice
 unfolding range_at digit_count
-returns-clause-behind_the_other_choice c = λ h.
+returns-clause-after_the_other_choice c = λ h.
     let read : range_at 0 1 (1 ∷ 7 ∷ 0 ∷ 0 ∷ 0 ∷ []) ≡ (0, h.second) = ap (range_at 0 1) h.whole ∙ number_read 0 0 1 h.first h.second h.is_first in
     let first : 1 ≡ 0 = ap (λ (d : ℕ × List ℕ). d.0) read in
     cc first
 
 pub returns-clause-an_expression : goal.returns-clause-an_expression
-returns-clause-an_expression c = record { number = _; alone = refl; spelled = returns-clause-behind_a_choice _ }
+returns-clause-an_expression c = record { number = _; alone = refl; spelled = returns-clause-after_a_choice _ }

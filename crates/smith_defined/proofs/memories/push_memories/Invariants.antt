@@ -4,12 +4,12 @@ use Rattle.smith_config.specs.Features.{features_of}
 use Rattle.smith_config.specs.EntityBounds.{IsMemoryWithin}
 use Rattle.smith_draw_types.specs.Memories.{memtype_at}
 use Rattle.smith_defined.specs.Defined.{AreAdded}
-use Rattle.smith_defined.proofs.DefinedLoop.{IsBehind}
+use Rattle.smith_defined.proofs.DefinedLoop.{IsAfter}
 use Rattle.smith_defined.proofs.memories.push_memories.Given as goal
 
 abbrev pub invariant-loop-made : goal.invariant-loop-made
 invariant-loop-made l = record {
-  behind : IsBehind (λ _. memtype_at l.config) l.config.min_memories l.config.max_memories l.fn.memories l.memories l.made l.fn.u l.u;
+  following : IsAfter (λ _. memtype_at l.config) l.config.min_memories l.config.max_memories l.fn.memories l.memories l.made l.fn.u l.u;
   valid : All (IsMemoryValid (features_of l.config)) l.fn.memories → All (IsMemoryValid (features_of l.config)) l.memories;
   within : AreAdded (IsMemoryWithin l.config) l.fn.memories l.memories;
 }

@@ -1,5 +1,5 @@
 use Rattle.std.proofs.Common.{refl}
-use Rattle.smith_defined.proofs.GroupedTypeLemmas.{found_in, found_behind}
+use Rattle.smith_defined.proofs.GroupedTypeLemmas.{found_in, found_further}
 use Rattle.smith_defined.proofs.required_types.type_at.Goals as goal
 
 pub returns-then-left-len : goal.returns-then-left-len
@@ -9,5 +9,5 @@ returns-then-left-len c =
 
 pub loop-group-preserved : goal.loop-group-preserved
 loop-group-preserved c =
-    found_behind c.args.groups.now c.loop-group.group-index c.loop-group.left c.args.index c.loop-group.invariant c.group-item.result _ c.loop-group-test.true c.group-item.is (rw c.len.ensures at c.if-left-len.false)
+    found_further c.args.groups.now c.loop-group.group-index c.loop-group.left c.args.index c.loop-group.invariant c.group-item.result _ c.loop-group-test.true c.group-item.is (rw c.len.ensures at c.if-left-len.false)
     (rw c.len-left.ensures refl)

@@ -2,7 +2,7 @@ use Rattle.std.proofs.Common.{true, refl}
 use Rattle.smith_types.specs.EntitySpaces.{spaces_in}
 use Rattle.smith_const_expr.proofs.ConstStepLemmas.{passed_on}
 use Rattle.smith_defined.proofs.KeptOfferLemmas.{kept_over}
-use Rattle.smith_defined.proofs.StandsBehindLemmas.{entities_longer}
+use Rattle.smith_defined.proofs.StandsAfterLemmas.{entities_longer}
 use Rattle.smith_defined.proofs.RequiredExportLemmas.{is_over, required_more, export_refused}
 use Rattle.smith_defined.proofs.shape_exports.make_export.Goals as goal
 

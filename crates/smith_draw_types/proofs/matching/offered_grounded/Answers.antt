@@ -2,7 +2,7 @@ use Rattle.std.proofs.Common.{◌∙◌, drop, sym, arith}
 use Rattle.std.specs.Prelude.{filter}
 use Rattle.smith_draw_types.specs.Grounding.{is_grounded}
 use Rattle.smith_draw_types.specs.Offered.{gc_subtypes}
-use Rattle.smith_draw_types.proofs.GroundedLoop.{found_here, found_later, found_behind, never_missed}
+use Rattle.smith_draw_types.proofs.GroundedLoop.{found_here, found_later, found_further, never_missed}
 use Rattle.smith_draw_types.proofs.matching.offered_grounded.Goals.{then-found+else-left-eq0, else-found}
 use Rattle.smith_draw_types.proofs.matching.offered_grounded.Goals as goal
 
@@ -20,7 +20,7 @@ loop-at-preserved c =
     let at = rw c.types-space.ensures at c.offered_subtype-other.ensures in
     elim c.if-found.branch [
       | then-found+else-left-eq0 w ↦ rw w.left-is (found_later (is_grounded context) offered c.loop-at.at c.offered_subtype-other.result at c.loop-at.left _ (sym c.is_grounded-found.ensures ∙ w.if-found.true) (omega (arith, w.if-left-eq0.false)) c.loop-at.invariant)
-      | else-found w ↦ rw w.left-is (found_behind (is_grounded context) offered c.loop-at.at c.offered_subtype-other.result at c.loop-at.left _ (sym c.is_grounded-found.ensures ∙ w.if-found.false) c.loop-at.invariant)
+      | else-found w ↦ rw w.left-is (found_further (is_grounded context) offered c.loop-at.at c.offered_subtype-other.result at c.loop-at.left _ (sym c.is_grounded-found.ensures ∙ w.if-found.false) c.loop-at.invariant)
     ]
 
 pub returns : goal.returns

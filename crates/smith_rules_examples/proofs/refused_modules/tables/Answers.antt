@@ -1,4 +1,4 @@
-use Rattle.smith_rules_examples.proofs.Common.{rules, arith, [], ◌∷◌, Some, None, pos, false, sym, subst, refl, same_Some, funcref, common_steps, IsConstExpr, nullable, plain, TableType, Ref, I32Const, GlobalGet, RefNull, IsRefBelow-refl, by_cases_from_below, each_place, IsTableDefined, table_context, table, global, no_function, table_from_import, table_behind, one_table}
+use Rattle.smith_rules_examples.proofs.Common.{rules, arith, [], ◌∷◌, Some, None, pos, false, sym, subst, refl, same_Some, funcref, common_steps, IsConstExpr, nullable, plain, TableType, Ref, I32Const, GlobalGet, RefNull, IsRefBelow-refl, by_cases_from_below, each_place, IsTableDefined, table_context, table, global, no_function, table_from_import, table_after, one_table}
 use Rattle.smith_data.specs.declared.value_type.AbstractHeapType.TheVariants as heap
 use Rattle.smith_rules_examples.proofs.PartExamples.{alone, pushed_alone, no_function_given}
 use Rattle.smith_rules_examples.proofs.RefusedExamples.{null_refused}
@@ -27,10 +27,10 @@ returns c = record {
       let (stands, at, started) = valid.tables 0 (Some (I32Const (pos 0) ∷ [])) refl in
       let (gc, expression) = started in
       number_is_no_reference (subst (λ (one : TableType). IsConstExpr (table_context one_table) (Ref one.element_type) (I32Const (pos 0) ∷ [])) (sym (same_Some (table funcref 1 None) stands at)) expression);
-  behind_an_imported_one = record { tables = each_place (IsTableDefined (table_behind no_function)) (Some no_function ∷ []) ((table funcref 1 None, refl, (refl, no_function_given (table_context (table_behind no_function)) refl)), tt); globals = search rules };
+  after_an_imported_one = record { tables = each_place (IsTableDefined (table_after no_function)) (Some no_function ∷ []) ((table funcref 1 None, refl, (refl, no_function_given (table_context (table_after no_function)) refl)), tt); globals = search rules };
   by_the_references_of_an_imported_one = λ valid.
       let extern = plain heap.Extern in
-      let context = table_context (table_behind (RefNull extern ∷ [])) in
+      let context = table_context (table_after (RefNull extern ∷ [])) in
       let (stands, at, started) = valid.tables 0 (Some (RefNull extern ∷ [])) refl in
       let (gc, expression) = started in
       let known : IsConstExpr context (Ref funcref) (RefNull extern ∷ []) = subst (λ (one : TableType). IsConstExpr context (Ref one.element_type) (RefNull extern ∷ [])) (sym (same_Some (table funcref 1 None) stands at)) expression in

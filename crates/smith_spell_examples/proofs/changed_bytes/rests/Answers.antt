@@ -12,8 +12,8 @@ use Rattle.smith_spell_examples.proofs.SpelledExamples.{one_odd, bool_first, any
 use Rattle.smith_spell_examples.proofs.changed_bytes.rests.Goals as goal
 
 -- the bytes after the globals, from the exports on
-Behind : List (List ℕ) → List ℕ → Type 0
-Behind passive = Joined (SpellsNone 100) (Joined SpellsAnyByte (Joined (SpellsNoStart default_config [] []) (SpellsSegments default_config passive)))
+Following : List (List ℕ) → List ℕ → Type 0
+Following passive = Joined (SpellsNone 100) (Joined SpellsAnyByte (Joined (SpellsNoStart default_config [] []) (SpellsSegments default_config passive)))
 
 -- the bytes after the sharedness of the number 7
 Mutable : List ℕ → Type 0
@@ -21,8 +21,8 @@ Mutable = Joined (SpellsBool true) (Joined (SpellsNumber 0 0 1) (SpellsI32 (pos 
 
 -- the class of a global
 asked : (tables memories next class : ℕ) (b : List ℕ) → SpellsRest default_config [] [] (pos 7 ∷ []) [] (tables ∷ memories ∷ next ∷ class ∷ b)
-    → (tables % 2 ≡ 0) × ((memories % 2 ≡ 0) × ((next % 2 ≡ 1) × ((0 ≡ 0 + big_endian (class ∷ []) % (5 - 0 + 1)) × Joined Mutable (Joined (SpellsBool false) (Behind [])) b)))
-unfolding SpellsRest SpellsGlobal Listed Behind Mutable digit_count
+    → (tables % 2 ≡ 0) × ((memories % 2 ≡ 0) × ((next % 2 ≡ 1) × ((0 ≡ 0 + big_endian (class ∷ []) % (5 - 0 + 1)) × Joined Mutable (Joined (SpellsBool false) (Following [])) b)))
+unfolding SpellsRest SpellsGlobal Listed Following Mutable digit_count
 asked tables memories next class b h =
     let (table, first) = bool_first h in
     let (memory, second) = bool_first first in
@@ -32,10 +32,10 @@ asked tables memories next class b h =
     (table, (memory, (more, (class, without_nothing (opened (SpellsUnshared default_config) Mutable fourth (λ part is. is))))))
 
 -- the number of a global, and that no global follows
-valued : {mutable choice p q r s last export flag element segment : ℕ} → Joined Mutable (Joined (SpellsBool false) (Behind [])) (mutable ∷ choice ∷ p ∷ q ∷ r ∷ s ∷ last ∷ export ∷ flag ∷ element ∷ segment ∷ [])
+valued : {mutable choice p q r s last export flag element segment : ℕ} → Joined Mutable (Joined (SpellsBool false) (Following [])) (mutable ∷ choice ∷ p ∷ q ∷ r ∷ s ∷ last ∷ export ∷ flag ∷ element ∷ segment ∷ [])
     → (mutable % 2 ≡ 1) × ((0 ≡ 0 + big_endian (choice ∷ []) % (1 - 0 + 1)) × ((pos 7 ≡ cast_signed w32 (little_endian (p ∷ q ∷ r ∷ s ∷ [])))
     × ((last % 2 ≡ 0) × ((export % 2 ≡ 0) × ((element % 2 ≡ 0) × SpellsBool false (segment ∷ []))))))
-unfolding Behind Mutable Listed digit_count
+unfolding Following Mutable Listed digit_count
 valued h =
     let (mutable, first) = bool_first (opened (SpellsBool true) (Joined (SpellsNumber 0 0 1) (SpellsI32 (pos 7))) h (λ part is. is)) in
     let (choice, second) = digit_first refl (opened (SpellsNumber 0 0 1) (SpellsI32 (pos 7)) first (λ part is. is)) in

@@ -21,7 +21,7 @@ use Rattle.smith_config.specs.ExampleMembers.{alone, one_function_type, array_an
 use Rattle.smith_spell.proofs.FamilyFitLemmas.{family_fits}
 use Rattle.smith_spell_examples.proofs.SpellExamples.{holder_in_family}
 use Rattle.smith_spell_examples.proofs.SpelledExamples.{joined, any_byte, one_odd, bool_first, any_first, place_alone, without_nothing}
-use Rattle.smith_spell_examples.proofs.SpelledMemberLemmas.{SpellsBehindGroups, member_read, no_functions, other_number}
+use Rattle.smith_spell_examples.proofs.SpelledMemberLemmas.{SpellsAfterGroups, member_read, no_functions, other_number}
 use Rattle.smith_spell_examples.proofs.changed_bytes.types.Goals as goal
 
 defaults_agree : IsSanitized default_config
@@ -43,23 +43,23 @@ both_fit : GroupsFit default_config [] array_and_struct
 both_fit = search rules
 
 function_read : (bytes : List ℕ) {left : List ℕ} {space : GroupedTypes} → types_at default_config (no_functions default_config) (space_of []) bytes ≡ (space, left) → SpellsMember default_config one_function_type (0 ∷ []) bytes
-    → (space ≡ space_of one_function_type) × SpellsBehindGroups default_config (space_of one_function_type).types (0 ∷ []) left
+    → (space ≡ space_of one_function_type) × SpellsAfterGroups default_config (space_of one_function_type).types (0 ∷ []) left
 function_read bytes {left} {space} drawn h = member_read default_config one_function_type (0 ∷ []) bytes left space defaults_agree refl function_fits drawn h
 
 full_read : (bytes : List ℕ) {left : List ℕ} {space : GroupedTypes} → types_at one_of_each_without_gc (no_functions one_of_each_without_gc) (space_of []) bytes ≡ (space, left) → SpellsMember one_of_each_without_gc (alone taking_a_number ∷ []) (0 ∷ []) bytes
-    → (space ≡ space_of (alone taking_a_number ∷ [])) × SpellsBehindGroups one_of_each_without_gc (space_of (alone taking_a_number ∷ [])).types (0 ∷ []) left
+    → (space ≡ space_of (alone taking_a_number ∷ [])) × SpellsAfterGroups one_of_each_without_gc (space_of (alone taking_a_number ∷ [])).types (0 ∷ []) left
 full_read bytes {left} {space} drawn h = member_read one_of_each_without_gc (alone taking_a_number ∷ []) (0 ∷ []) bytes left space plain_agree refl full_fits drawn h
 
 both_read : (bytes : List ℕ) {left : List ℕ} {space : GroupedTypes} → types_at default_config (no_functions default_config) (space_of []) bytes ≡ (space, left) → SpellsMember default_config array_and_struct [] bytes
-    → (space ≡ space_of array_and_struct) × SpellsBehindGroups default_config (space_of array_and_struct).types [] left
+    → (space ≡ space_of array_and_struct) × SpellsAfterGroups default_config (space_of array_and_struct).types [] left
 both_read bytes {left} {space} drawn h = member_read default_config array_and_struct [] bytes left space defaults_agree refl both_fit drawn h
 
 holder_read : (bytes : List ℕ) {left : List ℕ} {space : GroupedTypes} → types_at with_non_nullable (no_functions with_non_nullable) (space_of []) bytes ≡ (space, left) → SpellsMember with_non_nullable struct_and_holder [] bytes
-    → (space ≡ space_of struct_and_holder) × SpellsBehindGroups with_non_nullable (space_of struct_and_holder).types [] left
+    → (space ≡ space_of struct_and_holder) × SpellsAfterGroups with_non_nullable (space_of struct_and_holder).types [] left
 holder_read bytes {left} {space} drawn h = member_read with_non_nullable struct_and_holder [] bytes left space holder_agrees refl (family_fits with_non_nullable struct_and_holder [] holder_in_family) drawn h
 
 none_read : (bytes : List ℕ) {left : List ℕ} {space : GroupedTypes} → types_at default_config (no_functions default_config) (space_of []) bytes ≡ (space, left) → SpellsMember default_config [] [] bytes
-    → (space ≡ space_of []) × SpellsBehindGroups default_config (space_of []).types [] left
+    → (space ≡ space_of []) × SpellsAfterGroups default_config (space_of []).types [] left
 none_read bytes {left} {space} drawn h = member_read default_config [] [] bytes left space defaults_agree refl tt drawn h
 
 pub returns-clause-a_function : goal.returns-clause-a_function
@@ -88,7 +88,7 @@ returns-clause-a_byte_less c = λ h. let flag = without_nothing (without_nothing
 
 pub returns-clause-a_byte_more : goal.returns-clause-a_byte_more
 unfolding SpellsMember SpellsGroups Listed
-returns-clause-a_byte_more c = λ h. let behind = any_first (without_nothing (without_nothing h)) in cc (without_nothing behind)
+returns-clause-a_byte_more c = λ h. let following = any_first (without_nothing (without_nothing h)) in cc (without_nothing following)
 
 pub returns-clause-another_import_flag : goal.returns-clause-another_import_flag
 unfolding SpellsMember SpellsGroups Listed

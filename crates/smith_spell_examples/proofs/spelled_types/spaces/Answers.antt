@@ -67,7 +67,7 @@ function_spelled =
     joined (1 ∷ []) (1 ∷ 1 ∷ 0 ∷ 0 ∷ []) (joined [] (1 ∷ []) refl (record { digits = refl; read = refl })) types
 
 pub returns-clause-one_group_more : goal.returns-clause-one_group_more
-returns-clause-one_group_more c = record { added = alone plain_function; is_behind = refl; back = search rules; spelled = function_spelled }
+returns-clause-one_group_more c = record { added = alone plain_function; is_after = refl; back = search rules; spelled = function_spelled }
 
 pub returns-clause-a_space : goal.returns-clause-a_space
 unfolding SpellsGroups
@@ -86,13 +86,13 @@ one_part t (part ∷ other ∷ parts) same = cc (ap (λ (space : GroupedTypes). 
 
 pub returns-clause-one_group_that_refers_to_itself : goal.returns-clause-one_group_that_refers_to_itself
 returns-clause-one_group_that_refers_to_itself c = λ spelled.
-    let same : alone (struct_of 0) ≡ spelled.added = ap (λ (space : GroupedTypes). space.types) spelled.is_behind in
+    let same : alone (struct_of 0) ≡ spelled.added = ap (λ (space : GroupedTypes). space.types) spelled.is_after in
     refers_to_itself (subst (ReferBack default_config []) (sym same) spelled.back)
 
 pub returns-clause-one_group_of_other_bytes : goal.returns-clause-one_group_of_other_bytes
 unfolding SpellsGroup digit_count
 returns-clause-one_group_of_other_bytes c = λ spelled.
-    let same : alone plain_function ≡ spelled.added = ap (λ (space : GroupedTypes). space.types) spelled.is_behind in
+    let same : alone plain_function ≡ spelled.added = ap (λ (space : GroupedTypes). space.types) spelled.is_after in
     let group : SpellsGroup default_config [] false (alone plain_function) (2 ∷ 1 ∷ 1 ∷ 0 ∷ 0 ∷ []) = subst (λ (added : List SubType). SpellsGroup default_config [] false added (2 ∷ 1 ∷ 1 ∷ 0 ∷ 0 ∷ [])) (sym same) spelled.spelled in
     cc (digit_first refl (without_nothing (opened SpellsNothing (SpellsNumber 1 0 100) group (λ part is. is)))).0
 

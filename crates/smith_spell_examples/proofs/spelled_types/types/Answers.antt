@@ -17,15 +17,15 @@ returns-clause-an_array_where_types_may_be_shared c =
     let array = joined (0 ∷ []) (0 ∷ 0 ∷ []) (record { digits = refl; read = refl }) (joined (0 ∷ []) (0 ∷ []) (record { digits = refl; read = refl }) stop) in
     record { unshared = refl; form = joined (1 ∷ []) (0 ∷ 0 ∷ 0 ∷ []) not_shared array }
 
-pub returns-clause-behind_an_open_type : goal.returns-clause-behind_an_open_type
+pub returns-clause-after_an_open_type : goal.returns-clause-after_an_open_type
 unfolding SpellsField digit_count
-returns-clause-behind_an_open_type c =
+returns-clause-after_an_open_type c =
     let array = joined (0 ∷ []) (0 ∷ 0 ∷ []) (record { digits = refl; read = refl }) (joined (0 ∷ []) (0 ∷ []) (record { digits = refl; read = refl }) stop) in
     record { root = refl; unshared = refl; form = joined (1 ∷ []) (1 ∷ 0 ∷ 0 ∷ 0 ∷ []) no_supertype (joined (1 ∷ []) (0 ∷ 0 ∷ 0 ∷ []) go (joined [] (0 ∷ 0 ∷ 0 ∷ []) refl array)) }
 
-pub returns-clause-behind_a_final_type : goal.returns-clause-behind_a_final_type
+pub returns-clause-after_a_final_type : goal.returns-clause-after_a_final_type
 unfolding SpellsField digit_count
-returns-clause-behind_a_final_type c =
+returns-clause-after_a_final_type c =
     let array = joined (0 ∷ []) (0 ∷ 0 ∷ []) (record { digits = refl; read = refl }) (joined (0 ∷ []) (0 ∷ []) (record { digits = refl; read = refl }) stop) in
     record { root = refl; unshared = refl; form = joined [] (1 ∷ 0 ∷ 0 ∷ 0 ∷ []) refl (joined (1 ∷ []) (0 ∷ 0 ∷ 0 ∷ []) go (joined [] (0 ∷ 0 ∷ 0 ∷ []) refl array)) }
 

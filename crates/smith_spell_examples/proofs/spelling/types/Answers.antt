@@ -14,9 +14,9 @@ returns-clause-abstract_type c = (refl, joined [] (0 ∷ []) refl (joined [] (0 
 pub returns-clause-sharedness : goal.returns-clause-sharedness
 returns-clause-sharedness c = not_shared
 
-pub returns-clause-a_group_behind_another : goal.returns-clause-a_group_behind_another
+pub returns-clause-a_group_after_another : goal.returns-clause-a_group_after_another
 unfolding digit_count
-returns-clause-a_group_behind_another c = joined (1 ∷ []) (1 ∷ []) no_clone (record { digits = refl; read = refl })
+returns-clause-a_group_after_another c = joined (1 ∷ []) (1 ∷ []) no_clone (record { digits = refl; read = refl })
 
 pub returns-clause-a_group_that_is_cloned : goal.returns-clause-a_group_that_is_cloned
 unfolding digit_count

@@ -2,8 +2,8 @@ use Rattle.smith_types_examples.proofs.Common.{arith, Some, None, refl, IsAlike,
 use Rattle.smith_types_examples.proofs.TypeExamples.{itself_not_before}
 use Rattle.smith_types_examples.proofs.types.orderly.Goals as goal
 
-pub returns-clause-supertype_behind : goal.returns-clause-supertype_behind
-returns-clause-supertype_behind c = λ orderly.
+pub returns-clause-supertype_after : goal.returns-clause-supertype_after
+returns-clause-supertype_after c = λ orderly.
     let (before, alike) = orderly.under 0 1 (open_type (Some 1) empty_struct) refl refl in
     omega (arith, before)
 

@@ -12,8 +12,8 @@ returns-clause-one_below_another c = record {
   shareable = λ never. cc;
 }
 
-pub returns-clause-holding_a_shared_type_behind : goal.returns-clause-holding_a_shared_type_behind
-returns-clause-holding_a_shared_type_behind c =
+pub returns-clause-holding_a_shared_type_after : goal.returns-clause-holding_a_shared_type_after
+returns-clause-holding_a_shared_type_after c =
     let types = shared_type (struct (refers_to 1 ∷ [])) ∷ shared_type plain_func ∷ [] in
     let value = Ref (nullable (Concrete 1)) in
     record {

@@ -20,13 +20,13 @@ none_given Exports e refused = refused
 pub returns : goal.returns
 returns c = record {
   available_imports = record { for_use = AvailableImports; refused = untyped_refused AvailableImports _; earlier = before_imports _ tt };
-  exports_behind_their_fault = λ first.
+  exports_after_their_fault = λ first.
       let config = for_imports untyped (for_exports untyped default_config) in
       no_fault AvailableImports config untyped ((fault_told config Exports BadType first).1 AvailableImports tt) BadType untyped_wrong;
-  exports_behind_valid_imports = record { for_use = Exports; refused = untyped_refused Exports _; earlier = before_exports _ tt (memory_before untyped) };
+  exports_after_valid_imports = record { for_use = Exports; refused = untyped_refused Exports _; earlier = before_exports _ tt (memory_before untyped) };
   exports_alone = record { for_use = Exports; refused = untyped_refused Exports _; earlier = before_exports _ tt tt };
   a_fault_for_another_use = λ first. (fault_told (for_exports untyped default_config) ModuleShape BadType first).0;
-  want_of_memory_behind_valid_imports = record { for_use = Exports; refused = exporting_short; earlier = before_exports _ tt (memory_before exporting) };
+  want_of_memory_after_valid_imports = record { for_use = Exports; refused = exporting_short; earlier = before_exports _ tt (memory_before exporting) };
   no_choice = λ first. no_choice (for_exports exporting default_config) first.for_use (shape_for (for_exports exporting default_config) first.for_use) first.refused;
   want_of_memory_without_shapes = λ first. none_given first.for_use Memory first.refused;
   a_name_twice_for_its_use = first_of (search rules, grind (arith, common_steps));

@@ -6,7 +6,7 @@ unfolding import_name_at new_name text_at len_at range_at digit_count utf8_valid
 returns c = record {
   taken = first_of (search rules, grind (arith, common_steps));
   of_another_module = first_of (search rules, grind (arith, common_steps));
-  number_behind = refl;
+  number_after = refl;
   number_twice = refl;
   repeated = refl;
   new_beside_another_module = refl;

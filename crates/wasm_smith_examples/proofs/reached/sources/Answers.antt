@@ -8,9 +8,9 @@ returns-clause-a_function c = function_first (255 ∷ [])
 pub returns-clause-too_few_bytes : goal.returns-clause-too_few_bytes
 returns-clause-too_few_bytes c = λ h. let short = ap length h.parts in omega (arith, short, length-append h.piece (255 ∷ []))
 
-pub returns-clause-a_flag_behind : goal.returns-clause-a_flag_behind
+pub returns-clause-a_flag_after : goal.returns-clause-a_flag_after
 unfolding SpellsRest Listed
-returns-clause-a_flag_behind c = record {
+returns-clause-a_flag_after c = record {
   may_stand = record { few_globals = omega arith; few_segments = omega arith; bulk = λ off. refl };
   piece = 1 ∷ [];
   after = 255 ∷ [];

@@ -1,5 +1,5 @@
 use Rattle.std.proofs.Common.{arith}
-use Rattle.smith_defined.proofs.StandsBehindLemmas.{defined_end}
+use Rattle.smith_defined.proofs.StandsAfterLemmas.{defined_end}
 use Rattle.smith_contents.specs.declared.exported.Exports.{Exports}
 use Rattle.wasm_smith.specs.FirstParts.{module_so_far}
 use Rattle.wasm_smith.specs.declared.build.contents.Contents.{Contents}

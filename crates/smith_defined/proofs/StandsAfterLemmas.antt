@@ -24,7 +24,7 @@ use Rattle.smith_types.proofs.ListLemmas.{slice_get-grown, slice_get-last, slice
 use Rattle.smith_types.proofs.EntityGrowthLemmas.{AreEntitiesValid-grown}
 use Rattle.smith_config.specs.declared.config.Config.{Config}
 use Rattle.smith_config.specs.Features.{features_of}
-use Rattle.smith_defined.specs.Defined.{StandsBehind, scope_in, IsGlobalInitialised}
+use Rattle.smith_defined.specs.Defined.{StandsAfter, scope_in, IsGlobalInitialised}
 use Rattle.smith_defined.specs.Definitions.{context_at}
 use Rattle.smith_rules.specs.Module.{IsTableInitialised}
 use Rattle.smith_defined.specs.Required.{IsDefinedMore}
@@ -206,7 +206,7 @@ module _ (config : Config) (imported : EntitySpaces) where
           initialised = IsConstExpr-grown (context types spaces end) (context more_types more_spaces end) (context_grown types more_types spaces more_spaces end longer grown) h.global.val_type initial h.initialised;
         }
 
-  module _ (space ours : GroupedTypes) (spaces : EntitySpaces) (defined : Definitions) (now : StandsBehind config imported space spaces defined) (valid : AreTypesValid (features_of config) ours) (longer : Extends space.types ours.types) where
+  module _ (space ours : GroupedTypes) (spaces : EntitySpaces) (defined : Definitions) (now : StandsAfter config imported space spaces defined) (valid : AreTypesValid (features_of config) ours) (longer : Extends space.types ours.types) where
     module _ (added : EntityType) (one : AreEntitiesValid (features_of config) ours.types (entity_spaces added)) where
       abbrev later : EntitySpaces
       later = with_entity spaces added
@@ -256,7 +256,7 @@ module _ (config : Config) (imported : EntitySpaces) where
     ]
 
     -- the entities are valid over more types too
-    pub stands_over : StandsBehind config imported ours spaces defined
+    pub stands_over : StandsAfter config imported ours spaces defined
     stands_over =
         let same : AreSpacesGrown spaces spaces = record { tags = all_kept spaces.tags; funcs = all_kept spaces.funcs; tables = all_kept spaces.tables; memories = all_kept spaces.memories; globals = all_kept spaces.globals } in
         record {
@@ -273,7 +273,7 @@ module _ (config : Config) (imported : EntitySpaces) where
         }
 
     pub stands_more : (added : EntityType) (later : EntitySpaces) (more : Definitions) → AreEntitiesValid (features_of config) ours.types (entity_spaces added) → (0 < length (tag_of added) → IsTrue config.exceptions_enabled)
-        → IsDefinedMore config ours.types spaces defined later more added → StandsBehind config imported ours later more
+        → IsDefinedMore config ours.types spaces defined later more added → StandsAfter config imported ours later more
     stands_more (entity.Tag index) later more one enabled made = rw (made.spaces_are, made.initialised) (record {
       types = valid;
       entities = ours_valid (entity.Tag index) one;

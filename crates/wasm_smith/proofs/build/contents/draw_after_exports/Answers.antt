@@ -1,4 +1,4 @@
-use Rattle.wasm_smith.proofs.build.contents.draw_behind_exports.Goals as goal
+use Rattle.wasm_smith.proofs.build.contents.draw_after_exports.Goals as goal
 
 pub arbitrary_start-start-requires : goal.arbitrary_start-start-requires
 arbitrary_start-start-requires c = rw c.as_slice.ensures c.requires.may.few.funcs

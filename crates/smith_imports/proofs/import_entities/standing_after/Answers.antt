@@ -1,4 +1,4 @@
-use Rattle.smith_imports.proofs.import_entities.standing_behind.Goals as goal
+use Rattle.smith_imports.proofs.import_entities.standing_after.Goals as goal
 
 pub standing-requires : goal.standing-requires
 standing-requires c = rw c.as_slice-funcs.ensures c.requires
