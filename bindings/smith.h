@@ -63,8 +63,9 @@ struct smith_answer smith_text(const uint8_t *config, size_t config_length,
                                const uint8_t *input, size_t input_length,
                                uint8_t *out, size_t out_length);
 
-/* Writes in words, as UTF-8, why smith_binary writes no module, and returns the status of that refusal. The words are missing
- * if there is no memory for them. If there is a module, it writes nothing, and returns SMITH_MADE with length 0. */
+/* Writes in words, as UTF-8, why smith_binary writes no module, and returns the status of that refusal, or SMITH_SHORT if `out` is
+ * too short for the words. The words are missing if there is no memory for them. If there is a module, it writes nothing, and
+ * returns SMITH_MADE with length 0. */
 struct smith_answer smith_refusal(const uint8_t *config, size_t config_length,
                                   const uint8_t *input, size_t input_length,
                                   uint8_t *out, size_t out_length);

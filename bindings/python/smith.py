@@ -33,7 +33,7 @@ def _output(call, config: bytes, given: bytes) -> tuple:
         buffer = ctypes.create_string_buffer(room)
         answer = call(config, len(config), given, len(given), buffer, room)
         if answer.status != _SHORT:
-            return answer.status, buffer.raw[: answer.length]
+            return answer.status, buffer[: answer.length]
         room = answer.length
 
 

@@ -65,18 +65,32 @@ fn made(call: Call, config: &Config, input: &[u8]) -> Result<Vec<u8>, Refused> {
     match output(call, config, input) {
         (MADE, bytes) => Ok(bytes),
         (status, _) => {
-            let words = output(smith_refusal, config, input).1;
-            Err(Refused { status, words: String::from_utf8_lossy(&words).into_owned() })
+            let words = utf8(output(smith_refusal, config, input).1);
+            Err(Refused { status, words })
         }
     }
 }
 
+/// Converts text that the library wrote, which is always UTF-8.
+fn utf8(text: Vec<u8>) -> String {
+    String::from_utf8(text).expect("the library should write UTF-8")
+}
+
 /// Returns the module of `config` and `input`, with bodies of instructions, in the binary format.
+///
+/// # Errors
+///
+/// Returns an error if `config` is wrong, if `input` doesn't reach a minimum of it, if exports would pass the type size, if the module is
+/// too long for the binary format, or if there is not enough memory.
 pub fn module(config: &Config, input: &[u8]) -> Result<Vec<u8>, Refused> {
     made(smith_binary, config, input)
 }
 
 /// Returns the same module in the text format.
+///
+/// # Errors
+///
+/// Returns an error in the same cases as [`module`], except that no module is too long for the text format.
 pub fn text(config: &Config, input: &[u8]) -> Result<String, Refused> {
-    made(smith_text, config, input).map(|text| String::from_utf8_lossy(&text).into_owned())
+    made(smith_text, config, input).map(utf8)
 }

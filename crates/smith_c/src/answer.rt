@@ -5,7 +5,8 @@ ghost use Rattle.smith_c.specs.CallAnswers.{IsPut};
 #[repr(C)]
 #[derive(Clone, Copy, Debug, PartialEq, Eq)]
 pub struct Answer {
-    /// The status: `MADE`, `SHORT`, or the number of a refusal.
+    /// The status: 0 if the output was written, 1 if the buffer is too short for it, or the number of
+    /// a refusal.
     pub status: u32,
     /// The number of bytes of the output, written or not.
     pub length: usize,

@@ -42,8 +42,9 @@ pub extern "C" fn smith_text(alloc: Global, config: &[u8], input: &[u8], out: &m
     }
 }
 
-/// Writes the reason why there is no such module, in words, and returns the number of that refusal.
-/// Writes nothing if there is a module. No clause states the words.
+/// Writes in words why [`smith_binary`] writes no module, and returns the number of that refusal, or
+/// 1 if `out` is too short for the words. Writes nothing if there is a module. No clause states the
+/// words.
 #[unsafe(no_mangle)]
 pub extern "C" fn smith_refusal(
     alloc: Global,

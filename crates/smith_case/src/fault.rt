@@ -27,7 +27,7 @@ pub enum Obstacle {
     NoFurtherType,
     /// No group of types may be cloned.
     NothingToClone,
-    /// The first type may not have subtypes, or there is none.
+    /// The first type may not have subtypes, there is none, or garbage collection is off.
     FinalType,
     /// No type can be that of a tag.
     NoTagType,
@@ -51,7 +51,7 @@ impl Obstacle {
             Obstacle::NoSharedTypes => "no type may be shared",
             Obstacle::NoFurtherType => "no further type is allowed",
             Obstacle::NothingToClone => "nothing may be cloned",
-            Obstacle::FinalType => "the first type has no subtypes",
+            Obstacle::FinalType => "the first type may not have subtypes",
             Obstacle::NoTagType => "no type can be the type of a tag",
             Obstacle::Disorder => "the numbers aren't in order",
             Obstacle::TooManyGlobals => "there are too many globals",

@@ -1,4 +1,4 @@
-use crate::call::{Call, ConfigCall, ModuleCall, ShapeCall};
+use crate::call::{Call, ConfigCall, DrawCall, ModuleCall, ShapeCall};
 use crate::case::Case;
 use crate::fault::Fault;
 
@@ -64,6 +64,7 @@ fn keys_of(call: Call) -> Keys {
         },
         Call::Config(call) => keys_of_config(call),
         Call::Shape(call) => keys_of_shape(call),
+        Call::Draw(DrawCall::Number(_)) => DRAWN,
         Call::Draw(_) => Keys {
             types: true,
             ..DRAWN

@@ -40,7 +40,8 @@ impl fmt::Display for Difference<'_> {
 }
 
 /// Checks that `case` wants an answer, lines, pieces or kinds, and that it has no empty list, no
-/// blank text, and no line after one that matches all further lines.
+/// blank text, no answer that begins with a line for all further lines, and no line after such a
+/// line.
 ///
 /// # Errors
 ///

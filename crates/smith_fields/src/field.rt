@@ -8,7 +8,7 @@ use std::fmt;
 /// The kind of value that a field takes. Each field also takes `null`, which leaves it unchanged.
 #[derive(Clone, Copy, Debug, PartialEq, Eq)]
 pub enum FieldKind {
-    /// A whole number below `2^bits`, written in digits alone.
+    /// A whole number below 2 to the power of this number, written in digits alone.
     Whole(u32),
     /// `true` or `false`.
     Flag,
@@ -27,7 +27,7 @@ impl fmt::Display for FieldKind {
             FieldKind::Whole(bits) => return write!(f, "a whole number below 2^{bits}"),
             FieldKind::Flag => "true or false",
             FieldKind::InstructionKinds => {
-                "a whole number below 2^12 or names of kinds of instructions between commas"
+                "a whole number below 2^12 or names of kinds of instructions separated by commas"
             }
             FieldKind::OffsetChoices => "a list of three whole numbers below 2^32",
             FieldKind::File => "only null, since no file is read",
@@ -87,7 +87,7 @@ macro_rules! fields {
             $row!("const-expr-fuel", Word(ConstExprFuel),
                 "The number of instructions with operands that a constant expression may draw before it is completed by the shortest means."),
             $row!("limit-arrays-in-const-exprs", Flag(LimitArraysInConstExprs),
-                "Whether the length of an array in a constant expression is a small number, paid for with `const_expr_fuel`, instead of any i32 expression."),
+                "Whether the length of an array in a constant expression is a small number, paid for with `const-expr-fuel`, instead of any i32 expression."),
             $row!("allow-start-export", Flag(AllowStartExport),
                 "Whether a module may have a start function."),
             $row!("export-everything", Flag(ExportEverything),
@@ -107,10 +107,10 @@ macro_rules! fields {
             $row!("multi-value-enabled", Flag(MultiValueEnabled),
                 "Functions with several results."),
             $row!("bulk-memory-enabled", Flag(BulkMemoryEnabled),
-                "Passive and declared segments, and segments with an explicit table."),
-            $row!("simd-enabled", Flag(SimdEnabled), "The value type v128."),
-            $row!("exceptions-enabled", Flag(ExceptionsEnabled), "Tags and exception references."),
-            $row!("threads-enabled", Flag(ThreadsEnabled), "Shared memories."),
+                "Passive and declared segments, segments with an explicit table, and instructions that fill, copy and initialise memories and tables."),
+            $row!("simd-enabled", Flag(SimdEnabled), "The value type v128, and vector instructions in bodies."),
+            $row!("exceptions-enabled", Flag(ExceptionsEnabled), "Tags, exception references, and `throw`, `throw_ref` and `try_table` in bodies."),
+            $row!("threads-enabled", Flag(ThreadsEnabled), "Shared memories, and atomic accesses in bodies."),
             $row!("shared-everything-threads-enabled", Flag(SharedEverythingThreadsEnabled),
                 "Shared types, tables, globals and functions."),
             $row!("memory64-enabled", Flag(Memory64Enabled), "64-bit memories and tables."),

@@ -18,7 +18,8 @@ use std::alloc::Global;
 /// # Errors
 ///
 /// Refuses the text at its first fault, reading from the start; [`ConfigRefusal`] names the member
-/// and its line and column.
+/// and its line and column. Refuses it with `OutOfMemory` if an allocation fails; no clause states
+/// the place then.
 pub fn config(alloc: Global, text: &str) -> Result<Config, ConfigRefusal>
     ensures ok { IfOk result (λ config. ReadsText text.now (Ok config)) }
     ensures refused { IfErr result (λ refusal. refusal.fault ≢ Fault.OutOfMemory
@@ -41,7 +42,8 @@ pub fn config(alloc: Global, text: &str) -> Result<Config, ConfigRefusal>
 ///
 /// Refuses the text at its first fault, reading from the start. The members before the fault are
 /// set then. The place of the fault is an offset in `text`, for which [`Refusal::in_text`] finds
-/// the line and the column.
+/// the line and the column. Refuses the text with `OutOfMemory` if an allocation fails; no clause
+/// states the place then, nor which members are set.
 pub fn read_text(alloc: Global, text: &str, config: &mut Config) -> Result<(), Refusal>
     ensures ok { OnOk result (ReadsAlone config.old text.now (Ok (config.new, []))) }
     ensures refused { IfErr result (λ refusal. refusal.fault ≢ Fault.OutOfMemory
@@ -66,7 +68,8 @@ pub fn read_text(alloc: Global, text: &str, config: &mut Config) -> Result<(), R
 /// # Errors
 ///
 /// Refuses the object at its first fault. The members before the fault are set then, and the
-/// reader is in the middle of the object.
+/// reader is in the middle of the object. Refuses it with `OutOfMemory` if an allocation fails; no
+/// clause states which members are set then.
 pub fn read_config(
     alloc: Global,
     reader: &mut Reader<'_>,

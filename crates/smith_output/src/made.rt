@@ -33,7 +33,7 @@ pub struct Manner {
 #[derive(Clone, Copy, Debug, PartialEq, Eq, thiserror::Error)]
 pub enum OutputFault {
     /// No module was made, for this reason.
-    #[error("refused: {0:?}")]
+    #[error("refused: {0}")]
     Refused(Error),
     /// A list or a piece of the module is too long for the binary format.
     #[error("the module is too long for the binary format")]
@@ -56,8 +56,8 @@ impl From<Error> for OutputFault {
 ///
 /// # Errors
 ///
-/// Returns `Refused` with the refusal of [`Program::new`], or `TooLong` if the program is too long
-/// for the binary format.
+/// Returns `Refused` with the refusal of [`Program::new`], or with `Memory` if an allocation fails
+/// after it. Returns `TooLong` if the program is too long for the binary format.
 pub fn binary(
     alloc: Global,
     config: Config,
@@ -95,9 +95,10 @@ fn encoded(alloc: Global, program: &Program) -> Result<Vec<u8>, OutputFault>
 ///
 /// # Errors
 ///
-/// Returns `Refused` with the refusal of [`Program::new`], or with `IncorrectFormat(RawBody)` if
-/// calls are to be counted and a body is raw bytes. Returns `TooLong` if the program is too long
-/// for the binary format.
+/// Returns `Refused` with the refusal of [`Program::new`], with `IncorrectFormat(RawBody)` if calls
+/// are to be counted and a body is raw bytes, or with `Memory` if an allocation fails. Returns
+/// `TooLong` if the program is too long for the binary format, or if no index is left for the global
+/// that counts.
 pub fn output(
     alloc: Global,
     config: Config,

@@ -53,8 +53,8 @@ fn write_update<S: Sink>(operation: &str, width: AtomicWidth, sink: &mut S) -> f
     ensures fault { S.failed sink.new ≡ is_err result }
     ensures writes { OnOk result (Writes S.has sink.old 1 sink.new) }
 {
-    write!(sink, "{}.atomic.rmw{}", type_of(width), bits_of(width))?;
-    write!(sink, ".{operation}{}", extended(width))
+    let (ty, bits, extended) = (type_of(width), bits_of(width), extended(width));
+    write!(sink, "{ty}.atomic.rmw{bits}.{operation}{extended}")
 }
 
 // Writes the keyword of an atomic access.

@@ -22,7 +22,7 @@ fn write_block_type<S: Sink>(ty: BlockType, sink: &mut S) -> fmt::Result
     }
 }
 
-/// Writes the start of a block.
+/// Writes `keyword`, and after it the type `ty` of a block or of a result.
 pub(crate) fn write_block<S: Sink>(keyword: &str, ty: BlockType, sink: &mut S) -> fmt::Result
     requires open { S.failed sink.old ≡ false }
     ensures fault { S.failed sink.new ≡ is_err result }

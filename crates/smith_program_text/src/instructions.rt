@@ -20,7 +20,12 @@ use std::fmt;
 /// Writes `instruction` in its plain form, without a line break: the standard's section Text
 /// Format, Instructions.
 ///
-/// Indices are numbers, and blocks have no labels of their own.
+/// Indices are numbers, and blocks have no labels of their own. No write to `sink` may have failed
+/// before.
+///
+/// # Errors
+///
+/// Returns the error of the first write that fails. Nothing is written after it.
 pub fn write_instr<S: Sink>(instruction: &Instr, sink: &mut S) -> fmt::Result
     requires open { S.failed sink.old ≡ false }
     ensures fault { S.failed sink.new ≡ is_err result }

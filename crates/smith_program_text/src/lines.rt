@@ -65,7 +65,8 @@ fn write_line<S: Sink>(instruction: &Instr, depth: usize, sink: &mut S) -> Resul
 }
 
 /// Writes `instructions` in their plain form, one line each. The first is at the depth `depth`, at
-/// two spaces per level, and those of a block are one level deeper than its start and its end.
+/// two spaces per level, and those of a block are one level deeper than its start and its end. No
+/// write to `sink` may have failed before.
 ///
 /// # Errors
 ///
@@ -148,7 +149,8 @@ fn write_lines<S: Sink>(
 }
 
 /// Writes `instructions` as [`write_instrs`] does, with the checks of the counters of fuel
-/// `counters` before them and after the start of each loop.
+/// `counters` before them and after the start of each loop. No write to `sink` may have failed
+/// before.
 ///
 /// # Errors
 ///

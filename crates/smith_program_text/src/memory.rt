@@ -100,7 +100,7 @@ pub(crate) fn write_mem_arg<S: Sink>(at: MemArg, sink: &mut S) -> fmt::Result
     write!(sink, " offset={} align={alignment}", at.offset)
 }
 
-/// Writes an access to the lane `lane` of `2 ^ log2_bytes` bytes; `verb` is its keyword.
+/// Writes an access to the lane `lane` of `2 ^ log2_bytes` bytes; `verb` is `load` or `store`.
 pub(crate) fn write_lane_access<S: Sink>(
     verb: &str,
     log2_bytes: u32,

@@ -55,5 +55,8 @@ fn module(alloc: Global) -> Result<Module, Error> {
 
 #[test]
 fn a_failed_write_is_the_last(rt: HostRuntime) -> Result<(), Fail> {
-    failed_writes_are_last(&module(rt.alloc())?)
+    let module = module(rt.alloc())?;
+    let failed = failed_writes_are_last(&module);
+    drop(module);
+    failed
 }

@@ -10,7 +10,9 @@ fn parameters_of(alloc: Global, input: &[u8]) -> Result<usize, Error> {
     let mut config = Config::default();
     config.max_memories = 2;
     let module = Module::new(alloc, config, &mut Unstructured::new(input))?;
-    Ok(parameters_in(&module))
+    let parameters = parameters_in(&module);
+    drop(module);
+    Ok(parameters)
 }
 
 fn parameters_in(module: &Module) -> usize {
@@ -105,6 +107,6 @@ fn seeded(alloc: Global) -> Result<(usize, usize), Error> {
 }
 
 #[test]
-fn a_seed_has_the_functions_that_are_asked_for(rt: HostRuntime) {
+fn a_seed_has_the_wanted_functions(rt: HostRuntime) {
     assert_eq!(rt; seeded(rt.alloc()).ok(), Some((1, 1)));
 }

@@ -20,10 +20,17 @@ fn is_written<T: TextForm>(alloc: Global, value: &T, wanted: &str) -> Result<(),
     }
 }
 
+// Fails unless `value`, which is dropped, is written as `wanted`.
+fn is_made<T: TextForm + Drop>(alloc: Global, value: T, wanted: &str) -> Result<(), Fail> {
+    let written = is_written(alloc, &value, wanted);
+    drop(value);
+    written
+}
+
 // Fails unless a value was read, and is written as `wanted`.
 fn is_read<T: TextForm + Drop>(alloc: Global, read: Option<T>, wanted: &str) -> Result<(), Fail> {
     match read {
-        Some(value) => is_written(alloc, &value, wanted),
+        Some(value) => is_made(alloc, value, wanted),
         None => Err(Fail::new(format_args!("nothing in place of {wanted}"))),
     }
 }
@@ -245,7 +252,7 @@ fn types_of_functions_are_written(rt: HostRuntime) -> Result<(), Fail> {
     let alloc = rt.alloc();
     for (text, wanted) in &FUNCTION_TYPES {
         let function = CompositeInnerType::Func(function_of(alloc, text)?);
-        is_written(alloc, &sub_type(true, None, false, function), wanted)?;
+        is_made(alloc, sub_type(true, None, false, function), wanted)?;
     }
     Ok(())
 }
@@ -277,19 +284,19 @@ fn structure(alloc: Global, fields: &[FieldType]) -> Result<CompositeInnerType, 
 fn types_of_aggregates_are_written(rt: HostRuntime) -> Result<(), Fail> {
     let alloc = rt.alloc();
     let array = CompositeInnerType::Array(ArrayType(BYTE));
-    is_written(
+    is_made(
         alloc,
-        &sub_type(false, None, false, array),
+        sub_type(false, None, false, array),
         "(sub (array (mut i8)))",
     )?;
-    is_written(
+    is_made(
         alloc,
-        &sub_type(true, Some(0), true, structure(alloc, &FIELDS)?),
+        sub_type(true, Some(0), true, structure(alloc, &FIELDS)?),
         "(sub final 0 (shared (struct (field i16 (mut f64)))))",
     )?;
-    is_written(
+    is_made(
         alloc,
-        &sub_type(false, Some(12), false, structure(alloc, &[])?),
+        sub_type(false, Some(12), false, structure(alloc, &[])?),
         "(sub 12 (struct))",
     )
 }
@@ -306,7 +313,7 @@ fn is_segment_written(
         nullable: true,
         heap_type,
     };
-    is_written(alloc, &ElementSegment { kind, ty, items }, wanted)
+    is_made(alloc, ElementSegment { kind, ty, items }, wanted)
 }
 
 const FUNC: HeapType = HeapType::Abstract {
@@ -382,7 +389,7 @@ fn is_data_written(
     wanted: &str,
 ) -> Result<(), Fail> {
     let init = Items::from_slice(alloc, bytes)?;
-    is_written(alloc, &DataSegment { kind, init }, wanted)
+    is_made(alloc, DataSegment { kind, init }, wanted)
 }
 
 #[test]
@@ -394,5 +401,5 @@ fn data_segments_and_names_are_written(rt: HostRuntime) -> Result<(), Fail> {
     let text = "(data (memory 1) (i64.const -1) \"\\00\\ff\")";
     is_data_written(alloc, active(1), &[0, 255], text)?;
     let name = Name::from_text(alloc, "a\"b\\c\n'é")?;
-    is_written(alloc, &name, "\"a\\\"b\\\\c\\0a'\\c3\\a9\"")
+    is_made(alloc, name, "\"a\\\"b\\\\c\\0a'\\c3\\a9\"")
 }

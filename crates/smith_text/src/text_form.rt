@@ -100,7 +100,7 @@ impl TextForm for u64 {
     }
 }
 
-/// A place in a list, in decimal.
+/// A place in a list or a number of items, in decimal.
 impl TextForm for usize {
     fn write_text<S: Sink>(&self, sink: &mut S) -> fmt::Result {
         sink.write_fmt(*self)

@@ -1,4 +1,4 @@
-use crate::configured::set_config;
+use crate::configured::config_of;
 use crate::corpus::make_corpus;
 use crate::failure::Failure;
 use crate::files::{read_file, read_input, read_text, shows_output, write_file, write_output};
@@ -6,10 +6,8 @@ use crate::warnings::warn;
 use crate::words::{CONFIG, ENSURE_TERMINATION, FUEL, INPUT, OUTPUT, OUTPUT_DIR, WAT};
 use clap::ArgMatches;
 use smith_bytes::Unstructured;
-use smith_config::Config;
 use smith_output::{Form, Manner, output};
 use std::alloc::Global;
-use std::mem;
 
 // The default number of allowed calls and iterations of loops.
 const DEFAULT_FUEL: u32 = 100;
@@ -25,15 +23,14 @@ pub(crate) struct Asked<'m, 'w> {
     pub(crate) manner: Manner,
 }
 
-/// Makes the modules that `matches` requests. Returns the status.
-pub(crate) fn answer(rt: &HostRuntime, matches: &ArgMatches<'_>) -> Result<u8, Failure> {
+/// Makes the modules that `matches` requests.
+pub(crate) fn answer(rt: &HostRuntime, matches: &ArgMatches<'_>) -> Result<(), Failure> {
     let asked = Asked {
         matches,
         config: config_text(rt, matches)?,
         manner: manner_of(matches),
     };
-    make(rt, &asked)?;
-    Ok(0)
+    make(rt, &asked)
 }
 
 /// Reads the text of the configuration file, if there is one.
@@ -73,28 +70,9 @@ pub(crate) fn module_of(
     asked: &Asked<'_, '_>,
     input: &[u8],
 ) -> Result<Vec<u8>, Failure> {
-    let mut config = Config::default();
-    let made = module_under(alloc, asked, input, &mut config);
-    drop(config);
-    made
-}
-
-/// Returns the bytes of the module generated from `input`. Sets `config`, the default, to the
-/// configuration of that module, and consumes it.
-fn module_under(
-    alloc: Global,
-    asked: &Asked<'_, '_>,
-    input: &[u8],
-    config: &mut Config,
-) -> Result<Vec<u8>, Failure> {
     let mut u = Unstructured::new(input);
-    set_config(alloc, asked, config, &mut u)?;
-    Ok(output(alloc, taken(config), asked.manner, &mut u)?)
-}
-
-/// Returns `config`, and leaves the default configuration in its place.
-fn taken(config: &mut Config) -> Config {
-    mem::replace(config, Config::default())
+    let config = config_of(alloc, asked, &mut u)?;
+    Ok(output(alloc, config, asked.manner, &mut u)?)
 }
 
 fn input_of(rt: &HostRuntime, path: Option<&str>) -> Result<Vec<u8>, Failure> {

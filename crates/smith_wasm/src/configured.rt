@@ -6,37 +6,58 @@ use smith_bytes::{Error, Unstructured};
 use smith_config::{Config, MemoryOffsetChoices};
 use smith_fields::{FieldKind, kind_of};
 use smith_json::{Fault, read_text};
-use smith_output::OutputFault;
 use smith_types::InstructionKinds;
 use std::alloc::Global;
-use std::mem;
 use std::str::FromStr;
 
-/// Sets `config`, the default, to the configuration that `asked` requests: the default, or one
-/// drawn from the first bytes of `u` if a word selects it, then the fields of the configuration
-/// file, then the fields that are words.
-pub(crate) fn set_config(
+/// Returns the configuration that `asked` requests: the default, or one drawn from the first bytes
+/// of `u` if a word selects it, with the fields of the configuration file, and then those that are
+/// words.
+pub(crate) fn config_of(
     alloc: Global,
     asked: &Asked<'_, '_>,
-    config: &mut Config,
     u: &mut Unstructured<'_>,
-) -> Result<(), Failure> {
-    if asked.matches.get_flag(ARBITRARY) {
-        set_drawn(Config::arbitrary(u), config)?;
-    }
-    set_from_file(alloc, asked, config)?;
-    set_from_words(alloc, asked, config)
+) -> Result<Config, Failure> {
+    let mut config = first_config(asked, u)?;
+    set_fields(alloc, asked, &mut config).and(Ok(config))
 }
 
-/// Sets `config` to the configuration `drawn`.
-fn set_drawn(drawn: Result<Config, Error>, config: &mut Config) -> Result<(), Failure> {
-    match drawn {
-        Ok(drawn) => {
-            drop(mem::replace(config, drawn));
-            Ok(())
-        }
-        Err(refusal) => Err(Failure::Output(OutputFault::Refused(refusal))),
+/// Returns the configuration before its fields are set.
+fn first_config(asked: &Asked<'_, '_>, u: &mut Unstructured<'_>) -> Result<Config, Failure> {
+    if !asked.matches.get_flag(ARBITRARY) {
+        return Ok(Config::default());
     }
+    match Config::arbitrary(u) {
+        Ok(config) => Ok(config),
+        Err(refusal) => Err(Failure::from(refusal)),
+    }
+}
+
+/// Checks the configuration that `asked` requests. Of a drawn configuration, which depends on the
+/// input, only the fields are checked that replace drawn ones.
+pub(crate) fn check_config(alloc: Global, asked: &Asked<'_, '_>) -> Result<(), Failure> {
+    let mut config = Config::default();
+    let checked = set_and_check(alloc, asked, &mut config);
+    drop(config);
+    checked
+}
+
+fn set_and_check(alloc: Global, asked: &Asked<'_, '_>, config: &mut Config) -> Result<(), Failure> {
+    set_fields(alloc, asked, config)?;
+    if asked.matches.get_flag(ARBITRARY) {
+        return Ok(());
+    }
+    config.sanitize();
+    match config.check() {
+        Ok(()) => Ok(()),
+        Err(fault) => Err(Failure::from(Error::Config(fault))),
+    }
+}
+
+/// Sets the fields of the configuration file, and then those that are words.
+fn set_fields(alloc: Global, asked: &Asked<'_, '_>, config: &mut Config) -> Result<(), Failure> {
+    set_from_file(alloc, asked, config)?;
+    set_from_words(alloc, asked, config)
 }
 
 /// Sets the fields that the configuration file names.
@@ -47,6 +68,9 @@ fn set_from_file(alloc: Global, asked: &Asked<'_, '_>, config: &mut Config) -> R
     match read_text(alloc, text.as_str(), config) {
         Ok(()) => Ok(()),
         Err(refusal) => {
+            if refusal.fault == Fault::OutOfMemory {
+                return Err(Failure::from(Error::Memory));
+            }
             let path = String::from_str(alloc, asked.matches.get_str(CONFIG).unwrap_or(""))?;
             Err(Failure::Config(path, refusal.in_text(text.as_str())))
         }
@@ -70,14 +94,14 @@ fn set_from_words(
 /// Sets the field `name` to the value that the word `value` denotes.
 fn set_from_word(
     alloc: Global,
-    name: &'static str,
+    name: &str,
     value: &str,
     config: &mut Config,
 ) -> Result<(), Failure> {
     if is_set(alloc, name, value, config)? {
         return Ok(());
     }
-    Err(Failure::Word(name, String::from_str(alloc, value)?))
+    Err(Failure::Word(format!(in alloc; "{value:?} is not a value of --{name}")?))
 }
 
 /// Sets the field `name` to the value that the word `value` denotes. Returns whether it denotes a
@@ -103,7 +127,7 @@ fn is_plain_set(
     match read_text(alloc, text.as_str(), config) {
         Ok(()) => Ok(true),
         Err(refusal) => match refusal.fault {
-            Fault::OutOfMemory => Err(Failure::Memory),
+            Fault::OutOfMemory => Err(Failure::from(Error::Memory)),
             _ => Ok(false),
         },
     }

@@ -1,3 +1,4 @@
+use smith_bytes::Error;
 use smith_json::ConfigRefusal;
 use smith_output::OutputFault;
 use std::alloc::{AllocError, AllocFailed};
@@ -12,19 +13,17 @@ pub(crate) enum Failure {
     Stream(io::Error),
     /// A configuration file is refused: its path, and why.
     Config(String, ConfigRefusal),
-    /// The value of a word is not a value of the field of that name.
-    Word(&'static str, String),
+    /// A word is not a value of its field: the sentence that says so.
+    Word(String),
     /// A module was not made or not written.
     Output(OutputFault),
     /// A binary is not written to a terminal.
     Terminal,
-    /// Memory was refused.
-    Memory,
 }
 
 impl Failure {
-    /// Returns the status that the program ends with: 2 if its words or its configuration file are
-    /// wrong, else 1.
+    /// Returns the status that the program ends with: 2 if the parser of a word or of the
+    /// configuration file refuses it, or a binary would go to a terminal, else 1.
     pub(crate) fn status(&self) -> u8 {
         match self {
             Failure::Config(..) | Failure::Word(..) | Failure::Terminal => 2,
@@ -43,29 +42,34 @@ impl fmt::Display for Failure {
             Failure::File(path, error) => write!(f, "{path}: {error}"),
             Failure::Stream(error) => write!(f, "{error}"),
             Failure::Config(path, refusal) => write!(f, "{path}: {refusal}"),
-            Failure::Word(name, value) => write!(f, "{value:?} is not a value of --{name}"),
+            Failure::Word(sentence) => f.write_str(sentence.as_str()),
             Failure::Output(fault) => write!(f, "{fault}"),
             Failure::Terminal => f.write_str(TERMINAL),
-            Failure::Memory => f.write_str("refused: Memory"),
         }
     }
 }
 
 impl From<AllocError> for Failure {
     fn from(_refused: AllocError) -> Failure {
-        Failure::Memory
+        Failure::from(Error::Memory)
     }
 }
 
 impl<T: Drop> From<AllocFailed<T>> for Failure {
     fn from(_refused: AllocFailed<T>) -> Failure {
-        Failure::Memory
+        Failure::from(Error::Memory)
     }
 }
 
 impl From<io::Error> for Failure {
     fn from(error: io::Error) -> Failure {
         Failure::Stream(error)
+    }
+}
+
+impl From<Error> for Failure {
+    fn from(refusal: Error) -> Failure {
+        Failure::Output(OutputFault::Refused(refusal))
     }
 }
 

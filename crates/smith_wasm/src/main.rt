@@ -35,10 +35,17 @@ fn run(rt: &HostRuntime) -> Result<u8, Failure> {
     let words: Vec<String> = env::args(rt)?.collect(rt.alloc())?;
     let command = command(rt.alloc())?;
     match command.try_get_matches_from(words.as_slice()) {
-        Ok(matches) => answer(rt, &matches),
+        Ok(matches) => {
+            let answered = answer(rt, &matches);
+            drop(matches);
+            answered.and(Ok(0))
+        }
         Err(error) => {
-            error.print(rt)?;
-            Ok(error.exit_code() as u8)
+            let printed = error.print(rt);
+            let status = error.exit_code() as u8;
+            drop(error);
+            printed?;
+            Ok(status)
         }
     }
 }

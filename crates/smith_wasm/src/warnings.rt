@@ -19,7 +19,7 @@ const WITHOUT_EFFECT: [&str; 11] = [
 
 /// Returns whether the field `name` has no effect.
 pub(crate) fn has_no_effect(name: &str) -> bool {
-    WITHOUT_EFFECT.iter().any(|other| *other == name)
+    WITHOUT_EFFECT.contains(&name)
 }
 
 /// Warns of each field that is set and has no effect.
@@ -34,11 +34,11 @@ pub(crate) fn warn(rt: &HostRuntime, asked: &Asked<'_, '_>) -> Result<(), Failur
 
 /// Returns whether a word, or a text in the configuration file, names the field `name`.
 fn is_given(asked: &Asked<'_, '_>, name: &str) -> bool {
-    asked.matches.get_str(name).is_some()
-        || asked
-            .config
-            .as_ref()
-            .is_some_and(|text| mentions(text.as_str(), name))
+    let is_mentioned = match &asked.config {
+        Some(text) => mentions(text.as_str(), name),
+        None => false,
+    };
+    is_mentioned || asked.matches.get_str(name).is_some()
 }
 
 fn mentions(text: &str, name: &str) -> bool {

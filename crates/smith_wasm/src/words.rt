@@ -122,7 +122,7 @@ static WORDS: [Word; 10] = [
         takes: Takes::Number,
         needs: Some(COUNT),
         excludes: &[],
-        about: "The length of each of these inputs in bytes. The default is 1024.",
+        about: "The length of each pseudorandom input in bytes. The default is 1024.",
     },
     Word {
         name: OUTPUT_DIR,
@@ -146,16 +146,30 @@ pub(crate) fn command<'a>(alloc: Global) -> Result<Command<'a>, Failure> {
 }
 
 /// Adds the words that are not fields.
-fn with_words<'a>(alloc: Global, command: Command<'a>) -> Result<Command<'a>, Failure> {
-    let mut command = command;
+fn with_words<'a>(alloc: Global, mut command: Command<'a>) -> Result<Command<'a>, Failure> {
     for word in &WORDS {
-        command = command.arg(arg_of(alloc, word)?)?;
+        command = with_word(alloc, command, word)?;
     }
     Ok(command)
 }
 
+/// Adds `word` to `command`.
+fn with_word<'a>(
+    alloc: Global,
+    command: Command<'a>,
+    word: &'static Word,
+) -> Result<Command<'a>, Failure> {
+    match arg_of(alloc, word) {
+        Ok(arg) => Ok(command.arg(arg)?),
+        Err(failure) => {
+            drop(command);
+            Err(failure)
+        }
+    }
+}
+
 fn arg_of<'a>(alloc: Global, word: &'static Word) -> Result<Arg<'a>, Failure> {
-    let arg = taking(Arg::new(alloc, word.name), word.takes)
+    let arg = with_value(Arg::new(alloc, word.name), word.takes)
         .long(word.name)
         .help(word.about);
     let arg = match word.short {
@@ -169,7 +183,8 @@ fn arg_of<'a>(alloc: Global, word: &'static Word) -> Result<Arg<'a>, Failure> {
     }
 }
 
-fn taking<'a>(arg: Arg<'a>, takes: Takes) -> Arg<'a> {
+/// Returns `arg` with the value that it takes.
+fn with_value<'a>(arg: Arg<'a>, takes: Takes) -> Arg<'a> {
     match takes {
         Takes::Nothing => arg.action(ArgAction::SetTrue),
         Takes::Text(name) => arg.value_name(name).action(ArgAction::Set),
@@ -181,8 +196,7 @@ fn taking<'a>(arg: Arg<'a>, takes: Takes) -> Arg<'a> {
 }
 
 /// Adds a word for each field of the configuration.
-fn with_fields<'a>(alloc: Global, command: Command<'a>) -> Result<Command<'a>, Failure> {
-    let mut command = command;
+fn with_fields<'a>(alloc: Global, mut command: Command<'a>) -> Result<Command<'a>, Failure> {
     for field in fields() {
         match kind_of(field.name) {
             None | Some(FieldKind::File) => {}

@@ -33,5 +33,8 @@ fn try_module(alloc: Global, module: &Module) -> Result<(), Fail> {
 
 #[test]
 fn binaries(rt: HostRuntime) -> Result<(), Fail> {
-    try_module(rt.alloc(), &module_of_parts(rt.alloc())?)
+    let module = module_of_parts(rt.alloc())?;
+    let tried = try_module(rt.alloc(), &module);
+    drop(module);
+    tried
 }

@@ -93,7 +93,10 @@ fn try_check(alloc: Global, shape: &Shape, which: Which) -> Result<(), Fail> {
 }
 
 fn try_check_for(alloc: Global, which: Which) -> Result<(), Fail> {
-    try_check(alloc, &shape_for(alloc, which)?, which)
+    let shape = shape_for(alloc, which)?;
+    let tried = try_check(alloc, &shape, which);
+    drop(shape);
+    tried
 }
 
 // Checks shapes of each use, the last one without types and exports.

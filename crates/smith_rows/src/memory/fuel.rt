@@ -63,12 +63,18 @@ fn try_module(alloc: Global, module: &mut Module) -> Result<(), Fail> {
     try_beside(alloc, module, text.as_str())
 }
 
+fn try_made(alloc: Global, mut module: Module) -> Result<(), Fail> {
+    let tried = try_module(alloc, &mut module);
+    drop(module);
+    tried
+}
+
 #[test]
 fn a_counter_of_a_function(rt: HostRuntime) -> Result<(), Fail> {
-    try_module(rt.alloc(), &mut function(rt.alloc())?)
+    try_made(rt.alloc(), function(rt.alloc())?)
 }
 
 #[test]
 fn a_counter_of_a_module_of_parts(rt: HostRuntime) -> Result<(), Fail> {
-    try_module(rt.alloc(), &mut module_of_parts(rt.alloc())?)
+    try_made(rt.alloc(), module_of_parts(rt.alloc())?)
 }

@@ -52,7 +52,7 @@ fn made(answer: Result<Module, Error>) -> Ended {
 
 // Settings of a configuration.
 #[derive(Clone, Copy)]
-enum Asked {
+enum Settings {
     Nothing,
     /// At most two imports, and at least one global.
     Imports,
@@ -62,12 +62,12 @@ enum Asked {
     Shape(Which),
 }
 
-fn set_asked(alloc: Global, config: &mut Config, asked: Asked) -> Result<(), Fault> {
-    match asked {
-        Asked::Nothing => {}
-        Asked::Imports => set_imports(config),
-        Asked::EachPart => set_minimums(config),
-        Asked::Shape(which) => return set_shape(alloc, config, which),
+fn set(alloc: Global, config: &mut Config, settings: Settings) -> Result<(), Fault> {
+    match settings {
+        Settings::Nothing => {}
+        Settings::Imports => set_imports(config),
+        Settings::EachPart => set_minimums(config),
+        Settings::Shape(which) => return set_shape(alloc, config, which),
     }
     Ok(())
 }
@@ -77,20 +77,20 @@ fn set_imports(config: &mut Config) {
     config.min_globals = 1;
 }
 
-fn try_asked(alloc: Global, asked: Asked, input: &'static [u8]) -> Result<(), Fail> {
+fn try_module(alloc: Global, settings: Settings, input: &'static [u8]) -> Result<(), Fail> {
     let mut config = Config::default();
-    let tried = try_under(alloc, asked, input, &mut config);
+    let tried = try_under(alloc, settings, input, &mut config);
     drop(config);
     tried
 }
 
 fn try_under(
     alloc: Global,
-    asked: Asked,
+    settings: Settings,
     input: &'static [u8],
     config: &mut Config,
 ) -> Result<(), Fail> {
-    set_asked(alloc, config, asked)?;
+    set(alloc, config, settings)?;
     is_refused_first(alloc, &mut Drawing { config, input })
 }
 
@@ -116,18 +116,18 @@ const ZEROS: &[u8] = &[0; 512];
 #[test]
 fn modules_without_shapes(rt: HostRuntime) -> Result<(), Fail> {
     let alloc = rt.alloc();
-    try_asked(alloc, Asked::Nothing, &[])?;
-    try_asked(alloc, Asked::Nothing, CLONE)?;
-    try_asked(alloc, Asked::Nothing, SEGMENT)?;
-    try_asked(alloc, Asked::Nothing, SPELLED)?;
-    try_asked(alloc, Asked::Imports, GROUP)?;
-    try_asked(alloc, Asked::EachPart, EACH)
+    try_module(alloc, Settings::Nothing, &[])?;
+    try_module(alloc, Settings::Nothing, CLONE)?;
+    try_module(alloc, Settings::Nothing, SEGMENT)?;
+    try_module(alloc, Settings::Nothing, SPELLED)?;
+    try_module(alloc, Settings::Imports, GROUP)?;
+    try_module(alloc, Settings::EachPart, EACH)
 }
 
 #[test]
 fn modules_with_shapes(rt: HostRuntime) -> Result<(), Fail> {
     let alloc = rt.alloc();
-    try_asked(alloc, Asked::Shape(Which::AvailableImports), &[1, 1])?;
-    try_asked(alloc, Asked::Shape(Which::Exports), &[])?;
-    try_asked(alloc, Asked::Shape(Which::ModuleShape), ZEROS)
+    try_module(alloc, Settings::Shape(Which::AvailableImports), &[1, 1])?;
+    try_module(alloc, Settings::Shape(Which::Exports), &[])?;
+    try_module(alloc, Settings::Shape(Which::ModuleShape), ZEROS)
 }

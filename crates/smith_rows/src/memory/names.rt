@@ -13,7 +13,7 @@ enum Kind {
 }
 
 // The names before the draw. The set is full: one more name makes it grow.
-const NAMES: [&str; 3] = ["a", "b", "a-name-of-many-letters-that-stands-already"];
+const NAMES: [&str; 3] = ["a", "b", "a-name-of-many-letters-that-exists-already"];
 
 // The drawn name, of at most fifteen characters.
 const INPUT: &[u8] = &[
@@ -72,7 +72,7 @@ fn named(
     }
 }
 
-fn standing(alloc: Global) -> Result<HashSet<String>, AllocError> {
+fn names_before(alloc: Global) -> Result<HashSet<String>, AllocError> {
     let mut names = HashSet::new(alloc);
     for name in &NAMES {
         let _ = names.insert(String::from_str(alloc, name)?)?;
@@ -83,8 +83,8 @@ fn standing(alloc: Global) -> Result<HashSet<String>, AllocError> {
 fn try_kind(alloc: Global, kind: Kind) -> Result<(), Fail> {
     let mut naming = Naming {
         kind,
-        names: standing(alloc)?,
-        copy: standing(alloc)?,
+        names: names_before(alloc)?,
+        copy: names_before(alloc)?,
     };
     is_refused_first(alloc, &mut naming)
 }

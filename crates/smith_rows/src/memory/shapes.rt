@@ -24,9 +24,9 @@ pub(crate) fn shape_for(alloc: Global, which: Which) -> Result<Shape, Fault> {
     shape_named(alloc, name_for(which))
 }
 
-// Puts `shape` into `slot`, the field of a configuration.
-fn put(slot: &mut Option<Shape>, shape: Shape) {
-    *slot = Some(shape);
+// Puts `value` into `slot`, the field of a configuration.
+fn put<T: Drop>(slot: &mut Option<T>, value: T) {
+    *slot = Some(value);
 }
 
 /// Sets the field of `config` that `which` names to the shape for it. With the module shape, allows

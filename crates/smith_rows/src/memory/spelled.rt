@@ -36,7 +36,10 @@ fn try_shape(alloc: Global, shape: &Shape) -> Result<(), Fail> {
 }
 
 fn try_named(alloc: Global, name: &str) -> Result<(), Fail> {
-    try_shape(alloc, &shape_named(alloc, name)?)
+    let shape = shape_named(alloc, name)?;
+    let tried = try_shape(alloc, &shape);
+    drop(shape);
+    tried
 }
 
 #[test]

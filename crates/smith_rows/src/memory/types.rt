@@ -31,17 +31,24 @@ const GROUPS: [Range<usize>; 2] = [0..2, 2..5];
 impl Tried for Pushes<'_> {
     fn ended(&mut self, alloc: Global) -> Ended {
         let mut types = TypeSpace::new(alloc);
-        for (is_group, standing, groups) in &PUSHES {
-            match push(alloc, &mut types, *is_group, *standing) {
-                Ok(()) => {}
-                Err(Error::Memory) if is_start(self.chain, &types, *standing, *groups) => {
-                    return Ended::Refused;
-                }
-                Err(_) => return Ended::Wrong("the types are others"),
-            }
-        }
-        whole(self.chain, &types)
+        let ended = push_all(alloc, self.chain, &mut types);
+        drop(types);
+        ended
     }
+}
+
+// Pushes all types and groups onto `types`, which is empty. Returns the outcome.
+fn push_all(alloc: Global, chain: &[SubType], types: &mut TypeSpace) -> Ended {
+    for (is_group, count, groups) in &PUSHES {
+        match push(alloc, types, *is_group, *count) {
+            Ok(()) => {}
+            Err(Error::Memory) if is_start(chain, types, *count, *groups) => {
+                return Ended::Refused;
+            }
+            Err(_) => return Ended::Wrong("the types are others"),
+        }
+    }
+    whole(chain, types)
 }
 
 // Returns the outcome of all pushes.
@@ -79,10 +86,10 @@ fn push(alloc: Global, types: &mut TypeSpace, is_group: bool, index: u32) -> Res
     Ok(())
 }
 
-// Returns whether `types` has the first `standing` types of `chain`, the first `groups` groups, and
+// Returns whether `types` has the first `count` types of `chain`, the first `groups` groups, and
 // nothing else.
-fn is_start(chain: &[SubType], types: &TypeSpace, standing: u32, groups: usize) -> bool {
-    types.types().len() == standing as usize
+fn is_start(chain: &[SubType], types: &TypeSpace, count: u32, groups: usize) -> bool {
+    types.types().len() == count as usize
         && types.rec_groups().len() == groups
         && GROUPS.starts_with(types.rec_groups())
         && chain.starts_with(types.types())
@@ -101,5 +108,7 @@ fn try_pushes(alloc: Global, shape: &Shape) -> Result<(), Fail> {
 #[test]
 fn types(rt: HostRuntime) -> Result<(), Fail> {
     let shape = shape_named(rt.alloc(), "63 structs, each below the one before")?;
-    try_pushes(rt.alloc(), &shape)
+    let tried = try_pushes(rt.alloc(), &shape);
+    drop(shape);
+    tried
 }
