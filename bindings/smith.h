@@ -22,8 +22,8 @@
  * typed over it. smith_binary writes a binary of it. All this is proved for every input. Nothing checks that a caller in C keeps
  * the rules above.
  *
- * {"max-instructions": 0} makes every body `unreachable`. A function may run forever, even the start function, since nothing counts
- * calls or iterations of loops: whoever instantiates a module should set a time limit.
+ * {"max-instructions": 0} makes every body but raw ones `unreachable`. A function may run forever, even the start function: nothing counts
+ * calls or iterations of loops. Whoever instantiates a module should set a time limit.
  */
 #ifndef SMITH_H
 #define SMITH_H
