@@ -26,9 +26,11 @@ pub(crate) fn write_file(rt: &HostRuntime, path: &str, bytes: &[u8]) -> Result<(
 }
 
 /// Writes `bytes` to the file at `path`, which is created or replaced. If not all are written, the
-/// file is removed.
+/// file is removed. A file that can't be opened stays as it is.
 pub(crate) fn write_whole_file(rt: &HostRuntime, path: &str, bytes: &[u8]) -> Result<(), Failure> {
-    let written = fs::write(rt, path, bytes);
+    let mut file = named(rt, path, fs::File::create(rt, path))?;
+    let written = file.write_all(bytes);
+    drop(file);
     if written.is_err() {
         let _ = fs::remove_file(rt, path);
     }
