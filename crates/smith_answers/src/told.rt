@@ -1,6 +1,6 @@
 use smith_bytes::{Error, Unstructured};
 use smith_case::Fault;
-use smith_text::{FromFmt, TextForm};
+use smith_text::{TextForm, text_of};
 use smith_types::{Items, TypeSpace};
 use std::fmt::{Debug, Display};
 
@@ -14,7 +14,10 @@ pub(crate) fn or_memory<E: Drop>(done: Result<(), E>) -> Result<(), Fault> {
 
 /// Appends a line of `value` in the text format.
 pub(crate) fn tell<T: TextForm>(value: &T, answer: &mut String) -> Result<(), Fault> {
-    or_memory((value, "\n").write_text(&mut FromFmt::new(&mut *answer)))
+    match text_of(*answer.allocator(), value) {
+        Ok(text) => tell_line(text.as_str(), answer),
+        Err(_) => Err(Fault::Memory),
+    }
 }
 
 /// Appends a line of `value`.

@@ -7,7 +7,7 @@
 #[cfg(test)]
 mod error_texts;
 #[cfg(test)]
-mod failing_writer;
+mod expecting;
 #[cfg(test)]
 mod instruction_bytes;
 #[cfg(test)]

@@ -1,6 +1,6 @@
 use smith_bytes::Error;
 use smith_case::shapes::{entity_of, function_of, shape_named, val_type_of};
-use smith_text::{FromFmt, TextForm};
+use smith_text::{TextForm, text_of};
 use smith_types::{
     AbstractHeapType, ArrayType, CompositeInnerType, CompositeType, ConstInstr, DataSegment,
     DataSegmentKind, ElementKind, ElementSegment, Elements, FieldType, HeapType, Imports, Items,
@@ -11,8 +11,7 @@ use std::test::Fail;
 
 // Fails unless `value` is written as `wanted`.
 fn is_written<T: TextForm>(alloc: Global, value: &T, wanted: &str) -> Result<(), Fail> {
-    let mut text = String::new(alloc);
-    value.write_text(&mut FromFmt::new(&mut text))?;
+    let text = text_of(alloc, value)?;
     if text.as_str() == wanted {
         Ok(())
     } else {

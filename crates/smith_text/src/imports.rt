@@ -3,7 +3,7 @@ ghost use Rattle.smith_text.specs.Written.{Keeps};
 
 use crate::entities::Indexed;
 use crate::sink::Sink;
-use crate::text_form::TextForm;
+use crate::text_form::{Repeated, TextForm};
 use smith_types::{EntityType, Import, ImportItem, Imports, Items, Name};
 use std::fmt;
 
@@ -128,18 +128,6 @@ impl TextForm for ImportItem {
     }
 }
 
-// Writes the names of a group whose imports have one type.
-fn write_names<S: Sink>(names: &[Name], sink: &mut S) -> fmt::Result
-    requires open { S.failed sink.old ≡ false }
-    ensures fault { S.failed sink.new ≡ is_err result }
-    ensures keeps { OnOk result (Keeps S.has sink.old sink.new) }
-{
-    for name in names {
-        (" (item ", name, ")").write_text(sink)?;
-    }
-    Ok(())
-}
-
 /// An import, or a group on one line, as the compact imports proposal writes it, without indices.
 impl TextForm for Imports {
     fn write_text<S: Sink>(&self, sink: &mut S) -> fmt::Result {
@@ -153,9 +141,8 @@ impl TextForm for Imports {
                 entity_type,
                 names,
             } => {
-                ("(import ", module).write_text(sink)?;
-                write_names(names.as_slice(), sink)?;
-                (" ", entity_type, ")").write_text(sink)
+                let items = Repeated(" (item ", names.as_slice(), ")");
+                (("(import ", module), items, (" ", entity_type, ")")).write_text(sink)
             }
         }
     }

@@ -21,4 +21,4 @@ pub use constants::write_const_instr;
 pub use functions::{BodyText, OwnBodies};
 pub use module::{text, write_with_bodies};
 pub use sink::{FromFmt, Sink};
-pub use text_form::TextForm;
+pub use text_form::{TextForm, text_of};

@@ -7,15 +7,6 @@ use smith_types::{Code, Instructions};
 use std::fmt;
 use wasm_smith::Module;
 
-// Writes the line of the name `name` that lists `values`.
-fn write_values<T: TextForm, S: Sink>(name: &str, values: &[T], sink: &mut S) -> fmt::Result
-    requires open { S.failed sink.old ≡ false }
-    ensures fault { S.failed sink.new ≡ is_err result }
-    ensures keeps { OnOk result (Keeps S.has sink.old sink.new) }
-{
-    ((";; ", name), values, "\n").write_text(sink)
-}
-
 // Writes the line of the raw body of the function `index`: its bytes in hexadecimal.
 fn write_raw_body<S: Sink>(index: usize, bytes: &[u8], sink: &mut S) -> fmt::Result
     requires open { S.failed sink.old ≡ false }
@@ -50,16 +41,21 @@ pub(crate) fn write_notes<S: Sink>(module: &Module, sink: &mut S) -> fmt::Result
     ensures fault { S.failed sink.new ≡ is_err result }
     ensures keeps { OnOk result (Keeps S.has sink.old sink.new) }
 {
+    let flags = (
+        (";; should-encode-types ", module.should_encode_types(), "\n"),
+        (";; should-encode-imports ", module.should_encode_imports(), "\n"),
+    );
+    let numbers = (
+        (";; num-imports ", module.num_imports(), "\n"),
+        (";; type-size ", module.type_size(), "\n"),
+        (";; fuel-globals", module.fuel_globals(), "\n"),
+    );
+    (flags, numbers).write_text(sink)?;
     let code = module.code();
-    let imported = module.funcs().len().saturating_sub(code.len());
-    let encodes_types = [module.should_encode_types()];
-    let encodes_imports = [module.should_encode_imports()];
-    write_values("should-encode-types", &encodes_types, sink)?;
-    write_values("should-encode-imports", &encodes_imports, sink)?;
-    write_values("num-imports", &[module.num_imports()], sink)?;
-    write_values("type-size", &[module.type_size()], sink)?;
-    write_values("fuel-globals", module.fuel_globals(), sink)?;
-    write_raw_bodies(imported, code, sink)?;
-    write_values("interesting-values32", module.interesting_values32(), sink)?;
-    write_values("interesting-values64", module.interesting_values64(), sink)
+    write_raw_bodies(module.funcs().len().saturating_sub(code.len()), code, sink)?;
+    let values = (
+        (";; interesting-values32", module.interesting_values32(), "\n"),
+        (";; interesting-values64", module.interesting_values64(), "\n"),
+    );
+    values.write_text(sink)
 }

@@ -3,10 +3,10 @@ ghost use Rattle.smith_text.specs.Written.{Keeps};
 
 use crate::sink::Sink;
 use crate::strings::write_string;
-use crate::text_form::{Listed, TextForm};
+use crate::text_form::{Listed, Repeated, TextForm};
 use smith_types::{
-    AbstractHeapType, ConstInstr, DataSegment, DataSegmentKind, ElementKind, ElementSegment,
-    Elements, HeapType, Items, Offset, RefType,
+    AbstractHeapType, DataSegment, DataSegmentKind, ElementKind, ElementSegment, Elements,
+    HeapType, Offset, RefType,
 };
 use std::fmt;
 
@@ -57,22 +57,6 @@ fn write_functions<S: Sink>(ty: &RefType, functions: &[u32], sink: &mut S) -> fm
     (("func (;", ty, ";)"), functions).write_text(sink)
 }
 
-fn write_expressions<S: Sink>(
-    ty: &RefType,
-    expressions: &[Items<ConstInstr>],
-    sink: &mut S,
-) -> fmt::Result
-    requires open { S.failed sink.old ≡ false }
-    ensures fault { S.failed sink.new ≡ is_err result }
-    ensures keeps { OnOk result (Keeps S.has sink.old sink.new) }
-{
-    ty.write_text(sink)?;
-    for expression in expressions {
-        (" (item", expression, ")").write_text(sink)?;
-    }
-    Ok(())
-}
-
 // The text after the index of an element segment.
 #[derive(Drop)]
 struct ElementDetails<'a>(&'a ElementSegment);
@@ -86,7 +70,7 @@ impl TextForm for ElementDetails<'_> {
                 write_functions(&segment.ty, functions.as_slice(), sink)
             }
             Elements::Expressions(expressions) => {
-                write_expressions(&segment.ty, expressions.as_slice(), sink)
+                (&segment.ty, Repeated(" (item", expressions.as_slice(), ")")).write_text(sink)
             }
         }
     }

@@ -1,8 +1,10 @@
-ghost use Rattle.std.specs.Prelude.{◌≡◌, false, is_err, OnOk};
+ghost use Rattle.std.specs.Prelude.{◌≡◌, false, is_err, IfErr, OnOk};
 ghost use Rattle.smith_text.specs.Written.{Keeps};
 
-use crate::sink::Sink;
+use crate::sink::{FromFmt, Sink};
+use smith_bytes::Error;
 use smith_types::Items;
+use std::alloc::Global;
 use std::fmt;
 
 /// Plain data with a form in the text format of the standard, and texts made of such parts.
@@ -59,23 +61,27 @@ impl<T: TextForm> TextForm for Option<T> {
     }
 }
 
-// Writes each of `values` after a space.
-fn write_each<T: TextForm, S: Sink>(values: &[T], sink: &mut S) -> fmt::Result
-    requires open { S.failed sink.old ≡ false }
-    ensures fault { S.failed sink.new ≡ is_err result }
-    ensures keeps { OnOk result (Keeps S.has sink.old sink.new) }
-{
-    for item in values {
-        sink.write_str(" ")?;
-        item.write_text(sink)?;
+/// Values, each after a first text and before a second one.
+#[derive(Drop)]
+pub(crate) struct Repeated<'a, T>(
+    pub(crate) &'static str,
+    pub(crate) &'a [T],
+    pub(crate) &'static str,
+);
+
+impl<T: TextForm> TextForm for Repeated<'_, T> {
+    fn write_text<S: Sink>(&self, sink: &mut S) -> fmt::Result {
+        for value in self.1 {
+            (self.0, value, self.2).write_text(sink)?;
+        }
+        Ok(())
     }
-    Ok(())
 }
 
 /// Each value after a space.
 impl<T: TextForm> TextForm for &[T] {
     fn write_text<S: Sink>(&self, sink: &mut S) -> fmt::Result {
-        write_each(self, sink)
+        Repeated(" ", self, "").write_text(sink)
     }
 }
 
@@ -143,5 +149,20 @@ impl<T: TextForm> TextForm for Listed<'_, T> {
             return Ok(());
         }
         (self.0, self.1, self.2).write_text(sink)
+    }
+}
+
+/// Returns the text of `value`, as [`TextForm::write_text`] writes it, allocated from `alloc`.
+///
+/// # Errors
+///
+/// Returns `Memory` if an allocation fails.
+pub fn text_of<T: TextForm>(alloc: Global, value: &T) -> Result<String, Error>
+    ensures memory { IfErr result (λ e. e ≡ Error.Memory) }
+{
+    let mut sink = FromFmt::new(String::new(alloc));
+    match value.write_text(&mut sink) {
+        Ok(()) => Ok(sink.into_string()),
+        Err(fmt::Error) => Err(Error::Memory),
     }
 }

@@ -19,22 +19,25 @@ pub(crate) fn answer_entity(
 ) -> Result<(), Fault>
     requires { IsSanitized over.now.config.now }
 {
-    let Over {
-        alloc,
-        config,
-        spaces,
-        ..
-    } = *over;
     match call {
-        EntityCall::Global => tell_drawn(arbitrary_global_type(alloc, config, spaces, u), answer),
-        EntityCall::Table => tell_drawn(arbitrary_table_type(alloc, config, spaces, u), answer),
-        EntityCall::Mem => tell_drawn(arbitrary_memtype(config, u), answer),
-        EntityCall::Locals => tell_drawn_values(arbitrary_locals(alloc, config, spaces, u), answer),
+        EntityCall::Global => tell_drawn(
+            arbitrary_global_type(over.alloc, over.config, over.spaces, u),
+            answer,
+        ),
+        EntityCall::Table => tell_drawn(
+            arbitrary_table_type(over.alloc, over.config, over.spaces, u),
+            answer,
+        ),
+        EntityCall::Mem => tell_drawn(arbitrary_memtype(over.config, u), answer),
+        EntityCall::Locals => tell_drawn_values(
+            arbitrary_locals(over.alloc, over.config, over.spaces, u),
+            answer,
+        ),
         EntityCall::Tag => {
-            if count_types(TypeUse::Tag, spaces.types.types()) == 0 {
+            if count_types(TypeUse::Tag, over.spaces.types.types()) == 0 {
                 return Err(Fault::NotCallable(Obstacle::NoTagType));
             }
-            tell_drawn(arbitrary_tag_type(alloc, config, spaces, u), answer)
+            tell_drawn(arbitrary_tag_type(over.alloc, over.config, over.spaces, u), answer)
         }
     }
 }

@@ -67,18 +67,16 @@ fn answer_subtype_of_one(
 ) -> Result<(), Fault>
     requires { IsSanitized over.now.config.now }
 {
-    let Over {
-        alloc,
-        config,
-        spaces,
-        ..
-    } = *over;
-    let types = spaces.types.types();
-    if !config.gc_enabled || types.is_empty() || types[0].is_final || spaces.types.depth(0) >= 60 {
+    let types = over.spaces.types;
+    if !over.config.gc_enabled
+        || types.types().is_empty()
+        || types.types()[0].is_final
+        || types.depth(0) >= 60
+    {
         return Err(Fault::NotCallable(Obstacle::FinalType));
     }
     tell_drawn(
-        arbitrary_sub_type_of_super_type(alloc, config, spaces, limit, u),
+        arbitrary_sub_type_of_super_type(over.alloc, over.config, over.spaces, limit, u),
         answer,
     )
 }
@@ -112,17 +110,13 @@ fn answer_type(
     requires may_share { IsTrue bounds.must_share
         → IsTrue over.now.config.now.shared_everything_threads_enabled }
 {
-    let Over {
-        alloc,
-        config,
-        spaces,
-        ..
-    } = *over;
-    let Bounds { limit, .. } = bounds;
     match call {
-        FreeCall::Sub => tell_drawn(arbitrary_sub_type(alloc, config, spaces, limit, u), answer),
+        FreeCall::Sub => tell_drawn(
+            arbitrary_sub_type(over.alloc, over.config, over.spaces, bounds.limit, u),
+            answer,
+        ),
         FreeCall::Composite => tell_drawn(
-            arbitrary_composite_type(alloc, config, spaces, limit, u),
+            arbitrary_composite_type(over.alloc, over.config, over.spaces, bounds.limit, u),
             answer,
         ),
         FreeCall::Struct => tell_part!(arbitrary_struct_type, over, bounds, u, answer),

@@ -89,22 +89,23 @@ fn answer_structure(
 ) -> Result<(), Fault>
     requires { IsSanitized over.now.config.now }
 {
-    let Over {
-        alloc,
-        config,
-        spaces,
-        ..
-    } = *over;
-    let types = spaces.types.types();
+    let types = over.spaces.types.types();
     let Some(ty) = types.get(value::<usize>(over.case, 0)?) else {
         return Err(Fault::Argument(0));
     };
     let CompositeInnerType::Struct(structure) = &ty.composite_type.inner else {
         return Err(Fault::Argument(0));
     };
-    let limit = types.len() as u32;
     tell_drawn(
-        arbitrary_matching_struct_type(alloc, config, spaces, structure, false, limit, u),
+        arbitrary_matching_struct_type(
+            over.alloc,
+            over.config,
+            over.spaces,
+            structure,
+            false,
+            types.len() as u32,
+            u,
+        ),
         answer,
     )
 }
