@@ -2,7 +2,6 @@ ghost use Rattle.std.specs.Prelude.{◌≡◌, ℕ, List, false, is_err, OnOk};
 ghost use Rattle.smith_text.specs.Written.{Keeps, Writes, own_size};
 ghost use Rattle.smith_data.specs.declared.code.Code.{Code};
 
-use crate::module::split_defined;
 use crate::sink::Sink;
 use crate::text_form::{Listed, TextForm};
 use smith_types::{Code, Instructions};
@@ -95,14 +94,12 @@ pub(crate) fn write_functions<B: BodyText, S: Sink>(
     ensures fault { S.failed sink.new ≡ is_err result }
     ensures keeps { OnOk result (Keeps S.has sink.old sink.new) }
 {
-    let (imported, defined) = split_defined(types, code.len());
-    for (place, ty) in defined.iter().enumerate() {
-        let Some(body) = code.get(place) else {
-            break;
-        };
+    let imported = types.len().saturating_sub(code.len());
+    for (place, body) in code.iter().enumerate() {
+        let index = imported.saturating_add(place);
         let locals = Listed("    (local", body.locals.as_slice(), ")\n");
-        let opening = ("  (func (;", imported.saturating_add(place), ";) (type ");
-        (opening, ty, (")\n", locals)).write_text(sink)?;
+        let opening = ("  (func (;", index, ";) (type ");
+        (opening, types.get(index), (")\n", locals)).write_text(sink)?;
         bodies.write_body(place, body, fuel_globals, sink)?;
         sink.write_str("  )\n")?;
     }

@@ -15,9 +15,9 @@ use std::alloc::Global;
 use std::fmt;
 use wasm_smith::Module;
 
-/// Returns the number of items that a module imports, and those of `all` that it defines, which are
-/// the last `defined`.
-pub(crate) fn split_defined<T>(all: &[T], defined: usize) -> (usize, &[T]) {
+// Returns the number of items that a module imports, and those of `all` that it defines, which are
+// the last `defined`.
+fn split_defined<T>(all: &[T], defined: usize) -> (usize, &[T]) {
     let imported = all.len().saturating_sub(defined);
     (imported, all.get(imported..).unwrap_or(&[]))
 }
@@ -71,8 +71,8 @@ fn write_tags<S: Sink>(tags: &[u32], defined: usize, sink: &mut S) -> fmt::Resul
     Ok(())
 }
 
-// Writes those of `globals` that a module defines, which are the last, with their indices and
-// initialisers. The section Text Format, Globals.
+// Writes those of `globals` that a module defines, with their indices and initialisers. The section
+// Text Format, Globals.
 fn write_globals<S: Sink>(
     globals: &[GlobalType],
     initialisers: &[(u32, Items<ConstInstr>)],
@@ -82,10 +82,10 @@ fn write_globals<S: Sink>(
     ensures fault { S.failed sink.new ≡ is_err result }
     ensures keeps { OnOk result (Keeps S.has sink.old sink.new) }
 {
-    let (_, defined) = split_defined(globals, initialisers.len());
-    for (global, (index, initialiser)) in defined.iter().zip(initialisers) {
+    for (index, initialiser) in initialisers {
         let opening = ("  (global (;", index, ";) ");
-        (opening, global, (initialiser, ")\n")).write_text(sink)?;
+        let ty = globals.get(*index as usize);
+        (opening, ty, (initialiser, ")\n")).write_text(sink)?;
     }
     Ok(())
 }

@@ -2,8 +2,8 @@ use Rattle.std.proofs.Common.{◌≡◌, false}
 use Rattle.smith_text.specs.Written.{Keeps}
 use Rattle.smith_text.proofs.module.write_globals.Given as goal
 
-abbrev pub invariant-loop-global : goal.invariant-loop-global
-invariant-loop-global g l = record {
+abbrev pub invariant-loop-index : goal.invariant-loop-index
+invariant-loop-index g l = record {
   unfailed : g.S.Sink.failed l.sink ≡ false;
   keeps : Keeps g.S.Sink.has l.fn.sink l.sink;
 }

@@ -1,9 +1,9 @@
 use Rattle.std.proofs.Common.{◌≡◌, false}
 use Rattle.smith_text.specs.Written.{Keeps}
-use Rattle.smith_text.proofs.text_form.write_each.Given as goal
+use Rattle.smith_text.proofs.text_form.RepeatedTextForm.write_text.Given as goal
 
-abbrev pub invariant-loop-item : goal.invariant-loop-item
-invariant-loop-item g l = record {
+abbrev pub invariant-loop-value : goal.invariant-loop-value
+invariant-loop-value g l = record {
   unfailed : g.S.Sink.failed l.sink ≡ false;
   keeps : Keeps g.S.Sink.has l.fn.sink l.sink;
 }
