@@ -274,11 +274,11 @@ pub enum SpaceCall {
     /// `TypeSpace::composite_type_matches`.
     Matches,
     /// `TypeSpace::push_type`.
-    Pushed,
+    PushType,
     /// `add_type`.
-    Added,
+    AddType,
     /// `list_types`.
-    Listed,
+    ListTypes,
 }
 
 /// The name of the call that makes recorded answers.
@@ -594,9 +594,9 @@ static CALLS: [(&str, Call, usize); 82] = [
     ),
     ("TypeSpace::depth", Call::Space(SpaceCall::Depth), 1),
     ("TypeSpace::size_of", Call::Space(SpaceCall::Size), 1),
-    ("TypeSpace::push_type", Call::Space(SpaceCall::Pushed), 0),
-    ("add_type", Call::Space(SpaceCall::Added), 0),
-    ("list_types", Call::Space(SpaceCall::Listed), 1),
+    ("TypeSpace::push_type", Call::Space(SpaceCall::PushType), 0),
+    ("add_type", Call::Space(SpaceCall::AddType), 0),
+    ("list_types", Call::Space(SpaceCall::ListTypes), 1),
     ("clone", Call::Shape(ShapeCall::Copies), 0),
     (RECORDED, Call::Recorded, 3),
 ];

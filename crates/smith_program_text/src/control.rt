@@ -13,12 +13,8 @@ fn write_block_type<S: Sink>(ty: BlockType, sink: &mut S) -> fmt::Result
 {
     match ty {
         BlockType::Empty => Ok(()),
-        BlockType::Value(value) => {
-            sink.write_str(" (result ")?;
-            value.write_text(sink)?;
-            sink.write_str(")")
-        }
-        BlockType::Func(index) => write!(sink, " (type {index})"),
+        BlockType::Value(value) => (" (result ", value, ")").write_text(sink),
+        BlockType::Func(index) => (" (type ", index, ")").write_text(sink),
     }
 }
 
@@ -70,10 +66,7 @@ pub(crate) fn write_branch_table<S: Sink>(labels: &[u32], last: u32, sink: &mut 
     ensures writes { OnOk result (Writes S.has sink.old 1 sink.new) }
 {
     sink.write_str("br_table")?;
-    for label in labels {
-        (" ", label).write_text(sink)?;
-    }
-    write!(sink, " {last}")
+    (labels, " ", last).write_text(sink)
 }
 
 /// Writes a branch on a cast.

@@ -26,7 +26,7 @@ pub(crate) fn answer_subtype(
 }
 
 // Returns whether the type that `heap_type` names exists.
-fn is_standing(types: &TypeSpace, heap_type: HeapType) -> bool
+fn heap_type_exists(types: &TypeSpace, heap_type: HeapType) -> bool
     ensures { IsTrue result ↔ IsInRange types.now.types heap_type }
 {
     match heap_type {
@@ -37,11 +37,11 @@ fn is_standing(types: &TypeSpace, heap_type: HeapType) -> bool
 }
 
 // Returns whether the type that `value` refers to exists.
-fn is_value_standing(types: &TypeSpace, value: ValType) -> bool
+fn value_exists(types: &TypeSpace, value: ValType) -> bool
     ensures { IsTrue result → IsValInRange types.now.types value }
 {
     match value {
-        ValType::Ref(reference) => is_standing(types, reference.heap_type),
+        ValType::Ref(reference) => heap_type_exists(types, reference.heap_type),
         _ => true,
     }
 }
@@ -51,7 +51,7 @@ fn is_heap_below(types: &TypeSpace, a: &str, b: &str) -> Result<bool, Fault> {
     match (heap_type_of(a), heap_type_of(b)) {
         (None, _) => Err(Fault::Argument(0)),
         (_, None) => Err(Fault::Argument(1)),
-        (Some(a), Some(b)) if is_standing(types, a) && is_standing(types, b) => {
+        (Some(a), Some(b)) if heap_type_exists(types, a) && heap_type_exists(types, b) => {
             Ok(types.heap_type_is_sub_type(a, b))
         }
         _ => Err(MISSING),
@@ -63,7 +63,7 @@ fn is_ref_below(types: &TypeSpace, a: &str, b: &str) -> Result<bool, Fault> {
     match (ref_type_of(a), ref_type_of(b)) {
         (None, _) => Err(Fault::Argument(0)),
         (_, None) => Err(Fault::Argument(1)),
-        (Some(a), Some(b)) if is_standing(types, a.heap_type) && is_standing(types, b.heap_type) =>
+        (Some(a), Some(b)) if heap_type_exists(types, a.heap_type) && heap_type_exists(types, b.heap_type) =>
             { Ok(types.ref_type_is_sub_type(a, b)) }
         _ => Err(MISSING),
     }
@@ -74,7 +74,7 @@ fn is_val_below(types: &TypeSpace, a: &str, b: &str) -> Result<bool, Fault> {
     match (val_type_of(a), val_type_of(b)) {
         (None, _) => Err(Fault::Argument(0)),
         (_, None) => Err(Fault::Argument(1)),
-        (Some(a), Some(b)) if is_value_standing(types, a) && is_value_standing(types, b) => {
+        (Some(a), Some(b)) if value_exists(types, a) && value_exists(types, b) => {
             Ok(types.val_type_is_sub_type(a, b))
         }
         _ => Err(MISSING),

@@ -24,7 +24,7 @@ pub(crate) fn answer_space(
     call: SpaceCall,
     answer: &mut String,
 ) -> Result<(), Fault> {
-    if matches!(call, SpaceCall::Pushed | SpaceCall::Added) {
+    if matches!(call, SpaceCall::PushType | SpaceCall::AddType) {
         return answer_pushes(alloc, case, call, answer);
     }
     let types = types_of(alloc, case)?;
@@ -156,7 +156,7 @@ fn push(call: SpaceCall, types: &mut TypeSpace, added: SubType) -> Result<u32, E
     requires { MayFollow types.old.types added }
 {
     match call {
-        SpaceCall::Added => add_type(types, added),
+        SpaceCall::AddType => add_type(types, added),
         _ => types.push_type(added),
     }
 }
