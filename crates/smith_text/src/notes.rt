@@ -41,9 +41,11 @@ pub(crate) fn write_notes<S: Sink>(module: &Module, sink: &mut S) -> fmt::Result
     ensures fault { S.failed sink.new ≡ is_err result }
     ensures keeps { OnOk result (Keeps S.has sink.old sink.new) }
 {
+    let types = module.should_encode_types();
+    let imports = module.should_encode_imports();
     let flags = (
-        (";; should-encode-types ", module.should_encode_types(), "\n"),
-        (";; should-encode-imports ", module.should_encode_imports(), "\n"),
+        (";; should-encode-types ", types, "\n"),
+        (";; should-encode-imports ", imports, "\n"),
     );
     let numbers = (
         (";; num-imports ", module.num_imports(), "\n"),
@@ -53,9 +55,15 @@ pub(crate) fn write_notes<S: Sink>(module: &Module, sink: &mut S) -> fmt::Result
     (flags, numbers).write_text(sink)?;
     let code = module.code();
     write_raw_bodies(module.funcs().len().saturating_sub(code.len()), code, sink)?;
-    let values = (
-        (";; interesting-values32", module.interesting_values32(), "\n"),
-        (";; interesting-values64", module.interesting_values64(), "\n"),
+    let values32 = (
+        ";; interesting-values32",
+        module.interesting_values32(),
+        "\n",
     );
-    values.write_text(sink)
+    let values64 = (
+        ";; interesting-values64",
+        module.interesting_values64(),
+        "\n",
+    );
+    (values32, values64).write_text(sink)
 }

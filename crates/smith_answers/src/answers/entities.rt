@@ -37,7 +37,10 @@ pub(crate) fn answer_entity(
             if count_types(TypeUse::Tag, over.spaces.types.types()) == 0 {
                 return Err(Fault::NotCallable(Obstacle::NoTagType));
             }
-            tell_drawn(arbitrary_tag_type(over.alloc, over.config, over.spaces, u), answer)
+            tell_drawn(
+                arbitrary_tag_type(over.alloc, over.config, over.spaces, u),
+                answer,
+            )
         }
     }
 }

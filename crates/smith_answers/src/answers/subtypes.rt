@@ -63,8 +63,10 @@ fn is_ref_below(types: &TypeSpace, a: &str, b: &str) -> Result<bool, Fault> {
     match (ref_type_of(a), ref_type_of(b)) {
         (None, _) => Err(Fault::Argument(0)),
         (_, None) => Err(Fault::Argument(1)),
-        (Some(a), Some(b)) if heap_type_exists(types, a.heap_type) && heap_type_exists(types, b.heap_type) =>
-            { Ok(types.ref_type_is_sub_type(a, b)) }
+        (Some(a), Some(b))
+            if heap_type_exists(types, a.heap_type) && heap_type_exists(types, b.heap_type) => {
+            Ok(types.ref_type_is_sub_type(a, b))
+        }
         _ => Err(MISSING),
     }
 }
