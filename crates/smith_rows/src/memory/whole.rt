@@ -4,7 +4,7 @@ use crate::expecting::Expecting;
 use smith_bytes::Error;
 use smith_text::{FromFmt, TextForm, text};
 use std::alloc::Global;
-use std::fmt;
+use std::fmt::{self, Write};
 use wasm_smith::Module;
 
 /// Returns all that `module` has, as text: its text, with the notes, and its configuration.
