@@ -9,8 +9,8 @@ pub struct Case {
     pub name: Option<String>,
     /// The value of `call`.
     pub call: Option<String>,
-    /// Whether there is a configuration under `config`.
-    pub config: Option<()>,
+    /// The offset in bytes of the value of `config`.
+    pub config: Option<usize>,
     /// The value of `input`.
     pub input: Option<String>,
     /// The value of `inputs`.
@@ -207,10 +207,11 @@ fn put<T: Drop>(slot: &mut Option<T>, value: Result<T, Fault>, place: usize) -> 
     Ok(())
 }
 
-// Skips a value.
-fn pass(reader: &mut Reader<'_>) -> Result<(), Fault> {
+// Skips a value, and returns its offset.
+fn pass(reader: &mut Reader<'_>) -> Result<usize, Fault> {
+    let start = reader.offset();
     match reader.skip_value(json::MAX_DEPTH) {
-        Ok(()) => Ok(()),
+        Ok(()) => Ok(start),
         Err(_) => Err(Fault::Syntax(reader.offset())),
     }
 }
@@ -246,24 +247,4 @@ fn read_texts(
         }
     }
     Err(Fault::Syntax(reader.offset()))
-}
-
-/// Moves `reader`, which is at the start of a case of at most `most` keys, to the value of the key
-/// `config`. Returns `false` if the case has no such key, or is no JSON before it.
-pub fn move_to_config(reader: &mut Reader<'_>, most: usize) -> bool {
-    let _ = reader.next();
-    for _ in 0..most {
-        match reader.next_key() {
-            Ok(Some(key)) => {
-                if key == "config" {
-                    return true;
-                }
-                if reader.skip_value(json::MAX_DEPTH).is_err() {
-                    return false;
-                }
-            }
-            _ => return false,
-        }
-    }
-    false
 }

@@ -49,7 +49,7 @@ mod keys;
 pub mod shapes;
 mod wanted;
 
-pub use case::{Case, ShapeNames, Wanted, move_to_config, read_case, text_or};
+pub use case::{Case, ShapeNames, Wanted, read_case, text_or};
 pub use fault::{Fault, Obstacle};
 pub use input::bytes_of;
 pub use keys::check_keys;

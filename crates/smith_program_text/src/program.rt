@@ -16,7 +16,7 @@ ghost use Rattle.smith_text.specs.Written.{Writes};
 use crate::lines::write_counted_instrs;
 use smith_bytes::Error;
 use smith_program::{Body, Program};
-use smith_text::{BodyText, FromFmt, OwnBodies, Sink, write_with_bodies};
+use smith_text::{BodyText, OwnBodies, Sink, text_with_bodies, write_with_bodies};
 use smith_types::Code;
 use std::alloc::Global;
 use std::fmt;
@@ -49,6 +49,13 @@ impl<'a> BodyText for Bodies<'a> {
     }
 }
 
+// Returns the bodies of `program`.
+fn bodies_of(program: &Program) -> Bodies<'_> {
+    Bodies {
+        bodies: program.bodies.as_slice(),
+    }
+}
+
 /// Writes `program` in the text format to `sink`. Requires that no write to it has failed.
 ///
 /// All parts but the bodies are written as the text of the module. The checks of its counters of
@@ -62,10 +69,7 @@ pub fn write_program<S: Sink>(program: &Program, sink: &mut S) -> fmt::Result
     ensures fault { S.failed sink.new ≡ is_err result }
     ensures writes { OnOk result (Writes S.has sink.old 1 sink.new) }
 {
-    let bodies = Bodies {
-        bodies: program.bodies.as_slice(),
-    };
-    write_with_bodies(&program.module, &bodies, sink)
+    write_with_bodies(&program.module, &bodies_of(program), sink)
 }
 
 /// Returns the text of `program`, as [`write_program`] writes it, allocated from `alloc`.
@@ -77,9 +81,5 @@ pub fn text(alloc: Global, program: &Program) -> Result<String, Error>
     ensures memory { IfErr result (λ e. e ≡ Error.Memory) }
     ensures some { IfOk result (λ text. 1 ≤ length (string_bytes text)) }
 {
-    let mut sink = FromFmt::new(String::new(alloc));
-    match write_program(program, &mut sink) {
-        Ok(()) => Ok(sink.into_string()),
-        Err(fmt::Error) => Err(Error::Memory),
-    }
+    text_with_bodies(alloc, &program.module, &bodies_of(program))
 }

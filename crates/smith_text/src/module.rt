@@ -151,6 +151,26 @@ impl TextForm for Module {
     }
 }
 
+/// Returns the text of `module`, as [`write_with_bodies`] writes it, allocated from `alloc`.
+///
+/// # Errors
+///
+/// Returns `Memory` if an allocation fails.
+pub fn text_with_bodies<B: BodyText>(
+    alloc: Global,
+    module: &Module,
+    bodies: &B,
+) -> Result<String, Error>
+    ensures memory { IfErr result (λ e. e ≡ Error.Memory) }
+    ensures some { IfOk result (λ text. 1 ≤ length (string_bytes text)) }
+{
+    let mut sink = FromFmt::new(String::new(alloc));
+    match write_with_bodies(module, bodies, &mut sink) {
+        Ok(()) => Ok(sink.into_string()),
+        Err(fmt::Error) => Err(Error::Memory),
+    }
+}
+
 /// Returns the text of `module`, as [`TextForm::write_text`] writes it, allocated from `alloc`.
 ///
 /// # Errors
@@ -160,9 +180,5 @@ pub fn text(alloc: Global, module: &Module) -> Result<String, Error>
     ensures memory { IfErr result (λ e. e ≡ Error.Memory) }
     ensures some { IfOk result (λ text. 1 ≤ length (string_bytes text)) }
 {
-    let mut sink = FromFmt::new(String::new(alloc));
-    match write_with_bodies(module, &OwnBodies, &mut sink) {
-        Ok(()) => Ok(sink.into_string()),
-        Err(fmt::Error) => Err(Error::Memory),
-    }
+    text_with_bodies(alloc, module, &OwnBodies)
 }

@@ -2,7 +2,7 @@ use crate::told::{or_memory, tell_debug};
 use json::{Reader, Scratch};
 use smith_case::arguments::word;
 use smith_case::shapes::shape_named;
-use smith_case::{Case, Fault, move_to_config};
+use smith_case::{Case, Fault};
 use smith_config::{Config, Shape};
 use smith_json::{ConfigRefusal, Refusal, config, read_config};
 use std::alloc::Global;
@@ -17,7 +17,7 @@ pub(crate) fn set_config(
     case: &Case,
     config: &mut Config,
 ) -> Result<(), Fault> {
-    set_fields(alloc, line, config)?;
+    set_fields(alloc, line, case, config)?;
     set_shapes(alloc, case, config)
 }
 
@@ -57,31 +57,23 @@ pub(crate) fn taken(config: &mut Config) -> Config {
     mem::replace(config, Config::default())
 }
 
-// Sets the fields of the case in `line`.
-fn set_fields(alloc: Global, line: &str, config: &mut Config) -> Result<(), Fault> {
+// Sets the fields of `case`, which `line` holds.
+fn set_fields(alloc: Global, line: &str, case: &Case, config: &mut Config) -> Result<(), Fault> {
+    let Some(start) = case.config else {
+        return Ok(());
+    };
     let mut scratch = Scratch::new(alloc);
-    let mut reader = Reader::new(line, &mut scratch)?;
-    if move_to_config(&mut reader, line.len()) {
-        return read_fields(alloc, line, &mut reader, config);
-    }
-    Ok(())
-}
-
-// Sets the fields of the object that `reader`, which reads `line`, is at.
-fn read_fields(
-    alloc: Global,
-    line: &str,
-    reader: &mut Reader<'_>,
-    config: &mut Config,
-) -> Result<(), Fault> {
-    match read_config(alloc, reader, config) {
+    let text = line.get(start..).unwrap_or("");
+    let mut reader = Reader::new(text, &mut scratch)?;
+    match read_config(alloc, &mut reader, config) {
         Ok(()) => Ok(()),
-        Err(refusal) => Err(fault_of(refusal, line)),
+        Err(refusal) => Err(fault_of(refusal, start, line)),
     }
 }
 
-// Returns the fault of a configuration in `line` that is refused.
-fn fault_of(refusal: Refusal, line: &str) -> Fault {
+// Returns the fault of a configuration that begins at the offset `start` in `line` and is refused.
+fn fault_of(mut refusal: Refusal, start: usize, line: &str) -> Fault {
+    refusal.offset = refusal.offset.saturating_add(start);
     let ConfigRefusal {
         fault,
         field: _,
