@@ -3,7 +3,7 @@
 #![tactic(auto)]
 
 ghost use Rattle.smith_c.specs.CallAnswers.{IsAnswered, IsExplained};
-ghost use Rattle.smith_request.specs.Made.{IsBinary, HasBinary, HasProgram};
+ghost use Rattle.smith_request.specs.Requests.{IsBinary, HasBinary, HasProgram};
 ghost use Rattle.smith_request.specs.Refusals.{IsRefusal, IsTextRefusal};
 
 mod answer;

@@ -98,7 +98,7 @@ pub enum Fault {
     /// The configuration cannot be read.
     Config {
         /// The fault of its text.
-        fault: smith_json::Fault,
+        fault: smith_config_json::Fault,
         /// The line of the fault, from 1.
         line: usize,
         /// The column in that line, from 1.

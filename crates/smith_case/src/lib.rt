@@ -11,9 +11,9 @@
 //!   checksums of the results for generated inputs.
 //! - `args` lists the arguments of the call: numbers in decimal, types and heap types as the text
 //!   format writes them without its abbreviations, function types and entities as shapes write
-//!   them, `true` and `false`, names. The functions of `smith_answers` that make the calls describe
+//!   them, `true` and `false`, names. The functions of `smith_case_answers` that make the calls describe
 //!   each.
-//! - `config` holds the fields of the configuration that are not the default, as `smith_json` reads
+//! - `config` holds the fields of the configuration that are not the default, as `smith_config_json` reads
 //!   them.
 //! - `available-imports`, `exports` and `module-shape` name the shapes of the configuration,
 //!   `shape` the shape that the call is about, and `types` the shape whose types the call draws
@@ -24,7 +24,7 @@
 //!   answer.
 //!
 //! An answer is text: the text of a module as `smith_text` writes it, or of a program as
-//! `smith_program_text` does; for encoded ones the line `8 bytes, SHA-256 93a4..`, and the bytes
+//! `smith_text_program` does; for encoded ones the line `8 bytes, SHA-256 93a4..`, and the bytes
 //! after the word `binary` if there are at most 200; else a line for each value. A refusal is a
 //! line such as `refused: IncorrectFormat(TypeSize)`. After a draw, `left 2` is the number of bytes
 //! left, and `next 0102` the first of them.

@@ -15,7 +15,7 @@
 //! The documentation of `smith_case` explains the keys of a case.
 #![tactic(auto)]
 
-use smith_answers::judge;
+use smith_case_answers::judge;
 use std::io;
 use std::process::ExitCode;
 

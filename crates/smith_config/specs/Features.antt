@@ -1,7 +1,7 @@
 -- The features that a configuration enables. Rules of this project.
 use Rattle.std.specs.Prelude.{ℕ, Bool, true, sum_by, nat_lt, if◌then◌else◌}
-use Rattle.smith_data.specs.Features.{Features}
-use Rattle.smith_data.specs.FeatureBits.{feature_rows}
+use Rattle.smith_syntax.specs.Features.{Features}
+use Rattle.smith_syntax.specs.FeatureBits.{feature_rows}
 use Rattle.smith_config.specs.declared.config.Config.{Config}
 
 -- mutable globals and the first version of the standard always; multi-memory if several memories

@@ -4,7 +4,7 @@ use Rattle.std.proofs.Common.{◌≡◌, ap}
 use Rattle.std.specs.Bool.{Decides}
 use Rattle.std.specs.Cmp.{unsigned_Decides}
 use Rattle.std.proofs.lemmas.Bool.Decides.{Decides-like, Decides-and}
-use Rattle.smith_data.specs.Same.{exact_items, exact_sub, exact_table, exact_memory, exact_global, exact_export, exact_imports}
+use Rattle.smith_syntax.specs.Same.{exact_items, exact_sub, exact_table, exact_memory, exact_global, exact_export, exact_imports}
 use Rattle.smith_config.specs.declared.shape.Shape.{Shape}
 use Rattle.smith_config.specs.contracts.shape.ShapePartialEq.TheImpl.{ghosts as shape_same}
 

@@ -1,7 +1,7 @@
 -- A shape that exports one item of each kind is valid.
 use Rattle.smith_config_examples.proofs.Common.{rules, ℕ, List, [], ◌∷◌, Some, refl, arith, codes, All-cons, All-nil, All-from_recursion, Features, IsOrderly, AreTypesValid, IsTagValid, IsFuncTypeIndex, AreEntitiesValid, IsEntityAt, AreExportsStanding, AreDistinct, Func, SubType, EntityType, ExportKind, I32, I64, F32, final_type, taking, func, plain, nullable, range, memory, table, constant_global, AreTypesValid-single, no_types, default_config, features_of, IsConsistent, shape_spaces, one_of_each_kind}
-use Rattle.smith_data.specs.declared.entity_type.EntityType.TheVariants as entity
-use Rattle.smith_data.specs.declared.value_type.AbstractHeapType.TheVariants as heap
+use Rattle.smith_syntax.specs.declared.entity_type.EntityType.TheVariants as entity
+use Rattle.smith_syntax.specs.declared.value_type.AbstractHeapType.TheVariants as heap
 use Rattle.smith_config_examples.proofs.ChainExamples.{shallow_if_few}
 
 abbrev features : Features

@@ -1,7 +1,7 @@
 -- Lemmas for the examples of shapes.
 use Rattle.smith_config_examples.proofs.Common.{rules, ℕ, List, [], ◌∷◌, refl, arith, codes, All-cons, All-nil, Features, IsOrderly, IsTypeValid, AreTypesValid, EntitySpaces, IsFuncTypeIndex, AreEntitiesValid, IsEntityAt, AreExportsStanding, AreExportsValid, SubType, EntityType, ExportKind, final_type, plain_func, range, AreTypesValid-single, no_types, IsShallow}
-use Rattle.smith_data.specs.declared.entity_type.EntityType.TheVariants as entity
-use Rattle.smith_data.specs.declared.entity_type.ExportKind.TheVariants as kind
+use Rattle.smith_syntax.specs.declared.entity_type.EntityType.TheVariants as entity
+use Rattle.smith_syntax.specs.declared.entity_type.ExportKind.TheVariants as kind
 use Rattle.smith_config_examples.proofs.ChainExamples.{shallow_if_few}
 
 -- the type of the imported function that is exported

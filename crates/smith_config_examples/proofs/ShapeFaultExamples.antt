@@ -1,6 +1,6 @@
 -- Lemmas for the examples of faulty shapes: types that are not valid.
 use Rattle.smith_config_examples.proofs.Common.{◌≡◌, ◌<◌, true, false, List, [], ◌∷◌, Some, None, refl, sym, subst, arith, All-head, same_Some, Features, IsAlike, IsTypeValid, IsGroupValid, AreTypesValid, IsShareable, Val, SubType, open_type, final_type, shared_type, struct, empty_struct, plain_func, constant, range, anyref, referring_type, referring_after, space_of}
-use Rattle.smith_data.specs.declared.value_type.AbstractHeapType.TheVariants as heap
+use Rattle.smith_syntax.specs.declared.value_type.AbstractHeapType.TheVariants as heap
 
 module _ (features : Features) where
   pub below_itself : ¬ AreTypesValid features (space_of ((open_type (Some 0) empty_struct ∷ []) ∷ []))

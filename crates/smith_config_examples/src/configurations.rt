@@ -7,9 +7,9 @@ ghost use Rattle.smith_bytes.specs.declared.error.ConfigFault.TheVariants.{MinAb
 ghost use Rattle.smith_bytes.specs.declared.error.ConfigFault.TheVariants.{MaxTooLarge};
 ghost use Rattle.smith_bytes.specs.declared.error.ConfigFault.TheVariants.{Memory32Bytes};
 ghost use Rattle.smith_bytes.specs.declared.error.ConfigFault.TheVariants.{Memory64Bytes};
-ghost use Rattle.smith_data.specs.Instructions.{every_kind};
+ghost use Rattle.smith_syntax.specs.Instructions.{every_kind};
 ghost use Rattle.smith_config.specs.Config.{default_config};
-ghost use Rattle.smith_data.specs.Features.{every_feature};
+ghost use Rattle.smith_syntax.specs.Features.{every_feature};
 ghost use Rattle.smith_types.specs.ExampleFeatures.{no_features};
 ghost use Rattle.smith_config.specs.Arbitrary.{config_at};
 ghost use Rattle.smith_config.specs.ExampleConfigs.{least_config, counting_bytes, counting_config};

@@ -8,10 +8,10 @@ ghost use Rattle.smith_bytes.specs.declared.error.ShapeFault.TheVariants.{TooLon
 ghost use Rattle.smith_bytes.specs.declared.error.ShapeFault.TheVariants.{Limit, Feature};
 ghost use Rattle.smith_bytes.specs.declared.error.ShapeFault.TheVariants.{DuplicateExport};
 ghost use Rattle.smith_bytes.specs.declared.error.ShapeFault.TheVariants.{NotPlain, LeftOut};
-ghost use Rattle.smith_data.specs.declared.value_type.HeapType.TheVariants.{Concrete, Exact};
-ghost use Rattle.smith_data.specs.declared.value_type.ValType.TheVariants.{I32, V128, Ref};
-ghost use Rattle.smith_data.specs.declared.entity_type.ExportKind.TheVariants as kind;
-ghost use Rattle.smith_data.specs.declared.composite_type.StorageType.TheVariants.{Val};
+ghost use Rattle.smith_syntax.specs.declared.value_type.HeapType.TheVariants.{Concrete, Exact};
+ghost use Rattle.smith_syntax.specs.declared.value_type.ValType.TheVariants.{I32, V128, Ref};
+ghost use Rattle.smith_syntax.specs.declared.entity_type.ExportKind.TheVariants as kind;
+ghost use Rattle.smith_syntax.specs.declared.composite_type.StorageType.TheVariants.{Val};
 ghost use Rattle.smith_types.specs.ExampleTypes.{open_type, final_type, shared_type, struct};
 ghost use Rattle.smith_types.specs.ExampleTypes.{empty_struct, plain_func, giving, constant};
 ghost use Rattle.smith_types.specs.ExampleTypes.{nullable, anyref, referring_type};

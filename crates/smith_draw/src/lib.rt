@@ -1,8 +1,8 @@
 //! Draws of types, entities and constant expressions over the types and index spaces defined so
-//! far: the calls of [`smith_draw_types`] and [`smith_const_expr`] under one name.
+//! far: the calls of [`smith_draw_types`] and [`smith_draw_consts`] under one name.
 #![tactic(auto)]
 
-pub use smith_const_expr::{
+pub use smith_draw_consts::{
     KeptOffers, arbitrary_const_expr, arbitrary_table_init, draw_const_expr, draw_table_init,
     globals_for_const_expr,
 };

@@ -2,10 +2,10 @@
 use Rattle.std.proofs.Common.{◌≡◌, ℕ, ◌<◌, List, ap, sym, ◌∙◌, arith, length}
 use Rattle.std.specs.Prelude.{Option, Some, slice_get}
 use Rattle.smith_types.specs.Expressions.{Context}
-use Rattle.smith_data.specs.declared.entity_type.GlobalType.{GlobalType}
-use Rattle.smith_data.specs.declared.value_type.ValType.{ValType}
-use Rattle.smith_const_expr.specs.KeptOffers.{AreFewRead, readable}
-use Rattle.smith_const_expr.specs.declared.few_items.FewItems.{FewItems}
+use Rattle.smith_syntax.specs.declared.entity_type.GlobalType.{GlobalType}
+use Rattle.smith_syntax.specs.declared.value_type.ValType.{ValType}
+use Rattle.smith_draw_consts.specs.KeptOffers.{AreFewRead, readable}
+use Rattle.smith_draw_consts.specs.declared.few_items.FewItems.{FewItems}
 use Rattle.smith_draw_examples.specs.ExampleKeptOffers.{HasFew}
 
 pub global_at : (context : Context) (few : FewItems) (kinds : List (Option ValType)) (funcs : List ℕ) (i : ℕ) (global : GlobalType)

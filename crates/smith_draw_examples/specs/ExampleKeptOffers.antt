@@ -1,18 +1,18 @@
 -- Records of the offered globals and functions, for the examples.
 use Rattle.std.specs.Prelude.{◌≡◌, ℕ, ◌+◌, Option, None, List, [], ◌∷◌}
-use Rattle.smith_data.specs.declared.value_type.ValType.{ValType}
-use Rattle.smith_data.specs.declared.value_type.ValType.TheVariants.{I32, Ref}
-use Rattle.smith_data.specs.declared.value_type.AbstractHeapType.TheVariants as heap
+use Rattle.smith_syntax.specs.declared.value_type.ValType.{ValType}
+use Rattle.smith_syntax.specs.declared.value_type.ValType.TheVariants.{I32, Ref}
+use Rattle.smith_syntax.specs.declared.value_type.AbstractHeapType.TheVariants as heap
 use Rattle.smith_types.specs.ExampleContexts.{context_types}
 use Rattle.smith_types.specs.ExampleEntities.{constant_global, variable_global}
 use Rattle.smith_types.specs.ExampleTypes.{plain, nullable}
-use Rattle.smith_const_expr.specs.KeptOffers.{AreClasses, AreRecorded, readable}
-use Rattle.smith_const_expr.specs.declared.block_counts.BlockCounts.{BlockCounts}
-use Rattle.smith_const_expr.specs.declared.classes.Classes.{Classes}
-use Rattle.smith_const_expr.specs.declared.few_items.FewItems.{FewItems}
-use Rattle.smith_const_expr.specs.declared.kept_offers.KeptOffer.{KeptOffer}
-use Rattle.smith_const_expr.specs.declared.kept_offers.KeptOffers.{KeptOffers}
-use Rattle.smith_const_expr.specs.declared.kept_offers.ManyItems.{ManyItems}
+use Rattle.smith_draw_consts.specs.KeptOffers.{AreClasses, AreRecorded, readable}
+use Rattle.smith_draw_consts.specs.declared.block_counts.BlockCounts.{BlockCounts}
+use Rattle.smith_draw_consts.specs.declared.classes.Classes.{Classes}
+use Rattle.smith_draw_consts.specs.declared.few_items.FewItems.{FewItems}
+use Rattle.smith_draw_consts.specs.declared.kept_offers.KeptOffer.{KeptOffer}
+use Rattle.smith_draw_consts.specs.declared.kept_offers.KeptOffers.{KeptOffers}
+use Rattle.smith_draw_consts.specs.declared.kept_offers.ManyItems.{ManyItems}
 
 -- the counts of items read: all, those offered, and those offered before each block
 abbrev pub counts : ℕ → ℕ → List ℕ → BlockCounts

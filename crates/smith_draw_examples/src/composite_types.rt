@@ -2,12 +2,12 @@
 // functions.
 
 ghost use Rattle.std.specs.Prelude.{◌≡◌, [], ◌∷◌, replicate, true, false, Some};
-ghost use Rattle.smith_data.specs.declared.composite_type.StorageType.TheVariants.{I8, I16};
-ghost use Rattle.smith_data.specs.declared.value_type.ValType.TheVariants.{I64};
+ghost use Rattle.smith_syntax.specs.declared.composite_type.StorageType.TheVariants.{I8, I16};
+ghost use Rattle.smith_syntax.specs.declared.value_type.ValType.TheVariants.{I64};
 ghost use Rattle.smith_types.specs.ExampleTypes.{constant, variable, empty_struct, struct, array};
 ghost use Rattle.smith_types.specs.ExampleTypes.{plain_func, open_type, final_type};
 ghost use Rattle.smith_types.specs.ExampleTypes.{struct_and_below};
-ghost use Rattle.smith_const_expr.specs.ExampleConstExprs.{context_of_types};
+ghost use Rattle.smith_draw_consts.specs.ExampleConstExprs.{context_of_types};
 ghost use Rattle.smith_config.specs.Config.{default_config};
 ghost use Rattle.smith_draw_types.specs.CompositeTypes.{struct_type_at, func_type_at, composite_type_at};
 ghost use Rattle.smith_draw_types.specs.MatchingComposites.{matching_struct_type_at};

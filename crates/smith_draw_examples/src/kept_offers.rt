@@ -2,20 +2,20 @@
 // nothing calls these functions.
 
 ghost use Rattle.std.specs.Prelude.{◌≡◌, ◌*◌, true, false, None, Some, [], ◌∷◌};
-ghost use Rattle.smith_data.specs.declared.value_type.ValType.TheVariants.{I32, I64, Ref};
-ghost use Rattle.smith_data.specs.declared.value_type.HeapType.TheVariants.{Concrete, Exact};
-ghost use Rattle.smith_data.specs.Features.{every_feature};
+ghost use Rattle.smith_syntax.specs.declared.value_type.ValType.TheVariants.{I32, I64, Ref};
+ghost use Rattle.smith_syntax.specs.declared.value_type.HeapType.TheVariants.{Concrete, Exact};
+ghost use Rattle.smith_syntax.specs.Features.{every_feature};
 ghost use Rattle.smith_types.specs.ExampleFeatures.{usual_features};
 ghost use Rattle.smith_types.specs.ExampleTypes.{nullable, not_null};
 ghost use Rattle.smith_types.specs.ExampleContexts.{context_with};
-ghost use Rattle.smith_const_expr.specs.ExampleConstExprs.{context_of_types};
-ghost use Rattle.smith_const_expr.specs.KeptOffers.{AreAllRead, AreFewRead, AreFlags, AreManyKept};
-ghost use Rattle.smith_const_expr.specs.KeptOffers.{HasReadAll, IsCounted, IsFewWhole, IsKeptOffer};
-ghost use Rattle.smith_const_expr.specs.KeptOffers.{IsWhole};
-ghost use Rattle.smith_const_expr.specs.declared.classes.Classes.{Classes};
-ghost use Rattle.smith_const_expr.specs.declared.few_items.FewItems.{FewItems};
-ghost use Rattle.smith_const_expr.specs.declared.kept_offers.KeptOffers.{KeptOffers};
-ghost use Rattle.smith_const_expr.specs.declared.kept_offers.ManyItems.{ManyItems};
+ghost use Rattle.smith_draw_consts.specs.ExampleConstExprs.{context_of_types};
+ghost use Rattle.smith_draw_consts.specs.KeptOffers.{AreAllRead, AreFewRead, AreFlags, AreManyKept};
+ghost use Rattle.smith_draw_consts.specs.KeptOffers.{HasReadAll, IsCounted, IsFewWhole, IsKeptOffer};
+ghost use Rattle.smith_draw_consts.specs.KeptOffers.{IsWhole};
+ghost use Rattle.smith_draw_consts.specs.declared.classes.Classes.{Classes};
+ghost use Rattle.smith_draw_consts.specs.declared.few_items.FewItems.{FewItems};
+ghost use Rattle.smith_draw_consts.specs.declared.kept_offers.KeptOffers.{KeptOffers};
+ghost use Rattle.smith_draw_consts.specs.declared.kept_offers.ManyItems.{ManyItems};
 ghost use Rattle.smith_draw_examples.specs.ExampleKeptOffers.{counts, unread, kept_for, functions};
 ghost use Rattle.smith_draw_examples.specs.ExampleKeptOffers.{to_functions, numbers, HasClasses};
 ghost use Rattle.smith_draw_examples.specs.ExampleKeptOffers.{HasEntries, AreGlobalClasses};

@@ -2,14 +2,14 @@
 // calls these functions.
 
 ghost use Rattle.std.specs.Prelude.{◌≡◌, [], ◌∷◌, true, false, None};
-ghost use Rattle.smith_data.specs.declared.value_type.AbstractHeapType.TheVariants as heap;
-ghost use Rattle.smith_data.specs.declared.value_type.HeapType.TheVariants.{Abstract, Concrete};
-ghost use Rattle.smith_data.specs.declared.value_type.HeapType.TheVariants.{Exact};
-ghost use Rattle.smith_data.specs.declared.composite_type.StorageType.TheVariants.{Val};
+ghost use Rattle.smith_syntax.specs.declared.value_type.AbstractHeapType.TheVariants as heap;
+ghost use Rattle.smith_syntax.specs.declared.value_type.HeapType.TheVariants.{Abstract, Concrete};
+ghost use Rattle.smith_syntax.specs.declared.value_type.HeapType.TheVariants.{Exact};
+ghost use Rattle.smith_syntax.specs.declared.composite_type.StorageType.TheVariants.{Val};
 ghost use Rattle.smith_types.specs.ExampleTypes.{open_type, plain_func, struct_and_below, plain};
 ghost use Rattle.smith_types.specs.ExampleTypes.{nullable, not_null, anyref, eqref, constant};
 ghost use Rattle.smith_types.specs.ExampleTypes.{variable};
-ghost use Rattle.smith_const_expr.specs.ExampleConstExprs.{context_of_types};
+ghost use Rattle.smith_draw_consts.specs.ExampleConstExprs.{context_of_types};
 ghost use Rattle.smith_config.specs.Config.{default_config};
 ghost use Rattle.smith_draw_types.specs.Offered.{subtypes_offered, supertypes_offered, AncestorsAreAll};
 ghost use Rattle.smith_draw_types.specs.MatchingTypes.{matching_heap_type_at, matching_ref_type_at};

@@ -2,20 +2,20 @@
 // calls these functions.
 
 ghost use Rattle.std.specs.Prelude.{◌≡◌, [], ◌∷◌, true, false};
-ghost use Rattle.smith_data.specs.declared.value_type.ValType.TheVariants.{I32, Ref};
-ghost use Rattle.smith_data.specs.declared.value_type.AbstractHeapType.TheVariants as heap;
-ghost use Rattle.smith_data.specs.declared.value_type.HeapType.TheVariants.{Concrete, Exact};
-ghost use Rattle.smith_data.specs.Features.{every_feature};
+ghost use Rattle.smith_syntax.specs.declared.value_type.ValType.TheVariants.{I32, Ref};
+ghost use Rattle.smith_syntax.specs.declared.value_type.AbstractHeapType.TheVariants as heap;
+ghost use Rattle.smith_syntax.specs.declared.value_type.HeapType.TheVariants.{Concrete, Exact};
+ghost use Rattle.smith_syntax.specs.Features.{every_feature};
 ghost use Rattle.smith_types.specs.ExampleFeatures.{usual_features};
 ghost use Rattle.smith_types.specs.ExampleTypes.{final_type, struct, array, giving, taking};
 ghost use Rattle.smith_types.specs.ExampleTypes.{empty_struct, plain_func, struct_and_below};
 ghost use Rattle.smith_types.specs.ExampleTypes.{constant, plain, nullable, not_null};
-ghost use Rattle.smith_data.specs.declared.composite_type.StorageType.TheVariants.{Val};
+ghost use Rattle.smith_syntax.specs.declared.composite_type.StorageType.TheVariants.{Val};
 ghost use Rattle.smith_types.specs.ExampleContexts.{context_of};
 ghost use Rattle.smith_config.specs.Config.{default_config};
 ghost use Rattle.smith_config.specs.Granted.{IsUngrounded, IsGranted, HasGranted, AreTypesGranted};
 ghost use Rattle.smith_draw_types.specs.HeldFields.{HoldsUngroundedField};
-ghost use Rattle.smith_const_expr.specs.ExampleConstExprs.{context_of_types};
+ghost use Rattle.smith_draw_consts.specs.ExampleConstExprs.{context_of_types};
 ghost use Rattle.smith_draw_types.specs.Grounding.{is_grounded};
 ghost use Rattle.smith_draw_types.specs.ValueTypes.{granted_at, ref_type_at};
 ghost use Rattle.smith_draw_types.specs.MatchingTypes.{references_offered, matching_ref_type_at};

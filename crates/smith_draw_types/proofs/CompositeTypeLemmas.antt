@@ -11,14 +11,14 @@ use Rattle.smith_types.specs.Flags.{IsInnerEnabled}
 use Rattle.smith_types.specs.Subtyping.{IsValInRange}
 use Rattle.smith_types.specs.Matching.{IsFieldInRange, IsInnerInRange}
 use Rattle.smith_types.specs.ValidTypes.{values_of, values_of_storage, IsFuncTypeValid}
-use Rattle.smith_data.specs.declared.value_type.ValType.{ValType}
-use Rattle.smith_data.specs.declared.composite_type.FieldType.{FieldType}
-use Rattle.smith_data.specs.declared.composite_type.FuncType.{FuncType}
-use Rattle.smith_data.specs.declared.composite_type.StructType.{StructType}
-use Rattle.smith_data.specs.declared.composite_type.CompositeInnerType.{CompositeInnerType}
-use Rattle.smith_data.specs.declared.composite_type.CompositeInnerType.TheVariants as inners
-use Rattle.smith_data.specs.declared.composite_type.CompositeType.{CompositeType}
-use Rattle.smith_data.specs.declared.composite_type.SubType.{SubType}
+use Rattle.smith_syntax.specs.declared.value_type.ValType.{ValType}
+use Rattle.smith_syntax.specs.declared.composite_type.FieldType.{FieldType}
+use Rattle.smith_syntax.specs.declared.composite_type.FuncType.{FuncType}
+use Rattle.smith_syntax.specs.declared.composite_type.StructType.{StructType}
+use Rattle.smith_syntax.specs.declared.composite_type.CompositeInnerType.{CompositeInnerType}
+use Rattle.smith_syntax.specs.declared.composite_type.CompositeInnerType.TheVariants as inners
+use Rattle.smith_syntax.specs.declared.composite_type.CompositeType.{CompositeType}
+use Rattle.smith_syntax.specs.declared.composite_type.SubType.{SubType}
 use Rattle.smith_config.specs.declared.config.Config.{Config}
 use Rattle.smith_config.specs.Features.{features_of}
 use Rattle.smith_config.specs.Sanitized.{IsSanitized}

@@ -6,7 +6,7 @@ use Rattle.std.specs.List.{AllByRecursion as Each}
 use Rattle.std.proofs.lemmas.List.{take_more, get_or-drop, get_or_append_left}
 use Rattle.std.proofs.lemmas.List.Elements.{All-from_recursion}
 use Rattle.std.proofs.lemmas.Option.{slice_get-get_or}
-use Rattle.smith_data.specs.declared.composite_type.SubType.{SubType}
+use Rattle.smith_syntax.specs.declared.composite_type.SubType.{SubType}
 use Rattle.smith_types.specs.GroupedTypes.{GroupedTypes, IsSound, MayFollow}
 use Rattle.smith_types.specs.Types.{AreConsecutive, next_start}
 use Rattle.smith_types.proofs.ValidityLemmas.{ends_within}

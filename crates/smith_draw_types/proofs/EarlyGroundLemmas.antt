@@ -11,10 +11,10 @@ use Rattle.smith_types.specs.Expressions.{Context, reference_to, function_refere
 use Rattle.smith_types.specs.Grounded.{IsGroundedByFuncs}
 use Rattle.smith_types.specs.FuncGrounds.{AreFuncGrounds}
 use Rattle.smith_types.specs.declared.func_grounds.FuncGrounds.{FuncGrounds}
-use Rattle.smith_data.specs.declared.value_type.HeapType.{HeapType}
-use Rattle.smith_data.specs.declared.value_type.HeapType.TheVariants.{Abstract, Concrete, Exact}
-use Rattle.smith_data.specs.declared.value_type.ValType.{ValType}
-use Rattle.smith_data.specs.declared.composite_type.SubType.{SubType}
+use Rattle.smith_syntax.specs.declared.value_type.HeapType.{HeapType}
+use Rattle.smith_syntax.specs.declared.value_type.HeapType.TheVariants.{Abstract, Concrete, Exact}
+use Rattle.smith_syntax.specs.declared.value_type.ValType.{ValType}
+use Rattle.smith_syntax.specs.declared.composite_type.SubType.{SubType}
 use Rattle.smith_types.proofs.GrowthLemmas.{IsValBelow-grown}
 use Rattle.smith_types.proofs.WalkLemmas.{Reaches, here, up, by_cases_from_below, below_from_by_cases}
 use Rattle.smith_draw_types.specs.Grounding.{any_from, function_grounds, over}

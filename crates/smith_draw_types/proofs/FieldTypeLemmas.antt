@@ -7,10 +7,10 @@ use Rattle.smith_bytes.proofs.GrownLemmas.{grow_all, grow_most}
 use Rattle.smith_types.specs.Expressions.{Context}
 use Rattle.smith_types.specs.Matching.{IsStorageInRange, IsFieldInRange}
 use Rattle.smith_types.specs.ValidTypes.{values_of_storage}
-use Rattle.smith_data.specs.declared.value_type.ValType.{ValType}
-use Rattle.smith_data.specs.declared.composite_type.StorageType.{StorageType}
-use Rattle.smith_data.specs.declared.composite_type.FieldType.{FieldType}
-use Rattle.smith_data.specs.declared.composite_type.SubType.{SubType}
+use Rattle.smith_syntax.specs.declared.value_type.ValType.{ValType}
+use Rattle.smith_syntax.specs.declared.composite_type.StorageType.{StorageType}
+use Rattle.smith_syntax.specs.declared.composite_type.FieldType.{FieldType}
+use Rattle.smith_syntax.specs.declared.composite_type.SubType.{SubType}
 use Rattle.smith_config.specs.declared.config.Config.{Config}
 use Rattle.smith_config.specs.Sanitized.{IsSanitized}
 use Rattle.smith_draw_types.specs.ValueTypes.{val_type_at}

@@ -12,17 +12,17 @@ use Rattle.smith_types.specs.Grounded.{IsGrounded}
 use Rattle.smith_types.specs.Grown.{IsContextGrown, AreImportsGrown}
 use Rattle.smith_types.specs.GroupedTypes.{GroupedTypes}
 use Rattle.smith_types.specs.Types.{IsOrderly}
-use Rattle.smith_data.specs.declared.value_type.HeapType.{HeapType}
-use Rattle.smith_data.specs.declared.value_type.RefType.{RefType}
-use Rattle.smith_data.specs.declared.value_type.ValType.{ValType}
-use Rattle.smith_data.specs.declared.value_type.ValType.TheVariants as vals
-use Rattle.smith_data.specs.declared.composite_type.StorageType.{StorageType}
-use Rattle.smith_data.specs.declared.composite_type.StorageType.TheVariants.{I8, I16, Val}
-use Rattle.smith_data.specs.declared.composite_type.FieldType.{FieldType}
-use Rattle.smith_data.specs.declared.composite_type.CompositeInnerType.{CompositeInnerType}
-use Rattle.smith_data.specs.declared.composite_type.CompositeInnerType.TheVariants.{Array, Func, Struct}
-use Rattle.smith_data.specs.declared.composite_type.StructType.{StructType}
-use Rattle.smith_data.specs.declared.composite_type.SubType.{SubType}
+use Rattle.smith_syntax.specs.declared.value_type.HeapType.{HeapType}
+use Rattle.smith_syntax.specs.declared.value_type.RefType.{RefType}
+use Rattle.smith_syntax.specs.declared.value_type.ValType.{ValType}
+use Rattle.smith_syntax.specs.declared.value_type.ValType.TheVariants as vals
+use Rattle.smith_syntax.specs.declared.composite_type.StorageType.{StorageType}
+use Rattle.smith_syntax.specs.declared.composite_type.StorageType.TheVariants.{I8, I16, Val}
+use Rattle.smith_syntax.specs.declared.composite_type.FieldType.{FieldType}
+use Rattle.smith_syntax.specs.declared.composite_type.CompositeInnerType.{CompositeInnerType}
+use Rattle.smith_syntax.specs.declared.composite_type.CompositeInnerType.TheVariants.{Array, Func, Struct}
+use Rattle.smith_syntax.specs.declared.composite_type.StructType.{StructType}
+use Rattle.smith_syntax.specs.declared.composite_type.SubType.{SubType}
 use Rattle.smith_types.proofs.GroundGrowthLemmas.{context_grounded, imports_grounded}
 use Rattle.smith_config.specs.declared.config.Config.{Config}
 use Rattle.smith_draw_types.specs.declared.value_type.ValueClass.{ValueClass}

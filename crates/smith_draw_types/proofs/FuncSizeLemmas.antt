@@ -7,13 +7,13 @@ use Rattle.std.proofs.lemmas.Option.{slice_get_within, get_or_from_slice_get}
 use Rattle.smith_bytes.proofs.GrownLemmas.{grow_most}
 use Rattle.smith_types.specs.Expressions.{Context}
 use Rattle.smith_types.specs.GroupedTypes.{GroupedTypes}
-use Rattle.smith_data.specs.declared.composite_type.CompositeInnerType.{CompositeInnerType}
-use Rattle.smith_data.specs.declared.composite_type.CompositeInnerType.TheVariants.{Array, Func, Struct}
-use Rattle.smith_data.specs.declared.composite_type.FuncType.{FuncType}
-use Rattle.smith_data.specs.declared.composite_type.SubType.{SubType}
-use Rattle.smith_data.specs.declared.composite_type.CompositeInnerType.TheVariants as inners
+use Rattle.smith_syntax.specs.declared.composite_type.CompositeInnerType.{CompositeInnerType}
+use Rattle.smith_syntax.specs.declared.composite_type.CompositeInnerType.TheVariants.{Array, Func, Struct}
+use Rattle.smith_syntax.specs.declared.composite_type.FuncType.{FuncType}
+use Rattle.smith_syntax.specs.declared.composite_type.SubType.{SubType}
+use Rattle.smith_syntax.specs.declared.composite_type.CompositeInnerType.TheVariants as inners
 use Rattle.smith_types.specs.Sizes.{value_count, size_in}
-use Rattle.smith_data.specs.declared.entity_type.EntityType.TheVariants as entity
+use Rattle.smith_syntax.specs.declared.entity_type.EntityType.TheVariants as entity
 use Rattle.smith_config.specs.declared.config.Config.{Config}
 use Rattle.smith_config.specs.Shapes.{IsInnerShort, IsShort, most_listed, shape_types}
 use Rattle.smith_config.specs.declared.shape.Shape.{Shape}

@@ -10,10 +10,10 @@ use Rattle.smith_types.specs.Grounded.{IsGroundedByStructs, IsGroundedByFuncs, I
 use Rattle.smith_types.specs.Grounds.{is_ground}
 use Rattle.smith_types.specs.Subtyping.{IsBelow, IsInRange, IsValInRange, IsValBelow}
 use Rattle.smith_types.specs.Types.{IsOrderly}
-use Rattle.smith_data.specs.declared.value_type.HeapType.{HeapType}
-use Rattle.smith_data.specs.declared.value_type.HeapType.TheVariants.{Concrete, Exact}
-use Rattle.smith_data.specs.declared.value_type.ValType.{ValType}
-use Rattle.smith_data.specs.declared.composite_type.SubType.{SubType}
+use Rattle.smith_syntax.specs.declared.value_type.HeapType.{HeapType}
+use Rattle.smith_syntax.specs.declared.value_type.HeapType.TheVariants.{Concrete, Exact}
+use Rattle.smith_syntax.specs.declared.value_type.ValType.{ValType}
+use Rattle.smith_syntax.specs.declared.composite_type.SubType.{SubType}
 use Rattle.smith_types.proofs.GroundedLemmas.{grounded_at, grounded_is}
 use Rattle.smith_draw_types.specs.Below.{is_val_below}
 use Rattle.smith_draw_types.specs.Grounding.{any_from, type_grounds, function_grounds, is_grounded}

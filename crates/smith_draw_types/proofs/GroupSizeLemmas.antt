@@ -10,7 +10,7 @@ use Rattle.smith_bytes.proofs.GrownLemmas.{grow_most, grow_least}
 use Rattle.smith_types.specs.Expressions.{Context}
 use Rattle.smith_types.specs.GroupedTypes.{GroupedTypes}
 use Rattle.smith_types.specs.Types.{AreConsecutive, next_start}
-use Rattle.smith_data.specs.declared.composite_type.SubType.{SubType}
+use Rattle.smith_syntax.specs.declared.composite_type.SubType.{SubType}
 use Rattle.smith_config.specs.declared.config.Config.{Config}
 use Rattle.smith_draw_types.specs.Grounding.{over}
 use Rattle.smith_draw_types.specs.Choices.{chosen_at}

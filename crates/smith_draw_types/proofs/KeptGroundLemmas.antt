@@ -6,7 +6,7 @@ use Rattle.std.proofs.lemmas.List.{length-take-le, take_all}
 use Rattle.smith_types.specs.Expressions.{Context, reference_to}
 use Rattle.smith_types.specs.FuncGrounds.{AreFuncGrounds, IsFunctionAdded}
 use Rattle.smith_types.specs.declared.func_grounds.FuncGrounds.{FuncGrounds}
-use Rattle.smith_data.specs.declared.value_type.HeapType.TheVariants.{Concrete, Exact}
+use Rattle.smith_syntax.specs.declared.value_type.HeapType.TheVariants.{Concrete, Exact}
 use Rattle.smith_draw_types.specs.Grounding.{with_functions}
 
 -- the reference to a function, by the two tests that determine whether it is exact

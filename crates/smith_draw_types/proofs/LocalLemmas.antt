@@ -7,7 +7,7 @@ use Rattle.smith_bytes.proofs.GrownLemmas.{grow_most, grow_all}
 use Rattle.smith_types.specs.Expressions.{Context}
 use Rattle.smith_types.specs.Floats.{IsNoFloat}
 use Rattle.smith_types.specs.ValidTypes.{IsValTypeValid}
-use Rattle.smith_data.specs.declared.value_type.ValType.{ValType}
+use Rattle.smith_syntax.specs.declared.value_type.ValType.{ValType}
 use Rattle.smith_config.specs.declared.config.Config.{Config}
 use Rattle.smith_config.specs.Features.{features_of}
 use Rattle.smith_config.specs.Sanitized.{IsSanitized}

@@ -3,7 +3,7 @@ use Rattle.std.proofs.Common.{◌≡◌, ℕ, zero, suc, ◌-◌, ◌*◌, ◌/�
 use Rattle.std.proofs.Math.Nat.{le-div_iff_mul-le, div-mul-le_self, mul-le-mul_right, pow-le-pow_right, one-le-pow}
 use Rattle.std.specs.Prelude.{IsTrue, IsSome, IfSome}
 use Rattle.smith_types.specs.Entities.{AreLimitsValid, page_log2, addresses, most_pages}
-use Rattle.smith_data.specs.declared.entity_type.MemoryType.{MemoryType}
+use Rattle.smith_syntax.specs.declared.entity_type.MemoryType.{MemoryType}
 use Rattle.smith_config.specs.declared.config.Config.{Config}
 use Rattle.smith_draw_types.specs.Callers.{PassesButImports}
 use Rattle.smith_config.specs.EntityBounds.{memory_bytes, ArePagesWithin, IsMemoryWithin}

@@ -8,9 +8,9 @@ use Rattle.smith_types.specs.Expressions.{Context}
 use Rattle.smith_types.specs.Expressions.{field_values}
 use Rattle.smith_types.specs.GroupedTypes.{GroupedTypes}
 use Rattle.smith_types.specs.Types.{IsOrderly}
-use Rattle.smith_data.specs.declared.value_type.ValType.{ValType}
-use Rattle.smith_data.specs.declared.value_type.ValType.TheVariants as vals
-use Rattle.smith_data.specs.declared.composite_type.SubType.{SubType}
+use Rattle.smith_syntax.specs.declared.value_type.ValType.{ValType}
+use Rattle.smith_syntax.specs.declared.value_type.ValType.TheVariants as vals
+use Rattle.smith_syntax.specs.declared.composite_type.SubType.{SubType}
 use Rattle.smith_config.specs.declared.config.Config.{Config}
 use Rattle.smith_draw_types.specs.Grounding.{over}
 use Rattle.smith_draw_types.specs.declared.value_type.ValueClass.{ValueClass}

@@ -5,12 +5,12 @@ use Rattle.std.proofs.lemmas.Option.{slice_get-map}
 use Rattle.std.specs.Option.{option_map}
 use Rattle.std.proofs.lemmas.List.{length-append, length-map}
 use Rattle.std.proofs.lemmas.List.Concat.{flat_map-cons}
-use Rattle.smith_data.specs.declared.value_type.AbstractHeapType.{AbstractHeapType}
-use Rattle.smith_data.specs.declared.value_type.HeapType.{HeapType}
-use Rattle.smith_data.specs.declared.value_type.HeapType.TheVariants.{Abstract, Concrete}
-use Rattle.smith_data.specs.declared.composite_type.CompositeInnerType.{CompositeInnerType}
-use Rattle.smith_data.specs.declared.composite_type.SubType.{SubType}
-use Rattle.smith_data.specs.Kinds.{shared, bottom}
+use Rattle.smith_syntax.specs.declared.value_type.AbstractHeapType.{AbstractHeapType}
+use Rattle.smith_syntax.specs.declared.value_type.HeapType.{HeapType}
+use Rattle.smith_syntax.specs.declared.value_type.HeapType.TheVariants.{Abstract, Concrete}
+use Rattle.smith_syntax.specs.declared.composite_type.CompositeInnerType.{CompositeInnerType}
+use Rattle.smith_syntax.specs.declared.composite_type.SubType.{SubType}
+use Rattle.smith_syntax.specs.Kinds.{shared, bottom}
 use Rattle.smith_types.specs.Types.{IsOrderly}
 use Rattle.smith_types.specs.GroupedTypes.{HasDepth, root, deeper}
 use Rattle.smith_types.specs.Subtyping.{IsBelow}

@@ -11,11 +11,11 @@ use Rattle.smith_bytes.specs.Draws.{bool_at, range_at}
 use Rattle.smith_bytes.specs.Growth.{goes_at, grow_at}
 use Rattle.smith_bytes.proofs.GrownLemmas.{cond_both}
 use Rattle.smith_types.specs.Expressions.{Context}
-use Rattle.smith_data.specs.Features.{Features}
+use Rattle.smith_syntax.specs.Features.{Features}
 use Rattle.smith_types.specs.GroupedTypes.{GroupedTypes, IsSound}
 use Rattle.smith_types.specs.OpenTypes.{AreTypesOpen}
 use Rattle.smith_types.specs.ValidTypes.{AreTypesValid, IsGroupValid}
-use Rattle.smith_data.specs.declared.composite_type.SubType.{SubType}
+use Rattle.smith_syntax.specs.declared.composite_type.SubType.{SubType}
 use Rattle.smith_types.proofs.ListLemmas.{slice_get-grown}
 use Rattle.smith_types.proofs.GroupGrowthLemmas.{AreTypesOpen-at, AreTypesOpen-start, AreTypesOpen-push, AreTypesOpen-close}
 use Rattle.smith_config.specs.declared.config.Config.{Config}

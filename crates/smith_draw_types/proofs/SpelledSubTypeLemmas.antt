@@ -14,7 +14,7 @@ use Rattle.smith_bytes.proofs.SpelledLemmas.{joined_parts, bool_read}
 use Rattle.smith_types.specs.Expressions.{Context}
 use Rattle.smith_validity.specs.Decided.{AreHeld}
 use Rattle.smith_types.specs.Types.{IsOrderly}
-use Rattle.smith_data.specs.declared.composite_type.SubType.{SubType}
+use Rattle.smith_syntax.specs.declared.composite_type.SubType.{SubType}
 use Rattle.smith_config.specs.declared.config.Config.{Config}
 use Rattle.smith_config.specs.Sanitized.{IsSanitized}
 use Rattle.smith_draw_types.specs.Grounding.{over}

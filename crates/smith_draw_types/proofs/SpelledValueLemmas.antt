@@ -11,14 +11,14 @@ use Rattle.smith_types.specs.Expressions.{Context}
 use Rattle.smith_types.specs.Grounded.{IsGroundedByStructs}
 use Rattle.smith_types.specs.Subtyping.{IsInRange}
 use Rattle.smith_types.specs.Types.{IsOrderly}
-use Rattle.smith_data.specs.declared.value_type.AbstractHeapType.{AbstractHeapType}
-use Rattle.smith_data.specs.declared.value_type.AbstractHeapType.TheVariants.{Func}
-use Rattle.smith_data.specs.declared.value_type.HeapType.{HeapType}
-use Rattle.smith_data.specs.declared.value_type.HeapType.TheVariants.{Abstract, Concrete, Exact}
-use Rattle.smith_data.specs.declared.value_type.RefType.{RefType}
-use Rattle.smith_data.specs.declared.value_type.ValType.{ValType}
-use Rattle.smith_data.specs.declared.value_type.ValType.TheVariants as vals
-use Rattle.smith_data.specs.declared.composite_type.SubType.{SubType}
+use Rattle.smith_syntax.specs.declared.value_type.AbstractHeapType.{AbstractHeapType}
+use Rattle.smith_syntax.specs.declared.value_type.AbstractHeapType.TheVariants.{Func}
+use Rattle.smith_syntax.specs.declared.value_type.HeapType.{HeapType}
+use Rattle.smith_syntax.specs.declared.value_type.HeapType.TheVariants.{Abstract, Concrete, Exact}
+use Rattle.smith_syntax.specs.declared.value_type.RefType.{RefType}
+use Rattle.smith_syntax.specs.declared.value_type.ValType.{ValType}
+use Rattle.smith_syntax.specs.declared.value_type.ValType.TheVariants as vals
+use Rattle.smith_syntax.specs.declared.composite_type.SubType.{SubType}
 use Rattle.smith_config.specs.declared.config.Config.{Config}
 use Rattle.smith_draw_types.specs.declared.value_type.ValueClass.TheVariants.{I32}
 use Rattle.smith_draw_types.specs.Choices.{enabled, chosen_at}

@@ -8,7 +8,7 @@ use Rattle.smith_types.specs.Expressions.{Context}
 use Rattle.smith_types.specs.GroupedTypes.{GroupedTypes}
 use Rattle.smith_types.specs.OpenTypes.{AreTypesOpen}
 use Rattle.smith_types.specs.ValidTypes.{values_of, IsTypeValid}
-use Rattle.smith_data.specs.declared.composite_type.SubType.{SubType}
+use Rattle.smith_syntax.specs.declared.composite_type.SubType.{SubType}
 use Rattle.smith_types.proofs.GroupGrowthLemmas.{AreTypesOpen-at}
 use Rattle.smith_config.specs.declared.config.Config.{Config}
 use Rattle.smith_config.specs.Features.{features_of}

@@ -6,7 +6,7 @@ use Rattle.std.proofs.lemmas.List.Elements.{All-from_recursion}
 use Rattle.std.proofs.lemmas.Bool.{lt-ltb}
 use Rattle.smith_bytes.specs.Draws.{range_at}
 use Rattle.smith_bytes.proofs.DrawnLemmas.{range_within}
-use Rattle.smith_data.specs.declared.composite_type.SubType.{SubType}
+use Rattle.smith_syntax.specs.declared.composite_type.SubType.{SubType}
 use Rattle.smith_types.specs.Types.{IsOrderly}
 use Rattle.smith_types.specs.GroupedTypes.{HasDepth, AreExtensible, root, deeper, extensible_from}
 use Rattle.smith_draw_types.specs.Choices.{chosen_at}

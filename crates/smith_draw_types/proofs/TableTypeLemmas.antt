@@ -4,8 +4,8 @@ use Rattle.std.specs.Prelude.{IsTrue, IsSome, IfSome}
 use Rattle.smith_types.specs.Expressions.{Context}
 use Rattle.smith_types.specs.Entities.{most_elements}
 use Rattle.smith_types.specs.Flags.{IsElementTypeEnabled, funcref}
-use Rattle.smith_data.specs.declared.value_type.RefType.{RefType}
-use Rattle.smith_data.specs.declared.entity_type.TableType.{TableType}
+use Rattle.smith_syntax.specs.declared.value_type.RefType.{RefType}
+use Rattle.smith_syntax.specs.declared.entity_type.TableType.{TableType}
 use Rattle.smith_config.specs.declared.config.Config.{Config}
 use Rattle.smith_config.specs.Features.{features_of}
 use Rattle.smith_config.specs.EntityBounds.{AreElementsWithin, IsTableWithin}

@@ -4,10 +4,10 @@ use Rattle.std.specs.Prelude.{◌==◌, Some, slice_get, All}
 use Rattle.std.specs.List.{AllByRecursion as ByRecursion, list_any}
 use Rattle.std.proofs.lemmas.Bool.{eqb-true}
 use Rattle.std.proofs.lemmas.List.Elements.{All-from_recursion, All-weaker}
-use Rattle.smith_data.specs.declared.value_type.ValType.{ValType}
-use Rattle.smith_data.specs.declared.composite_type.CompositeInnerType.{CompositeInnerType}
-use Rattle.smith_data.specs.declared.composite_type.CompositeInnerType.TheVariants.{Array, Func, Struct}
-use Rattle.smith_data.specs.declared.composite_type.SubType.{SubType}
+use Rattle.smith_syntax.specs.declared.value_type.ValType.{ValType}
+use Rattle.smith_syntax.specs.declared.composite_type.CompositeInnerType.{CompositeInnerType}
+use Rattle.smith_syntax.specs.declared.composite_type.CompositeInnerType.TheVariants.{Array, Func, Struct}
+use Rattle.smith_syntax.specs.declared.composite_type.SubType.{SubType}
 use Rattle.smith_types.proofs.ListLemmas.{slice_get-last, slice_get-grown}
 use Rattle.smith_draw_types.specs.TypeUses.{is_tag_type, is_unshared_function, places_from, may_be_used, types_for, IsUsable}
 use Rattle.smith_draw_types.specs.declared.type_use.TypeUse.{TypeUse}

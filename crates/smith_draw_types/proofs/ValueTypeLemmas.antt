@@ -9,13 +9,13 @@ use Rattle.smith_types.specs.Expressions.{Context}
 use Rattle.smith_types.specs.Flags.{IsAbstractEnabled}
 use Rattle.smith_types.specs.Subtyping.{IsInRange, IsValInRange}
 use Rattle.smith_types.specs.ValidTypes.{IsHeapTypeValid, IsRefTypeValid, IsValTypeValid, IsHeapTypeShared, IsShareable}
-use Rattle.smith_data.specs.declared.value_type.AbstractHeapType.{AbstractHeapType}
-use Rattle.smith_data.specs.declared.value_type.AbstractHeapType.TheVariants.{Func}
-use Rattle.smith_data.specs.declared.value_type.HeapType.{HeapType}
-use Rattle.smith_data.specs.declared.value_type.HeapType.TheVariants.{Abstract, Concrete}
-use Rattle.smith_data.specs.declared.value_type.RefType.{RefType}
-use Rattle.smith_data.specs.declared.value_type.ValType.{ValType}
-use Rattle.smith_data.specs.declared.composite_type.SubType.{SubType}
+use Rattle.smith_syntax.specs.declared.value_type.AbstractHeapType.{AbstractHeapType}
+use Rattle.smith_syntax.specs.declared.value_type.AbstractHeapType.TheVariants.{Func}
+use Rattle.smith_syntax.specs.declared.value_type.HeapType.{HeapType}
+use Rattle.smith_syntax.specs.declared.value_type.HeapType.TheVariants.{Abstract, Concrete}
+use Rattle.smith_syntax.specs.declared.value_type.RefType.{RefType}
+use Rattle.smith_syntax.specs.declared.value_type.ValType.{ValType}
+use Rattle.smith_syntax.specs.declared.composite_type.SubType.{SubType}
 use Rattle.smith_config.specs.declared.config.Config.{Config}
 use Rattle.smith_config.specs.Features.{features_of}
 use Rattle.smith_config.specs.Sanitized.{IsSanitized}

@@ -1,7 +1,7 @@
 -- A piece of bytes that spells a list of groups, used by the examples.
 use Rattle.std.specs.Prelude.{◌≡◌, ◌<◌, true, false, None, [], ◌∷◌}
-use Rattle.smith_data.specs.declared.composite_type.CompositeInnerType.TheVariants.{Func}
-use Rattle.smith_data.specs.declared.composite_type.SubType.{SubType}
+use Rattle.smith_syntax.specs.declared.composite_type.CompositeInnerType.TheVariants.{Func}
+use Rattle.smith_syntax.specs.declared.composite_type.SubType.{SubType}
 use Rattle.smith_config.specs.declared.config.Config.{Config}
 use Rattle.smith_draw_types.specs.Spelling.{SpellsGroups}
 

@@ -1,7 +1,7 @@
 -- Types over which the examples draw.
 use Rattle.std.specs.Prelude.{ℕ, zero, suc, ◌+◌, List, [], ◌∷◌, None, Some}
-use Rattle.smith_data.specs.declared.composite_type.SubType.{SubType}
-use Rattle.smith_data.specs.declared.composite_type.StorageType.TheVariants.{I8}
+use Rattle.smith_syntax.specs.declared.composite_type.SubType.{SubType}
+use Rattle.smith_syntax.specs.declared.composite_type.StorageType.TheVariants.{I8}
 use Rattle.smith_types.specs.ExampleTypes.{open_type, final_type, shared_type, empty_struct, array, plain_func, constant}
 
 -- a struct, an array, a function, the same three shared, and then another struct and another array

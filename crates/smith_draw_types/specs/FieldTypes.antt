@@ -1,8 +1,8 @@
 -- Drawn storage and field types, and the fields of structs.
 use Rattle.std.specs.Prelude.{ℕ, zero, suc, ◌-◌, Bool, List, length}
-use Rattle.smith_data.specs.declared.composite_type.StorageType.{StorageType}
-use Rattle.smith_data.specs.declared.composite_type.StorageType.TheVariants.{I8, I16, Val}
-use Rattle.smith_data.specs.declared.composite_type.FieldType.{FieldType}
+use Rattle.smith_syntax.specs.declared.composite_type.StorageType.{StorageType}
+use Rattle.smith_syntax.specs.declared.composite_type.StorageType.TheVariants.{I8, I16, Val}
+use Rattle.smith_syntax.specs.declared.composite_type.FieldType.{FieldType}
 use Rattle.smith_types.specs.Expressions.{Context}
 use Rattle.smith_config.specs.declared.config.Config.{Config}
 use Rattle.smith_bytes.specs.Draws.{bool_at, range_at}

@@ -1,10 +1,10 @@
 -- Drawn global types.
 use Rattle.std.specs.Prelude.{ℕ, Bool, false, List, length}
-use Rattle.smith_data.specs.declared.value_type.ValType.{ValType}
-use Rattle.smith_data.specs.declared.value_type.ValType.TheVariants.{Ref}
-use Rattle.smith_data.specs.declared.composite_type.SubType.{SubType}
+use Rattle.smith_syntax.specs.declared.value_type.ValType.{ValType}
+use Rattle.smith_syntax.specs.declared.value_type.ValType.TheVariants.{Ref}
+use Rattle.smith_syntax.specs.declared.composite_type.SubType.{SubType}
 use Rattle.smith_types.specs.Expressions.{Context}
-use Rattle.smith_data.specs.declared.entity_type.GlobalType.{GlobalType}
+use Rattle.smith_syntax.specs.declared.entity_type.GlobalType.{GlobalType}
 use Rattle.smith_config.specs.declared.config.Config.{Config}
 use Rattle.smith_bytes.specs.Draws.{bool_at}
 use Rattle.smith_draw_types.specs.ValueTypes.{sharedness_at, val_type_at}

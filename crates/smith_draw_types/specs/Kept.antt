@@ -1,12 +1,12 @@
 -- Properties of a type that a type drawn in its place keeps.
 use Rattle.std.specs.Prelude.{ℕ, ◌≤◌, IsTrue, List, length, All}
-use Rattle.smith_data.specs.Features.{Features}
+use Rattle.smith_syntax.specs.Features.{Features}
 use Rattle.smith_types.specs.ValidTypes.{IsValTypeValid, IsShareable, values_of_storage, values_of}
-use Rattle.smith_data.specs.declared.composite_type.StorageType.{StorageType}
-use Rattle.smith_data.specs.declared.composite_type.FieldType.{FieldType}
-use Rattle.smith_data.specs.declared.composite_type.FuncType.{FuncType}
-use Rattle.smith_data.specs.declared.composite_type.CompositeInnerType.TheVariants.{Func}
-use Rattle.smith_data.specs.declared.composite_type.SubType.{SubType}
+use Rattle.smith_syntax.specs.declared.composite_type.StorageType.{StorageType}
+use Rattle.smith_syntax.specs.declared.composite_type.FieldType.{FieldType}
+use Rattle.smith_syntax.specs.declared.composite_type.FuncType.{FuncType}
+use Rattle.smith_syntax.specs.declared.composite_type.CompositeInnerType.TheVariants.{Func}
+use Rattle.smith_syntax.specs.declared.composite_type.SubType.{SubType}
 
 -- a type is shared only if that is enabled (own rule)
 abbrev pub IsSharingEnabled : Features → SubType → Type 0

@@ -1,9 +1,9 @@
 -- Drawn struct and composite types that match a type.
 use Rattle.std.specs.Prelude.{ℕ, ◌+◌, Bool, List, length}
-use Rattle.smith_data.specs.declared.composite_type.StructType.{StructType}
-use Rattle.smith_data.specs.declared.composite_type.CompositeInnerType.{CompositeInnerType}
-use Rattle.smith_data.specs.declared.composite_type.CompositeInnerType.TheVariants.{Array, Func, Struct}
-use Rattle.smith_data.specs.declared.composite_type.CompositeType.{CompositeType}
+use Rattle.smith_syntax.specs.declared.composite_type.StructType.{StructType}
+use Rattle.smith_syntax.specs.declared.composite_type.CompositeInnerType.{CompositeInnerType}
+use Rattle.smith_syntax.specs.declared.composite_type.CompositeInnerType.TheVariants.{Array, Func, Struct}
+use Rattle.smith_syntax.specs.declared.composite_type.CompositeType.{CompositeType}
 use Rattle.smith_types.specs.Expressions.{Context}
 use Rattle.smith_config.specs.declared.config.Config.{Config}
 use Rattle.smith_bytes.specs.Draws.{range_at}

@@ -1,7 +1,7 @@
 -- Drawn memory types.
 use Rattle.std.specs.Prelude.{ℕ, ◌-◌, ◌/◌, ◌^◌, min, max, Bool, false, ◌||◌, Option, Some, None, List, if◌then◌else◌}
 use Rattle.smith_types.specs.Entities.{page_log2, addresses}
-use Rattle.smith_data.specs.declared.entity_type.MemoryType.{MemoryType}
+use Rattle.smith_syntax.specs.declared.entity_type.MemoryType.{MemoryType}
 use Rattle.smith_config.specs.declared.config.Config.{Config}
 use Rattle.smith_bytes.specs.Draws.{bool_at, ratio_at}
 use Rattle.smith_config.specs.EntityBounds.{memory_bytes}

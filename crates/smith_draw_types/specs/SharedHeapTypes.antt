@@ -1,9 +1,9 @@
 -- Whether a heap type is shared.
 use Rattle.std.specs.Prelude.{Bool, false, Option, Some, None, List, slice_get}
-use Rattle.smith_data.specs.Kinds.{shared}
-use Rattle.smith_data.specs.declared.value_type.HeapType.{HeapType}
-use Rattle.smith_data.specs.declared.value_type.HeapType.TheVariants.{Abstract, Concrete, Exact}
-use Rattle.smith_data.specs.declared.composite_type.SubType.{SubType}
+use Rattle.smith_syntax.specs.Kinds.{shared}
+use Rattle.smith_syntax.specs.declared.value_type.HeapType.{HeapType}
+use Rattle.smith_syntax.specs.declared.value_type.HeapType.TheVariants.{Abstract, Concrete, Exact}
+use Rattle.smith_syntax.specs.declared.composite_type.SubType.{SubType}
 
 -- whether a type is shared, if it exists (own rule)
 abbrev pub is_type_shared : Option SubType → Bool

@@ -3,8 +3,8 @@ use Rattle.std.specs.Prelude.{◌≡◌, ℕ, ℤ, List, [], ◌∷◌, length}
 use Rattle.std.specs.Int.{cast_signed, w32}
 use Rattle.smith_bytes.specs.Draws.{little_endian}
 use Rattle.smith_bytes.specs.Spelling.{SpellsNumber, Where, Joined}
-use Rattle.smith_data.specs.declared.const_instr.ConstInstr.{ConstInstr}
-use Rattle.smith_data.specs.declared.const_instr.ConstInstr.TheVariants.{I32Const}
+use Rattle.smith_syntax.specs.declared.const_instr.ConstInstr.{ConstInstr}
+use Rattle.smith_syntax.specs.declared.const_instr.ConstInstr.TheVariants.{I32Const}
 use Rattle.smith_config.specs.declared.config.Config.{Config}
 
 -- a signed 32-bit number: its four bytes, least significant first

@@ -1,9 +1,9 @@
 -- The types that tags and functions may have. Rules of this project.
 use Rattle.std.specs.Prelude.{ℕ, suc, Bool, true, false, not, ◌&&◌, ◌==◌, List, [], ◌∷◌, length, if◌then◌else◌, slice_get, option_to_list}
 use Rattle.std.specs.List.{list_any}
-use Rattle.smith_data.specs.declared.composite_type.CompositeInnerType.{CompositeInnerType}
-use Rattle.smith_data.specs.declared.composite_type.CompositeInnerType.TheVariants.{Func}
-use Rattle.smith_data.specs.declared.composite_type.SubType.{SubType}
+use Rattle.smith_syntax.specs.declared.composite_type.CompositeInnerType.{CompositeInnerType}
+use Rattle.smith_syntax.specs.declared.composite_type.CompositeInnerType.TheVariants.{Func}
+use Rattle.smith_syntax.specs.declared.composite_type.SubType.{SubType}
 use Rattle.smith_types.specs.Entities.{IsTagValid, IsFuncTypeIndex}
 use Rattle.smith_draw_types.specs.declared.type_use.TypeUse.{TypeUse}
 use Rattle.smith_draw_types.specs.declared.type_use.TypeUse.TheVariants.{Tag, ImportedFunc, DefinedFunc}

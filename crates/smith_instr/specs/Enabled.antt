@@ -3,11 +3,11 @@
 -- Kinds are the standard's sections of chapter Structure, Instructions; by a rule of this project,
 -- those of numbers, vectors and memories come in two: without floats, and whole.
 use Rattle.std.specs.Prelude.{Bool, true, false, IsTrue, ◌&&◌, ◌||◌, ◌==◌, bit_and, if◌then◌else◌}
-use Rattle.smith_data.specs.Features.{Features}
-use Rattle.smith_data.specs.Instructions.{kind_bits, kinds_bits}
-use Rattle.smith_data.specs.declared.instruction_kind.InstructionKind.{InstructionKind}
-use Rattle.smith_data.specs.declared.instruction_kind.InstructionKind.TheVariants as kind
-use Rattle.smith_data.specs.declared.instruction_kind.InstructionKinds.{InstructionKinds}
+use Rattle.smith_syntax.specs.Features.{Features}
+use Rattle.smith_syntax.specs.Instructions.{kind_bits, kinds_bits}
+use Rattle.smith_syntax.specs.declared.instruction_kind.InstructionKind.{InstructionKind}
+use Rattle.smith_syntax.specs.declared.instruction_kind.InstructionKind.TheVariants as kind
+use Rattle.smith_syntax.specs.declared.instruction_kind.InstructionKinds.{InstructionKinds}
 use Rattle.smith_instr.specs.declared.aggregate.AggregateInstr.{AggregateInstr}
 use Rattle.smith_instr.specs.declared.aggregate.AggregateInstr.TheVariants as aggregate
 use Rattle.smith_instr.specs.declared.control.BlockType.{BlockType}

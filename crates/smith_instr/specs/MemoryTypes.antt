@@ -1,9 +1,9 @@
 -- The types of memory instructions: the section Validation, Memory Instructions, of the WebAssembly
 -- Core Specification 3.0. Atomic accesses are those of the threads proposal.
 use Rattle.std.specs.Prelude.{◌≡◌, ℕ, ◌<◌, ◌≤◌, ◌^◌, ◌-◌, Bool, List, [], ◌∷◌, Some, slice_get, if◌then◌else◌}
-use Rattle.smith_data.specs.declared.value_type.ValType.{ValType}
-use Rattle.smith_data.specs.declared.value_type.ValType.TheVariants.{I32, I64, F32, F64, V128}
-use Rattle.smith_data.specs.declared.entity_type.MemoryType.{MemoryType}
+use Rattle.smith_syntax.specs.declared.value_type.ValType.{ValType}
+use Rattle.smith_syntax.specs.declared.value_type.ValType.TheVariants.{I32, I64, F32, F64, V128}
+use Rattle.smith_syntax.specs.declared.entity_type.MemoryType.{MemoryType}
 use Rattle.smith_instr.specs.Contexts.{BodyContext, To, address}
 use Rattle.smith_instr.specs.ReferenceTypes.{narrower}
 use Rattle.smith_instr.specs.declared.memory.Load.{Load}

@@ -24,18 +24,18 @@ pub use Rattle.smith_types.specs.ExampleFeatures.{usual_features}
 pub use Rattle.smith_types.specs.ExampleTypes.{constant, final_type, not_null, plain, struct, taking, variable}
 pub use Rattle.smith_types.specs.Expressions.{field_values, IsArrayAt, IsDefaultable, IsStructAt, reference_to}
 pub use Rattle.smith_types.specs.Flags.{funcref}
-pub use Rattle.smith_data.specs.Kinds.{kind}
+pub use Rattle.smith_syntax.specs.Kinds.{kind}
 pub use Rattle.smith_types.specs.Subtyping.{is_abstract_below, IsRefBelow, IsValBelow, itself}
 pub use Rattle.smith_types.specs.Types.{IsOrderly}
-pub use Rattle.smith_data.specs.declared.composite_type.CompositeInnerType.{CompositeInnerType}
-pub use Rattle.smith_data.specs.declared.composite_type.CompositeInnerType.TheVariants.{Array, Func}
-pub use Rattle.smith_data.specs.declared.composite_type.FuncType.{FuncType}
-pub use Rattle.smith_data.specs.declared.composite_type.StorageType.TheVariants.{I8, Val}
-pub use Rattle.smith_data.specs.declared.composite_type.SubType.{SubType}
-pub use Rattle.smith_data.specs.declared.entity_type.GlobalType.{GlobalType}
-pub use Rattle.smith_data.specs.declared.value_type.AbstractHeapType.{AbstractHeapType}
-pub use Rattle.smith_data.specs.declared.value_type.AbstractHeapType.TheVariants.{Exn}
-pub use Rattle.smith_data.specs.declared.value_type.HeapType.TheVariants.{Abstract, Concrete}
-pub use Rattle.smith_data.specs.declared.value_type.RefType.{RefType}
-pub use Rattle.smith_data.specs.declared.value_type.ValType.{ValType}
-pub use Rattle.smith_data.specs.declared.value_type.ValType.TheVariants.{F32, F64, I32, I64, Ref, V128}
+pub use Rattle.smith_syntax.specs.declared.composite_type.CompositeInnerType.{CompositeInnerType}
+pub use Rattle.smith_syntax.specs.declared.composite_type.CompositeInnerType.TheVariants.{Array, Func}
+pub use Rattle.smith_syntax.specs.declared.composite_type.FuncType.{FuncType}
+pub use Rattle.smith_syntax.specs.declared.composite_type.StorageType.TheVariants.{I8, Val}
+pub use Rattle.smith_syntax.specs.declared.composite_type.SubType.{SubType}
+pub use Rattle.smith_syntax.specs.declared.entity_type.GlobalType.{GlobalType}
+pub use Rattle.smith_syntax.specs.declared.value_type.AbstractHeapType.{AbstractHeapType}
+pub use Rattle.smith_syntax.specs.declared.value_type.AbstractHeapType.TheVariants.{Exn}
+pub use Rattle.smith_syntax.specs.declared.value_type.HeapType.TheVariants.{Abstract, Concrete}
+pub use Rattle.smith_syntax.specs.declared.value_type.RefType.{RefType}
+pub use Rattle.smith_syntax.specs.declared.value_type.ValType.{ValType}
+pub use Rattle.smith_syntax.specs.declared.value_type.ValType.TheVariants.{F32, F64, I32, I64, Ref, V128}

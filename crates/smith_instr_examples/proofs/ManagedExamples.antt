@@ -1,6 +1,6 @@
 -- Subtyping and validity over the types of the managed context.
 use Rattle.smith_instr_examples.proofs.Common.{◌≡◌, ℕ, zero, suc, Bool, true, false, List, [], ◌∷◌, ◌++◌, Some, None, IsTrue, refl, sym, subst, ap, ◌∙◌, arith, slice_get, map, same_Some, is_abstract_below, IsRefBelow, itself, IsOrderly, constant, variable, struct, taking, final_type, plain, funcref, AbstractHeapType, Concrete, RefType, ValType, I32, I64, Ref, CompositeInnerType, Array, Func, I8, Val, SubType, IsBelow-trans, below_abstract, below_kind, by_cases_from_below, kind, IsFuncAt, IsStructAt, IsArrayAt, FuncType, IsRefValid, IsFunctionTable, IsElemOf, IsRefBelow-refl, functions, some_func, managed, managed_types, narrows, anything, something, wide_functions}
-use Rattle.smith_data.specs.declared.value_type.AbstractHeapType.TheVariants as heap
+use Rattle.smith_syntax.specs.declared.value_type.AbstractHeapType.TheVariants as heap
 
 none_above : (inners : List CompositeInnerType) (i : ℕ) (t : SubType) → slice_get (map final_type inners) i ≡ Some t → t.supertype ≡ None
 none_above [] i t at = cc

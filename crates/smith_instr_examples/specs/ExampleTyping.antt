@@ -1,11 +1,11 @@
 -- Instructions that have a type in the managed context, or none; instructions that are enabled, or
 -- not.
 use Rattle.std.specs.Prelude.{◌-◌, ◌^◌, List, []}
-use Rattle.smith_data.specs.Features.{Features, every_feature}
-use Rattle.smith_data.specs.Instructions.{every_kind, float_bits, kind_bits}
-use Rattle.smith_data.specs.declared.instruction_kind.InstructionKind.{InstructionKind}
-use Rattle.smith_data.specs.declared.instruction_kind.InstructionKinds.{InstructionKinds}
-use Rattle.smith_data.specs.declared.value_type.ValType.{ValType}
+use Rattle.smith_syntax.specs.Features.{Features, every_feature}
+use Rattle.smith_syntax.specs.Instructions.{every_kind, float_bits, kind_bits}
+use Rattle.smith_syntax.specs.declared.instruction_kind.InstructionKind.{InstructionKind}
+use Rattle.smith_syntax.specs.declared.instruction_kind.InstructionKinds.{InstructionKinds}
+use Rattle.smith_syntax.specs.declared.value_type.ValType.{ValType}
 use Rattle.smith_instr.specs.Enabled.{IsEnabled}
 use Rattle.smith_instr.specs.InstrTypes.{HasInstrType}
 use Rattle.smith_instr.specs.declared.instr.Instr.{Instr}

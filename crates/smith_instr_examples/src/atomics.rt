@@ -1,6 +1,6 @@
 ghost use Rattle.std.specs.Prelude.{[], ◌∷◌, ℕ};
-ghost use Rattle.smith_data.specs.declared.value_type.ValType.TheVariants.{I32, I64};
-ghost use Rattle.smith_data.specs.declared.value_type.ValType.{ValType};
+ghost use Rattle.smith_syntax.specs.declared.value_type.ValType.TheVariants.{I32, I64};
+ghost use Rattle.smith_syntax.specs.declared.value_type.ValType.{ValType};
 ghost use Rattle.smith_instr.specs.declared.atomic.AtomicAccess.TheVariants as atomic;
 ghost use Rattle.smith_instr.specs.declared.atomic.AtomicUpdate.{AtomicUpdate};
 ghost use Rattle.smith_instr.specs.declared.atomic.AtomicWidth.TheVariants as width;

@@ -1,9 +1,9 @@
 ghost use Rattle.std.specs.Prelude.{[], true, false, pos, ℕ};
 ghost use Rattle.smith_types.specs.ExampleFeatures.{no_features};
-ghost use Rattle.smith_data.specs.Features.{every_feature};
-ghost use Rattle.smith_data.specs.declared.value_type.HeapType.{HeapType};
-ghost use Rattle.smith_data.specs.declared.value_type.ValType.TheVariants.{I32};
-ghost use Rattle.smith_data.specs.declared.value_type.ValType.{ValType};
+ghost use Rattle.smith_syntax.specs.Features.{every_feature};
+ghost use Rattle.smith_syntax.specs.declared.value_type.HeapType.{HeapType};
+ghost use Rattle.smith_syntax.specs.declared.value_type.ValType.TheVariants.{I32};
+ghost use Rattle.smith_syntax.specs.declared.value_type.ValType.{ValType};
 ghost use Rattle.smith_instr.specs.declared.aggregate.AggregateInstr.TheVariants as aggregate;
 ghost use Rattle.smith_instr.specs.declared.aggregate.Extension.TheVariants as extension;
 ghost use Rattle.smith_instr.specs.declared.atomic.AtomicAccess.{AtomicAccess};

@@ -1,8 +1,8 @@
 ghost use Rattle.std.specs.Prelude.{pos, IsTrue, ℕ};
-ghost use Rattle.smith_data.specs.Features.{every_feature};
-ghost use Rattle.smith_data.specs.declared.instruction_kind.InstructionKind.TheVariants as kind;
-ghost use Rattle.smith_data.specs.declared.value_type.HeapType.{HeapType};
-ghost use Rattle.smith_data.specs.declared.value_type.ValType.{ValType};
+ghost use Rattle.smith_syntax.specs.Features.{every_feature};
+ghost use Rattle.smith_syntax.specs.declared.instruction_kind.InstructionKind.TheVariants as kind;
+ghost use Rattle.smith_syntax.specs.declared.value_type.HeapType.{HeapType};
+ghost use Rattle.smith_syntax.specs.declared.value_type.ValType.{ValType};
 ghost use Rattle.smith_instr.specs.Enabled.{IsEnabled, names_data};
 ghost use Rattle.smith_instr.specs.declared.aggregate.AggregateInstr.TheVariants as aggregate;
 ghost use Rattle.smith_instr.specs.declared.atomic.AtomicAccess.{AtomicAccess};

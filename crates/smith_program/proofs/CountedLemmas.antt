@@ -3,8 +3,8 @@ use Rattle.std.proofs.Common.{◌≡◌, ℕ, List, [], ◌∷◌, ◌++◌, Som
 use Rattle.std.specs.Prelude.{slice_get}
 use Rattle.std.specs.List.{flat_map, AllByRecursion as Each}
 use Rattle.std.proofs.lemmas.Grind.{flat_map-append}
-use Rattle.smith_data.specs.declared.value_type.ValType.{ValType}
-use Rattle.smith_data.specs.declared.value_type.ValType.TheVariants.{I32}
+use Rattle.smith_syntax.specs.declared.value_type.ValType.{ValType}
+use Rattle.smith_syntax.specs.declared.value_type.ValType.TheVariants.{I32}
 use Rattle.smith_instr.specs.Contexts.{BodyContext, AreValid}
 use Rattle.smith_instr.specs.InstrTypes.{sets, HasInstrType}
 use Rattle.smith_instr.specs.Sequences.{Stacked, stacked, IsFramed, IsStep, AreTyped, IsBodyTyped, nothing, step, block, loop, if_alone, if_else, try_table}
@@ -14,7 +14,7 @@ use Rattle.smith_instr.specs.declared.instr.Instr.TheVariants as instr
 use Rattle.smith_instr.specs.declared.numeric.IntBinary.TheVariants as int_binary
 use Rattle.smith_instr.specs.declared.numeric.NumericInstr.TheVariants as numeric
 use Rattle.smith_instr.proofs.SequenceLemmas.{below_themselves, count_as_themselves}
-use Rattle.smith_code_nodes.proofs.NodeLemmas.{one_valid, no_valid}
+use Rattle.smith_body_nodes.proofs.NodeLemmas.{one_valid, no_valid}
 use Rattle.wasm_smith.specs.Termination.{counter}
 use Rattle.smith_program.specs.Counted.{check_of, checks_of, checked_after, counted}
 

@@ -4,14 +4,14 @@ use Rattle.std.specs.Prelude.{slice_get}
 use Rattle.std.proofs.lemmas.List.{append-nil, drop_all}
 use Rattle.std.proofs.lemmas.Option.{get_or_from_slice_get}
 use Rattle.smith_types.proofs.ListLemmas.{slice_get-push}
-use Rattle.smith_data.specs.declared.code.Code.{Code}
-use Rattle.smith_data.specs.declared.code.Instructions.{Instructions}
-use Rattle.smith_data.specs.declared.code.Instructions.TheVariants.{Arbitrary, Unreachable}
-use Rattle.smith_data.specs.declared.composite_type.FuncType.{FuncType}
-use Rattle.smith_rules.specs.Held.{IsRaw}
-use Rattle.smith_rules.specs.Module.{ModuleParts}
+use Rattle.smith_syntax.specs.declared.code.Code.{Code}
+use Rattle.smith_syntax.specs.declared.code.Instructions.{Instructions}
+use Rattle.smith_syntax.specs.declared.code.Instructions.TheVariants.{Arbitrary, Unreachable}
+use Rattle.smith_syntax.specs.declared.composite_type.FuncType.{FuncType}
+use Rattle.smith_module_rules.specs.Held.{IsRaw}
+use Rattle.smith_module_rules.specs.Module.{ModuleParts}
 use Rattle.smith_instr.specs.declared.instr.Instr.{Instr}
-use Rattle.smith_code.specs.Bodies.{body_at}
+use Rattle.smith_body.specs.Bodies.{body_at}
 use Rattle.smith_program.specs.Bodies.{HasDefinedType, function_context}
 use Rattle.smith_program.specs.DrawnBodies.{bodies_at, bodies_from, defined_func_type, one_at, unless_raw}
 use Rattle.smith_program.specs.declared.program.Body.{Body}

@@ -5,7 +5,7 @@ use Rattle.smith_bytes.specs.Source.{KeepsPieces}
 use Rattle.smith_bytes.specs.declared.error.Error.{Error}
 use Rattle.smith_bytes.specs.declared.error.Error.TheVariants.{Memory}
 use Rattle.smith_config.specs.declared.config.Config.{Config}
-use Rattle.smith_rules.specs.Module.{ModuleParts}
+use Rattle.smith_module_rules.specs.Module.{ModuleParts}
 use Rattle.wasm_smith.specs.Generated.{IsGenerated}
 use Rattle.smith_program.specs.Bodies.{AreDrawnBodies}
 use Rattle.smith_program.specs.DrawnBodies.{bodies_at}

@@ -5,36 +5,36 @@ use Rattle.std.specs.List.{AllByRecursion as Each}
 use Rattle.std.specs.declared.ops.Range.{Range}
 use Rattle.std.proofs.lemmas.List.Elements.{All-append, All-from_recursion, All-map, recursion_from_All, All-weaker}
 use Rattle.std.proofs.lemmas.Option.{slice_get_within, slice_get-get_or, slice_get_read, get_or_from_slice_get}
-use Rattle.smith_data.specs.Features.{Features}
+use Rattle.smith_syntax.specs.Features.{Features}
 use Rattle.smith_types.specs.GroupedTypes.{GroupedTypes}
 use Rattle.smith_types.specs.Entities.{IsFuncAt, IsFuncTypeIndex, IsGlobalValid, IsTableValid}
 use Rattle.smith_types.specs.Segments.{IsElementSegmentValid}
 use Rattle.smith_types.specs.ValidTypes.{IsRefTypeValid, IsValTypeValid, IsGroupValid, AreTypesValid, values_of}
-use Rattle.smith_data.specs.declared.code.Code.{Code}
-use Rattle.smith_data.specs.declared.code.Instructions.{Instructions}
-use Rattle.smith_data.specs.declared.code.Instructions.TheVariants.{Arbitrary, Unreachable}
-use Rattle.smith_data.specs.declared.composite_type.CompositeInnerType.{CompositeInnerType}
-use Rattle.smith_data.specs.declared.composite_type.CompositeInnerType.TheVariants.{Func}
-use Rattle.smith_data.specs.declared.composite_type.FuncType.{FuncType}
-use Rattle.smith_data.specs.declared.composite_type.SubType.{SubType}
-use Rattle.smith_data.specs.declared.entity_type.GlobalType.{GlobalType}
-use Rattle.smith_data.specs.declared.entity_type.TableType.{TableType}
-use Rattle.smith_data.specs.declared.segments.ElementSegment.{ElementSegment}
-use Rattle.smith_data.specs.declared.value_type.ValType.{ValType}
+use Rattle.smith_syntax.specs.declared.code.Code.{Code}
+use Rattle.smith_syntax.specs.declared.code.Instructions.{Instructions}
+use Rattle.smith_syntax.specs.declared.code.Instructions.TheVariants.{Arbitrary, Unreachable}
+use Rattle.smith_syntax.specs.declared.composite_type.CompositeInnerType.{CompositeInnerType}
+use Rattle.smith_syntax.specs.declared.composite_type.CompositeInnerType.TheVariants.{Func}
+use Rattle.smith_syntax.specs.declared.composite_type.FuncType.{FuncType}
+use Rattle.smith_syntax.specs.declared.composite_type.SubType.{SubType}
+use Rattle.smith_syntax.specs.declared.entity_type.GlobalType.{GlobalType}
+use Rattle.smith_syntax.specs.declared.entity_type.TableType.{TableType}
+use Rattle.smith_syntax.specs.declared.segments.ElementSegment.{ElementSegment}
+use Rattle.smith_syntax.specs.declared.value_type.ValType.{ValType}
 use Rattle.smith_types.proofs.ValidityLemmas.{ends_within, group_at}
 use Rattle.smith_types.proofs.EntityGrowthLemmas.{IsValTypeValid-later}
-use Rattle.smith_const_expr.proofs.ConstScopeLemmas.{fields_valid}
-use Rattle.smith_rules.specs.Held.{IsRaw}
-use Rattle.smith_rules.specs.Module.{ModuleParts, IsValid, module_features, module_imports, module_types, segment_context}
+use Rattle.smith_draw_consts.proofs.ConstScopeLemmas.{fields_valid}
+use Rattle.smith_module_rules.specs.Held.{IsRaw}
+use Rattle.smith_module_rules.specs.Module.{ModuleParts, IsValid, module_features, module_imports, module_types, segment_context}
 use Rattle.smith_instr.specs.Enabled.{IsEnabled}
 use Rattle.smith_instr.specs.Sequences.{IsBodyTyped}
 use Rattle.smith_instr.specs.declared.instr.Instr.{Instr}
-use Rattle.smith_code_nodes.specs.Scopes.{kinds_of_bodies, most, IsScope}
-use Rattle.smith_code_nodes.specs.Traps.{IsTrapless}
-use Rattle.smith_code_leaves.specs.Leaves.{longest_leaf}
-use Rattle.smith_code.specs.Stops.{HasNeededStops}
+use Rattle.smith_body_nodes.specs.Scopes.{kinds_of_bodies, most, IsScope}
+use Rattle.smith_body_nodes.specs.Traps.{IsTrapless}
+use Rattle.smith_body_leaves.specs.Leaves.{longest_leaf}
+use Rattle.smith_body.specs.Stops.{HasNeededStops}
 use Rattle.smith_program.specs.Bodies.{HasDefinedType, IsDrawnAt, function_context}
-use Rattle.smith_code_nodes.proofs.NodeLemmas.{func_wide}
+use Rattle.smith_body_nodes.proofs.NodeLemmas.{func_wide}
 
 each_front : {A : Type 0} (P : A → Type 0) (xs ys : List A) → Each P (xs ++ ys) → Each P xs × Each P ys
 each_front P [] ys h = (tt, h)

@@ -9,12 +9,12 @@ use Rattle.std.proofs.lemmas.List.Elements.{recursion_from_All, All-weaker}
 use Rattle.std.proofs.lemmas.Option.{same_Some, slice_get_within, slice_get-get_or, slice_get-map}
 use Rattle.smith_bytes.specs.declared.error.Error.{Error}
 use Rattle.smith_types.specs.Bodies.{IsCounterGlobal}
-use Rattle.smith_data.specs.declared.code.Code.{Code}
-use Rattle.smith_data.specs.declared.composite_type.FuncType.{FuncType}
-use Rattle.smith_data.specs.declared.const_instr.ConstInstr.{ConstInstr}
-use Rattle.smith_data.specs.declared.const_instr.ConstInstr.TheVariants.{I32Const}
-use Rattle.smith_data.specs.declared.value_type.ValType.{ValType}
-use Rattle.smith_rules.specs.Module.{ModuleParts, IsValid, module_imports}
+use Rattle.smith_syntax.specs.declared.code.Code.{Code}
+use Rattle.smith_syntax.specs.declared.composite_type.FuncType.{FuncType}
+use Rattle.smith_syntax.specs.declared.const_instr.ConstInstr.{ConstInstr}
+use Rattle.smith_syntax.specs.declared.const_instr.ConstInstr.TheVariants.{I32Const}
+use Rattle.smith_syntax.specs.declared.value_type.ValType.{ValType}
+use Rattle.smith_module_rules.specs.Module.{ModuleParts, IsValid, module_imports}
 use Rattle.smith_instr.specs.Sequences.{IsBodyTyped}
 use Rattle.smith_instr.specs.declared.instr.Instr.{Instr}
 use Rattle.wasm_smith.specs.Termination.{AddsCounter, AnswersCounter, counter}

@@ -1,8 +1,8 @@
 -- A body stays typed in a module with more globals.
 use Rattle.std.proofs.Common.{ℕ, List, ◌++◌}
 use Rattle.std.proofs.lemmas.List.Elements.{All-weaker}
-use Rattle.smith_data.specs.declared.entity_type.GlobalType.{GlobalType}
-use Rattle.smith_data.specs.declared.value_type.ValType.{ValType}
+use Rattle.smith_syntax.specs.declared.entity_type.GlobalType.{GlobalType}
+use Rattle.smith_syntax.specs.declared.value_type.ValType.{ValType}
 use Rattle.smith_types.proofs.ListLemmas.{slice_get-grown}
 use Rattle.smith_instr.specs.AggregateTypes.{HasAggregateType, IsFieldAt, IsElemOf}
 use Rattle.smith_instr.specs.Contexts.{BodyContext}
@@ -22,8 +22,8 @@ use Rattle.smith_instr.specs.declared.memory.MemArg.{MemArg}
 use Rattle.smith_instr.specs.declared.memory.MemoryInstr.{MemoryInstr}
 use Rattle.smith_instr.specs.declared.reference.ReferenceInstr.{ReferenceInstr}
 use Rattle.smith_instr.specs.declared.table.TableInstr.{TableInstr}
-use Rattle.smith_data.specs.declared.composite_type.FieldType.{FieldType}
-use Rattle.smith_data.specs.declared.value_type.RefType.{RefType}
+use Rattle.smith_syntax.specs.declared.composite_type.FieldType.{FieldType}
+use Rattle.smith_syntax.specs.declared.value_type.RefType.{RefType}
 
 -- a context with more globals
 abbrev pub wider : BodyContext → List GlobalType → BodyContext

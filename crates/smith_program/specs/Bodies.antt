@@ -2,20 +2,20 @@
 -- Specification 3.0.
 use Rattle.std.specs.Prelude.{◌≡◌, ℕ, ◌+◌, ◌*◌, ◌<◌, ◌≤◌, Some, List, [], ◌++◌, map, length, slice_get, All, IsTrue}
 use Rattle.smith_types.specs.Entities.{IsFuncAt}
-use Rattle.smith_data.specs.declared.code.Code.{Code}
-use Rattle.smith_data.specs.declared.composite_type.FuncType.{FuncType}
-use Rattle.smith_data.specs.declared.segments.ElementSegment.{ElementSegment}
-use Rattle.smith_data.specs.declared.value_type.ValType.{ValType}
-use Rattle.smith_rules.specs.Held.{IsRaw}
-use Rattle.smith_rules.specs.Module.{ModuleParts, module_features, module_imports}
+use Rattle.smith_syntax.specs.declared.code.Code.{Code}
+use Rattle.smith_syntax.specs.declared.composite_type.FuncType.{FuncType}
+use Rattle.smith_syntax.specs.declared.segments.ElementSegment.{ElementSegment}
+use Rattle.smith_syntax.specs.declared.value_type.ValType.{ValType}
+use Rattle.smith_module_rules.specs.Held.{IsRaw}
+use Rattle.smith_module_rules.specs.Module.{ModuleParts, module_features, module_imports}
 use Rattle.smith_instr.specs.Contexts.{BodyContext}
 use Rattle.smith_instr.specs.Enabled.{IsEnabled}
 use Rattle.smith_instr.specs.Sequences.{IsBodyTyped}
 use Rattle.smith_instr.specs.declared.instr.Instr.{Instr}
-use Rattle.smith_code_nodes.specs.Scopes.{kinds_of_bodies, most}
-use Rattle.smith_code_nodes.specs.Traps.{IsTrapless}
-use Rattle.smith_code_leaves.specs.Leaves.{longest_leaf}
-use Rattle.smith_code.specs.Stops.{HasNeededStops}
+use Rattle.smith_body_nodes.specs.Scopes.{kinds_of_bodies, most}
+use Rattle.smith_body_nodes.specs.Traps.{IsTrapless}
+use Rattle.smith_body_leaves.specs.Leaves.{longest_leaf}
+use Rattle.smith_body.specs.Stops.{HasNeededStops}
 use Rattle.smith_program.specs.References.{references_of}
 use Rattle.smith_program.specs.declared.program.Body.{Body}
 use Rattle.smith_program.specs.declared.program.Body.TheVariants as body

@@ -1,12 +1,12 @@
 -- The bodies that the bytes produce, in the order of the draws. Rules of this project.
 use Rattle.std.specs.Prelude.{ℕ, suc, ◌+◌, Option, Some, None, List, [], ◌∷◌, length, slice_get}
-use Rattle.smith_data.specs.declared.code.Code.{Code}
-use Rattle.smith_data.specs.declared.code.Instructions.{Instructions}
-use Rattle.smith_data.specs.declared.code.Instructions.TheVariants.{Arbitrary, Unreachable}
-use Rattle.smith_data.specs.declared.composite_type.FuncType.{FuncType}
-use Rattle.smith_rules.specs.Module.{ModuleParts, module_imports}
-use Rattle.smith_code.specs.Bodies.{body_at}
-use Rattle.smith_code_nodes.specs.Offered.{function_in}
+use Rattle.smith_syntax.specs.declared.code.Code.{Code}
+use Rattle.smith_syntax.specs.declared.code.Instructions.{Instructions}
+use Rattle.smith_syntax.specs.declared.code.Instructions.TheVariants.{Arbitrary, Unreachable}
+use Rattle.smith_syntax.specs.declared.composite_type.FuncType.{FuncType}
+use Rattle.smith_module_rules.specs.Module.{ModuleParts, module_imports}
+use Rattle.smith_body.specs.Bodies.{body_at}
+use Rattle.smith_body_nodes.specs.Offered.{function_in}
 use Rattle.smith_program.specs.Bodies.{function_context}
 use Rattle.smith_program.specs.declared.program.Body.{Body}
 use Rattle.smith_program.specs.declared.program.Body.TheVariants as body

@@ -1,7 +1,7 @@
 -- The parts of the context of bodies that are made from a module once.
 use Rattle.std.specs.Prelude.{◌≡◌, map}
-use Rattle.smith_data.specs.declared.segments.ElementSegment.{ElementSegment}
-use Rattle.smith_rules.specs.Module.{ModuleParts}
+use Rattle.smith_syntax.specs.declared.segments.ElementSegment.{ElementSegment}
+use Rattle.smith_module_rules.specs.Module.{ModuleParts}
 use Rattle.smith_program.specs.References.{references_of}
 use Rattle.smith_program.specs.declared.bodies.Named.{Named}
 

@@ -1,5 +1,5 @@
 ghost use Rattle.std.specs.Prelude.{◌≡◌, ◌<◌, ◌-◌, ◌^◌, length, map};
-ghost use Rattle.smith_rules.specs.Module.{IsValid};
+ghost use Rattle.smith_module_rules.specs.Module.{IsValid};
 ghost use Rattle.wasm_smith.specs.Termination.{AnswersCounter};
 ghost use Rattle.smith_program.specs.Bodies.{AreBodiesOf};
 ghost use Rattle.smith_program.specs.Counted.{counted_body};

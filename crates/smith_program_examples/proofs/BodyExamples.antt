@@ -3,11 +3,11 @@ use Rattle.std.proofs.Common.{◌≡◌, ℕ, zero, suc, inl, inr, List, [], ◌
 use Rattle.std.proofs.lemmas.Option.{same_Some}
 use Rattle.smith_types.specs.Entities.{IsFuncAt}
 use Rattle.smith_types.specs.ExampleTypes.{final_type, giving}
-use Rattle.smith_data.specs.declared.code.Code.{Code}
-use Rattle.smith_data.specs.declared.composite_type.FuncType.{FuncType}
-use Rattle.smith_data.specs.declared.value_type.ValType.TheVariants.{I32}
-use Rattle.smith_rules.specs.Module.{ModuleParts}
-use Rattle.smith_rules_examples.specs.ExampleParts.{trapping}
+use Rattle.smith_syntax.specs.declared.code.Code.{Code}
+use Rattle.smith_syntax.specs.declared.composite_type.FuncType.{FuncType}
+use Rattle.smith_syntax.specs.declared.value_type.ValType.TheVariants.{I32}
+use Rattle.smith_module_rules.specs.Module.{ModuleParts}
+use Rattle.smith_module_rules_examples.specs.ExampleParts.{trapping}
 use Rattle.smith_instr.specs.Contexts.{labelled}
 use Rattle.smith_instr.specs.Sequences.{IsBodyTyped, step}
 use Rattle.smith_instr.specs.declared.instr.Instr.{Instr}

@@ -1,20 +1,20 @@
 -- Modules and bodies of the examples, and the bytes that produce such bodies.
 use Rattle.std.specs.Prelude.{ℕ, true, None, List, [], ◌∷◌}
 use Rattle.smith_types.specs.ExampleTypes.{final_type, giving, plain_func}
-use Rattle.smith_data.specs.declared.code.Code.{Code}
-use Rattle.smith_data.specs.declared.code.Instructions.TheVariants.{Arbitrary}
-use Rattle.smith_data.specs.declared.composite_type.CompositeInnerType.{CompositeInnerType}
-use Rattle.smith_data.specs.declared.composite_type.FuncType.{FuncType}
-use Rattle.smith_data.specs.declared.entity_type.EntityType.TheVariants as entity
-use Rattle.smith_data.specs.declared.imports.Imports.TheVariants.{Single}
-use Rattle.smith_data.specs.declared.value_type.ValType.TheVariants.{I32}
+use Rattle.smith_syntax.specs.declared.code.Code.{Code}
+use Rattle.smith_syntax.specs.declared.code.Instructions.TheVariants.{Arbitrary}
+use Rattle.smith_syntax.specs.declared.composite_type.CompositeInnerType.{CompositeInnerType}
+use Rattle.smith_syntax.specs.declared.composite_type.FuncType.{FuncType}
+use Rattle.smith_syntax.specs.declared.entity_type.EntityType.TheVariants as entity
+use Rattle.smith_syntax.specs.declared.imports.Imports.TheVariants.{Single}
+use Rattle.smith_syntax.specs.declared.value_type.ValType.TheVariants.{I32}
 use Rattle.smith_config.specs.declared.config.Config.{Config}
 use Rattle.smith_config.specs.Config.{default_config}
-use Rattle.smith_rules.specs.Module.{ModuleParts}
-use Rattle.smith_rules_examples.specs.ExampleModules.{empty_module, group_of}
-use Rattle.smith_rules_examples.specs.ExampleParts.{import_named, memory, trapping}
+use Rattle.smith_module_rules.specs.Module.{ModuleParts}
+use Rattle.smith_module_rules_examples.specs.ExampleModules.{empty_module, group_of}
+use Rattle.smith_module_rules_examples.specs.ExampleParts.{import_named, memory, trapping}
 use Rattle.smith_instr_examples.specs.ExampleBodies.{number}
-use Rattle.smith_code_examples.specs.ExampleBytes.{narrow}
+use Rattle.smith_body_examples.specs.ExampleBytes.{narrow}
 use Rattle.smith_program.specs.declared.program.Body.{Body}
 use Rattle.smith_program.specs.declared.program.Body.TheVariants as body
 

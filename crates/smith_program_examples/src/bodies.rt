@@ -1,13 +1,13 @@
 ghost use Rattle.std.specs.Prelude.{◌≡◌, [], ◌∷◌, ◌++◌};
 ghost use Rattle.smith_config.specs.Config.{default_config};
-ghost use Rattle.smith_rules_examples.specs.ExampleModules.{empty_module};
-ghost use Rattle.smith_rules_examples.specs.ExampleParts.{trapping};
+ghost use Rattle.smith_module_rules_examples.specs.ExampleModules.{empty_module};
+ghost use Rattle.smith_module_rules_examples.specs.ExampleParts.{trapping};
 ghost use Rattle.smith_instr.specs.declared.control.BlockType.TheVariants as block;
 ghost use Rattle.smith_instr.specs.declared.instr.Instr.TheVariants as instr;
 ghost use Rattle.smith_instr.specs.declared.numeric.IntBinary.TheVariants.{Sub};
 ghost use Rattle.smith_instr.specs.declared.numeric.NumericInstr.TheVariants as numeric;
 ghost use Rattle.smith_instr_examples.specs.ExampleBodies.{number};
-ghost use Rattle.smith_code_examples.specs.ExampleBytes.{narrow};
+ghost use Rattle.smith_body_examples.specs.ExampleBytes.{narrow};
 ghost use Rattle.smith_program.specs.DrawnBodies.{bodies_at};
 ghost use Rattle.smith_program.specs.declared.program.Body.TheVariants as body;
 ghost use Rattle.smith_program_examples.specs.ExamplePrograms.{constant, constant_bytes};

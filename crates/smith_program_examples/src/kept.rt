@@ -2,8 +2,8 @@
 
 ghost use Rattle.std.specs.Prelude.{◌≡◌, [], ◌∷◌};
 ghost use Rattle.smith_config.specs.Config.{default_config};
-ghost use Rattle.smith_rules_examples.specs.ExampleModules.{empty_module};
-ghost use Rattle.smith_rules_examples.specs.ExampleParts.{trapping};
+ghost use Rattle.smith_module_rules_examples.specs.ExampleModules.{empty_module};
+ghost use Rattle.smith_module_rules_examples.specs.ExampleParts.{trapping};
 ghost use Rattle.smith_instr_examples.specs.ExampleBodies.{number};
 ghost use Rattle.smith_program.specs.Bodies.{AreBodiesOf, IsOfBody};
 ghost use Rattle.smith_program.specs.declared.program.Body.TheVariants as body;

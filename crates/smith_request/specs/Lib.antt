@@ -1,2 +1,3 @@
-pub mod Made
+pub mod Output
 pub mod Refusals
+pub mod Requests

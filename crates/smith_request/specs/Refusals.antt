@@ -6,12 +6,12 @@ use Rattle.smith_binary.specs.Faults.{IsFault}
 use Rattle.smith_binary.specs.declared.error.EncodeError.TheVariants as encoding
 use Rattle.smith_bytes.specs.declared.error.Error.{Error}
 use Rattle.smith_bytes.specs.declared.error.Error.TheVariants as errors
-use Rattle.smith_json.specs.Objects.{ReadsText}
-use Rattle.smith_fields.specs.declared.fault.Fault.{Fault}
-use Rattle.smith_fields.specs.declared.fault.Fault.TheVariants.{OutOfMemory, NotAnObject, UnknownField, RepeatedField, WrongType, OutOfRange, TextAfter}
+use Rattle.smith_config_json.specs.Objects.{ReadsText}
+use Rattle.smith_config_json.specs.declared.fault.Fault.{Fault}
+use Rattle.smith_config_json.specs.declared.fault.Fault.TheVariants.{OutOfMemory, NotAnObject, UnknownField, RepeatedField, WrongType, OutOfRange, TextAfter}
 use Rattle.smith_program.specs.declared.program.Program.{Program}
-use Rattle.smith_program_binary.specs.Long.{IsLongProgram}
-use Rattle.smith_request.specs.Made.{AnswersText}
+use Rattle.smith_binary_program.specs.Long.{IsLongProgram}
+use Rattle.smith_request.specs.Requests.{AnswersText}
 use Rattle.smith_request.specs.declared.refusal.Refusal.{Refusal}
 use Rattle.smith_request.specs.declared.refusal.Refusal.TheVariants.{NotUtf8, Config, Module, Encoding}
 

@@ -1,11 +1,15 @@
-//! The program of a request: the text of a configuration, and an input. A program is a module with
-//! bodies of instructions.
+//! The program of a request: a configuration, or its text, and an input. A program is a module with
+//! bodies of instructions. It is written in the binary format or in the text format of the
+//! WebAssembly Core Specification 3.0.
 //!
-//! The text is a JSON object in UTF-8, or empty for the default configuration.
+//! The text of a configuration is a JSON object in UTF-8, or empty for the default configuration.
 #![tactic(auto)]
 
-mod made;
+mod output;
 mod refusal;
+mod request;
+mod writers;
 
-pub use made::{binary, program, text};
+pub use output::{Form, Manner, output};
 pub use refusal::Refusal;
+pub use request::{binary, program, text};

@@ -3,7 +3,7 @@ ghost use Rattle.smith_request.specs.Refusals.{fault_status, error_status, statu
 
 use smith_binary::EncodeError;
 use smith_bytes::Error;
-use smith_json::{ConfigRefusal, Fault};
+use smith_config_json::{ConfigRefusal, Fault};
 use std::fmt;
 
 /// The reason why there is no program.
@@ -31,6 +31,17 @@ impl Refusal {
             Refusal::Encoding(EncodeError::Memory) => 2,
             Refusal::Encoding(EncodeError::TooLong) => 7,
         }
+    }
+}
+
+impl From<Error> for Refusal {
+    ghost use Rattle.std.specs.Prelude.{◌≡◌};
+    ghost use Rattle.smith_request.specs.declared.refusal.Refusal.TheVariants.{Module};
+
+    ghost from_gives = { λ e refusal. refusal ≡ Module e };
+
+    fn from(refusal: Error) -> Refusal {
+        Refusal::Module(refusal)
     }
 }
 

@@ -1,7 +1,7 @@
+use smith_binary_instr::{EncodeError, Sink, encode_body, encode_expr, encode_instr};
 use smith_instr::{
     BlockType, Instr, IntBinary, Load, MemArg, NumericInstr, SaturatingConversion, VectorInstr,
 };
-use smith_instr_binary::{EncodeError, Sink, encode_body, encode_expr, encode_instr};
 use smith_types::{Items, ValType};
 use std::test::Fail;
 

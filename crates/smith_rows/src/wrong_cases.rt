@@ -1,6 +1,6 @@
 //! Cases that are not ok: each is reported so, with the reason.
 
-use smith_answers::judge;
+use smith_case_answers::judge;
 use std::alloc::Global;
 use std::test::Fail;
 

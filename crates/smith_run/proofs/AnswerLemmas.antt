@@ -9,7 +9,7 @@ use Rattle.smith_config.specs.Config.{default_config}
 use Rattle.smith_config.specs.Sanitized.{sanitized}
 use Rattle.smith_config.specs.declared.config.Config.{Config}
 use Rattle.wasm_smith.specs.Generated.{IsGenerated}
-use Rattle.smith_rules.specs.Module.{ModuleParts}
+use Rattle.smith_module_rules.specs.Module.{ModuleParts}
 use Rattle.smith_run.specs.declared.run.Outcome.{Outcome}
 use Rattle.smith_run.specs.declared.run.RunFault.{RunFault}
 use Rattle.smith_run.specs.declared.run.RunFault.TheVariants as fault

@@ -7,7 +7,7 @@ use Rattle.smith_config.specs.InUse.{HasNoShapes}
 use Rattle.smith_config.specs.Minimums.{HasNoMinimums}
 use Rattle.smith_config.specs.declared.config.Config.{Config}
 use Rattle.smith_config.proofs.DrawnConfigLemmas.{config_at-passes}
-use Rattle.smith_rules.specs.Refusals.{AsksNothingImpossible}
+use Rattle.smith_module_rules.specs.Refusals.{AsksNothingImpossible}
 use Rattle.wasm_smith.proofs.NoShapeLemmas.{no_shapes_valid, none_used}
 
 no_minimums : (bytes : List ℕ) → HasNoMinimums (config_at bytes).0

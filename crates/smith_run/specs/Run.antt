@@ -7,7 +7,7 @@ use Rattle.smith_config.specs.Arbitrary.{config_at}
 use Rattle.smith_config.specs.Config.{default_config}
 use Rattle.smith_config.specs.declared.config.Config.{Config}
 use Rattle.wasm_smith.specs.Generated.{IsGenerated}
-use Rattle.smith_rules.specs.Module.{ModuleParts}
+use Rattle.smith_module_rules.specs.Module.{ModuleParts}
 use Rattle.smith_run.specs.declared.run.Outcome.{Outcome}
 use Rattle.smith_run.specs.declared.run.Outcome.TheVariants.{Made, Refused}
 use Rattle.smith_run.specs.declared.run.RunFault.{RunFault}

@@ -2,7 +2,7 @@ use crate::run::{Outcome, RunFault, run};
 use crate::sink::FromWrite;
 use crate::source::FromRead;
 use smith_bytes::Error;
-use smith_memory::{Ended, Tried, refusals};
+use smith_rows_memory::{Ended, Tried, refusals};
 use std::alloc::Global;
 use std::io;
 use std::io::{ErrorKind, Read, Write};

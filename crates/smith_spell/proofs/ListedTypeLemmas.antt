@@ -4,8 +4,8 @@ use Rattle.std.specs.Prelude.{IsTrue, slice_get}
 use mir.Val.{bool_byte}
 use Rattle.std.specs.List.{Contains, AllByRecursion as ByRecursion}
 use Rattle.std.proofs.lemmas.List.Elements.{All-contains, All-from_recursion}
-use Rattle.smith_data.specs.declared.value_type.AbstractHeapType.{AbstractHeapType}
-use Rattle.smith_data.specs.declared.value_type.AbstractHeapType.TheVariants.{Func, Extern, Any, None, NoExtern, NoFunc, Eq, Struct, Array, I31, Exn, NoExn}
+use Rattle.smith_syntax.specs.declared.value_type.AbstractHeapType.{AbstractHeapType}
+use Rattle.smith_syntax.specs.declared.value_type.AbstractHeapType.TheVariants.{Func, Extern, Any, None, NoExtern, NoFunc, Eq, Struct, Array, I31, Exn, NoExn}
 use Rattle.smith_config.specs.declared.config.Config.{Config}
 use Rattle.smith_draw_types.specs.Choices.{enabled}
 use Rattle.smith_draw_types.specs.ValueTypes.{abstract_heap_types}

@@ -4,7 +4,7 @@ use Rattle.std.specs.Prelude.{◌≤◌, ◌↔◌, slice_get, All}
 use Rattle.std.specs.List.{flat_map}
 use Rattle.std.proofs.lemmas.List.{take_more}
 use Rattle.std.proofs.lemmas.Option.{same_Some}
-use Rattle.smith_data.specs.declared.composite_type.SubType.{SubType}
+use Rattle.smith_syntax.specs.declared.composite_type.SubType.{SubType}
 use Rattle.smith_config.specs.declared.config.Config.{Config}
 use Rattle.smith_types.specs.Entities.{IsFuncTypeIndex}
 use Rattle.smith_types.specs.Groups.{space_of}

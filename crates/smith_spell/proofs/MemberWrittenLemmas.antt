@@ -5,7 +5,7 @@ use Rattle.std.specs.List.{list_any}
 use Rattle.std.proofs.lemmas.Bool.{lt-ltb}
 use Rattle.smith_bytes.specs.Spelling.{SpellsAnyByte, Joined, SpellsNone}
 use Rattle.smith_types.specs.Groups.{space_of}
-use Rattle.smith_data.specs.declared.composite_type.SubType.{SubType}
+use Rattle.smith_syntax.specs.declared.composite_type.SubType.{SubType}
 use Rattle.smith_config.specs.declared.config.Config.{Config}
 use Rattle.smith_draw_types.specs.TypeUses.{places_from}
 use Rattle.smith_draw_types.specs.Spelling.{SpellsGroups}

@@ -4,7 +4,7 @@ use Rattle.std.proofs.Math.Seq.{take-suc}
 use Rattle.std.proofs.Math.ListN.{drop_of_length-le}
 use Rattle.std.proofs.lemmas.List.{take_all}
 use Rattle.smith_bytes.specs.Spelling.{SpellsBool, SpellsRefusal, Where}
-use Rattle.smith_data.specs.declared.composite_type.SubType.{SubType}
+use Rattle.smith_syntax.specs.declared.composite_type.SubType.{SubType}
 use Rattle.smith_config.specs.declared.config.Config.{Config}
 use Rattle.smith_draw_types.specs.Spelling.{SpellsUnshared, SpellsInner, SpellsDeclared, SpellsForm, SpellsSubType, SpellsSubTypes}
 use Rattle.smith_spell.specs.Family.{IsMemberType}

@@ -4,7 +4,7 @@ use Rattle.std.specs.Prelude.{ℤ, Some, slice_get, if◌then◌else◌}
 use Rattle.std.specs.Int.{cast_signed, w32}
 use Rattle.smith_bytes.specs.Draws.{big_endian, little_endian, digit_count}
 use Rattle.smith_bytes.specs.Spelling.{SpellsBool, SpellsNumber, SpellsAnyByte, SpellsRefusal, Joined, Listed}
-use Rattle.smith_data.specs.declared.value_type.HeapType.TheVariants.{Concrete}
+use Rattle.smith_syntax.specs.declared.value_type.HeapType.TheVariants.{Concrete}
 use Rattle.smith_config.specs.Config.{default_config}
 use Rattle.smith_config.specs.declared.config.Config.{Config}
 use Rattle.smith_draw_types.specs.Choices.{enabled}

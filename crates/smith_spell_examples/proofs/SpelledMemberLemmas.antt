@@ -5,16 +5,16 @@ use Rattle.std.proofs.Math.Dec.{T, eqb, eqb_refl}
 use Rattle.smith_bytes.specs.Spelling.{Joined, SpellsAnyByte, SpellsNone}
 use Rattle.smith_types.specs.Expressions.{Context}
 use Rattle.smith_types.specs.GroupedTypes.{GroupedTypes}
-use Rattle.smith_data.specs.declared.value_type.HeapType.{HeapType}
-use Rattle.smith_data.specs.declared.value_type.HeapType.TheVariants.{Abstract, Concrete, Exact}
-use Rattle.smith_data.specs.declared.value_type.ValType.{ValType}
-use Rattle.smith_data.specs.declared.value_type.ValType.TheVariants.{I32, I64, F32, F64, V128, Ref}
-use Rattle.smith_data.specs.declared.composite_type.StorageType.{StorageType}
-use Rattle.smith_data.specs.declared.composite_type.StorageType.TheVariants.{I8, I16, Val}
-use Rattle.smith_data.specs.declared.composite_type.FieldType.{FieldType}
-use Rattle.smith_data.specs.declared.composite_type.CompositeInnerType.{CompositeInnerType}
-use Rattle.smith_data.specs.declared.composite_type.CompositeInnerType.TheVariants.{Array, Func, Struct}
-use Rattle.smith_data.specs.declared.composite_type.SubType.{SubType}
+use Rattle.smith_syntax.specs.declared.value_type.HeapType.{HeapType}
+use Rattle.smith_syntax.specs.declared.value_type.HeapType.TheVariants.{Abstract, Concrete, Exact}
+use Rattle.smith_syntax.specs.declared.value_type.ValType.{ValType}
+use Rattle.smith_syntax.specs.declared.value_type.ValType.TheVariants.{I32, I64, F32, F64, V128, Ref}
+use Rattle.smith_syntax.specs.declared.composite_type.StorageType.{StorageType}
+use Rattle.smith_syntax.specs.declared.composite_type.StorageType.TheVariants.{I8, I16, Val}
+use Rattle.smith_syntax.specs.declared.composite_type.FieldType.{FieldType}
+use Rattle.smith_syntax.specs.declared.composite_type.CompositeInnerType.{CompositeInnerType}
+use Rattle.smith_syntax.specs.declared.composite_type.CompositeInnerType.TheVariants.{Array, Func, Struct}
+use Rattle.smith_syntax.specs.declared.composite_type.SubType.{SubType}
 use Rattle.smith_config.specs.declared.config.Config.{Config}
 use Rattle.smith_config.specs.Features.{features_of}
 use Rattle.smith_config.specs.Sanitized.{IsSanitized}

@@ -4,19 +4,19 @@ use Rattle.std.specs.Prelude.{◌⊎◌, slice_get, replicate, ◌&&◌, ◌||�
 use Rattle.std.proofs.lemmas.Bool.{cases_eq}
 use Rattle.std.proofs.lemmas.List.{length-set}
 use Rattle.std.proofs.lemmas.Option.{slice_get_within, same_Some}
-use Rattle.smith_data.specs.declared.value_type.AbstractHeapType.{AbstractHeapType}
-use Rattle.smith_data.specs.declared.value_type.AbstractHeapType.TheVariants as heap
-use Rattle.smith_data.specs.declared.value_type.HeapType.{HeapType}
-use Rattle.smith_data.specs.declared.value_type.HeapType.TheVariants.{Abstract, Concrete, Exact}
-use Rattle.smith_data.specs.declared.value_type.ValType.{ValType}
-use Rattle.smith_data.specs.declared.composite_type.CompositeInnerType.{CompositeInnerType}
-use Rattle.smith_data.specs.declared.composite_type.CompositeInnerType.TheVariants.{Array, Func, Struct}
-use Rattle.smith_data.specs.declared.composite_type.SubType.{SubType}
+use Rattle.smith_syntax.specs.declared.value_type.AbstractHeapType.{AbstractHeapType}
+use Rattle.smith_syntax.specs.declared.value_type.AbstractHeapType.TheVariants as heap
+use Rattle.smith_syntax.specs.declared.value_type.HeapType.{HeapType}
+use Rattle.smith_syntax.specs.declared.value_type.HeapType.TheVariants.{Abstract, Concrete, Exact}
+use Rattle.smith_syntax.specs.declared.value_type.ValType.{ValType}
+use Rattle.smith_syntax.specs.declared.composite_type.CompositeInnerType.{CompositeInnerType}
+use Rattle.smith_syntax.specs.declared.composite_type.CompositeInnerType.TheVariants.{Array, Func, Struct}
+use Rattle.smith_syntax.specs.declared.composite_type.SubType.{SubType}
 use Rattle.smith_types.specs.declared.ground.Ground.{Ground}
 use Rattle.smith_types.specs.declared.noted_kinds.Kinds.{Kinds}
 use Rattle.smith_types.specs.declared.noted_kinds.NotedKinds.{NotedKinds}
 use Rattle.smith_types.specs.declared.func_grounds.FuncGrounds.{FuncGrounds}
-use Rattle.smith_data.specs.Kinds.{kind_of, kind, shared}
+use Rattle.smith_syntax.specs.Kinds.{kind_of, kind, shared}
 use Rattle.smith_types.specs.Types.{IsOrderly}
 use Rattle.smith_types.specs.Subtyping.{is_abstract_below, IsBelow, IsRefBelow, IsValBelow, IsInRange}
 use Rattle.smith_types.specs.Expressions.{Context, reference_to, function_reference}

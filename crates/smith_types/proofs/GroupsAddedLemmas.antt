@@ -5,12 +5,12 @@ use Rattle.std.specs.declared.ops.Range.{Range}
 use Rattle.std.proofs.Math.Seq.{split_at, take-suc}
 use Rattle.std.proofs.lemmas.Grind.{flat_map-append}
 use Rattle.std.proofs.lemmas.Option.{slice_get_within}
-use Rattle.smith_data.specs.Features.{Features}
+use Rattle.smith_syntax.specs.Features.{Features}
 use Rattle.smith_types.specs.GroupedTypes.{GroupedTypes, MayFollow}
 use Rattle.smith_types.specs.Types.{next_group, end_from}
 use Rattle.smith_types.specs.ValidTypes.{AreTypesValid}
 use Rattle.smith_types.specs.Groups.{ranges_from, space_of, AreFollowing}
-use Rattle.smith_data.specs.declared.composite_type.SubType.{SubType}
+use Rattle.smith_syntax.specs.declared.composite_type.SubType.{SubType}
 use Rattle.smith_types.proofs.ListLemmas.{slice_get-grown, slice_get-front, slice_get-last}
 use Rattle.smith_types.proofs.GroupGrowthLemmas.{AreTypesOpen-at, AreTypesOpen-start}
 

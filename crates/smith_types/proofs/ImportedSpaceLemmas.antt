@@ -6,12 +6,12 @@ use Rattle.std.proofs.lemmas.Grind.{flat_map-append}
 use Rattle.std.proofs.lemmas.List.Folds.{flat_map-map}
 use Rattle.smith_types.specs.Imports.{EntitySpaces, imported_spaces, flattened, imports_of, import_of, imported, tag_of, func_of, table_of, memory_of, global_of}
 use Rattle.smith_types.specs.EntitySpaces.{with_entity, with_entities, entities_of}
-use Rattle.smith_data.specs.declared.imports.Import.{Import}
-use Rattle.smith_data.specs.declared.imports.ImportItem.{ImportItem}
-use Rattle.smith_data.specs.declared.imports.Imports.{Imports}
-use Rattle.smith_data.specs.declared.imports.Imports.TheVariants.{Single, Compact1, Compact2}
-use Rattle.smith_data.specs.declared.entity_type.EntityType.{EntityType}
-use Rattle.smith_data.specs.declared.entity_type.EntityType.TheVariants as entity
+use Rattle.smith_syntax.specs.declared.imports.Import.{Import}
+use Rattle.smith_syntax.specs.declared.imports.ImportItem.{ImportItem}
+use Rattle.smith_syntax.specs.declared.imports.Imports.{Imports}
+use Rattle.smith_syntax.specs.declared.imports.Imports.TheVariants.{Single, Compact1, Compact2}
+use Rattle.smith_syntax.specs.declared.entity_type.EntityType.{EntityType}
+use Rattle.smith_syntax.specs.declared.entity_type.EntityType.TheVariants as entity
 
 pub with_entities_append : (spaces : EntitySpaces) (xs ys : List EntityType) → with_entities spaces (xs ++ ys) ≡ with_entities (with_entities spaces xs) ys
 with_entities_append spaces [] ys = refl

@@ -5,14 +5,14 @@ use Rattle.std.proofs.lemmas.Bool.{eqb-true, eq-eqb, ltb-true, cases_lt}
 use Rattle.std.proofs.lemmas.Option.{slice_get_within, slice_get-get_or}
 use Rattle.std.proofs.lemmas.List.{length-append, length-map, take-append-le, take_all, get_or-map, get_or_append_left, get_or-append-add}
 use Rattle.std.proofs.lemmas.Grind.{get_or_default_zero}
-use Rattle.smith_data.specs.declared.composite_type.SubType.{SubType}
+use Rattle.smith_syntax.specs.declared.composite_type.SubType.{SubType}
 use Rattle.smith_types.specs.declared.place.Place.{Place}
-use Rattle.smith_data.specs.declared.value_type.HeapType.TheVariants.{Concrete}
+use Rattle.smith_syntax.specs.declared.value_type.HeapType.TheVariants.{Concrete}
 use Rattle.smith_types.specs.Types.{IsOrderly}
 use Rattle.smith_types.specs.GroupedTypes.{MayFollow, HasDepth, root, deeper, AreDepths}
 use Rattle.smith_types.specs.declared.kind_counts.KindCounts.{KindCounts}
-use Rattle.smith_data.specs.declared.value_type.AbstractHeapType.{AbstractHeapType}
-use Rattle.smith_data.specs.Kinds.{shared}
+use Rattle.smith_syntax.specs.declared.value_type.AbstractHeapType.{AbstractHeapType}
+use Rattle.smith_syntax.specs.Kinds.{shared}
 use Rattle.smith_types.specs.KindCounts.{is_of_kind, indices_of_kind, count_where, kind_count_at, counts_with, AreCounts}
 use Rattle.smith_types.proofs.KindCountLemmas.{AreCounts-push, AreCounts-none, count_most, length_indices}
 use Rattle.smith_types.specs.Places.{last_counts_from, last_counts, IsAncestor, IsPlace, ArePlaces, depths_in, IsLonger, IsRowAtEnd}

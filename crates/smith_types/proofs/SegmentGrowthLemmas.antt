@@ -1,22 +1,22 @@
 -- Valid segments stay valid when types, functions, globals, tables and memories are added.
 use Rattle.std.proofs.Common.{ℕ, ◌≤◌, Bool, List, ◌++◌, Some, None, length, subst}
 use Rattle.std.proofs.lemmas.List.Elements.{All-weaker}
-use Rattle.smith_data.specs.declared.value_type.RefType.{RefType}
-use Rattle.smith_data.specs.declared.value_type.ValType.TheVariants.{Ref}
-use Rattle.smith_data.specs.declared.composite_type.SubType.{SubType}
-use Rattle.smith_data.specs.declared.entity_type.GlobalType.{GlobalType}
-use Rattle.smith_data.specs.declared.entity_type.MemoryType.{MemoryType}
-use Rattle.smith_data.specs.declared.entity_type.TableType.{TableType}
-use Rattle.smith_data.specs.declared.segments.Elements.{Elements}
-use Rattle.smith_data.specs.declared.segments.Elements.TheVariants.{Functions, Expressions}
-use Rattle.smith_data.specs.declared.segments.ElementKind.{ElementKind}
-use Rattle.smith_data.specs.declared.segments.ElementKind.TheVariants as element_kind
-use Rattle.smith_data.specs.declared.segments.ElementSegment.{ElementSegment}
-use Rattle.smith_data.specs.declared.segments.DataSegmentKind.{DataSegmentKind}
-use Rattle.smith_data.specs.declared.segments.DataSegmentKind.TheVariants as data_kind
-use Rattle.smith_data.specs.declared.segments.DataSegment.{DataSegment}
-use Rattle.smith_data.specs.declared.segments.Offset.{Offset}
-use Rattle.smith_data.specs.declared.segments.Offset.TheVariants.{Const32, Const64, Global}
+use Rattle.smith_syntax.specs.declared.value_type.RefType.{RefType}
+use Rattle.smith_syntax.specs.declared.value_type.ValType.TheVariants.{Ref}
+use Rattle.smith_syntax.specs.declared.composite_type.SubType.{SubType}
+use Rattle.smith_syntax.specs.declared.entity_type.GlobalType.{GlobalType}
+use Rattle.smith_syntax.specs.declared.entity_type.MemoryType.{MemoryType}
+use Rattle.smith_syntax.specs.declared.entity_type.TableType.{TableType}
+use Rattle.smith_syntax.specs.declared.segments.Elements.{Elements}
+use Rattle.smith_syntax.specs.declared.segments.Elements.TheVariants.{Functions, Expressions}
+use Rattle.smith_syntax.specs.declared.segments.ElementKind.{ElementKind}
+use Rattle.smith_syntax.specs.declared.segments.ElementKind.TheVariants as element_kind
+use Rattle.smith_syntax.specs.declared.segments.ElementSegment.{ElementSegment}
+use Rattle.smith_syntax.specs.declared.segments.DataSegmentKind.{DataSegmentKind}
+use Rattle.smith_syntax.specs.declared.segments.DataSegmentKind.TheVariants as data_kind
+use Rattle.smith_syntax.specs.declared.segments.DataSegment.{DataSegment}
+use Rattle.smith_syntax.specs.declared.segments.Offset.{Offset}
+use Rattle.smith_syntax.specs.declared.segments.Offset.TheVariants.{Const32, Const64, Global}
 use Rattle.smith_types.specs.Expressions.{Context, IsConstExpr, function_reference}
 use Rattle.smith_types.specs.Segments.{address_type, IsOffsetValid, IsItem, AreItemsValid, IsActiveElementSegment, IsElementKindValid, IsElementSegmentValid, IsDataKindValid, IsDataValid}
 use Rattle.smith_types.specs.Grown.{IsContextGrown}

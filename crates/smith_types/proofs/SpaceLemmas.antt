@@ -4,7 +4,7 @@ use Rattle.std.specs.Prelude.{Bool, true, false, not, ◌&&◌, nat_lt, if◌the
 use Rattle.std.specs.declared.ops.Range.{Range}
 use Rattle.std.proofs.lemmas.Option.{slice_get_within, same_Some}
 use Rattle.std.proofs.lemmas.List.{length-append}
-use Rattle.smith_data.specs.declared.composite_type.SubType.{SubType}
+use Rattle.smith_syntax.specs.declared.composite_type.SubType.{SubType}
 use Rattle.smith_types.specs.Types.{IsAlike, IsOrderly, end_from, next_start, next_group, AreConsecutive, AreCovered}
 use Rattle.smith_types.specs.GroupedTypes.{IsSound, MayFollow, HasDepth, root, deeper, extensible_from}
 use Rattle.smith_types.proofs.ListLemmas.{slice_get-grown, slice_get-push}

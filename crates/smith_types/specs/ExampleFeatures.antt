@@ -1,6 +1,6 @@
 -- Features used by the examples.
 use Rattle.std.specs.Prelude.{true, false}
-use Rattle.smith_data.specs.Features.{Features, every_feature}
+use Rattle.smith_syntax.specs.Features.{Features, every_feature}
 
 -- all features except exact references
 abbrev pub usual_features : Features

@@ -1,12 +1,12 @@
 -- The marks of a type space for struct types whose fields all have defaults.
 use Rattle.std.specs.Prelude.{◌≡◌, ◌↔◌, ℕ, zero, suc, ◌<◌, ◌≤◌, ◌⊎◌, Bool, true, false, not, ◌&&◌, ◌||◌, IsTrue, List, [], ◌∷◌, length, slice_get, Option, Some}
 use Rattle.std.specs.List.{list_any}
-use Rattle.smith_data.specs.Kinds.{shared}
+use Rattle.smith_syntax.specs.Kinds.{shared}
 use Rattle.smith_types.specs.Subtyping.{IsBelow}
-use Rattle.smith_data.specs.declared.value_type.HeapType.TheVariants.{Concrete}
-use Rattle.smith_data.specs.declared.composite_type.CompositeInnerType.{CompositeInnerType}
-use Rattle.smith_data.specs.declared.composite_type.CompositeInnerType.TheVariants.{Struct}
-use Rattle.smith_data.specs.declared.composite_type.SubType.{SubType}
+use Rattle.smith_syntax.specs.declared.value_type.HeapType.TheVariants.{Concrete}
+use Rattle.smith_syntax.specs.declared.composite_type.CompositeInnerType.{CompositeInnerType}
+use Rattle.smith_syntax.specs.declared.composite_type.CompositeInnerType.TheVariants.{Struct}
+use Rattle.smith_syntax.specs.declared.composite_type.SubType.{SubType}
 use Rattle.smith_types.specs.declared.ground.Ground.{Ground}
 use Rattle.smith_types.specs.declared.ground.GroundKinds.{GroundKinds}
 use Rattle.smith_types.specs.Grounded.{are_defaultable}

@@ -1,10 +1,10 @@
 -- The entry of each type in a type space: its depth, the counts up to it, and its row, a part of
 -- one table of rows. A row lists the proper supertypes of the type by depth.
 use Rattle.std.specs.Prelude.{◌≡◌, ℕ, suc, ◌+◌, ◌<◌, ◌≤◌, List, [], ◌∷◌, ◌++◌, Some, length, map, take, slice_get, slice_index, Vec, vec_len, vec_capacity}
-use Rattle.smith_data.specs.declared.composite_type.SubType.{SubType}
+use Rattle.smith_syntax.specs.declared.composite_type.SubType.{SubType}
 use Rattle.std.specs.declared.alloc.Global.{Global}
 use Rattle.smith_types.specs.declared.place.Place.{Place}
-use Rattle.smith_data.specs.declared.value_type.HeapType.TheVariants.{Concrete}
+use Rattle.smith_syntax.specs.declared.value_type.HeapType.TheVariants.{Concrete}
 use Rattle.smith_types.specs.GroupedTypes.{HasDepth}
 use Rattle.smith_types.specs.declared.kind_counts.KindCounts.{KindCounts}
 use Rattle.smith_types.specs.KindCounts.{AreCounts}

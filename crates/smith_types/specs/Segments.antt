@@ -7,21 +7,21 @@ use Rattle.smith_types.specs.Subtyping.{IsRefBelow, IsValBelow}
 use Rattle.smith_types.specs.ValidTypes.{IsRefTypeValid}
 use Rattle.smith_types.specs.Entities.{page_log2}
 use Rattle.smith_types.specs.Expressions.{Context, IsVisible, IsConstExpr, function_reference}
-use Rattle.smith_data.specs.declared.value_type.RefType.{RefType}
-use Rattle.smith_data.specs.declared.value_type.ValType.{ValType}
-use Rattle.smith_data.specs.declared.value_type.ValType.TheVariants.{I32, I64, Ref}
-use Rattle.smith_data.specs.declared.entity_type.MemoryType.{MemoryType}
-use Rattle.smith_data.specs.declared.entity_type.TableType.{TableType}
-use Rattle.smith_data.specs.declared.segments.Elements.{Elements}
-use Rattle.smith_data.specs.declared.segments.Elements.TheVariants.{Functions, Expressions}
-use Rattle.smith_data.specs.declared.segments.ElementKind.{ElementKind}
-use Rattle.smith_data.specs.declared.segments.ElementKind.TheVariants as element_kind
-use Rattle.smith_data.specs.declared.segments.ElementSegment.{ElementSegment}
-use Rattle.smith_data.specs.declared.segments.DataSegmentKind.{DataSegmentKind}
-use Rattle.smith_data.specs.declared.segments.DataSegmentKind.TheVariants as data_kind
-use Rattle.smith_data.specs.declared.segments.DataSegment.{DataSegment}
-use Rattle.smith_data.specs.declared.segments.Offset.{Offset}
-use Rattle.smith_data.specs.declared.segments.Offset.TheVariants.{Const32, Const64, Global}
+use Rattle.smith_syntax.specs.declared.value_type.RefType.{RefType}
+use Rattle.smith_syntax.specs.declared.value_type.ValType.{ValType}
+use Rattle.smith_syntax.specs.declared.value_type.ValType.TheVariants.{I32, I64, Ref}
+use Rattle.smith_syntax.specs.declared.entity_type.MemoryType.{MemoryType}
+use Rattle.smith_syntax.specs.declared.entity_type.TableType.{TableType}
+use Rattle.smith_syntax.specs.declared.segments.Elements.{Elements}
+use Rattle.smith_syntax.specs.declared.segments.Elements.TheVariants.{Functions, Expressions}
+use Rattle.smith_syntax.specs.declared.segments.ElementKind.{ElementKind}
+use Rattle.smith_syntax.specs.declared.segments.ElementKind.TheVariants as element_kind
+use Rattle.smith_syntax.specs.declared.segments.ElementSegment.{ElementSegment}
+use Rattle.smith_syntax.specs.declared.segments.DataSegmentKind.{DataSegmentKind}
+use Rattle.smith_syntax.specs.declared.segments.DataSegmentKind.TheVariants as data_kind
+use Rattle.smith_syntax.specs.declared.segments.DataSegment.{DataSegment}
+use Rattle.smith_syntax.specs.declared.segments.Offset.{Offset}
+use Rattle.smith_syntax.specs.declared.segments.Offset.TheVariants.{Const32, Const64, Global}
 
 -- the address type of a table or a memory (Structure, Address Types)
 abbrev pub address_type : Bool → ValType

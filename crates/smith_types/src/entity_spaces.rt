@@ -1,12 +1,14 @@
 ghost use Rattle.std.specs.Prelude.{◌≡◌, ◌++◌, [], ◌∷◌, map, OnOk, IfOk, IfErr};
 ghost use Rattle.std.specs.List.{flat_map};
 ghost use Rattle.smith_types.specs.Imports.{flattened, imported_spaces};
-ghost use Rattle.smith_data.specs.declared.imports.ImportItem.{ImportItem as Item};
+ghost use Rattle.smith_syntax.specs.declared.imports.ImportItem.{ImportItem as Item};
 ghost use Rattle.smith_types.specs.EntitySpaces.{spaces_in, with_entity, with_entities};
 ghost use Rattle.smith_types.specs.EntitySpaces.{entities_of};
 
 use smith_bytes::Error;
-use smith_data::{EntityType, GlobalType, ImportItem, Imports, Items, MemoryType, Name, TableType};
+use smith_syntax::{
+    EntityType, GlobalType, ImportItem, Imports, Items, MemoryType, Name, TableType,
+};
 use std::alloc::Global;
 
 /// The index spaces of a module except that of types (Structure, Indices). Tags and functions are

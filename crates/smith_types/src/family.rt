@@ -4,7 +4,7 @@ ghost use Rattle.smith_types.specs.GroupedTypes.{MayFollow};
 ghost use Rattle.smith_types.specs.Families.{AreFamilies};
 
 use smith_bytes::Error;
-use smith_data::SubType;
+use smith_syntax::SubType;
 
 // The direct subtypes of a type, as a list that is linked from the last to the first.
 #[derive(Clone, Copy)]

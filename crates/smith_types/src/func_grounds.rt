@@ -11,7 +11,7 @@ use crate::ground::{Ground, mark_above};
 use crate::noted_kinds::{NotedKinds, no_kinds};
 use crate::type_space::TypeSpace;
 use smith_bytes::Error;
-use smith_data::{HeapType, SubType};
+use smith_syntax::{HeapType, SubType};
 use std::alloc::Global;
 
 /// The heap types that functions ground, updated as functions are noted. A query takes constant

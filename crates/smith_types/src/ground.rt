@@ -7,7 +7,7 @@ ghost use Rattle.smith_types.specs.Grounded.{is_defaultable, are_defaultable};
 ghost use Rattle.smith_types.specs.Grounds.{is_ground, kind_at, ground_kinds_with, AreGrounds};
 ghost use Rattle.smith_types.specs.Grounds.{AreGroundKinds, AreClosed, AreMarked};
 
-use smith_data::{CompositeInnerType, FieldType, StorageType, SubType, ValType};
+use smith_syntax::{CompositeInnerType, FieldType, StorageType, SubType, ValType};
 
 // The mark of a type in a type space: whether creating some struct without operands pushes a
 // reference below the type.

@@ -5,7 +5,7 @@ ghost use Rattle.smith_types.specs.Groups.{space_of, AreFollowing};
 
 use crate::type_space::TypeSpace;
 use smith_bytes::Error;
-use smith_data::{CloneIn, Items, SubType};
+use smith_syntax::{CloneIn, Items, SubType};
 use std::alloc::Global;
 
 /// Creates the type space of `groups`. Requires `groups` to have fewer than 2^32 - 1 types in

@@ -1,8 +1,8 @@
 ghost use Rattle.std.specs.Prelude.{◌≡◌, ◌+◌, ◌<◌, ◌^◌, Bool};
-ghost use Rattle.smith_data.specs.declared.value_type.AbstractHeapType.{AbstractHeapType};
+ghost use Rattle.smith_syntax.specs.declared.value_type.AbstractHeapType.{AbstractHeapType};
 ghost use Rattle.smith_types.specs.KindCounts.{kind_count_at, counts_with};
 
-use smith_data::{AbstractHeapType, CompositeInnerType, CompositeType};
+use smith_syntax::{AbstractHeapType, CompositeInnerType, CompositeType};
 
 // The number of types of each kind and sharedness in a list of types.
 #[derive(Clone, Copy)]

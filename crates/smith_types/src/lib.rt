@@ -1,5 +1,5 @@
 //! The type space, the subtype test, and the definitions of validity, over the plain data of
-//! `smith_data`. The standard is the WebAssembly Core Specification 3.0. Sections in parentheses are
+//! `smith_syntax`. The standard is the WebAssembly Core Specification 3.0. Sections in parentheses are
 //! sections of the standard.
 //!
 //! A call that returns a `Result` fails only if an allocation fails, apart from the errors in its
@@ -24,7 +24,7 @@ pub use entity_spaces::{EntitySpaces, imported_spaces_of};
 pub use func_grounds::FuncGrounds;
 pub use ground::{are_defaultable, is_defaultable, unpacked};
 pub use grouped_types::type_space_of;
-pub use smith_data::{
+pub use smith_syntax::{
     AbstractHeapType, ArrayType, CloneIn, Code, CompositeInnerType, CompositeType, ConstInstr,
     DataSegment, DataSegmentKind, ElementKind, ElementSegment, Elements, EntityType, Exact,
     ExportKind, FieldType, FuncType, GlobalType, HeapType, Import, ImportItem, Imports,

@@ -16,7 +16,7 @@ ghost use Rattle.smith_types.specs.Matching.{
 
 use crate::subtyping::val_type_is_below;
 use crate::type_space::TypeSpace;
-use smith_data::{CompositeInnerType, CompositeType, FieldType, FuncType, StorageType, ValType};
+use smith_syntax::{CompositeInnerType, CompositeType, FieldType, FuncType, StorageType, ValType};
 
 // Returns whether the composite type `a` matches `b`. Heap types are compared as in
 // `TypeSpace::heap_type_is_sub_type`.

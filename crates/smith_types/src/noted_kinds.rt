@@ -2,7 +2,7 @@ ghost use Rattle.std.specs.Prelude.{◌≡◌, false};
 ghost use Rattle.smith_types.specs.FuncGrounds.{are_below, kinds_of, kinds_with, noted_with};
 
 use crate::subtyping::abstract_type_is_below;
-use smith_data::{AbstractHeapType, CompositeInnerType, SubType};
+use smith_syntax::{AbstractHeapType, CompositeInnerType, SubType};
 
 // The kinds of composite types in a list of types.
 #[derive(Clone, Copy)]

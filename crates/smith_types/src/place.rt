@@ -5,7 +5,7 @@ ghost use Rattle.smith_types.specs.Places.{last_counts, IsPlace, ArePlaces, IsLo
 
 use crate::kind_counts::{KindCounts, no_counts};
 use smith_bytes::Error;
-use smith_data::SubType;
+use smith_syntax::SubType;
 
 // The entry of a type in a type space: its row in the table of rows, its depth, and the counts up
 // to it.

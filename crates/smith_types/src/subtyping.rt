@@ -1,6 +1,6 @@
 ghost use Rattle.std.specs.Prelude.{◌≡◌, ◌<◌, length, IsTrue, ◌↔◌};
-ghost use Rattle.smith_data.specs.declared.value_type.HeapType.TheVariants.{Abstract, Concrete};
-ghost use Rattle.smith_data.specs.Kinds.{kind, bottom, shared};
+ghost use Rattle.smith_syntax.specs.declared.value_type.HeapType.TheVariants.{Abstract, Concrete};
+ghost use Rattle.smith_syntax.specs.Kinds.{kind, bottom, shared};
 ghost use Rattle.smith_types.specs.Subtyping.{
   is_abstract_below,
   IsBelow,
@@ -11,7 +11,7 @@ ghost use Rattle.smith_types.specs.Subtyping.{
 };
 
 use crate::type_space::TypeSpace;
-use smith_data::{AbstractHeapType, HeapType, RefType, SubType, ValType};
+use smith_syntax::{AbstractHeapType, HeapType, RefType, SubType, ValType};
 
 // Returns whether the value type `a` is a subtype of `b`. Heap types are compared as in
 // `TypeSpace::heap_type_is_sub_type`.

@@ -35,7 +35,7 @@ ghost use Rattle.smith_types.specs.Grounded.{IsGroundedBy, IsGroundedByStructs};
 ghost use Rattle.smith_types.specs.KindCounts.{indices_of_kind};
 ghost use Rattle.smith_types.specs.Sizes.{value_count};
 ghost use Rattle.smith_types.specs.Matching.{IsCompositeMatch, IsInnerInRange};
-ghost use Rattle.smith_data.specs.declared.value_type.HeapType.TheVariants.{Concrete};
+ghost use Rattle.smith_syntax.specs.declared.value_type.HeapType.TheVariants.{Concrete};
 ghost use Rattle.smith_types.specs.Subtyping.{IsBelow, IsRefBelow, IsValBelow, IsInRange};
 ghost use Rattle.smith_types.specs.Subtyping.{IsValInRange};
 
@@ -47,7 +47,7 @@ use crate::subtyping::{
     abstract_type_is_below, heap_type_is_below, ref_type_is_below, val_type_is_below,
 };
 use smith_bytes::Error;
-use smith_data::{
+use smith_syntax::{
     AbstractHeapType, CompositeInnerType, CompositeType, EntityType, HeapType, RefType, SubType,
     ValType,
 };

@@ -1,6 +1,6 @@
 -- Types that ground a heap type, and types that do not, for the examples.
 use Rattle.smith_types_examples.proofs.Common.{◌≡◌, ℕ, zero, suc, Bool, true, false, List, [], ◌∷◌, Some, None, IsTrue, refl, sym, ◌∙◌, inl, inr, ap, arith, rules, lit<, slice_get, ◌&&◌, list_any, AbstractHeapType, Abstract, Concrete, Exact, SubType, GroundKinds, IsOrderly, is_abstract_below, IsBelow, Features, IsGrounded, is_ground, is_ground_of, kind_at, AreGroundKinds, Ref, Val, usual_features, open_type, final_type, struct, empty_struct, constant, not_null, plain, context_of, same_Some, below_alone, concrete_not_below_exact, grounded_is, abstract_grounded}
-use Rattle.smith_data.specs.declared.value_type.AbstractHeapType.TheVariants as heap
+use Rattle.smith_syntax.specs.declared.value_type.AbstractHeapType.TheVariants as heap
 
 -- the kinds of grounding structs among these types
 abbrev kinds_of : List SubType → GroundKinds

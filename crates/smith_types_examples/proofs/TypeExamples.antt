@@ -1,6 +1,6 @@
 -- Lemmas for several examples.
 use Rattle.smith_types_examples.proofs.Common.{rules, false, List, [], Some, None, IsTrue, ◌≡◌, ◌∙◌, ◌∷◌, ℕ, zero, suc, lit<, refl, sym, subst, arith, slice_get, All-nil, All-cons, All-head, same_Some, AbstractHeapType, Concrete, Ref, SubType, Features, IsOrderly, is_abstract_below, IsBelow, IsValBelow, IsValTypeValid, IsSupertypeValid, IsTypeValid, IsGroupValid, AreTypesValid, usual_features, open_type, empty_struct, struct_and_below, below_itself, anyref, eqref, nullable, range, referring, referring_type, in_one_group, below_abstract, by_cases_from_below, below_alone, Bool, Abstract, below_declared, itself, TableType, GlobalType, ValType, Context, RefType, Offset, IsRefBelow, IsOffsetValid, IsActiveElementSegment, ◌<◌}
-use Rattle.smith_data.specs.declared.value_type.AbstractHeapType.TheVariants as heap
+use Rattle.smith_syntax.specs.declared.value_type.AbstractHeapType.TheVariants as heap
 
 -- abstract types, by the table
 pub abstract_apart : (s r : Bool) (a b : AbstractHeapType) → ¬ ((s ≡ r) × IsTrue (is_abstract_below a b)) → ¬ IsBelow [] (Abstract s a) (Abstract r b)

@@ -1,11 +1,11 @@
 ghost use Rattle.std.specs.Prelude.{[], ◌∷◌, ◌≡◌, true, false, pos};
-ghost use Rattle.smith_data.specs.declared.value_type.AbstractHeapType.TheVariants as heap;
-ghost use Rattle.smith_data.specs.declared.value_type.HeapType.TheVariants.{Abstract, Concrete};
-ghost use Rattle.smith_data.specs.declared.value_type.HeapType.TheVariants.{Exact};
-ghost use Rattle.smith_data.specs.declared.value_type.ValType.TheVariants.{I32, I64, F32, F64};
-ghost use Rattle.smith_data.specs.declared.value_type.ValType.TheVariants.{V128, Ref};
-ghost use Rattle.smith_data.specs.declared.composite_type.StorageType.TheVariants.{I8, I16, Val};
-ghost use Rattle.smith_data.specs.declared.const_instr.ConstInstr.TheVariants.{
+ghost use Rattle.smith_syntax.specs.declared.value_type.AbstractHeapType.TheVariants as heap;
+ghost use Rattle.smith_syntax.specs.declared.value_type.HeapType.TheVariants.{Abstract, Concrete};
+ghost use Rattle.smith_syntax.specs.declared.value_type.HeapType.TheVariants.{Exact};
+ghost use Rattle.smith_syntax.specs.declared.value_type.ValType.TheVariants.{I32, I64, F32, F64};
+ghost use Rattle.smith_syntax.specs.declared.value_type.ValType.TheVariants.{V128, Ref};
+ghost use Rattle.smith_syntax.specs.declared.composite_type.StorageType.TheVariants.{I8, I16, Val};
+ghost use Rattle.smith_syntax.specs.declared.const_instr.ConstInstr.TheVariants.{
   I32Const,
   I64Const,
   F32Const,
@@ -46,7 +46,7 @@ ghost use Rattle.smith_types.specs.Expressions.{
   seen_by_segments,
   seeing,
 };
-ghost use Rattle.smith_data.specs.Features.{every_feature};
+ghost use Rattle.smith_syntax.specs.Features.{every_feature};
 ghost use Rattle.smith_types.specs.ExampleFeatures.{usual_features, without_gc};
 ghost use Rattle.smith_types.specs.ExampleTypes.{plain, nullable, not_null, anyref, shared_anyref};
 ghost use Rattle.smith_types.specs.ExampleContexts.{context_with};

@@ -1,9 +1,9 @@
 ghost use Rattle.std.specs.Prelude.{◌≡◌, true, false, IsTrue};
-ghost use Rattle.smith_data.specs.FeatureBits.{has, joined, features_in};
-ghost use Rattle.smith_data.specs.Features.{every_feature};
+ghost use Rattle.smith_syntax.specs.FeatureBits.{has, joined, features_in};
+ghost use Rattle.smith_syntax.specs.Features.{every_feature};
 ghost use Rattle.smith_types.specs.ExampleFeatures.{no_features};
 
-#[tactic(auto, unfolding(smith_data::specs::FeatureBits::joined))]
+#[tactic(auto, unfolding(smith_syntax::specs::FeatureBits::joined))]
 fn bits()
     ensures both { IsTrue (has 7 5) }
     ensures one_of_two { ¬ IsTrue (has 6 5) }

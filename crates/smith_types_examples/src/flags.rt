@@ -1,13 +1,13 @@
 ghost use Rattle.std.specs.Prelude.{[], ◌∷◌, true, false, pos, Some, None};
-ghost use Rattle.smith_data.specs.declared.value_type.AbstractHeapType.TheVariants as heap;
-ghost use Rattle.smith_data.specs.declared.value_type.HeapType.TheVariants.{Abstract, Concrete};
-ghost use Rattle.smith_data.specs.declared.value_type.HeapType.TheVariants.{Exact};
-ghost use Rattle.smith_data.specs.declared.value_type.ValType.TheVariants.{I32};
-ghost use Rattle.smith_data.specs.declared.composite_type.StorageType.TheVariants.{I8};
-ghost use Rattle.smith_data.specs.declared.imports.Imports.TheVariants.{Single, Compact1};
-ghost use Rattle.smith_data.specs.declared.imports.Imports.TheVariants.{Compact2};
-ghost use Rattle.smith_data.specs.declared.entity_type.EntityType.TheVariants as entity;
-ghost use Rattle.smith_data.specs.declared.const_instr.ConstInstr.TheVariants as instr;
+ghost use Rattle.smith_syntax.specs.declared.value_type.AbstractHeapType.TheVariants as heap;
+ghost use Rattle.smith_syntax.specs.declared.value_type.HeapType.TheVariants.{Abstract, Concrete};
+ghost use Rattle.smith_syntax.specs.declared.value_type.HeapType.TheVariants.{Exact};
+ghost use Rattle.smith_syntax.specs.declared.value_type.ValType.TheVariants.{I32};
+ghost use Rattle.smith_syntax.specs.declared.composite_type.StorageType.TheVariants.{I8};
+ghost use Rattle.smith_syntax.specs.declared.imports.Imports.TheVariants.{Single, Compact1};
+ghost use Rattle.smith_syntax.specs.declared.imports.Imports.TheVariants.{Compact2};
+ghost use Rattle.smith_syntax.specs.declared.entity_type.EntityType.TheVariants as entity;
+ghost use Rattle.smith_syntax.specs.declared.const_instr.ConstInstr.TheVariants as instr;
 ghost use Rattle.smith_types.specs.Imports.{import_of};
 ghost use Rattle.smith_types.specs.Flags.{
   IsAbstractEnabled,

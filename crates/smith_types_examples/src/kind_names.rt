@@ -1,7 +1,7 @@
 // The name of each kind of instructions.
 
 ghost use Rattle.std.specs.Prelude.{◌≡◌, codes};
-ghost use Rattle.smith_data.specs.declared.instruction_kind.InstructionKind.TheVariants.{
+ghost use Rattle.smith_syntax.specs.declared.instruction_kind.InstructionKind.TheVariants.{
   NumericInt,
   Numeric,
   VectorInt,
@@ -15,7 +15,7 @@ ghost use Rattle.smith_data.specs.declared.instruction_kind.InstructionKind.TheV
   Control,
   Aggregate,
 };
-ghost use Rattle.smith_data.specs.Instructions.{IsNamed};
+ghost use Rattle.smith_syntax.specs.Instructions.{IsNamed};
 
 fn kind_names()
     ensures whole_numbers { IsNamed (codes "numeric_non_float") NumericInt }

@@ -1,8 +1,8 @@
 ghost use Rattle.std.specs.Prelude.{[], ◌∷◌};
-ghost use Rattle.smith_data.specs.declared.value_type.HeapType.TheVariants.{Concrete};
-ghost use Rattle.smith_data.specs.declared.value_type.ValType.TheVariants.{I32, I64, Ref};
-ghost use Rattle.smith_data.specs.declared.composite_type.StorageType.TheVariants.{I8, I16, Val};
-ghost use Rattle.smith_data.specs.declared.composite_type.CompositeInnerType.TheVariants.{Func};
+ghost use Rattle.smith_syntax.specs.declared.value_type.HeapType.TheVariants.{Concrete};
+ghost use Rattle.smith_syntax.specs.declared.value_type.ValType.TheVariants.{I32, I64, Ref};
+ghost use Rattle.smith_syntax.specs.declared.composite_type.StorageType.TheVariants.{I8, I16, Val};
+ghost use Rattle.smith_syntax.specs.declared.composite_type.CompositeInnerType.TheVariants.{Func};
 ghost use Rattle.smith_types.specs.Matching.{
   IsStorageMatch,
   IsFieldMatch,

@@ -1,13 +1,13 @@
 ghost use Rattle.std.specs.Prelude.{[], ◌∷◌, ◌≡◌, true, false, Some, None, pos, negsuc};
-ghost use Rattle.smith_data.specs.declared.value_type.AbstractHeapType.TheVariants as heap;
-ghost use Rattle.smith_data.specs.declared.value_type.HeapType.TheVariants.{Abstract, Concrete};
-ghost use Rattle.smith_data.specs.declared.value_type.HeapType.TheVariants.{Exact};
-ghost use Rattle.smith_data.specs.declared.value_type.ValType.TheVariants.{I64};
-ghost use Rattle.smith_data.specs.declared.const_instr.ConstInstr.TheVariants.{RefNull};
-ghost use Rattle.smith_data.specs.declared.segments.Elements.TheVariants.{Functions, Expressions};
-ghost use Rattle.smith_data.specs.declared.segments.ElementKind.TheVariants as element_kind;
-ghost use Rattle.smith_data.specs.declared.segments.DataSegmentKind.TheVariants as data_kind;
-ghost use Rattle.smith_data.specs.declared.segments.Offset.TheVariants.{Const32, Const64, Global};
+ghost use Rattle.smith_syntax.specs.declared.value_type.AbstractHeapType.TheVariants as heap;
+ghost use Rattle.smith_syntax.specs.declared.value_type.HeapType.TheVariants.{Abstract, Concrete};
+ghost use Rattle.smith_syntax.specs.declared.value_type.HeapType.TheVariants.{Exact};
+ghost use Rattle.smith_syntax.specs.declared.value_type.ValType.TheVariants.{I64};
+ghost use Rattle.smith_syntax.specs.declared.const_instr.ConstInstr.TheVariants.{RefNull};
+ghost use Rattle.smith_syntax.specs.declared.segments.Elements.TheVariants.{Functions, Expressions};
+ghost use Rattle.smith_syntax.specs.declared.segments.ElementKind.TheVariants as element_kind;
+ghost use Rattle.smith_syntax.specs.declared.segments.DataSegmentKind.TheVariants as data_kind;
+ghost use Rattle.smith_syntax.specs.declared.segments.Offset.TheVariants.{Const32, Const64, Global};
 ghost use Rattle.smith_types.specs.Flags.{funcref};
 ghost use Rattle.smith_types.specs.Segments.{
   IsOffsetValid,
@@ -23,7 +23,7 @@ ghost use Rattle.smith_types.specs.Segments.{
   IsDataInside,
   table_index,
 };
-ghost use Rattle.smith_data.specs.Features.{every_feature};
+ghost use Rattle.smith_syntax.specs.Features.{every_feature};
 ghost use Rattle.smith_types.specs.ExampleFeatures.{usual_features};
 ghost use Rattle.smith_types.specs.ExampleTypes.{shared_type, plain_func, plain, nullable};
 ghost use Rattle.smith_types.specs.ExampleTypes.{not_null};

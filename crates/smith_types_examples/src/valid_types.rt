@@ -1,11 +1,11 @@
 ghost use Rattle.std.specs.Prelude.{◌≡◌, [], ◌∷◌, true, false, Some, None};
-ghost use Rattle.smith_data.specs.declared.value_type.AbstractHeapType.TheVariants as heap;
-ghost use Rattle.smith_data.specs.declared.value_type.HeapType.TheVariants.{Abstract, Concrete};
-ghost use Rattle.smith_data.specs.declared.value_type.HeapType.TheVariants.{Exact};
-ghost use Rattle.smith_data.specs.declared.value_type.ValType.TheVariants.{I32, I64, F32, F64};
-ghost use Rattle.smith_data.specs.declared.value_type.ValType.TheVariants.{V128, Ref};
-ghost use Rattle.smith_data.specs.declared.composite_type.StorageType.TheVariants.{I8, I16, Val};
-ghost use Rattle.smith_data.specs.declared.composite_type.CompositeInnerType.TheVariants.{Func};
+ghost use Rattle.smith_syntax.specs.declared.value_type.AbstractHeapType.TheVariants as heap;
+ghost use Rattle.smith_syntax.specs.declared.value_type.HeapType.TheVariants.{Abstract, Concrete};
+ghost use Rattle.smith_syntax.specs.declared.value_type.HeapType.TheVariants.{Exact};
+ghost use Rattle.smith_syntax.specs.declared.value_type.ValType.TheVariants.{I32, I64, F32, F64};
+ghost use Rattle.smith_syntax.specs.declared.value_type.ValType.TheVariants.{V128, Ref};
+ghost use Rattle.smith_syntax.specs.declared.composite_type.StorageType.TheVariants.{I8, I16, Val};
+ghost use Rattle.smith_syntax.specs.declared.composite_type.CompositeInnerType.TheVariants.{Func};
 ghost use Rattle.smith_types.specs.ValidTypes.{
   IsHeapTypeValid,
   IsHeapTypeShared,
@@ -19,7 +19,7 @@ ghost use Rattle.smith_types.specs.ValidTypes.{
   AreTypesValid,
   values_of,
 };
-ghost use Rattle.smith_data.specs.Features.{every_feature};
+ghost use Rattle.smith_syntax.specs.Features.{every_feature};
 ghost use Rattle.smith_types.specs.ExampleFeatures.{usual_features, without_gc, no_features};
 ghost use Rattle.smith_types.specs.ExampleFeatures.{gc_alone};
 ghost use Rattle.smith_types.specs.ExampleTypes.{open_type, final_type, shared_type, array, struct};

@@ -6,7 +6,7 @@ use crate::warnings::warn;
 use crate::words::{CONFIG, ENSURE_TERMINATION, FUEL, INPUT, OUTPUT, OUTPUT_DIR, WAT};
 use clap::ArgMatches;
 use smith_bytes::Unstructured;
-use smith_output::{Form, Manner, output};
+use smith_request::{Form, Manner, output};
 use std::alloc::Global;
 
 // The default number of allowed calls and iterations of loops.

@@ -5,12 +5,14 @@ use crate::files::{make_folder, write_whole_file};
 use crate::words::{COUNT, SEED, SIZE};
 use rand_core::{Rng, SeedableRng};
 use rand_xoshiro::Xoshiro256PlusPlus;
-use smith_bytes::Error;
-use smith_output::{Form, OutputFault};
+use smith_request::{Form, Refusal};
 use std::io::IsTerminal;
 
 // The default length of an input.
 const DEFAULT_SIZE: u32 = 1024;
+
+// The number of a refusal for lack of memory.
+const NO_MEMORY: u32 = 2;
 
 // The number of inputs from one line of progress to the next.
 const STRIDE: u32 = 256;
@@ -21,7 +23,7 @@ struct Corpus {
     /// The number of modules that are written.
     written: u32,
     /// The number of each refused input, and why it is refused.
-    refusals: Vec<(u32, OutputFault)>,
+    refusals: Vec<(u32, Refusal)>,
 }
 
 /// Writes the modules of the requested number of random inputs into the folder `folder`, each named
@@ -71,7 +73,7 @@ fn make_each(
 /// Shows each refused input with its refusal, and how many inputs were written and refused.
 fn show_refusals(rt: &HostRuntime, corpus: &Corpus) -> Result<(), Failure> {
     for (number, refusal) in &corpus.refusals {
-        eprintln!(rt; "smith_wasm: input {number}: {refusal}")?;
+        eprintln!(rt; "smith_wasm: input {number}: refused: {refusal}")?;
     }
     let (written, refused) = (corpus.written, corpus.refusals.len());
     eprintln!(rt; "smith_wasm: {written} modules written, {refused} inputs refused")?;
@@ -92,7 +94,7 @@ fn refusal_of(
     folder: &str,
     number: u32,
     input: &[u8],
-) -> Result<Option<OutputFault>, Failure> {
+) -> Result<Option<Refusal>, Failure> {
     match module_of(rt.alloc(), asked, input) {
         Ok(bytes) => {
             let ending = ending_of(asked.manner.form);
@@ -100,9 +102,7 @@ fn refusal_of(
             write_whole_file(rt, path.as_str(), bytes.as_slice())?;
             Ok(None)
         }
-        Err(Failure::Output(refusal)) if refusal != OutputFault::Refused(Error::Memory) => Ok(Some(
-            refusal,
-        )),
+        Err(Failure::Refused(refusal)) if refusal.status() != NO_MEMORY => Ok(Some(refusal)),
         Err(failure) => Err(failure),
     }
 }

@@ -1,6 +1,6 @@
 use smith_bytes::Error;
-use smith_json::ConfigRefusal;
-use smith_output::OutputFault;
+use smith_config_json::ConfigRefusal;
+use smith_request::Refusal;
 use std::alloc::{AllocError, AllocFailed};
 use std::{fmt, io};
 
@@ -15,8 +15,8 @@ pub(crate) enum Failure {
     Config(String, ConfigRefusal),
     /// A word is not a value of its field: the sentence that says so.
     Word(String),
-    /// A module was not made or not written.
-    Output(OutputFault),
+    /// The generator refused the input, or the module was not written.
+    Refused(Refusal),
     /// A binary is not written to a terminal.
     Terminal,
 }
@@ -43,7 +43,7 @@ impl fmt::Display for Failure {
             Failure::Stream(error) => write!(f, "{error}"),
             Failure::Config(path, refusal) => write!(f, "{path}: {refusal}"),
             Failure::Word(sentence) => f.write_str(sentence.as_str()),
-            Failure::Output(fault) => write!(f, "{fault}"),
+            Failure::Refused(refusal) => write!(f, "refused: {refusal}"),
             Failure::Terminal => f.write_str(TERMINAL),
         }
     }
@@ -69,12 +69,12 @@ impl From<io::Error> for Failure {
 
 impl From<Error> for Failure {
     fn from(refusal: Error) -> Failure {
-        Failure::Output(OutputFault::Refused(refusal))
+        Failure::Refused(Refusal::Module(refusal))
     }
 }
 
-impl From<OutputFault> for Failure {
-    fn from(fault: OutputFault) -> Failure {
-        Failure::Output(fault)
+impl From<Refusal> for Failure {
+    fn from(refusal: Refusal) -> Failure {
+        Failure::Refused(refusal)
     }
 }

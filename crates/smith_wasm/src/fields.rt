@@ -18,7 +18,7 @@ macro_rules! field {
     };
 }
 
-static FIELDS: [Field; 71] = smith_fields::fields!(field);
+static FIELDS: [Field; 71] = smith_config_json::fields!(field);
 
 /// Returns every field, in the order of `Config`.
 pub(crate) fn fields() -> &'static [Field]

@@ -2,7 +2,7 @@ use crate::failure::Failure;
 use crate::fields::{Field, fields};
 use crate::warnings::has_no_effect;
 use clap::{Arg, ArgAction, Command, value_parser};
-use smith_fields::{FieldKind, kind_of};
+use smith_config_json::{FieldKind, kind_of};
 use std::alloc::Global;
 
 /// The word of the input.

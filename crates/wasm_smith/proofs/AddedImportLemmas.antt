@@ -14,18 +14,18 @@ use Rattle.smith_config.specs.InUse.{FixesImports}
 use Rattle.smith_config.specs.Sanitized.{IsSanitized}
 use Rattle.smith_types.specs.Floats.{HasNoFloatValue}
 use Rattle.smith_config.specs.Granted.{HasGroundedElements, HasGroundedValue, AreTypesGranted}
-use Rattle.smith_imports.specs.Imported.{IsImported, MayImport}
-use Rattle.smith_imports.specs.ImportedEntities.{import_scope}
+use Rattle.smith_draw_imports.specs.Imported.{IsImported, MayImport}
+use Rattle.smith_draw_imports.specs.ImportedEntities.{import_scope}
 use Rattle.smith_draw_types.specs.HeldFields.{HoldsUngroundedField}
 use Rattle.smith_draw_types.proofs.FilledLemmas.{fields_imported}
-use Rattle.smith_imports.proofs.ImportsGrownLemmas.{ungrounded_imported}
-use Rattle.smith_imports.specs.declared.imported.Imported.{Imported}
+use Rattle.smith_draw_imports.proofs.ImportsGrownLemmas.{ungrounded_imported}
+use Rattle.smith_draw_imports.specs.declared.imported.Imported.{Imported}
 use Rattle.wasm_smith.specs.FirstParts.{module_so_far}
-use Rattle.smith_rules.specs.Bounds.{items_of_shapes}
+use Rattle.smith_module_rules.specs.Bounds.{items_of_shapes}
 use Rattle.wasm_smith.specs.DrawnSteps.{AreImportsDrawn, AreTypesDrawn, HoldsGrounded, IsBeyond, drawn_next}
 use Rattle.wasm_smith.specs.declared.build.parts_so_far.PartsSoFar.{PartsSoFar}
-use Rattle.smith_defined.proofs.ExtensionLemmas.{all_kept}
-use Rattle.smith_defined.proofs.DefinedGrowthLemmas.{none_float}
+use Rattle.smith_draw_definitions.proofs.ExtensionLemmas.{all_kept}
+use Rattle.smith_draw_definitions.proofs.DefinedGrowthLemmas.{none_float}
 use Rattle.wasm_smith.proofs.FreelyImportedLemmas.{freely_stands}
 use Rattle.wasm_smith.proofs.GrantedLaterLemmas.{types_later}
 

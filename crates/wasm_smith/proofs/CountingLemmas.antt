@@ -12,20 +12,20 @@ use Rattle.smith_types.specs.Entities.{IsGlobalValid}
 use Rattle.smith_types.specs.Expressions.{seeing, seen_by_tables, seen_by_global, seen_by_segments}
 use Rattle.smith_types.specs.Segments.{IsElementSegmentValid, IsDataValid}
 use Rattle.smith_types.specs.Bodies.{IsCounterGlobal}
-use Rattle.smith_data.specs.declared.const_instr.ConstInstr.{ConstInstr}
-use Rattle.smith_data.specs.declared.const_instr.ConstInstr.TheVariants.{I32Const}
-use Rattle.smith_data.specs.declared.segments.ElementSegment.{ElementSegment}
-use Rattle.smith_data.specs.declared.segments.DataSegment.{DataSegment}
+use Rattle.smith_syntax.specs.declared.const_instr.ConstInstr.{ConstInstr}
+use Rattle.smith_syntax.specs.declared.const_instr.ConstInstr.TheVariants.{I32Const}
+use Rattle.smith_syntax.specs.declared.segments.ElementSegment.{ElementSegment}
+use Rattle.smith_syntax.specs.declared.segments.DataSegment.{DataSegment}
 use Rattle.smith_types.proofs.ConstStepLemmas.{number_given}
 use Rattle.smith_types.proofs.ListLemmas.{slice_get-grown, slice_get-last, slice_get-push}
 use Rattle.smith_types.proofs.EntityGrowthLemmas.{no_fewer}
 use Rattle.smith_types.proofs.ExpressionGrowthLemmas.{IsConstExpr-grown}
 use Rattle.smith_types.proofs.SegmentGrowthLemmas.{IsElementSegmentValid-grown, IsDataValid-grown}
 use Rattle.smith_types.proofs.ExportGrowthLemmas.{AreExportsValid-grown}
-use Rattle.smith_rules.specs.Module.{module_context, ModuleParts, IsValid, IsGlobalDefined, module_features, module_spaces, module_imports, table_context, global_context, segment_context}
+use Rattle.smith_module_rules.specs.Module.{module_context, ModuleParts, IsValid, IsGlobalDefined, module_features, module_spaces, module_imports, table_context, global_context, segment_context}
 use Rattle.wasm_smith.specs.Termination.{counter, AddsCounter, AnswersCounter}
-use Rattle.smith_defined.proofs.ExtensionLemmas.{all_kept}
-use Rattle.smith_rules.proofs.InitialLemmas.{IsTableInitialised-grown}
+use Rattle.smith_draw_definitions.proofs.ExtensionLemmas.{all_kept}
+use Rattle.smith_module_rules.proofs.InitialLemmas.{IsTableInitialised-grown}
 
 -- a module with a counter of this index
 abbrev counted : ℕ → ℕ → ModuleParts → ModuleParts

@@ -3,13 +3,13 @@ use Rattle.std.proofs.Common.{◌≡◌, ℕ, Bool, List, Some, length, arith}
 use Rattle.std.specs.Prelude.{slice_get, Option}
 use Rattle.std.proofs.lemmas.List.Elements.{All-nil}
 use Rattle.smith_types.specs.Bodies.{IsCounterGlobal}
-use Rattle.smith_data.specs.declared.const_instr.ConstInstr.{ConstInstr}
+use Rattle.smith_syntax.specs.declared.const_instr.ConstInstr.{ConstInstr}
 use Rattle.smith_config.specs.declared.config.Config.{Config}
 use Rattle.wasm_smith.specs.Build.{parts_of}
 use Rattle.wasm_smith.specs.DrawnParts.{IsDrawnFor}
-use Rattle.smith_rules.specs.Module.{ModuleParts, IsValid, AreSpacesMade, IsTableDefined, IsGlobalDefined, module_imports}
+use Rattle.smith_module_rules.specs.Module.{ModuleParts, IsValid, AreSpacesMade, IsTableDefined, IsGlobalDefined, module_imports}
 use Rattle.wasm_smith.specs.declared.build.parts_so_far.PartsSoFar.{PartsSoFar}
-use Rattle.smith_defined.proofs.StandsAfterLemmas.{defined_end}
+use Rattle.smith_draw_definitions.proofs.StandsAfterLemmas.{defined_end}
 
 module _ (distinct : Bool) (config : Config) (drawn : PartsSoFar) (h : IsDrawnFor distinct config drawn) where
   abbrev m : ModuleParts

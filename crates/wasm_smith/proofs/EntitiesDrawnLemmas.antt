@@ -17,18 +17,18 @@ use Rattle.smith_config.specs.Sanitized.{IsSanitized}
 use Rattle.smith_draw_types.specs.HeldFields.{HoldsUngroundedField}
 use Rattle.smith_draw_types.proofs.FilledLemmas.{fields_before, ungrounded_before}
 use Rattle.smith_config.specs.Granted.{HasGroundedElements, HasGroundedValue}
-use Rattle.smith_rules.specs.ShapeImports.{count_in}
+use Rattle.smith_module_rules.specs.ShapeImports.{count_in}
 use Rattle.wasm_smith.specs.FirstParts.{IsOfEntities, StandsSoFar}
-use Rattle.smith_defined.specs.Defined.{AreDefinedMore, AreFilled, HasRoom, HaveNoFloats, MayDefine, MayRefuseDefined, drawn_beside}
+use Rattle.smith_draw_definitions.specs.Defined.{AreDefinedMore, AreFilled, HasRoom, HaveNoFloats, MayDefine, MayRefuseDefined, drawn_beside}
 use Rattle.wasm_smith.specs.DrawnSteps.{AreEntitiesDrawn, AreImportsDrawn, HoldsGrounded, MayGoOn, drawn_next}
-use Rattle.smith_rules.specs.Refusals.{AreShapesValid, HoldsNonNullable, MayRefuse}
-use Rattle.smith_defined.specs.declared.definitions.Definitions.{Definitions}
+use Rattle.smith_module_rules.specs.Refusals.{AreShapesValid, HoldsNonNullable, MayRefuse}
+use Rattle.smith_draw_definitions.specs.declared.definitions.Definitions.{Definitions}
 use Rattle.wasm_smith.specs.declared.build.parts_so_far.PartsSoFar.{PartsSoFar}
 use Rattle.wasm_smith.proofs.ShapeItemLemmas.{few_items_of_shapes}
-use Rattle.smith_defined.proofs.ExtensionLemmas.{all_kept}
-use Rattle.smith_defined.proofs.StandsAfterLemmas.{defined_end}
-use Rattle.smith_defined.proofs.DefinedLemmas.{all_after}
-use Rattle.smith_defined.proofs.DefinedGrowthLemmas.{filled_grown, may_define_after}
+use Rattle.smith_draw_definitions.proofs.ExtensionLemmas.{all_kept}
+use Rattle.smith_draw_definitions.proofs.StandsAfterLemmas.{defined_end}
+use Rattle.smith_draw_definitions.proofs.DefinedLemmas.{all_after}
+use Rattle.smith_draw_definitions.proofs.DefinedGrowthLemmas.{filled_grown, may_define_after}
 use Rattle.wasm_smith.proofs.ExportsGrownLemmas.{exports_grown}
 use Rattle.wasm_smith.proofs.GrantedLaterLemmas.{elements_later, globals_later, types_later}
 use Rattle.wasm_smith.proofs.NonNullableLemmas.{holds_or_not}

@@ -12,25 +12,25 @@ use Rattle.smith_types.specs.Entities.{AreEntitiesValid, AreCountsEnabled}
 use Rattle.smith_types.specs.Imports.{EntitySpaces, Defines, imported, imported_spaces, tag_of, func_of, table_of, memory_of, global_of}
 use Rattle.smith_types.specs.GroupedTypes.{GroupedTypes}
 use Rattle.smith_types.specs.ValidTypes.{AreTypesValid}
-use Rattle.smith_data.specs.declared.entity_type.EntityType.{EntityType}
-use Rattle.smith_data.specs.declared.entity_type.EntityType.TheVariants as entity
-use Rattle.smith_data.specs.declared.imports.Import.{Import}
+use Rattle.smith_syntax.specs.declared.entity_type.EntityType.{EntityType}
+use Rattle.smith_syntax.specs.declared.entity_type.EntityType.TheVariants as entity
+use Rattle.smith_syntax.specs.declared.imports.Import.{Import}
 use Rattle.smith_config.specs.declared.config.Config.{Config}
 use Rattle.smith_config.specs.declared.shape.Shape.{Shape}
 use Rattle.smith_config.specs.Features.{features_of}
 use Rattle.smith_config.specs.Sanitized.{IsSanitized}
 use Rattle.smith_config.specs.Shapes.{IsShapeValid, shape_imports, shape_spaces, shape_types, space_of}
-use Rattle.smith_imports.specs.Imported.{AreNumbersWithin}
-use Rattle.smith_rules.specs.ShapeImports.{count_in}
-use Rattle.smith_defined.specs.Defined.{nothing_defined}
-use Rattle.smith_rules.specs.Bounds.{items_of_module_shape, items_of_exports}
-use Rattle.smith_defined.specs.Defined.{HasRoom}
-use Rattle.smith_rules.specs.Refusals.{AreShapesValid, shape_for}
-use Rattle.smith_defined.specs.Defined.{StandsAfter}
-use Rattle.smith_defined.specs.Required.{AddsLimitsOf, MayDefineMore}
+use Rattle.smith_draw_imports.specs.Imported.{AreNumbersWithin}
+use Rattle.smith_module_rules.specs.ShapeImports.{count_in}
+use Rattle.smith_draw_definitions.specs.Defined.{nothing_defined}
+use Rattle.smith_module_rules.specs.Bounds.{items_of_module_shape, items_of_exports}
+use Rattle.smith_draw_definitions.specs.Defined.{HasRoom}
+use Rattle.smith_module_rules.specs.Refusals.{AreShapesValid, shape_for}
+use Rattle.smith_draw_definitions.specs.Defined.{StandsAfter}
+use Rattle.smith_draw_definitions.specs.Required.{AddsLimitsOf, MayDefineMore}
 use Rattle.smith_bytes.specs.Steps.{Returns, is_memory}
-use Rattle.smith_defined.specs.RequiredExports.{then_with}
-use Rattle.smith_defined.proofs.RequiredExportsLoop.{refused_by}
+use Rattle.smith_draw_definitions.specs.RequiredExports.{then_with}
+use Rattle.smith_draw_definitions.proofs.RequiredExportsLoop.{refused_by}
 
 -- there are no more of one kind than imports
 none_more : {A : Type 0} (of_kind : EntityType → List A) → ((one : EntityType) → length (of_kind one) ≤ 1) → (imports : List Import) → length (imported of_kind imports) ≤ length imports

@@ -10,17 +10,17 @@ use Rattle.smith_types.specs.Entities.{AreEntitiesValid, AreCountsEnabled, IsTag
 use Rattle.smith_types.specs.Imports.{EntitySpaces, IsImportsValid, flattened, imported_spaces}
 use Rattle.smith_types.specs.EntitySpaces.{spaces_in}
 use Rattle.smith_types.specs.GroupedTypes.{GroupedTypes}
-use Rattle.smith_data.specs.declared.imports.Import.{Import}
+use Rattle.smith_syntax.specs.declared.imports.Import.{Import}
 use Rattle.smith_types.proofs.ValidityLemmas.{no_types}
 use Rattle.smith_config.specs.declared.config.Config.{Config}
 use Rattle.smith_config.specs.declared.shape.Shape.{Shape}
 use Rattle.smith_config.specs.Faults.{maximum_of}
 use Rattle.smith_config.specs.Features.{features_of}
 use Rattle.smith_config.specs.Shapes.{shape_spaces}
-use Rattle.smith_imports.specs.Imported.{AreNumbersWithin}
-use Rattle.smith_rules.specs.ShapeImports.{count_in}
+use Rattle.smith_draw_imports.specs.Imported.{AreNumbersWithin}
+use Rattle.smith_module_rules.specs.ShapeImports.{count_in}
 use Rattle.wasm_smith.specs.FirstParts.{ModuleSoFar, HasNothing, AreFirstParts, AreFirstPartsByModule, AreFirstPartsByImports, IsOfEntities, IsTableKept, IsMemoryKept, StandsSoFar}
-use Rattle.smith_rules.specs.Bounds.{items_of_shapes, items_of_module_shape, items_of_available_imports}
+use Rattle.smith_module_rules.specs.Bounds.{items_of_shapes, items_of_module_shape, items_of_available_imports}
 use Rattle.wasm_smith.specs.declared.build.parts_so_far.PartsSoFar.{PartsSoFar}
 use Rattle.wasm_smith.proofs.FirstPartsLemmas.{stands_alone}
 

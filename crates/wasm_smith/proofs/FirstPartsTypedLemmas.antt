@@ -13,9 +13,9 @@ use Rattle.smith_types.specs.Imports.{EntitySpaces}
 use Rattle.smith_types.specs.EntitySpaces.{spaces_in}
 use Rattle.smith_types.specs.GroupedTypes.{GroupedTypes}
 use Rattle.smith_types.specs.ValidTypes.{AreTypesValid}
-use Rattle.smith_data.specs.declared.composite_type.SubType.{SubType}
-use Rattle.smith_data.specs.declared.entity_type.EntityType.{EntityType}
-use Rattle.smith_data.specs.declared.entity_type.ExportKind.{ExportKind}
+use Rattle.smith_syntax.specs.declared.composite_type.SubType.{SubType}
+use Rattle.smith_syntax.specs.declared.entity_type.EntityType.{EntityType}
+use Rattle.smith_syntax.specs.declared.entity_type.ExportKind.{ExportKind}
 use Rattle.smith_config.specs.declared.config.Config.{Config}
 use Rattle.smith_config.specs.declared.shape.Shape.{Shape}
 use Rattle.smith_config.specs.Features.{features_of}
@@ -29,8 +29,8 @@ use Rattle.smith_draw_types.proofs.FilledLemmas.{ungrounded_before}
 use Rattle.smith_draw_types.proofs.FuncSizeLemmas.{shape_few}
 use Rattle.wasm_smith.specs.FirstParts.{ModuleSoFar, HasNothing, AreFirstParts, AreFirstPartsByModule, AreFirstPartsByImports}
 use Rattle.wasm_smith.specs.DrawnSteps.{AreTypesDrawn, HoldsGrounded, drawn_next}
-use Rattle.smith_defined.proofs.ExtensionLemmas.{all_kept}
-use Rattle.smith_rules.specs.Refusals.{AreShapesValid, HoldsNonNullable}
+use Rattle.smith_draw_definitions.proofs.ExtensionLemmas.{all_kept}
+use Rattle.smith_module_rules.specs.Refusals.{AreShapesValid, HoldsNonNullable}
 use Rattle.wasm_smith.specs.declared.build.parts_so_far.PartsSoFar.{PartsSoFar}
 use Rattle.wasm_smith.proofs.FirstPartsLemmas.{module_used, imports_used}
 use Rattle.wasm_smith.proofs.FirstPartsStandLemmas.{first_parts_stand}

@@ -5,24 +5,24 @@ use Rattle.std.specs.List.{AllZip}
 use Rattle.smith_bytes.specs.declared.error.Count.{Count}
 use Rattle.smith_bytes.specs.declared.error.Count.TheVariants as counts
 use Rattle.smith_types.specs.EntitySpaces.{spaces_in}
-use Rattle.smith_data.specs.declared.composite_type.SubType.{SubType}
-use Rattle.smith_data.specs.declared.entity_type.EntityType.{EntityType}
-use Rattle.smith_data.specs.declared.entity_type.EntityType.TheVariants as entity
-use Rattle.smith_data.specs.declared.imports.Import.{Import}
+use Rattle.smith_syntax.specs.declared.composite_type.SubType.{SubType}
+use Rattle.smith_syntax.specs.declared.entity_type.EntityType.{EntityType}
+use Rattle.smith_syntax.specs.declared.entity_type.EntityType.TheVariants as entity
+use Rattle.smith_syntax.specs.declared.imports.Import.{Import}
 use Rattle.smith_config.specs.declared.config.Config.{Config}
 use Rattle.smith_config.specs.declared.shape.Shape.{Shape}
 use Rattle.smith_config.specs.Faults.{maximum_of}
 use Rattle.smith_config.specs.InUse.{shapes_of}
 use Rattle.smith_config.specs.Shapes.{shape_imports, shape_spaces, shape_types}
-use Rattle.smith_rules.specs.ShapeImports.{count_for, is_allowed, is_fitting, is_picked, taken_from}
+use Rattle.smith_module_rules.specs.ShapeImports.{count_for, is_allowed, is_fitting, is_picked, taken_from}
 use Rattle.wasm_smith.specs.FirstParts.{ModuleSoFar, module_so_far}
 use Rattle.wasm_smith.specs.Build.{parts_of}
 use Rattle.wasm_smith.specs.DrawnSteps.{BeginsWithTypes, IsBeyond, KeepsShapesSoFar, KeepsImportsSoFar, KeepsModuleSoFar}
-use Rattle.smith_rules.specs.ExportedItems.{Export}
-use Rattle.smith_rules.specs.ShapesKept.{IsSameExport, IsSameType, KeepsAvailableImports, KeepsModuleShape, KeepsShapes}
+use Rattle.smith_module_rules.specs.ExportedItems.{Export}
+use Rattle.smith_module_rules.specs.ShapesKept.{IsSameExport, IsSameType, KeepsAvailableImports, KeepsModuleShape, KeepsShapes}
 use Rattle.wasm_smith.specs.declared.build.parts_so_far.PartsSoFar.{PartsSoFar}
 use Rattle.wasm_smith.proofs.ExportsGrownLemmas.{same_exports_grown}
-use Rattle.smith_defined.proofs.RequiredExportsLoop.{extends_both}
+use Rattle.smith_draw_definitions.proofs.RequiredExportsLoop.{extends_both}
 
 -- the configuration that a module returns
 abbrev shown : Config → Config

@@ -17,16 +17,16 @@ use Rattle.smith_types.specs.Expressions.{Context, field_values, unpacked}
 use Rattle.smith_types.specs.HeldValues.{values_in}
 use Rattle.smith_types.specs.Imports.{EntitySpaces, imported_spaces}
 use Rattle.smith_types.specs.ValidTypes.{values_of}
-use Rattle.smith_data.specs.declared.composite_type.CompositeInnerType.{CompositeInnerType}
-use Rattle.smith_data.specs.declared.composite_type.CompositeInnerType.TheVariants.{Array, Func, Struct}
-use Rattle.smith_data.specs.declared.composite_type.FieldType.{FieldType}
-use Rattle.smith_data.specs.declared.composite_type.StorageType.{StorageType}
-use Rattle.smith_data.specs.declared.composite_type.StorageType.TheVariants.{I8, I16, Val}
-use Rattle.smith_data.specs.declared.composite_type.SubType.{SubType}
-use Rattle.smith_data.specs.declared.entity_type.GlobalType.{GlobalType}
-use Rattle.smith_data.specs.declared.entity_type.TableType.{TableType}
-use Rattle.smith_data.specs.declared.value_type.ValType.{ValType}
-use Rattle.smith_data.specs.declared.value_type.ValType.TheVariants.{Ref}
+use Rattle.smith_syntax.specs.declared.composite_type.CompositeInnerType.{CompositeInnerType}
+use Rattle.smith_syntax.specs.declared.composite_type.CompositeInnerType.TheVariants.{Array, Func, Struct}
+use Rattle.smith_syntax.specs.declared.composite_type.FieldType.{FieldType}
+use Rattle.smith_syntax.specs.declared.composite_type.StorageType.{StorageType}
+use Rattle.smith_syntax.specs.declared.composite_type.StorageType.TheVariants.{I8, I16, Val}
+use Rattle.smith_syntax.specs.declared.composite_type.SubType.{SubType}
+use Rattle.smith_syntax.specs.declared.entity_type.GlobalType.{GlobalType}
+use Rattle.smith_syntax.specs.declared.entity_type.TableType.{TableType}
+use Rattle.smith_syntax.specs.declared.value_type.ValType.{ValType}
+use Rattle.smith_syntax.specs.declared.value_type.ValType.TheVariants.{Ref}
 use Rattle.smith_validity.proofs.HeldValueLemmas.{held_from_values, all_values_apart}
 use Rattle.smith_config.specs.declared.config.Config.{Config}
 use Rattle.smith_config.specs.declared.shape.Shape.{Shape}
@@ -37,11 +37,11 @@ use Rattle.smith_draw_types.specs.Grounding.{over}
 use Rattle.smith_draw_types.proofs.FilledLemmas.{any_weaker}
 use Rattle.smith_draw_types.proofs.NullableLemmas.{ungrounded_not_null}
 use Rattle.wasm_smith.specs.FirstParts.{MayRefuseFirstParts}
-use Rattle.smith_rules.specs.Bounds.{items_of_module_shape}
+use Rattle.smith_module_rules.specs.Bounds.{items_of_module_shape}
 use Rattle.wasm_smith.specs.DrawnSteps.{HoldsGrounded}
-use Rattle.smith_defined.specs.Defined.{drawn_beside, nothing_defined}
-use Rattle.smith_rules.specs.Refusals.{Brings, HoldsNonNullable, MayRefuse, shape_for}
-use Rattle.smith_defined.specs.Required.{MayLackIn, MayRefuseRequired}
+use Rattle.smith_draw_definitions.specs.Defined.{drawn_beside, nothing_defined}
+use Rattle.smith_module_rules.specs.Refusals.{Brings, HoldsNonNullable, MayRefuse, shape_for}
+use Rattle.smith_draw_definitions.specs.Required.{MayLackIn, MayRefuseRequired}
 use Rattle.wasm_smith.proofs.NonNullableLemmas.{holds_or_not}
 
 -- not a non-nullable reference

@@ -13,7 +13,7 @@ use Rattle.smith_types.specs.Grown.{Extends, IsContextGrown, AreSpacesGrown}
 use Rattle.smith_types.specs.Imports.{flattened, imported_spaces}
 use Rattle.smith_types.specs.EntitySpaces.{spaces_in}
 use Rattle.smith_types.specs.GroupedTypes.{GroupedTypes}
-use Rattle.smith_data.specs.declared.composite_type.SubType.{SubType}
+use Rattle.smith_syntax.specs.declared.composite_type.SubType.{SubType}
 use Rattle.smith_types.specs.declared.entity_spaces.EntitySpaces.{EntitySpaces as Held}
 use Rattle.smith_types.proofs.EntityGrowthLemmas.{no_fewer}
 use Rattle.smith_config.specs.declared.config.Config.{Config}
@@ -26,24 +26,24 @@ use Rattle.smith_draw_types.specs.HeldFields.{HoldsUngroundedField}
 use Rattle.smith_draw_types.specs.FuncSizes.{HasFewValues}
 use Rattle.smith_config.specs.Granted.{HasGranted, HasGroundedElements, HasGroundedValue}
 use Rattle.smith_draw_types.proofs.FilledLemmas.{ungrounded_before}
-use Rattle.smith_rules.specs.ShapeImports.{count_in}
-use Rattle.smith_rules.specs.ExportedItems.{Export, exported_size}
-use Rattle.smith_contents.specs.declared.exported.Exports.{Exports}
-use Rattle.smith_contents.proofs.SizedLemmas.{few_sized}
+use Rattle.smith_module_rules.specs.ShapeImports.{count_in}
+use Rattle.smith_module_rules.specs.ExportedItems.{Export, exported_size}
+use Rattle.smith_draw_contents.specs.declared.exported.Exports.{Exports}
+use Rattle.smith_draw_contents.proofs.SizedLemmas.{few_sized}
 use Rattle.wasm_smith.specs.FirstParts.{ModuleSoFar, IsOfEntities, StandsSoFar, module_so_far, size_of_imports}
-use Rattle.smith_rules.specs.Bounds.{items_of_exports}
+use Rattle.smith_module_rules.specs.Bounds.{items_of_exports}
 use Rattle.wasm_smith.specs.Build.{size_so_far, exports_of}
 use Rattle.wasm_smith.specs.Contents.{MayHoldContents}
-use Rattle.smith_defined.specs.Defined.{StandsAfter, drawn_beside}
+use Rattle.smith_draw_definitions.specs.Defined.{StandsAfter, drawn_beside}
 use Rattle.wasm_smith.specs.DrawnSteps.{AreEntitiesDrawn, AreExportsDrawn, HoldsGrounded, IsBeyond, MayGoOn, drawn_next}
-use Rattle.smith_rules.specs.Refusals.{AreShapesValid, HoldsNonNullable, MayRefuse, shape_for}
-use Rattle.smith_defined.specs.Required.{AddsLimitsOf, AddsTypesOf, MayDefineMore, MayLackIn, MayRefuseRequired}
-use Rattle.smith_defined.specs.declared.definitions.Definitions.{Definitions}
+use Rattle.smith_module_rules.specs.Refusals.{AreShapesValid, HoldsNonNullable, MayRefuse, shape_for}
+use Rattle.smith_draw_definitions.specs.Required.{AddsLimitsOf, AddsTypesOf, MayDefineMore, MayLackIn, MayRefuseRequired}
+use Rattle.smith_draw_definitions.specs.declared.definitions.Definitions.{Definitions}
 use Rattle.wasm_smith.specs.declared.build.parts_so_far.PartsSoFar.{PartsSoFar}
 use Rattle.wasm_smith.proofs.ShapeItemLemmas.{few_items_of_export_shape, few_items_of_shapes}
-use Rattle.smith_defined.proofs.ExtensionLemmas.{all_kept}
-use Rattle.smith_defined.proofs.DefinedGrowthLemmas.{stands_within}
-use Rattle.smith_defined.proofs.StandsAfterLemmas.{defined_end}
+use Rattle.smith_draw_definitions.proofs.ExtensionLemmas.{all_kept}
+use Rattle.smith_draw_definitions.proofs.DefinedGrowthLemmas.{stands_within}
+use Rattle.smith_draw_definitions.proofs.StandsAfterLemmas.{defined_end}
 use Rattle.wasm_smith.proofs.GrantedLaterLemmas.{elements_later, globals_later, types_later}
 use Rattle.wasm_smith.proofs.LackingLemmas.{shape_granted}
 use Rattle.wasm_smith.proofs.NonNullableLemmas.{holds_or_not}

@@ -19,9 +19,9 @@ use Rattle.smith_config.specs.ShapeFaults.{HasShapeFault, IsRefused}
 use Rattle.smith_config.specs.Shapes.{IsShapeValid}
 use Rattle.smith_config.proofs.FaultLemmas.{no_fault}
 use Rattle.smith_config.proofs.ShapeLemmas.{no_fault as no_shape_fault}
-use Rattle.smith_rules.specs.Bounds.{where_given, items_of_exports, items_of_module_shape}
+use Rattle.smith_module_rules.specs.Bounds.{where_given, items_of_exports, items_of_module_shape}
 use Rattle.wasm_smith.specs.CheckedShapes.{IsFirstFaulty}
-use Rattle.smith_rules.specs.Refusals.{AreShapesValid, AsksNothingImpossible, Brings, HasShape, MayRefuse, shape_for}
+use Rattle.smith_module_rules.specs.Refusals.{AreShapesValid, AsksNothingImpossible, Brings, HasShape, MayRefuse, shape_for}
 
 given_some : (of_shape : Shape → ℕ) (given : Option Shape) → 0 < where_given of_shape given → IsSome given
 given_some of_shape (Some shape) some = refl

@@ -5,16 +5,16 @@ use Rattle.std.specs.List.{flat_map, AllByRecursion as Each}
 use Rattle.std.proofs.lemmas.List.Elements.{All-nil, All-append, All-map, recursion_from_All}
 use Rattle.smith_types.specs.Floats.{IsNoFloat, HasNoFloat, GivesNoFloat}
 use Rattle.smith_types.specs.ValidTypes.{values_of}
-use Rattle.smith_data.specs.declared.composite_type.SubType.{SubType}
-use Rattle.smith_data.specs.declared.entity_type.GlobalType.{GlobalType}
-use Rattle.smith_data.specs.declared.const_instr.ConstInstr.{ConstInstr}
-use Rattle.smith_data.specs.declared.segments.ElementSegment.{ElementSegment}
-use Rattle.smith_data.specs.declared.code.Code.{Code}
+use Rattle.smith_syntax.specs.declared.composite_type.SubType.{SubType}
+use Rattle.smith_syntax.specs.declared.entity_type.GlobalType.{GlobalType}
+use Rattle.smith_syntax.specs.declared.const_instr.ConstInstr.{ConstInstr}
+use Rattle.smith_syntax.specs.declared.segments.ElementSegment.{ElementSegment}
+use Rattle.smith_syntax.specs.declared.code.Code.{Code}
 use Rattle.smith_config.specs.declared.config.Config.{Config}
 use Rattle.wasm_smith.specs.Build.{parts_of}
 use Rattle.wasm_smith.specs.DrawnParts.{HasNoFloatParts}
-use Rattle.smith_rules.specs.Held.{expressions_of}
-use Rattle.smith_rules.specs.Promises.{HasNoFloats, initial_of}
+use Rattle.smith_module_rules.specs.Held.{expressions_of}
+use Rattle.smith_module_rules.specs.Promises.{HasNoFloats, initial_of}
 use Rattle.wasm_smith.specs.declared.build.parts_so_far.PartsSoFar.{PartsSoFar}
 
 of_types : (types : List SubType) → Each HasNoFloat types → All IsNoFloat (flat_map (λ (t : SubType). values_of t.composite_type.inner) types)

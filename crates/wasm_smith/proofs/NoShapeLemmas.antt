@@ -7,7 +7,7 @@ use Rattle.smith_config.specs.declared.config.Config.{Config}
 use Rattle.smith_config.specs.declared.shape.Shape.{Shape}
 use Rattle.smith_config.specs.InUse.{HasNoShapes, shapes_of}
 use Rattle.smith_config.specs.Shapes.{Shapes, in_use, no_shapes}
-use Rattle.smith_rules.specs.Refusals.{AreShapesValid, shape_for}
+use Rattle.smith_module_rules.specs.Refusals.{AreShapesValid, shape_for}
 
 none_in_use : (config : Config) → HasNoShapes config → shapes_of config ≡ no_shapes
 none_in_use config none = λ i. in_use (record { available_imports = none.available_imports i; exports = none.exports i; module_shape = none.module_shape i })

@@ -9,15 +9,15 @@ use Rattle.smith_types.specs.EntitySpaces.{spaces_in}
 use Rattle.smith_config.specs.declared.config.Config.{Config}
 use Rattle.smith_config.specs.InUse.{FixesImports, HasNoShapes}
 use Rattle.smith_bytes.specs.Steps.{section_flag_at, Returns, is_lack}
-use Rattle.smith_imports.specs.declared.imported.Imported.{Imported}
-use Rattle.smith_contents.specs.declared.exported.Exports.{Exports}
+use Rattle.smith_draw_imports.specs.declared.imported.Imported.{Imported}
+use Rattle.smith_draw_contents.specs.declared.exported.Exports.{Exports}
 use Rattle.wasm_smith.specs.FirstParts.{ModuleSoFar, StandsWhole}
 use Rattle.wasm_smith.specs.Build.{first_parts_typed_at, defined_at, exported_at, exports_of, imported_at, in_full, module_at, module_of}
 use Rattle.wasm_smith.specs.DrawnContents.{AreContents, HasGrantedContents, HasNoFloatContents, after_exports_at, imported_in}
 use Rattle.wasm_smith.specs.DrawnParts.{IsDrawnFor}
 use Rattle.wasm_smith.specs.DrawnSteps.{AreExportsDrawn, AreFreeImports, HasSameImports, drawn_next}
-use Rattle.smith_rules.specs.Module.{ModuleParts}
-use Rattle.smith_rules.specs.InterestingValues.{AreAll, IsInteresting32, IsInteresting64}
+use Rattle.smith_module_rules.specs.Module.{ModuleParts}
+use Rattle.smith_module_rules.specs.InterestingValues.{AreAll, IsInteresting32, IsInteresting64}
 use Rattle.wasm_smith.specs.declared.build.contents.Contents.{Contents}
 use Rattle.wasm_smith.specs.declared.build.parts_so_far.PartsSoFar.{PartsSoFar}
 

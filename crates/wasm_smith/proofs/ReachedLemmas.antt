@@ -12,10 +12,10 @@ use Rattle.smith_bytes.specs.declared.error.Why.{Why}
 use Rattle.smith_bytes.proofs.SpelledLemmas.{joined_parts}
 use Rattle.smith_types.specs.Imports.{EntitySpaces, flattened, imported_spaces}
 use Rattle.smith_types.specs.GroupedTypes.{GroupedTypes}
-use Rattle.smith_data.specs.declared.composite_type.SubType.{SubType}
-use Rattle.smith_data.specs.declared.entity_type.GlobalType.{GlobalType}
-use Rattle.smith_data.specs.declared.const_instr.ConstInstr.{ConstInstr}
-use Rattle.smith_data.specs.declared.const_instr.ConstInstr.TheVariants.{I32Const}
+use Rattle.smith_syntax.specs.declared.composite_type.SubType.{SubType}
+use Rattle.smith_syntax.specs.declared.entity_type.GlobalType.{GlobalType}
+use Rattle.smith_syntax.specs.declared.const_instr.ConstInstr.{ConstInstr}
+use Rattle.smith_syntax.specs.declared.const_instr.ConstInstr.TheVariants.{I32Const}
 use Rattle.smith_config.specs.declared.config.Config.{Config}
 use Rattle.smith_config.specs.declared.shape.Shape.{Shape}
 use Rattle.smith_config.specs.InUse.{HasNoShapes}
@@ -32,31 +32,31 @@ use Rattle.smith_spell.proofs.FamilyFitLemmas.{family_fits}
 use Rattle.wasm_smith.specs.FirstParts.{ModuleSoFar, first_parts_at, nothing_so_far}
 use Rattle.smith_bytes.specs.Steps.{Returns, is_lack, ◌>>=◌, section_flag_at}
 use Rattle.wasm_smith.specs.Build.{IsGiven, as_drawn, size_so_far, first_parts_typed_at, defined_at, exported_at, exported_for, exports_of, functions_so_far, imported_at, in_full, module_at, module_of, with_types_at}
-use Rattle.smith_defined.specs.Defined.{nothing_defined}
-use Rattle.smith_defined.specs.Definitions.{defined_in, definitions_at, scope_over, tables_at, memories_at, globals_at}
+use Rattle.smith_draw_definitions.specs.Defined.{nothing_defined}
+use Rattle.smith_draw_definitions.specs.Definitions.{defined_in, definitions_at, scope_over, tables_at, memories_at, globals_at}
 use Rattle.wasm_smith.specs.DrawnContents.{segment_scope, all_segments_at, after_exports_at}
 use Rattle.wasm_smith.specs.Members.{HasMember, HasRest}
-use Rattle.smith_rules.specs.Module.{ModuleParts}
-use Rattle.smith_contents.specs.PassiveData.{passive_data}
+use Rattle.smith_module_rules.specs.Module.{ModuleParts}
+use Rattle.smith_draw_contents.specs.PassiveData.{passive_data}
 use Rattle.wasm_smith.specs.Reached.{ReachesMembers, ReachesRests}
-use Rattle.smith_rules.specs.Refusals.{AsksNothingImpossible}
-use Rattle.smith_defined.specs.RequiredExports.{then_with}
-use Rattle.smith_contents.specs.AllExports.{exports_at}
-use Rattle.smith_rules.specs.ExportedItems.{Export}
-use Rattle.smith_contents.specs.declared.exported.Exports.{Exports}
-use Rattle.smith_imports.specs.Importing.{imports_at}
+use Rattle.smith_module_rules.specs.Refusals.{AsksNothingImpossible}
+use Rattle.smith_draw_definitions.specs.RequiredExports.{then_with}
+use Rattle.smith_draw_contents.specs.AllExports.{exports_at}
+use Rattle.smith_module_rules.specs.ExportedItems.{Export}
+use Rattle.smith_draw_contents.specs.declared.exported.Exports.{Exports}
+use Rattle.smith_draw_imports.specs.Importing.{imports_at}
 use Rattle.wasm_smith.specs.declared.build.contents.Contents.{Contents}
-use Rattle.smith_defined.specs.declared.definitions.Definitions.{Definitions}
-use Rattle.smith_defined.proofs.DefinedMemoryLemmas.{no_memory_read}
-use Rattle.smith_defined.proofs.DefinedTableLemmas.{no_table_read}
+use Rattle.smith_draw_definitions.specs.declared.definitions.Definitions.{Definitions}
+use Rattle.smith_draw_definitions.proofs.DefinedMemoryLemmas.{no_memory_read}
+use Rattle.smith_draw_definitions.proofs.DefinedTableLemmas.{no_table_read}
 use Rattle.wasm_smith.proofs.NoShapeLemmas.{no_shapes_valid, none_used}
-use Rattle.smith_contents.proofs.ElementCountLemmas.{elements_none}
-use Rattle.smith_contents.proofs.ExportRefusalLemmas.{exports_free, no_export_read}
-use Rattle.smith_imports.proofs.NoImportLemmas.{no_import_read}
-use Rattle.smith_defined.proofs.NumberedGlobalLemmas.{listed_read}
-use Rattle.smith_contents.proofs.PassiveDataLemmas.{data_read}
-use Rattle.smith_contents.proofs.StartLemmas.{start_none}
-use Rattle.smith_defined.proofs.TypedLemmas.{no_tag_read, funcs_read}
+use Rattle.smith_draw_contents.proofs.ElementCountLemmas.{elements_none}
+use Rattle.smith_draw_contents.proofs.ExportRefusalLemmas.{exports_free, no_export_read}
+use Rattle.smith_draw_imports.proofs.NoImportLemmas.{no_import_read}
+use Rattle.smith_draw_definitions.proofs.NumberedGlobalLemmas.{listed_read}
+use Rattle.smith_draw_contents.proofs.PassiveDataLemmas.{data_read}
+use Rattle.smith_draw_contents.proofs.StartLemmas.{start_none}
+use Rattle.smith_draw_definitions.proofs.TypedLemmas.{no_tag_read, funcs_read}
 
 -- whether an empty section is written is one byte
 flag_by : (empty : Bool) (piece after : List ℕ) → Where empty SpellsAnyByte piece → (cond empty (bool_at (piece ++ after)) (true, piece ++ after)).1 ≡ after

@@ -3,21 +3,21 @@ use Rattle.std.proofs.Common.{◌≡◌, ◌⊎◌, List, refl, sym, subst, inl,
 use Rattle.std.specs.Prelude.{Option, Some, None, Result, Ok, Err, IfErr, All}
 use Rattle.smith_types.specs.Expressions.{Context}
 use Rattle.smith_types.specs.Imports.{EntitySpaces}
-use Rattle.smith_data.specs.declared.entity_type.TableType.{TableType}
+use Rattle.smith_syntax.specs.declared.entity_type.TableType.{TableType}
 use Rattle.smith_config.specs.declared.config.Config.{Config}
 use Rattle.smith_config.specs.declared.shape.Shape.{Shape}
 use Rattle.smith_config.specs.InUse.{FixesImports, FixesExports, HasNoShapes}
 use Rattle.smith_bytes.specs.declared.error.Error.{Error}
 use Rattle.smith_bytes.specs.declared.error.Error.TheVariants as errors
 use Rattle.smith_bytes.specs.declared.error.Which.TheVariants as which
-use Rattle.smith_contents.specs.DrawnElements.{HasUngroundedElements, MayLackItem, MayRefuseElements}
-use Rattle.smith_contents.specs.Exported.{MayRunOut, MayRefuseExports}
+use Rattle.smith_draw_contents.specs.DrawnElements.{HasUngroundedElements, MayLackItem, MayRefuseElements}
+use Rattle.smith_draw_contents.specs.Exported.{MayRunOut, MayRefuseExports}
 use Rattle.wasm_smith.proofs.NonNullableLemmas.{holds_or_not}
 use Rattle.wasm_smith.specs.Contents.{MayRefuseContents}
 use Rattle.smith_config.specs.Granted.{HasGroundedElements}
-use Rattle.smith_imports.specs.Imported.{MayRefuseImports}
+use Rattle.smith_draw_imports.specs.Imported.{MayRefuseImports}
 use Rattle.wasm_smith.specs.DrawnSteps.{HoldsGrounded}
-use Rattle.smith_rules.specs.Refusals.{HasShape, HoldsNonNullable, MayLackExports, MayRefuse}
+use Rattle.smith_module_rules.specs.Refusals.{HasShape, HoldsNonNullable, MayLackExports, MayRefuse}
 
 -- a configuration has no shapes, or a shape that is used
 shapes_by : (config : Config) (of_module available exports : Option Shape) → config.module_shape ≡ of_module → config.available_imports ≡ available → config.exports ≡ exports → HasNoShapes config ⊎ HasShape config

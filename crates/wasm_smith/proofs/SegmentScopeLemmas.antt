@@ -3,7 +3,7 @@ use Rattle.std.proofs.Common.{◌≡◌, ℕ, Bool, true, false, ◌&&◌, cond,
 use Rattle.smith_types.specs.Imports.{EntitySpaces}
 use Rattle.smith_types.specs.GroupedTypes.{GroupedTypes}
 use Rattle.smith_config.specs.declared.config.Config.{Config}
-use Rattle.smith_const_expr.specs.ConstScopes.{seen_by}
+use Rattle.smith_draw_consts.specs.ConstScopes.{seen_by}
 use Rattle.smith_draw_types.specs.declared.spaces.Spaces.{Spaces}
 use Rattle.wasm_smith.specs.Contents.{AreSpacesOver}
 use Rattle.wasm_smith.specs.DrawnContents.{segment_scope}

@@ -9,12 +9,12 @@ use Rattle.smith_types.specs.declared.entity_spaces.EntitySpaces.{EntitySpaces a
 use Rattle.smith_config.specs.declared.config.Config.{Config}
 use Rattle.smith_config.specs.Faults.{maximum_of}
 use Rattle.smith_config.specs.EntityBounds.{IsTableWithin, IsMemoryWithin}
-use Rattle.smith_rules.specs.ShapeImports.{count_in}
+use Rattle.smith_module_rules.specs.ShapeImports.{count_in}
 use Rattle.wasm_smith.specs.FirstParts.{IsMemoryKept, IsOfEntities, IsTableKept, StandsSoFar}
-use Rattle.smith_defined.specs.Defined.{AreDefinedMore, AreFilled}
-use Rattle.smith_defined.specs.declared.definitions.Definitions.{Definitions}
+use Rattle.smith_draw_definitions.specs.Defined.{AreDefinedMore, AreFilled}
+use Rattle.smith_draw_definitions.specs.declared.definitions.Definitions.{Definitions}
 use Rattle.wasm_smith.specs.declared.build.parts_so_far.PartsSoFar.{PartsSoFar}
-use Rattle.smith_defined.proofs.DefinedLemmas.{added_weaker, all_after}
+use Rattle.smith_draw_definitions.proofs.DefinedLemmas.{added_weaker, all_after}
 
 -- each kind has at most its maximum number of items, or as many as before
 no_more_than : (config : Config) (before spaces : EntitySpaces) → AreFilled config before spaces → (count : Count) → IsOfEntities count → count_in spaces count ≤ max (maximum_of config count) (count_in before count)

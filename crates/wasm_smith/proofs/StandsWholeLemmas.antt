@@ -16,12 +16,12 @@ use Rattle.smith_validity.proofs.HeldValueLemmas.{all_apart}
 use Rattle.smith_config.specs.declared.config.Config.{Config}
 use Rattle.smith_config.specs.declared.shape.Shape.{Shape}
 use Rattle.smith_config.specs.Shapes.{shape_spaces}
-use Rattle.smith_rules.specs.ShapeImports.{count_in}
+use Rattle.smith_module_rules.specs.ShapeImports.{count_in}
 use Rattle.wasm_smith.specs.FirstParts.{IsMemoryKept, IsOfEntities, IsTableKept, StandsSoFar, StandsWhole}
-use Rattle.smith_rules.specs.Bounds.{items_of_export_shape, items_of_exports}
-use Rattle.smith_defined.specs.Defined.{StandsAfter}
-use Rattle.smith_defined.specs.Required.{AddsLimitsOf}
-use Rattle.smith_defined.specs.declared.definitions.Definitions.{Definitions}
+use Rattle.smith_module_rules.specs.Bounds.{items_of_export_shape, items_of_exports}
+use Rattle.smith_draw_definitions.specs.Defined.{StandsAfter}
+use Rattle.smith_draw_definitions.specs.Required.{AddsLimitsOf}
+use Rattle.smith_draw_definitions.specs.declared.definitions.Definitions.{Definitions}
 use Rattle.wasm_smith.specs.declared.build.parts_so_far.PartsSoFar.{PartsSoFar}
 use Rattle.wasm_smith.proofs.GrownSizeLemmas.{imports_grown}
 

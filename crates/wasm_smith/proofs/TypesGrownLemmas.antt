@@ -11,9 +11,9 @@ use Rattle.smith_config.specs.declared.config.Config.{Config}
 use Rattle.smith_draw_types.specs.RecGroups.{types_until_at, new_group_at, clone_rec_group_at, clone_wanted_at, cloned_or_new_at, rec_group_at, least_types_at, more_types_at, types_at, with_clone, may_be_cloned, members}
 use Rattle.smith_draw_types.specs.Choices.{chosen_at}
 use Rattle.smith_draw_types.proofs.RecGroupLemmas.{least_keeps, more_keeps}
-use Rattle.smith_defined.proofs.ExtensionLemmas.{all_kept}
-use Rattle.smith_defined.proofs.RequiredExportsLoop.{extends_both}
-use Rattle.smith_defined.proofs.StandsAfterLemmas.{one_more}
+use Rattle.smith_draw_definitions.proofs.ExtensionLemmas.{all_kept}
+use Rattle.smith_draw_definitions.proofs.RequiredExportsLoop.{extends_both}
+use Rattle.smith_draw_definitions.proofs.StandsAfterLemmas.{one_more}
 
 -- a list that grows extends the list before
 grow_extends : {A : Type 0} (draw : List A → List ℕ → A × List ℕ) (least most : ℕ) (made : List A) (bytes : List ℕ) → Extends made (grow_at draw least most made bytes).0

@@ -11,19 +11,19 @@ use Rattle.smith_config.specs.declared.config.Config.{Config}
 use Rattle.smith_config.specs.declared.shape.Shape.{Shape}
 use Rattle.smith_config.specs.Features.{features_of}
 use Rattle.smith_draw_types.specs.RecGroups.{types_at}
-use Rattle.smith_imports.specs.Importing.{imports_at}
+use Rattle.smith_draw_imports.specs.Importing.{imports_at}
 use Rattle.smith_bytes.specs.Steps.{◌>>=◌, section_flag_at, Returns, is_lack}
-use Rattle.smith_contents.specs.AllExports.{exports_at}
-use Rattle.smith_rules.specs.ExportedItems.{exported_size}
-use Rattle.smith_contents.specs.declared.exported.Exports.{Exports}
+use Rattle.smith_draw_contents.specs.AllExports.{exports_at}
+use Rattle.smith_module_rules.specs.ExportedItems.{exported_size}
+use Rattle.smith_draw_contents.specs.declared.exported.Exports.{Exports}
 use Rattle.wasm_smith.specs.FirstParts.{ModuleSoFar, first_parts_at, module_so_far, size_of_imports}
-use Rattle.smith_defined.specs.Definitions.{definitions_at}
+use Rattle.smith_draw_definitions.specs.Definitions.{definitions_at}
 use Rattle.wasm_smith.specs.DrawnContents.{after_exports_at}
-use Rattle.smith_rules.specs.Module.{ModuleParts}
-use Rattle.smith_rules.specs.Refusals.{MayGive}
-use Rattle.smith_defined.specs.RequiredExports.{Required, required_at, then_with}
+use Rattle.smith_module_rules.specs.Module.{ModuleParts}
+use Rattle.smith_module_rules.specs.Refusals.{MayGive}
+use Rattle.smith_draw_definitions.specs.RequiredExports.{Required, required_at, then_with}
 use Rattle.wasm_smith.specs.declared.build.contents.Contents.{Contents}
-use Rattle.smith_defined.specs.declared.definitions.Definitions.{Definitions}
+use Rattle.smith_draw_definitions.specs.declared.definitions.Definitions.{Definitions}
 use Rattle.wasm_smith.specs.declared.build.parts_so_far.PartsSoFar.{PartsSoFar}
 
 -- the context of functions, of which this number is imported, without types and globals

@@ -7,7 +7,7 @@ use Rattle.smith_config.specs.declared.config.Config.{Config}
 use Rattle.smith_config.specs.declared.shape.Shape.{Shape}
 use Rattle.smith_config.specs.ShapeFaults.{IsRefused}
 use Rattle.smith_config.specs.Shapes.{IsShapeValid}
-use Rattle.smith_rules.specs.Refusals.{shape_for}
+use Rattle.smith_module_rules.specs.Refusals.{shape_for}
 
 -- a shape for a use is refused: for its first fault, or for lack of memory, which never refuses one
 -- that is too long

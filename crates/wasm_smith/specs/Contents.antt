@@ -8,7 +8,7 @@ use Rattle.smith_types.specs.Expressions.{Context}
 use Rattle.smith_types.specs.Imports.{EntitySpaces}
 use Rattle.smith_types.specs.GroupedTypes.{GroupedTypes}
 use Rattle.smith_types.specs.ValidTypes.{AreTypesValid}
-use Rattle.smith_data.specs.declared.entity_type.TableType.{TableType}
+use Rattle.smith_syntax.specs.declared.entity_type.TableType.{TableType}
 use Rattle.smith_config.specs.declared.config.Config.{Config}
 use Rattle.smith_config.specs.Faults.{Passes}
 use Rattle.smith_config.specs.Features.{features_of}
@@ -16,9 +16,9 @@ use Rattle.smith_config.specs.InUse.{HasNoShapes}
 use Rattle.smith_config.specs.Sanitized.{IsSanitized}
 use Rattle.smith_draw_types.specs.FuncSizes.{IsSmall}
 use Rattle.smith_draw_types.specs.declared.spaces.Spaces.{Spaces}
-use Rattle.smith_contents.specs.DrawnElements.{MayLackItem}
-use Rattle.smith_contents.specs.Exported.{IsIndexed, HasSizeIn32Bits}
-use Rattle.smith_rules.specs.Refusals.{MayRefuse}
+use Rattle.smith_draw_contents.specs.DrawnElements.{MayLackItem}
+use Rattle.smith_draw_contents.specs.Exported.{IsIndexed, HasSizeIn32Bits}
+use Rattle.smith_module_rules.specs.Refusals.{MayRefuse}
 
 -- contents may be drawn over these index spaces, for the amount that the imports add to the type
 -- size: all parts are valid, sizes and indices have 32 bits, and the minimums of tables, memories

@@ -9,28 +9,28 @@ use Rattle.smith_types.specs.Expressions.{Context}
 use Rattle.smith_types.specs.Floats.{IsNoFloat, GivesNoFloat}
 use Rattle.smith_types.specs.Imports.{EntitySpaces, flattened, imported_spaces}
 use Rattle.smith_types.specs.Segments.{IsElementSegmentValid, IsElementInside, IsDataValid, IsDataInside}
-use Rattle.smith_data.specs.declared.composite_type.SubType.{SubType}
-use Rattle.smith_data.specs.declared.entity_type.TableType.{TableType}
-use Rattle.smith_data.specs.declared.segments.ElementSegment.{ElementSegment}
-use Rattle.smith_data.specs.declared.code.Code.{Code}
+use Rattle.smith_syntax.specs.declared.composite_type.SubType.{SubType}
+use Rattle.smith_syntax.specs.declared.entity_type.TableType.{TableType}
+use Rattle.smith_syntax.specs.declared.segments.ElementSegment.{ElementSegment}
+use Rattle.smith_syntax.specs.declared.code.Code.{Code}
 use Rattle.smith_config.specs.declared.config.Config.{Config}
 use Rattle.smith_config.specs.Features.{features_of}
 use Rattle.smith_config.specs.InUse.{FixesExports}
 use Rattle.smith_config.specs.Granted.{IsGranted, HasGroundedItems, HasGroundedElements}
 use Rattle.smith_draw_types.specs.Grounding.{without_globals}
-use Rattle.smith_rules.specs.Held.{HasItems, expressions_of}
-use Rattle.smith_rules.specs.ExportedItems.{AreAllExported, exported_size}
-use Rattle.smith_contents.specs.DataSegments.{data_at}
-use Rattle.smith_defined.specs.Defined.{scope_in}
-use Rattle.smith_defined.specs.Definitions.{global_scope}
-use Rattle.smith_contents.specs.DrawnBodies.{bodies_at}
-use Rattle.smith_contents.specs.ElementSegments.{all_element_segments_at, items_in}
-use Rattle.smith_contents.specs.Start.{start_at}
-use Rattle.smith_contents.specs.declared.exported.Exports.{Exports}
+use Rattle.smith_module_rules.specs.Held.{HasItems, expressions_of}
+use Rattle.smith_module_rules.specs.ExportedItems.{AreAllExported, exported_size}
+use Rattle.smith_draw_contents.specs.DataSegments.{data_at}
+use Rattle.smith_draw_definitions.specs.Defined.{scope_in}
+use Rattle.smith_draw_definitions.specs.Definitions.{global_scope}
+use Rattle.smith_draw_contents.specs.DrawnBodies.{bodies_at}
+use Rattle.smith_draw_contents.specs.ElementSegments.{all_element_segments_at, items_in}
+use Rattle.smith_draw_contents.specs.Start.{start_at}
+use Rattle.smith_draw_contents.specs.declared.exported.Exports.{Exports}
 use Rattle.smith_bytes.specs.Steps.{◌>>=◌, section_flag_at}
 use Rattle.wasm_smith.specs.declared.build.contents.Contents.{Contents}
-use Rattle.smith_defined.specs.declared.definitions.Definitions.{Definitions}
-use Rattle.smith_imports.specs.declared.imported.Imported.{Imported}
+use Rattle.smith_draw_definitions.specs.declared.definitions.Definitions.{Definitions}
+use Rattle.smith_draw_imports.specs.declared.imported.Imported.{Imported}
 use Rattle.wasm_smith.specs.declared.build.segments.Segments.{Segments}
 
 -- the index spaces of imports

@@ -6,13 +6,13 @@ use Rattle.smith_types.specs.EntitySpaces.{spaces_in}
 use Rattle.smith_config.specs.declared.config.Config.{Config}
 use Rattle.smith_config.specs.Faults.{minimum_of}
 use Rattle.smith_config.specs.InUse.{HasNoShapes, FixesImports}
-use Rattle.smith_rules.specs.ShapeImports.{count_in}
+use Rattle.smith_module_rules.specs.ShapeImports.{count_in}
 use Rattle.wasm_smith.specs.FirstParts.{StandsWhole, IsOfEntities}
-use Rattle.smith_defined.specs.Defined.{HaveNoFloats}
+use Rattle.smith_draw_definitions.specs.Defined.{HaveNoFloats}
 use Rattle.wasm_smith.specs.DrawnContents.{AreContents, HasGrantedContents, HasNoFloatContents, imported_in}
 use Rattle.wasm_smith.specs.DrawnSteps.{AreFreeImports, HoldsGrounded, drawn_next}
-use Rattle.smith_rules.specs.Refusals.{HoldsNonNullable}
-use Rattle.smith_rules.specs.InterestingValues.{AreAll, IsInteresting32, IsInteresting64}
+use Rattle.smith_module_rules.specs.Refusals.{HoldsNonNullable}
+use Rattle.smith_module_rules.specs.InterestingValues.{AreAll, IsInteresting32, IsInteresting64}
 use Rattle.wasm_smith.specs.declared.build.parts_so_far.PartsSoFar.{PartsSoFar}
 
 -- no drawn part holds a float

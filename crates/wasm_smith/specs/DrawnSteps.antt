@@ -8,7 +8,7 @@ use Rattle.smith_types.specs.Floats.{HasNoFloat}
 use Rattle.smith_types.specs.Grown.{Extends, AreSpacesGrown}
 use Rattle.smith_types.specs.Imports.{EntitySpaces, flattened}
 use Rattle.smith_types.specs.EntitySpaces.{spaces_in}
-use Rattle.smith_data.specs.declared.imports.Import.{Import}
+use Rattle.smith_syntax.specs.declared.imports.Import.{Import}
 use Rattle.smith_config.specs.declared.config.Config.{Config}
 use Rattle.smith_config.specs.declared.shape.Shape.{Shape}
 use Rattle.smith_config.specs.Faults.{minimum_of}
@@ -17,13 +17,13 @@ use Rattle.smith_config.specs.Shapes.{most_listed, shape_imports, shape_spaces, 
 use Rattle.smith_draw_types.specs.HeldFields.{HoldsUngroundedField}
 use Rattle.smith_draw_types.specs.FuncSizes.{HasFewValues, IsSmall}
 use Rattle.smith_config.specs.Granted.{AreTypesGranted, HasGroundedElements, HasGroundedValue}
-use Rattle.smith_imports.specs.Imported.{HasNoImports}
-use Rattle.smith_rules.specs.ShapeImports.{kept_groups, taken_from, count_in}
-use Rattle.smith_imports.specs.declared.imported.Imported.{Imported}
+use Rattle.smith_draw_imports.specs.Imported.{HasNoImports}
+use Rattle.smith_module_rules.specs.ShapeImports.{kept_groups, taken_from, count_in}
+use Rattle.smith_draw_imports.specs.declared.imported.Imported.{Imported}
 use Rattle.wasm_smith.specs.FirstParts.{ModuleSoFar, StandsSoFar, StandsWhole, IsOfEntities}
-use Rattle.smith_defined.specs.Defined.{HaveNoFloats, drawn_beside, nothing_defined}
-use Rattle.smith_rules.specs.Refusals.{HoldsNonNullable}
-use Rattle.smith_rules.specs.ShapesKept.{IsSameExport}
+use Rattle.smith_draw_definitions.specs.Defined.{HaveNoFloats, drawn_beside, nothing_defined}
+use Rattle.smith_module_rules.specs.Refusals.{HoldsNonNullable}
+use Rattle.smith_module_rules.specs.ShapesKept.{IsSameExport}
 use Rattle.wasm_smith.specs.declared.build.parts_so_far.PartsSoFar.{PartsSoFar}
 
 -- the context of the next draw: the types and functions so far

@@ -8,30 +8,30 @@ use Rattle.smith_types.specs.Imports.{EntitySpaces, IsImportsValid, flattened, i
 use Rattle.smith_types.specs.EntitySpaces.{spaces_in}
 use Rattle.smith_types.specs.Sizes.{size_in}
 use Rattle.smith_types.specs.GroupedTypes.{GroupedTypes}
-use Rattle.smith_data.specs.declared.composite_type.SubType.{SubType}
-use Rattle.smith_data.specs.declared.entity_type.MemoryType.{MemoryType}
-use Rattle.smith_data.specs.declared.entity_type.TableType.{TableType}
-use Rattle.smith_data.specs.declared.imports.Import.{Import}
-use Rattle.smith_data.specs.declared.imports.Imports.{Imports}
+use Rattle.smith_syntax.specs.declared.composite_type.SubType.{SubType}
+use Rattle.smith_syntax.specs.declared.entity_type.MemoryType.{MemoryType}
+use Rattle.smith_syntax.specs.declared.entity_type.TableType.{TableType}
+use Rattle.smith_syntax.specs.declared.imports.Import.{Import}
+use Rattle.smith_syntax.specs.declared.imports.Imports.{Imports}
 use Rattle.smith_config.specs.declared.config.Config.{Config}
 use Rattle.smith_config.specs.declared.shape.Shape.{Shape}
 use Rattle.smith_config.specs.Faults.{maximum_of}
 use Rattle.smith_config.specs.Features.{features_of}
 use Rattle.smith_config.specs.InUse.{FixesImports}
 use Rattle.smith_config.specs.Shapes.{shape_imports, shape_spaces, shape_types, space_of}
-use Rattle.smith_given_imports.specs.AvailableImports.{AreImportsWithin, available_at}
-use Rattle.smith_imports.specs.Imported.{HasNoImports}
-use Rattle.smith_rules.specs.ShapeImports.{kept_groups, sizes_of, count_in, taken_from}
+use Rattle.smith_draw_shape_imports.specs.AvailableImports.{AreImportsWithin, available_at}
+use Rattle.smith_draw_imports.specs.Imported.{HasNoImports}
+use Rattle.smith_module_rules.specs.ShapeImports.{kept_groups, sizes_of, count_in, taken_from}
 use Rattle.smith_bytes.specs.declared.error.Count.{Count}
 use Rattle.smith_bytes.specs.declared.error.Count.TheVariants as counts
 use Rattle.smith_config.specs.EntityBounds.{IsTableWithin, IsMemoryWithin}
-use Rattle.smith_rules.specs.ExportedItems.{Export}
-use Rattle.smith_rules.specs.Bounds.{items_of_export_shape, items_of_shapes, items_of_module_shape, of_shapes}
-use Rattle.smith_defined.specs.Defined.{StandsAfter, drawn_beside, nothing_defined}
-use Rattle.smith_defined.specs.Required.{MayRefuseRequired}
-use Rattle.smith_defined.specs.RequiredExports.{Required, required_at, then_with}
-use Rattle.smith_rules.specs.ShapesKept.{IsSameExport}
-use Rattle.smith_defined.specs.declared.definitions.Definitions.{Definitions}
+use Rattle.smith_module_rules.specs.ExportedItems.{Export}
+use Rattle.smith_module_rules.specs.Bounds.{items_of_export_shape, items_of_shapes, items_of_module_shape, of_shapes}
+use Rattle.smith_draw_definitions.specs.Defined.{StandsAfter, drawn_beside, nothing_defined}
+use Rattle.smith_draw_definitions.specs.Required.{MayRefuseRequired}
+use Rattle.smith_draw_definitions.specs.RequiredExports.{Required, required_at, then_with}
+use Rattle.smith_module_rules.specs.ShapesKept.{IsSameExport}
+use Rattle.smith_draw_definitions.specs.declared.definitions.Definitions.{Definitions}
 use Rattle.wasm_smith.specs.declared.build.parts_so_far.PartsSoFar.{PartsSoFar}
 
 -- the state of a module: types, groups of imports, index spaces, their definitions, and exports

@@ -6,15 +6,15 @@ use Rattle.smith_bytes.specs.declared.error.Error.TheVariants as errors
 use Rattle.smith_config.specs.declared.config.Config.{Config}
 use Rattle.smith_config.specs.Faults.{IsFirstFault, Passes}
 use Rattle.smith_config.specs.Sanitized.{sanitized}
-use Rattle.smith_rules.specs.Bounds.{KeepsBounds, MeetsMinimums}
+use Rattle.smith_module_rules.specs.Bounds.{KeepsBounds, MeetsMinimums}
 use Rattle.wasm_smith.specs.Build.{IsGiven}
-use Rattle.smith_rules.specs.InterestingValues.{HasInterestingValues}
-use Rattle.smith_rules.specs.Module.{ModuleParts, IsValid, shown_config}
-use Rattle.smith_rules.specs.Promises.{KeepsPromises}
+use Rattle.smith_module_rules.specs.InterestingValues.{HasInterestingValues}
+use Rattle.smith_module_rules.specs.Module.{ModuleParts, IsValid, shown_config}
+use Rattle.smith_module_rules.specs.Promises.{KeepsPromises}
 use Rattle.wasm_smith.specs.CheckedShapes.{IsFirstFaulty}
 use Rattle.wasm_smith.specs.Reached.{ReachesMembers, ReachesRests}
-use Rattle.smith_rules.specs.Refusals.{AreShapesValid, AsksNothingImpossible, MayGive, MayRefuse}
-use Rattle.smith_rules.specs.ShapesKept.{KeepsShapes}
+use Rattle.smith_module_rules.specs.Refusals.{AreShapesValid, AsksNothingImpossible, MayGive, MayRefuse}
+use Rattle.smith_module_rules.specs.ShapesKept.{KeepsShapes}
 use Rattle.wasm_smith.specs.declared.module.DuplicateImportsBehavior.{DuplicateImportsBehavior}
 use Rattle.wasm_smith.specs.declared.module.DuplicateImportsBehavior.TheVariants.{Allowed, Disallowed}
 

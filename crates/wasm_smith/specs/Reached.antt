@@ -3,12 +3,12 @@
 use Rattle.std.specs.Prelude.{◌≡◌, ℕ, ℤ, List, ◌++◌, Result, MatchResult}
 use Rattle.smith_bytes.specs.declared.error.Error.{Error}
 use Rattle.smith_bytes.specs.declared.error.Error.TheVariants.{Memory}
-use Rattle.smith_data.specs.declared.composite_type.SubType.{SubType}
+use Rattle.smith_syntax.specs.declared.composite_type.SubType.{SubType}
 use Rattle.smith_config.specs.declared.config.Config.{Config}
 use Rattle.smith_spell.specs.SpellAnswers.{IsSpellable}
 use Rattle.smith_spell.specs.Spelling.{SpellsMember, SpellsRest, IsRest}
 use Rattle.wasm_smith.specs.Members.{HasMember, HasRest}
-use Rattle.smith_rules.specs.Module.{ModuleParts}
+use Rattle.smith_module_rules.specs.Module.{ModuleParts}
 
 -- the source begins with bytes that spell these lists, which can be spelled, and then has the bytes `remaining`
 pub record BeginsWithMember (config : Config) (groups : List (List SubType)) (funcs bytes remaining : List ℕ) : Type 0 where

@@ -2,12 +2,12 @@
 use Rattle.std.specs.Prelude.{◌≡◌, ℕ, Bool, List, ◌++◌, Some, Result, Ok, MatchResult}
 use Rattle.smith_bytes.specs.declared.error.Error.{Error}
 use Rattle.smith_bytes.specs.declared.error.Error.TheVariants.{Memory}
-use Rattle.smith_data.specs.declared.composite_type.SubType.{SubType}
+use Rattle.smith_syntax.specs.declared.composite_type.SubType.{SubType}
 use Rattle.smith_config.specs.declared.config.Config.{Config}
 use Rattle.smith_spell.specs.SpellAnswers.{AnswersSpelling}
 use Rattle.wasm_smith.specs.Generated.{IsGenerated}
 use Rattle.wasm_smith.specs.Members.{HasMember}
-use Rattle.smith_rules.specs.Module.{ModuleParts}
+use Rattle.smith_module_rules.specs.Module.{ModuleParts}
 
 -- if `spell` returns these bytes for lists of types and functions, a module that is drawn from
 -- them, whatever follows, has these lists, unless memory runs out

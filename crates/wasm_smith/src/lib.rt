@@ -15,19 +15,8 @@ pub use smith_bytes::{
     arbitrary_loop, limited_str, limited_string, unique_kebab_string, unique_string, unique_url,
 };
 pub use smith_config::{Config, MemoryOffsetChoices, OffsetChoicesFault, Shape};
-pub use smith_const_expr::{arbitrary_const_expr, arbitrary_table_init, globals_for_const_expr};
-pub use smith_draw_types::{
-    Entities, Spaces, TypeUse, add_type, arbitrary_composite_type, arbitrary_field_type,
-    arbitrary_func_type, arbitrary_global_type, arbitrary_heap_type, arbitrary_limits64,
-    arbitrary_locals, arbitrary_matching_field_type, arbitrary_matching_func_type,
-    arbitrary_matching_heap_type, arbitrary_matching_ref_type, arbitrary_matching_storage_type,
-    arbitrary_matching_struct_type, arbitrary_matching_val_type, arbitrary_memtype,
-    arbitrary_offset, arbitrary_rec_group, arbitrary_ref_type, arbitrary_storage_type,
-    arbitrary_struct_type, arbitrary_sub_type, arbitrary_sub_type_of_super_type,
-    arbitrary_super_type_of_heap_type, arbitrary_super_type_of_ref_type,
-    arbitrary_super_type_of_val_type, arbitrary_table_type, arbitrary_tag_type, arbitrary_types,
-    arbitrary_valtype, choose, clone_rec_group, count_types, gradually_grow, list_types,
-};
+/// Draws of types, entities and constant expressions.
+pub use smith_draw as draw;
 pub use smith_spell::spell;
 
 // Plain data, and decisions about it.

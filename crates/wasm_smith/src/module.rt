@@ -46,7 +46,7 @@ pub struct Module {
 }
 
 impl Model for Module {
-    ghost use Rattle.smith_rules.specs.Module.{ModuleParts};
+    ghost use Rattle.smith_module_rules.specs.Module.{ModuleParts};
 
     ghost Value = { ModuleParts };
 
@@ -104,7 +104,7 @@ impl DuplicateImportsBehavior {
 
 impl Module {
     ghost use Rattle.smith_config.specs.Config.{default_config};
-    ghost use Rattle.smith_rules.specs.Module.{module_types};
+    ghost use Rattle.smith_module_rules.specs.Module.{module_types};
     ghost use Rattle.wasm_smith.specs.Generated.{IsGenerated, is_distinct};
 
     /// Draws a module as [`Module::new`] does, for the default configuration. Fails only for lack

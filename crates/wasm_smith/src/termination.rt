@@ -1,12 +1,12 @@
 ghost use Rattle.std.specs.Prelude.{◌≡◌, ◌<◌, ◌-◌, ◌^◌, ◌++◌, ◌↔◌, [], ◌∷◌, ℕ, List, Any, length};
 ghost use Rattle.std.specs.Prelude.{IsTrue, IfOk, OnOk, OnErr, IfErr};
 ghost use Rattle.std.specs.Int.{cast_signed, w32};
-ghost use Rattle.smith_data.specs.declared.const_instr.ConstInstr.TheVariants.{
+ghost use Rattle.smith_syntax.specs.declared.const_instr.ConstInstr.TheVariants.{
   I32Const as NumberConst,
 };
-ghost use Rattle.smith_data.specs.declared.code.Code.{Code as Body};
-ghost use Rattle.smith_rules.specs.Module.{IsValid};
-ghost use Rattle.smith_rules.specs.Held.{IsRaw};
+ghost use Rattle.smith_syntax.specs.declared.code.Code.{Code as Body};
+ghost use Rattle.smith_module_rules.specs.Module.{IsValid};
+ghost use Rattle.smith_module_rules.specs.Held.{IsRaw};
 ghost use Rattle.wasm_smith.specs.Termination.{AnswersCounter, counter};
 
 use crate::module::Module;

@@ -3,14 +3,14 @@ use Rattle.std.specs.Prelude.{false, List, [], ◌∷◌, Some, None}
 use Rattle.smith_types.specs.ExampleTypes.{shared_type, plain_func}
 use Rattle.smith_types.specs.Flags.{funcref}
 use Rattle.smith_types.specs.Imports.{EntitySpaces}
-use Rattle.smith_data.specs.declared.composite_type.SubType.{SubType}
-use Rattle.smith_data.specs.declared.entity_type.GlobalType.{GlobalType}
-use Rattle.smith_data.specs.declared.entity_type.MemoryType.{MemoryType}
+use Rattle.smith_syntax.specs.declared.composite_type.SubType.{SubType}
+use Rattle.smith_syntax.specs.declared.entity_type.GlobalType.{GlobalType}
+use Rattle.smith_syntax.specs.declared.entity_type.MemoryType.{MemoryType}
 use Rattle.smith_config.specs.declared.config.Config.{Config}
 use Rattle.smith_config.specs.Config.{default_config}
 use Rattle.smith_config.specs.ExampleMembers.{final, giving_two, taking_a_number, bytes_array, plain_function}
-use Rattle.smith_defined.specs.Definitions.{InitialiserScope, scope_over}
-use Rattle.smith_rules_examples.specs.ExampleParts.{memory, table, number}
+use Rattle.smith_draw_definitions.specs.Definitions.{InitialiserScope, scope_over}
+use Rattle.smith_module_rules_examples.specs.ExampleParts.{memory, table, number}
 
 -- a function with results, an array, two functions without results, and one that is shared
 abbrev pub several_types : List SubType

@@ -6,18 +6,18 @@ ghost use Rattle.smith_bytes.specs.declared.error.Error.TheVariants.{EmptyChoose
 ghost use Rattle.smith_bytes.specs.declared.error.Error.TheVariants.{NotEnoughData};
 ghost use Rattle.smith_types.specs.ExampleTypes.{not_null, plain};
 ghost use Rattle.smith_types.specs.Flags.{funcref};
-ghost use Rattle.smith_data.specs.declared.value_type.AbstractHeapType.TheVariants as heap;
-ghost use Rattle.smith_data.specs.declared.segments.Offset.TheVariants.{Const32, Const64};
-ghost use Rattle.smith_const_expr.specs.ExampleConstExprs.{context_of_types};
+ghost use Rattle.smith_syntax.specs.declared.value_type.AbstractHeapType.TheVariants as heap;
+ghost use Rattle.smith_syntax.specs.declared.segments.Offset.TheVariants.{Const32, Const64};
+ghost use Rattle.smith_draw_consts.specs.ExampleConstExprs.{context_of_types};
 ghost use Rattle.smith_config.specs.Config.{default_config};
 ghost use Rattle.smith_config.specs.Shapes.{space_of};
 ghost use Rattle.wasm_smith.specs.Contents.{MayHoldContents, MayRefuseContents};
-ghost use Rattle.smith_defined.specs.Definitions.{table_scope};
+ghost use Rattle.smith_draw_definitions.specs.Definitions.{table_scope};
 ghost use Rattle.wasm_smith.specs.DrawnContents.{AreSegmentsFit, AreExportsMade, AreContents};
-ghost use Rattle.smith_contents.specs.DrawnElements.{IsPlaced};
+ghost use Rattle.smith_draw_contents.specs.DrawnElements.{IsPlaced};
 ghost use Rattle.wasm_smith_examples.specs.ExampleDefinitions.{beside_globals, no_imports};
-ghost use Rattle.smith_rules_examples.specs.ExampleParts.{table};
-ghost use Rattle.smith_rules_examples.specs.ExampleShapes.{for_exports, empty_shape};
+ghost use Rattle.smith_module_rules_examples.specs.ExampleParts.{table};
+ghost use Rattle.smith_module_rules_examples.specs.ExampleShapes.{for_exports, empty_shape};
 
 fn placed()
     ensures past_the_minimum { IsPlaced default_config

@@ -5,15 +5,15 @@ ghost use Rattle.std.specs.Prelude.{Err};
 ghost use Rattle.smith_bytes.specs.declared.error.Count.TheVariants as counts;
 ghost use Rattle.smith_bytes.specs.declared.error.Why.TheVariants.{Unmet};
 ghost use Rattle.smith_types.specs.ExampleEntities.{all_addresses};
-ghost use Rattle.smith_data.specs.declared.segments.DataSegmentKind.TheVariants.{Passive, Active};
-ghost use Rattle.smith_data.specs.declared.segments.Offset.TheVariants.{Const32, Const64, Global};
+ghost use Rattle.smith_syntax.specs.declared.segments.DataSegmentKind.TheVariants.{Passive, Active};
+ghost use Rattle.smith_syntax.specs.declared.segments.Offset.TheVariants.{Const32, Const64, Global};
 ghost use Rattle.smith_config.specs.Config.{default_config};
-ghost use Rattle.smith_contents.specs.DataSegments.{counting_at, data_at};
-ghost use Rattle.smith_defined.specs.Definitions.{global_scope};
+ghost use Rattle.smith_draw_contents.specs.DataSegments.{counting_at, data_at};
+ghost use Rattle.smith_draw_definitions.specs.Definitions.{global_scope};
 ghost use Rattle.wasm_smith_examples.specs.ExampleDefinitions.{beside_globals};
-ghost use Rattle.smith_rules_examples.specs.ExampleParts.{active_data, memory, number};
+ghost use Rattle.smith_module_rules_examples.specs.ExampleParts.{active_data, memory, number};
 
-#[tactic(auto, unfolding(smith_contents::specs::DataSegments::counting_at, smith_contents::specs::DataSegments::may_hold_data_at, smith_bytes::specs::Draws::range_at, smith_bytes::specs::Draws::digit_count))]
+#[tactic(auto, unfolding(smith_draw_contents::specs::DataSegments::counting_at, smith_draw_contents::specs::DataSegments::may_hold_data_at, smith_bytes::specs::Draws::range_at, smith_bytes::specs::Draws::digit_count))]
 fn counting()
     ensures by_pages_or_a_number { counting_at [] 0
         (memory 0 None ∷ memory 1 None ∷ memory 0 None ∷ []) (11 ∷ 3 ∷ 9 ∷ [])
@@ -22,7 +22,7 @@ fn counting()
 {}
 
 // A data segment takes its bytes, whether it is passive, its memory and its offset, in this order.
-#[tactic(auto, unfolding(smith_contents::specs::DataSegments::data_at, smith_contents::specs::DataSegments::counting_at, smith_contents::specs::DataSegments::may_hold_data_at, smith_contents::specs::DataSegments::data_segments_at, smith_contents::specs::DataSegments::data_segment_at, smith_contents::specs::DataSegments::passive_at, smith_contents::specs::DataSegments::active_at, smith_contents::specs::DataSegments::placed_at, smith_contents::specs::DataSegments::constant_placed_at, smith_contents::specs::DataSegments::address_at, smith_draw_types::specs::Offsets::offset_at, smith_draw_types::specs::Limits::gradually_at, smith_draw_types::specs::Limits::gradual, smith_draw_types::specs::Limits::sixth_power, smith_draw_types::specs::Limits::scaled, smith_draw_types::specs::Choices::chosen_at, smith_bytes::specs::ByteLists::byte_list_at, smith_bytes::specs::Growth::grow_at, smith_bytes::specs::Draws::whole_at, smith_bytes::specs::Draws::bool_at, smith_bytes::specs::Draws::range_at, smith_bytes::specs::Draws::digit_count))]
+#[tactic(auto, unfolding(smith_draw_contents::specs::DataSegments::data_at, smith_draw_contents::specs::DataSegments::counting_at, smith_draw_contents::specs::DataSegments::may_hold_data_at, smith_draw_contents::specs::DataSegments::data_segments_at, smith_draw_contents::specs::DataSegments::data_segment_at, smith_draw_contents::specs::DataSegments::passive_at, smith_draw_contents::specs::DataSegments::active_at, smith_draw_contents::specs::DataSegments::placed_at, smith_draw_contents::specs::DataSegments::constant_placed_at, smith_draw_contents::specs::DataSegments::address_at, smith_draw_types::specs::Offsets::offset_at, smith_draw_types::specs::Limits::gradually_at, smith_draw_types::specs::Limits::gradual, smith_draw_types::specs::Limits::sixth_power, smith_draw_types::specs::Limits::scaled, smith_draw_types::specs::Choices::chosen_at, smith_bytes::specs::ByteLists::byte_list_at, smith_bytes::specs::Growth::grow_at, smith_bytes::specs::Draws::whole_at, smith_bytes::specs::Draws::bool_at, smith_bytes::specs::Draws::range_at, smith_bytes::specs::Draws::digit_count))]
 fn segments()
     ensures without_a_memory { data_at default_config
         (global_scope default_config (beside_globals []) []) [] (1 ∷ 1 ∷ 42 ∷ 0 ∷ 0 ∷ 9 ∷ [])

@@ -7,23 +7,23 @@ ghost use Rattle.smith_bytes.specs.declared.error.Why.TheVariants.{Unmet};
 ghost use Rattle.smith_types.specs.Flags.{funcref};
 ghost use Rattle.smith_types.specs.ExampleTypes.{nullable, not_null, plain, shared_type};
 ghost use Rattle.smith_types.specs.ExampleTypes.{plain_func};
-ghost use Rattle.smith_data.specs.declared.segments.Offset.TheVariants.{Const32};
-ghost use Rattle.smith_data.specs.declared.segments.ElementKind.TheVariants as element_kind;
-ghost use Rattle.smith_data.specs.declared.segments.Elements.TheVariants.{Functions, Expressions};
-ghost use Rattle.smith_data.specs.declared.value_type.AbstractHeapType.TheVariants as heap;
-ghost use Rattle.smith_const_expr.specs.ExampleConstExprs.{context_of_types};
+ghost use Rattle.smith_syntax.specs.declared.segments.Offset.TheVariants.{Const32};
+ghost use Rattle.smith_syntax.specs.declared.segments.ElementKind.TheVariants as element_kind;
+ghost use Rattle.smith_syntax.specs.declared.segments.Elements.TheVariants.{Functions, Expressions};
+ghost use Rattle.smith_syntax.specs.declared.value_type.AbstractHeapType.TheVariants as heap;
+ghost use Rattle.smith_draw_consts.specs.ExampleConstExprs.{context_of_types};
 ghost use Rattle.smith_config.specs.Config.{default_config};
 ghost use Rattle.smith_config.specs.ExampleMembers.{final, plain_function};
-ghost use Rattle.smith_defined.specs.Definitions.{table_scope};
-ghost use Rattle.smith_rules.specs.Held.{HasItems};
-ghost use Rattle.smith_contents.specs.DrawnElements.{MayRefuseElements};
-ghost use Rattle.smith_contents.specs.ElementSegments.{all_element_segments_at, constant_offset_at};
-ghost use Rattle.smith_contents.specs.ElementSegments.{are_functions_at, most_items};
-ghost use Rattle.smith_contents.specs.ElementSegments.{unshared_funcs};
+ghost use Rattle.smith_draw_definitions.specs.Definitions.{table_scope};
+ghost use Rattle.smith_module_rules.specs.Held.{HasItems};
+ghost use Rattle.smith_draw_contents.specs.DrawnElements.{MayRefuseElements};
+ghost use Rattle.smith_draw_contents.specs.ElementSegments.{all_element_segments_at, constant_offset_at};
+ghost use Rattle.smith_draw_contents.specs.ElementSegments.{are_functions_at, most_items};
+ghost use Rattle.smith_draw_contents.specs.ElementSegments.{unshared_funcs};
 ghost use Rattle.wasm_smith_examples.specs.ExampleDefinitions.{beside_globals};
-ghost use Rattle.smith_rules_examples.specs.ExampleParts.{passive_elements, table};
+ghost use Rattle.smith_module_rules_examples.specs.ExampleParts.{passive_elements, table};
 
-#[tactic(auto, unfolding(smith_contents::specs::ElementSegments::constant_offset_at, smith_contents::specs::ElementSegments::hint_at, smith_draw_types::specs::Offsets::offset_at, smith_draw_types::specs::Limits::gradually_at, smith_draw_types::specs::Limits::gradual, smith_draw_types::specs::Limits::sixth_power, smith_draw_types::specs::Limits::scaled, smith_bytes::specs::Draws::whole_at, smith_bytes::specs::Draws::range_at, smith_bytes::specs::Draws::digit_count))]
+#[tactic(auto, unfolding(smith_draw_contents::specs::ElementSegments::constant_offset_at, smith_draw_contents::specs::ElementSegments::hint_at, smith_draw_types::specs::Offsets::offset_at, smith_draw_types::specs::Limits::gradually_at, smith_draw_types::specs::Limits::gradual, smith_draw_types::specs::Limits::sixth_power, smith_draw_types::specs::Limits::scaled, smith_bytes::specs::Draws::whole_at, smith_bytes::specs::Draws::range_at, smith_bytes::specs::Draws::digit_count))]
 fn offsets()
     ensures not_to_fit { constant_offset_at default_config
         (table funcref 5 None) (0 ∷ 0 ∷ 0 ∷ 0 ∷ 0 ∷ 9 ∷ [])
@@ -36,7 +36,7 @@ fn offsets()
         ≡ ((Const32 (pos 5), Some 0), 9 ∷ []) }
 {}
 
-#[tactic(auto, unfolding(smith_contents::specs::ElementSegments::are_functions_at, smith_bytes::specs::Draws::bool_at))]
+#[tactic(auto, unfolding(smith_draw_contents::specs::ElementSegments::are_functions_at, smith_bytes::specs::Draws::bool_at))]
 fn items()
     ensures as_functions { are_functions_at default_config funcref (1 ∷ 9 ∷ []) ≡ (true, 9 ∷ []) }
     ensures as_expressions { are_functions_at default_config funcref (0 ∷ 9 ∷ [])
@@ -55,7 +55,7 @@ fn items()
 {}
 
 // Element segments without any type, function, table or global.
-#[tactic(auto, unfolding(smith_contents::specs::ElementSegments::all_element_segments_at, smith_contents::specs::ElementSegments::element_segments_at, smith_contents::specs::ElementSegments::element_segment_at, smith_contents::specs::ElementSegments::element_kind_at, smith_contents::specs::ElementSegments::item_type_at, smith_contents::specs::ElementSegments::items_at, smith_contents::specs::ElementSegments::functions_at, smith_contents::specs::ElementSegments::expressions_at, smith_contents::specs::ElementSegments::drawn_expressions_at, smith_contents::specs::ElementSegments::element_kinds_at, smith_contents::specs::ElementSegments::table_kinds_at, smith_contents::specs::ElementSegments::are_functions_at, smith_draw_types::specs::ValueTypes::ref_type_at, smith_draw_types::specs::ValueTypes::granted_at, smith_draw_types::specs::ValueTypes::heap_type_at, smith_draw_types::specs::ValueTypes::type_index_at, smith_draw_types::specs::ValueTypes::abstract_heap_type_at, smith_draw_types::specs::ValueTypes::sharedness_at, smith_draw_types::specs::Choices::chosen_at, smith_bytes::specs::Growth::grow_at, smith_bytes::specs::Draws::bool_at, smith_bytes::specs::Draws::range_at, smith_bytes::specs::Draws::digit_count))]
+#[tactic(auto, unfolding(smith_draw_contents::specs::ElementSegments::all_element_segments_at, smith_draw_contents::specs::ElementSegments::element_segments_at, smith_draw_contents::specs::ElementSegments::element_segment_at, smith_draw_contents::specs::ElementSegments::element_kind_at, smith_draw_contents::specs::ElementSegments::item_type_at, smith_draw_contents::specs::ElementSegments::items_at, smith_draw_contents::specs::ElementSegments::functions_at, smith_draw_contents::specs::ElementSegments::expressions_at, smith_draw_contents::specs::ElementSegments::drawn_expressions_at, smith_draw_contents::specs::ElementSegments::element_kinds_at, smith_draw_contents::specs::ElementSegments::table_kinds_at, smith_draw_contents::specs::ElementSegments::are_functions_at, smith_draw_types::specs::ValueTypes::ref_type_at, smith_draw_types::specs::ValueTypes::granted_at, smith_draw_types::specs::ValueTypes::heap_type_at, smith_draw_types::specs::ValueTypes::type_index_at, smith_draw_types::specs::ValueTypes::abstract_heap_type_at, smith_draw_types::specs::ValueTypes::sharedness_at, smith_draw_types::specs::Choices::chosen_at, smith_bytes::specs::Growth::grow_at, smith_bytes::specs::Draws::bool_at, smith_bytes::specs::Draws::range_at, smith_bytes::specs::Draws::digit_count))]
 fn segments()
     ensures none { all_element_segments_at default_config
         (table_scope default_config (beside_globals [])) [] (0 ∷ 9 ∷ [])
@@ -82,7 +82,7 @@ fn segments()
 
 // An element segment takes its kind and its offset. The items take no byte for the table's only
 // type, and no function may be an item.
-#[tactic(auto, unfolding(smith_contents::specs::ElementSegments::all_element_segments_at, smith_contents::specs::ElementSegments::element_segments_at, smith_contents::specs::ElementSegments::element_segment_at, smith_contents::specs::ElementSegments::element_kind_at, smith_contents::specs::ElementSegments::table_offset_at, smith_contents::specs::ElementSegments::is_global_wanted_at, smith_contents::specs::ElementSegments::constant_offset_at, smith_contents::specs::ElementSegments::hint_at, smith_contents::specs::ElementSegments::item_type_at, smith_contents::specs::ElementSegments::items_at, smith_contents::specs::ElementSegments::functions_at, smith_contents::specs::ElementSegments::element_kinds_at, smith_contents::specs::ElementSegments::table_kinds_at, smith_contents::specs::ElementSegments::is_offered_at, smith_contents::specs::ElementSegments::are_functions_at, smith_draw_types::specs::Offsets::offset_at, smith_draw_types::specs::Limits::gradually_at, smith_draw_types::specs::Limits::gradual, smith_draw_types::specs::Limits::sixth_power, smith_draw_types::specs::Limits::scaled, smith_draw_types::specs::MatchingTypes::references_offered, smith_draw_types::specs::MatchingTypes::matching_ref_type_at, smith_draw_types::specs::MatchingTypes::matching_heap_type_at, smith_draw_types::specs::Offered::subtypes_offered, smith_draw_types::specs::Choices::chosen_at, smith_bytes::specs::Draws::whole_at, smith_bytes::specs::Draws::bool_at, smith_bytes::specs::Draws::range_at, smith_bytes::specs::Draws::digit_count))]
+#[tactic(auto, unfolding(smith_draw_contents::specs::ElementSegments::all_element_segments_at, smith_draw_contents::specs::ElementSegments::element_segments_at, smith_draw_contents::specs::ElementSegments::element_segment_at, smith_draw_contents::specs::ElementSegments::element_kind_at, smith_draw_contents::specs::ElementSegments::table_offset_at, smith_draw_contents::specs::ElementSegments::is_global_wanted_at, smith_draw_contents::specs::ElementSegments::constant_offset_at, smith_draw_contents::specs::ElementSegments::hint_at, smith_draw_contents::specs::ElementSegments::item_type_at, smith_draw_contents::specs::ElementSegments::items_at, smith_draw_contents::specs::ElementSegments::functions_at, smith_draw_contents::specs::ElementSegments::element_kinds_at, smith_draw_contents::specs::ElementSegments::table_kinds_at, smith_draw_contents::specs::ElementSegments::is_offered_at, smith_draw_contents::specs::ElementSegments::are_functions_at, smith_draw_types::specs::Offsets::offset_at, smith_draw_types::specs::Limits::gradually_at, smith_draw_types::specs::Limits::gradual, smith_draw_types::specs::Limits::sixth_power, smith_draw_types::specs::Limits::scaled, smith_draw_types::specs::MatchingTypes::references_offered, smith_draw_types::specs::MatchingTypes::matching_ref_type_at, smith_draw_types::specs::MatchingTypes::matching_heap_type_at, smith_draw_types::specs::Offered::subtypes_offered, smith_draw_types::specs::Choices::chosen_at, smith_bytes::specs::Draws::whole_at, smith_bytes::specs::Draws::bool_at, smith_bytes::specs::Draws::range_at, smith_bytes::specs::Draws::digit_count))]
 fn copied()
     ensures without_traps { all_element_segments_at (record default_config {
       reference_types_enabled = false;

@@ -7,9 +7,9 @@ ghost use Rattle.smith_bytes.specs.declared.error.Which.TheVariants.{AvailableIm
 ghost use Rattle.smith_bytes.specs.declared.error.Which.TheVariants.{ModuleShape};
 ghost use Rattle.smith_config.specs.Config.{default_config};
 ghost use Rattle.wasm_smith.specs.CheckedShapes.{IsFaultOf, IsFirstFaulty};
-ghost use Rattle.smith_rules_examples.specs.ExampleShapes.{for_module, for_imports, for_exports};
-ghost use Rattle.smith_rules_examples.specs.ExampleShapes.{exporting, memory_available};
-ghost use Rattle.smith_rules_examples.specs.ExampleShapes.{twice_exported, untyped};
+ghost use Rattle.smith_module_rules_examples.specs.ExampleShapes.{for_module, for_imports, for_exports};
+ghost use Rattle.smith_module_rules_examples.specs.ExampleShapes.{exporting, memory_available};
+ghost use Rattle.smith_module_rules_examples.specs.ExampleShapes.{twice_exported, untyped};
 
 fn module_shapes()
     ensures a_module_shape { IsFirstFaulty (for_module untyped default_config)

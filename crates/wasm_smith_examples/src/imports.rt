@@ -3,23 +3,23 @@ ghost use Rattle.smith_bytes.specs.declared.error.Count.TheVariants as counts;
 ghost use Rattle.smith_bytes.specs.declared.error.Why.TheVariants.{Unmet};
 ghost use Rattle.smith_types.specs.Imports.{imported_spaces};
 ghost use Rattle.smith_types.specs.ExampleTypes.{nullable, not_null};
-ghost use Rattle.smith_data.specs.declared.value_type.HeapType.TheVariants.{Concrete};
-ghost use Rattle.smith_data.specs.declared.value_type.ValType.TheVariants.{Ref};
-ghost use Rattle.smith_data.specs.declared.entity_type.EntityType.TheVariants.{Global, Memory};
-ghost use Rattle.smith_data.specs.declared.entity_type.EntityType.TheVariants.{Func};
-ghost use Rattle.smith_data.specs.declared.entity_type.ExportKind.TheVariants as kind;
-ghost use Rattle.smith_data.specs.declared.imports.Imports.TheVariants.{Single, Compact1};
-ghost use Rattle.smith_data.specs.declared.imports.Imports.TheVariants.{Compact2};
+ghost use Rattle.smith_syntax.specs.declared.value_type.HeapType.TheVariants.{Concrete};
+ghost use Rattle.smith_syntax.specs.declared.value_type.ValType.TheVariants.{Ref};
+ghost use Rattle.smith_syntax.specs.declared.entity_type.EntityType.TheVariants.{Global, Memory};
+ghost use Rattle.smith_syntax.specs.declared.entity_type.EntityType.TheVariants.{Func};
+ghost use Rattle.smith_syntax.specs.declared.entity_type.ExportKind.TheVariants as kind;
+ghost use Rattle.smith_syntax.specs.declared.imports.Imports.TheVariants.{Single, Compact1};
+ghost use Rattle.smith_syntax.specs.declared.imports.Imports.TheVariants.{Compact2};
 ghost use Rattle.smith_config.specs.Config.{default_config};
 ghost use Rattle.smith_draw_types.specs.Choices.{enabled};
 ghost use Rattle.smith_config.specs.ExampleMembers.{final, taking_a_number, giving_two};
 ghost use Rattle.smith_config.specs.ExampleMembers.{plain_function};
-ghost use Rattle.smith_imports.specs.ImportNames.{is_taken, import_name_at};
+ghost use Rattle.smith_draw_imports.specs.ImportNames.{is_taken, import_name_at};
 ghost use Rattle.smith_bytes.specs.Names.{new_name};
-ghost use Rattle.smith_imports.specs.ImportedEntities.{kind_rows, entity_at, fits, again, sizes};
-ghost use Rattle.smith_imports.specs.Imported.{MayEnd};
-ghost use Rattle.smith_imports.specs.Importing.{with_filled, imports_at};
-ghost use Rattle.smith_rules_examples.specs.ExampleParts.{global, number, memory, import_named};
+ghost use Rattle.smith_draw_imports.specs.ImportedEntities.{kind_rows, entity_at, fits, again, sizes};
+ghost use Rattle.smith_draw_imports.specs.Imported.{MayEnd};
+ghost use Rattle.smith_draw_imports.specs.Importing.{with_filled, imports_at};
+ghost use Rattle.smith_module_rules_examples.specs.ExampleParts.{global, number, memory, import_named};
 
 fn drawn_imports()
     ensures of_one_type { imports_at (record default_config { max_imports = 2 }) [] false
@@ -74,7 +74,7 @@ fn offered_kinds()
 {}
 
 // An imported function grounds the references of later imports.
-#[tactic(auto, unfolding(smith_imports::specs::ImportedEntities::entity_at, smith_imports::specs::ImportedEntities::kind_at, smith_imports::specs::ImportedEntities::entity_of_kind_at, smith_draw_types::specs::TypeUses::is_tag_type, smith_draw_types::specs::GlobalTypes::global_type_at, smith_draw_types::specs::ValueTypes::val_type_at, smith_draw_types::specs::ValueTypes::ref_type_at, smith_draw_types::specs::ValueTypes::granted_at, smith_draw_types::specs::ValueTypes::heap_type_at, smith_draw_types::specs::ValueTypes::type_index_at, smith_draw_types::specs::ValueTypes::abstract_heap_type_at, smith_draw_types::specs::ValueTypes::sharedness_at, smith_draw_types::specs::Choices::chosen_at, smith_draw_types::specs::Grounding::is_grounded, smith_draw_types::specs::Below::is_heap_below, smith_draw_types::specs::Offered::ancestors, smith_bytes::specs::Draws::bool_at, smith_bytes::specs::Draws::range_at, smith_bytes::specs::Draws::digit_count))]
+#[tactic(auto, unfolding(smith_draw_imports::specs::ImportedEntities::entity_at, smith_draw_imports::specs::ImportedEntities::kind_at, smith_draw_imports::specs::ImportedEntities::entity_of_kind_at, smith_draw_types::specs::TypeUses::is_tag_type, smith_draw_types::specs::GlobalTypes::global_type_at, smith_draw_types::specs::ValueTypes::val_type_at, smith_draw_types::specs::ValueTypes::ref_type_at, smith_draw_types::specs::ValueTypes::granted_at, smith_draw_types::specs::ValueTypes::heap_type_at, smith_draw_types::specs::ValueTypes::type_index_at, smith_draw_types::specs::ValueTypes::abstract_heap_type_at, smith_draw_types::specs::ValueTypes::sharedness_at, smith_draw_types::specs::Choices::chosen_at, smith_draw_types::specs::Grounding::is_grounded, smith_draw_types::specs::Below::is_heap_below, smith_draw_types::specs::Offered::ancestors, smith_bytes::specs::Draws::bool_at, smith_bytes::specs::Draws::range_at, smith_bytes::specs::Draws::digit_count))]
 fn entities()
     ensures after_a_function { entity_at (record default_config { non_nullable_enabled = true })
         (final plain_function ∷ []) (imported_spaces (import_named [] (Func 0) ∷ [])) 0

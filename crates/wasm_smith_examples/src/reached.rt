@@ -1,18 +1,18 @@
 ghost use Rattle.std.specs.Prelude.{[], ◌∷◌, ◌++◌, pos, true, false, Some, None, Ok, Err};
 ghost use Rattle.smith_bytes.specs.declared.error.Error.TheVariants.{EmptyChoose, Memory};
 ghost use Rattle.smith_types.specs.Flags.{funcref};
-ghost use Rattle.smith_data.specs.declared.value_type.ValType.TheVariants.{I32};
-ghost use Rattle.smith_data.specs.declared.segments.Elements.TheVariants.{Functions};
-ghost use Rattle.smith_data.specs.declared.entity_type.ExportKind.TheVariants as kind;
+ghost use Rattle.smith_syntax.specs.declared.value_type.ValType.TheVariants.{I32};
+ghost use Rattle.smith_syntax.specs.declared.segments.Elements.TheVariants.{Functions};
+ghost use Rattle.smith_syntax.specs.declared.entity_type.ExportKind.TheVariants as kind;
 ghost use Rattle.smith_config.specs.Config.{default_config};
 ghost use Rattle.smith_config.specs.ExampleMembers.{alone, one_function_type, taking_a_number};
 ghost use Rattle.smith_config.specs.ExampleMembers.{nothing_may_be, function_bytes};
 ghost use Rattle.wasm_smith.specs.Members.{HasMember, HasRest};
 ghost use Rattle.wasm_smith.specs.Reached.{BeginsWithMember, BeginsWithRest, ReachesMembers};
-ghost use Rattle.smith_rules_examples.specs.ExampleParts.{memory, table, global, passive_elements};
-ghost use Rattle.smith_rules_examples.specs.ExampleParts.{active_data};
-ghost use Rattle.smith_rules_examples.specs.ExampleModules.{empty_module, one_function};
-ghost use Rattle.smith_rules_examples.specs.ExampleModules.{number_and_bytes};
+ghost use Rattle.smith_module_rules_examples.specs.ExampleParts.{memory, table, global, passive_elements};
+ghost use Rattle.smith_module_rules_examples.specs.ExampleParts.{active_data};
+ghost use Rattle.smith_module_rules_examples.specs.ExampleModules.{empty_module, one_function};
+ghost use Rattle.smith_module_rules_examples.specs.ExampleModules.{number_and_bytes};
 
 fn members()
     ensures a_function { HasMember one_function_type (0 ∷ []) one_function }

@@ -4,7 +4,7 @@ ghost use Rattle.std.specs.Prelude.{◌≡◌, [], ◌∷◌, false, Some, None}
 ghost use Rattle.smith_config.specs.Config.{default_config};
 ghost use Rattle.smith_config.specs.ExampleMembers.{final, taking_a_number, giving_two};
 ghost use Rattle.smith_config.specs.ExampleMembers.{plain_function};
-ghost use Rattle.smith_contents.specs.Start.{start_funcs, start_at};
+ghost use Rattle.smith_draw_contents.specs.Start.{start_funcs, start_at};
 
 fn start_funcs()
     ensures by_type { start_funcs
@@ -14,7 +14,7 @@ fn start_funcs()
 {}
 
 // The bytes decide whether a function starts the module, then which.
-#[tactic(auto, unfolding(smith_contents::specs::Start::start_at, smith_contents::specs::Start::start_wanted_at, smith_draw_types::specs::Choices::chosen_at, smith_bytes::specs::Draws::bool_at, smith_bytes::specs::Draws::range_at, smith_bytes::specs::Draws::digit_count))]
+#[tactic(auto, unfolding(smith_draw_contents::specs::Start::start_at, smith_draw_contents::specs::Start::start_wanted_at, smith_draw_types::specs::Choices::chosen_at, smith_bytes::specs::Draws::bool_at, smith_bytes::specs::Draws::range_at, smith_bytes::specs::Draws::digit_count))]
 fn start()
     ensures none_to_choose { start_at default_config (final taking_a_number ∷ []) (0 ∷ []) (1 ∷ [])
         ≡ (None, 1 ∷ []) }

@@ -2,14 +2,14 @@ ghost use Rattle.std.specs.Prelude.{[], ◌∷◌, codes, Ok, Err};
 ghost use Rattle.smith_bytes.specs.declared.error.Error.TheVariants.{EmptyChoose, IncorrectFormat};
 ghost use Rattle.smith_bytes.specs.declared.error.Error.TheVariants.{Memory};
 ghost use Rattle.smith_bytes.specs.declared.error.Why.TheVariants.{Loop, RawBody};
-ghost use Rattle.smith_data.specs.declared.entity_type.ExportKind.TheVariants as kind;
+ghost use Rattle.smith_syntax.specs.declared.entity_type.ExportKind.TheVariants as kind;
 ghost use Rattle.smith_config.specs.Config.{default_config};
 ghost use Rattle.wasm_smith.specs.Termination.{HasRawBody, AddsCounter, MayAddNone, AnswersCounter};
-ghost use Rattle.smith_rules_examples.specs.ExampleParts.{number, trapping};
-ghost use Rattle.smith_rules_examples.specs.ExampleModules.{empty_module, two_imports};
-ghost use Rattle.smith_rules_examples.specs.ExampleGiven.{without_gc, raw_body, raw_bytes};
-ghost use Rattle.smith_rules_examples.specs.ExampleGiven.{counting_once, counting_fuel};
-ghost use Rattle.smith_rules_examples.specs.ExampleGiven.{counting_after};
+ghost use Rattle.smith_module_rules_examples.specs.ExampleParts.{number, trapping};
+ghost use Rattle.smith_module_rules_examples.specs.ExampleModules.{empty_module, two_imports};
+ghost use Rattle.smith_module_rules_examples.specs.ExampleGiven.{without_gc, raw_body, raw_bytes};
+ghost use Rattle.smith_module_rules_examples.specs.ExampleGiven.{counting_once, counting_fuel};
+ghost use Rattle.smith_module_rules_examples.specs.ExampleGiven.{counting_after};
 
 fn raw_bodies()
     ensures alone { HasRawBody raw_body }

@@ -1,7 +1,7 @@
 use crate::memory::parts::module_of_parts;
 use crate::memory::tries::is_refused_first;
-use smith_encode::{EncodeError, encode};
-use smith_memory::{Ended, Tried};
+use smith_binary_module::{EncodeError, encode};
+use smith_rows_memory::{Ended, Tried};
 use std::alloc::Global;
 use std::test::Fail;
 use wasm_smith::Module;

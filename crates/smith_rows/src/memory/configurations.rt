@@ -3,7 +3,7 @@ use crate::memory::tries::{is_refused_first, refused};
 use smith_bytes::{Error, Which};
 use smith_case::Fault;
 use smith_config::{Config, Shape};
-use smith_memory::{Ended, Tried};
+use smith_rows_memory::{Ended, Tried};
 use std::alloc::Global;
 use std::test::Fail;
 

@@ -3,7 +3,7 @@ use crate::memory::tries::{is_refused_first, refused};
 use crate::memory::whole::{is_whole, whole};
 use smith_bytes::{Error, Unstructured};
 use smith_config::Config;
-use smith_memory::{Ended, Tried};
+use smith_rows_memory::{Ended, Tried};
 use std::alloc::Global;
 use std::test::Fail;
 use wasm_smith::Module;

@@ -4,7 +4,7 @@ use crate::memory::tries::{is_left, is_refused_first, refused};
 use smith_bytes::{Error, Unstructured, Which};
 use smith_case::Fault;
 use smith_config::Config;
-use smith_memory::{Ended, Tried};
+use smith_rows_memory::{Ended, Tried};
 use std::alloc::Global;
 use std::test::Fail;
 use wasm_smith::Module;

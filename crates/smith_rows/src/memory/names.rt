@@ -1,6 +1,6 @@
 use crate::memory::tries::{is_left, is_refused_first};
 use smith_bytes::{Error, Unstructured, unique_kebab_string, unique_string, unique_url};
-use smith_memory::{Ended, Tried};
+use smith_rows_memory::{Ended, Tried};
 use std::alloc::{AllocError, Global};
 use std::collections::HashSet;
 use std::test::Fail;

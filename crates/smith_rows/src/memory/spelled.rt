@@ -1,7 +1,7 @@
 use crate::memory::tries::{is_refused_first, refused};
 use smith_case::shapes::shape_named;
 use smith_config::{Config, Shape};
-use smith_memory::{Ended, Tried};
+use smith_rows_memory::{Ended, Tried};
 use smith_spell::spell;
 use std::alloc::Global;
 use std::test::Fail;

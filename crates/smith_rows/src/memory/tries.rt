@@ -1,7 +1,7 @@
 //! Functions that tries share.
 
 use smith_bytes::{Error, Unstructured};
-use smith_memory::{Ended, Tried, is_piece, refusals};
+use smith_rows_memory::{Ended, Tried, is_piece, refusals};
 use std::alloc::Global;
 use std::test::Fail;
 

@@ -2,7 +2,7 @@ use crate::memory::tries::is_refused_first;
 use smith_bytes::Error;
 use smith_case::shapes::shape_named;
 use smith_config::Shape;
-use smith_memory::{Ended, Tried};
+use smith_rows_memory::{Ended, Tried};
 use smith_types::{CompositeInnerType, CompositeType, Items, StructType, SubType, TypeSpace};
 use std::alloc::Global;
 use std::ops::Range;

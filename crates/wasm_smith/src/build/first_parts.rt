@@ -11,16 +11,16 @@ ghost use Rattle.wasm_smith.specs.FirstParts.{first_parts_at, AreFirstPartsByMod
 ghost use Rattle.wasm_smith.specs.FirstParts.{AreFirstPartsByImports, AreFirstParts};
 ghost use Rattle.wasm_smith.specs.FirstParts.{MayRefuseFirstParts};
 ghost use Rattle.smith_types.specs.Imports.{imported_spaces};
-ghost use Rattle.smith_defined.specs.Defined.{drawn_beside, nothing_defined};
-ghost use Rattle.smith_rules.specs.Refusals.{AreShapesValid};
-ghost use Rattle.smith_defined.specs.Required.{MayRefuseRequired};
+ghost use Rattle.smith_draw_definitions.specs.Defined.{drawn_beside, nothing_defined};
+ghost use Rattle.smith_module_rules.specs.Refusals.{AreShapesValid};
+ghost use Rattle.smith_draw_definitions.specs.Required.{MayRefuseRequired};
 ghost use Rattle.smith_bytes.specs.Steps.{Returns, is_memory};
 
 use crate::build::parts_so_far::PartsSoFar;
 use smith_bytes::{Error, Unstructured};
 use smith_config::{Config, Shape};
-use smith_defined::make_shape_exports;
-use smith_given_imports::{imports_of_shape, take_available_imports, types_of_shape};
+use smith_draw_definitions::make_shape_exports;
+use smith_draw_shape_imports::{imports_of_shape, take_available_imports, types_of_shape};
 use smith_types::TypeSpace;
 use std::alloc::Global;
 

@@ -2,21 +2,21 @@ ghost use Rattle.std.specs.Prelude.{◌≡◌, [], IfOk, IfErr, All};
 ghost use Rattle.smith_bytes.specs.Source.{KeepsPieces};
 ghost use Rattle.smith_types.specs.Floats.{HasNoFloat};
 ghost use Rattle.smith_draw_types.specs.KeptGrounds.{AreKeptGrounds};
-ghost use Rattle.smith_defined.specs.Defined.{drawn_beside};
+ghost use Rattle.smith_draw_definitions.specs.Defined.{drawn_beside};
 ghost use Rattle.wasm_smith.specs.Contents.{MayHoldContents, MayRefuseContents};
 ghost use Rattle.wasm_smith.specs.DrawnContents.{TellsImported, AreSegmentsFit, HaveNoFloatItems};
 ghost use Rattle.wasm_smith.specs.DrawnContents.{imported_in, all_segments_at};
 ghost use Rattle.smith_config.specs.Granted.{HasGroundedItems, HasGroundedElements};
-ghost use Rattle.smith_imports.specs.Imported.{spaces_of};
+ghost use Rattle.smith_draw_imports.specs.Imported.{spaces_of};
 ghost use Rattle.smith_bytes.specs.Steps.{ReturnsWhy};
 
 use crate::build::segment_spaces::segment_spaces;
 use smith_bytes::{Error, Unstructured};
 use smith_config::Config;
-use smith_contents::{arbitrary_data, arbitrary_elements};
-use smith_defined::Definitions;
+use smith_draw_contents::{arbitrary_data, arbitrary_elements};
+use smith_draw_definitions::Definitions;
+use smith_draw_imports::Imported;
 use smith_draw_types::KeptGrounds;
-use smith_imports::Imported;
 use smith_types::{DataSegment, ElementSegment, Items, TypeSpace};
 use std::alloc::Global;
 

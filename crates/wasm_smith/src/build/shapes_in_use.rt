@@ -4,7 +4,7 @@ ghost use Rattle.std.specs.Prelude.{IfErr, IfSome, OnOk, Some};
 ghost use Rattle.smith_config.specs.Sanitized.{IsSanitized};
 ghost use Rattle.smith_config.specs.Shapes.{IsShapeValid};
 ghost use Rattle.wasm_smith.specs.CheckedShapes.{IsFaultOf, IsFirstFaulty};
-ghost use Rattle.smith_rules.specs.Refusals.{AreShapesValid};
+ghost use Rattle.smith_module_rules.specs.Refusals.{AreShapesValid};
 
 use smith_bytes::{Error, Which};
 use smith_config::{Config, Shape};

@@ -12,16 +12,16 @@ ghost use Rattle.wasm_smith.specs.Build.{first_parts_typed_at, imported_at, defi
 ghost use Rattle.wasm_smith.specs.DrawnSteps.{AreTypesDrawn, AreImportsDrawn, AreFreeImports};
 ghost use Rattle.wasm_smith.specs.DrawnSteps.{AreEntitiesDrawn, HasSameImports, IsBeyond};
 ghost use Rattle.wasm_smith.specs.DrawnSteps.{KeepsShapesSoFar, drawn_next};
-ghost use Rattle.smith_rules.specs.Refusals.{AreShapesValid, MayRefuse};
+ghost use Rattle.smith_module_rules.specs.Refusals.{AreShapesValid, MayRefuse};
 
 use crate::build::first_parts::begin;
 use crate::build::parts_so_far::PartsSoFar;
 use crate::build::types::add_more_types;
 use smith_bytes::{Error, Unstructured};
 use smith_config::Config;
-use smith_defined::define;
+use smith_draw_definitions::define;
+use smith_draw_imports::arbitrary_imports;
 use smith_draw_types::KeptGrounds;
-use smith_imports::arbitrary_imports;
 use std::alloc::Global;
 
 /// Begins a module with the module shape or the available imports of `config`, and draws types

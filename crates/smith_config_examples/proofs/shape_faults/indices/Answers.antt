@@ -1,5 +1,5 @@
 use Rattle.smith_config_examples.proofs.Common.{rules, List, [], ◌∷◌, arith, refl, codes, All-cons, All-nil, IsTagValid, SubType, I32, final_type, taking, every_feature}
-use Rattle.smith_data.specs.declared.entity_type.ExportKind.TheVariants as kind
+use Rattle.smith_syntax.specs.declared.entity_type.ExportKind.TheVariants as kind
 use Rattle.smith_config_examples.proofs.ShapeExamples.{entities_valid, exports_valid}
 use Rattle.smith_config_examples.proofs.shape_faults.indices.Goals as goal
 

@@ -1,7 +1,7 @@
 use Rattle.smith_config_examples.proofs.Common.{rules, arith, common_steps, ◌≡◌, false, List, [], ◌∷◌, None, refl, All-cons, All-nil, Features, funcref, IsOrderly, IsTableValid, IsTagValid, SubType, TableType, I32, memory, table, codes, final_type, empty_struct, taking, default_config, features_of, IsShort, IsInnerShort, HasNothingLeftOut, IsValTypeIncluded, IsConsistent, IsPlain, shape_spaces, passed_on, memory_passed_on, exported_table, AreTypesValid-single, no_types}
-use Rattle.smith_data.specs.declared.entity_type.EntityType.TheVariants as entity
-use Rattle.smith_data.specs.declared.entity_type.ExportKind.TheVariants as kind
-use Rattle.smith_data.specs.declared.value_type.AbstractHeapType.TheVariants as heap
+use Rattle.smith_syntax.specs.declared.entity_type.EntityType.TheVariants as entity
+use Rattle.smith_syntax.specs.declared.entity_type.ExportKind.TheVariants as kind
+use Rattle.smith_syntax.specs.declared.value_type.AbstractHeapType.TheVariants as heap
 use Rattle.smith_config_examples.proofs.ChainExamples.{shallow_if_few, chain_all, chain_valid, chain_shallow}
 use Rattle.smith_config_examples.proofs.OneOfEachKindExamples.{consistent as one_of_each_kind_consistent}
 use Rattle.smith_config_examples.proofs.ShapeExamples.{stand_alone, types_valid, shallow, entities_valid, exports_valid}

@@ -3,12 +3,12 @@ use Rattle.std.specs.Prelude.{IfSome, Option, None, Some, slice_get}
 use Rattle.smith_types.specs.Expressions.{Context}
 use Rattle.smith_types.specs.ExampleContexts.{context_with}
 use Rattle.smith_types.specs.ExampleFeatures.{usual_features}
-use Rattle.smith_data.specs.declared.value_type.ValType.TheVariants.{I32}
+use Rattle.smith_syntax.specs.declared.value_type.ValType.TheVariants.{I32}
 use Rattle.smith_draw_types.specs.Below.{is_heap_below}
 use Rattle.smith_draw_types.specs.Offered.{ancestors}
-use Rattle.smith_const_expr.specs.KeptOffers.{AreAllRead, IsWhole, IsWholeAt}
-use Rattle.smith_const_expr.specs.declared.kept_offers.KeptOffer.{KeptOffer}
-use Rattle.smith_const_expr.specs.declared.kept_offers.ManyItems.{ManyItems}
+use Rattle.smith_draw_consts.specs.KeptOffers.{AreAllRead, IsWhole, IsWholeAt}
+use Rattle.smith_draw_consts.specs.declared.kept_offers.KeptOffer.{KeptOffer}
+use Rattle.smith_draw_consts.specs.declared.kept_offers.ManyItems.{ManyItems}
 use Rattle.smith_draw_examples.specs.ExampleKeptOffers.{numbers}
 use Rattle.smith_draw_examples.proofs.kept_offers.all_read.Goals as goal
 

@@ -5,10 +5,10 @@ use Rattle.smith_types.specs.Expressions.{Context, function_reference}
 use Rattle.smith_types.specs.ExampleContexts.{context_with}
 use Rattle.smith_types.specs.ExampleFeatures.{usual_features}
 use Rattle.smith_draw_types.specs.Below.{is_heap_below}
-use Rattle.smith_const_expr.specs.KeptOffers.{AreManyKept, IsEntry, IsKeptOffer, readable}
-use Rattle.smith_const_expr.specs.declared.kept_offers.KeptOffer.{KeptOffer}
-use Rattle.smith_const_expr.specs.declared.kept_offers.ManyItems.{ManyItems}
-use Rattle.smith_const_expr.proofs.ClassLemmas.{no_classes, no_flags}
+use Rattle.smith_draw_consts.specs.KeptOffers.{AreManyKept, IsEntry, IsKeptOffer, readable}
+use Rattle.smith_draw_consts.specs.declared.kept_offers.KeptOffer.{KeptOffer}
+use Rattle.smith_draw_consts.specs.declared.kept_offers.ManyItems.{ManyItems}
+use Rattle.smith_draw_consts.proofs.ClassLemmas.{no_classes, no_flags}
 use Rattle.smith_draw_examples.specs.ExampleKeptOffers.{HasEntries, numbers, functions, too_few_functions}
 use Rattle.smith_draw_examples.proofs.kept_offers.offers.Goals as goal
 

@@ -1,11 +1,11 @@
 use Rattle.std.proofs.Common.{zero, suc, true, false, List, [], ◌∷◌, None, refl, ap, ◌∙◌, inl, inr, arith}
 use Rattle.std.specs.List.{Any}
 use Rattle.std.proofs.lemmas.Option.{same_Some}
-use Rattle.smith_data.specs.declared.value_type.AbstractHeapType.TheVariants as heap
-use Rattle.smith_data.specs.declared.value_type.HeapType.TheVariants.{Concrete}
-use Rattle.smith_data.specs.declared.value_type.ValType.TheVariants.{Ref}
-use Rattle.smith_data.specs.declared.composite_type.StorageType.TheVariants.{Val}
-use Rattle.smith_data.specs.declared.composite_type.SubType.{SubType}
+use Rattle.smith_syntax.specs.declared.value_type.AbstractHeapType.TheVariants as heap
+use Rattle.smith_syntax.specs.declared.value_type.HeapType.TheVariants.{Concrete}
+use Rattle.smith_syntax.specs.declared.value_type.ValType.TheVariants.{Ref}
+use Rattle.smith_syntax.specs.declared.composite_type.StorageType.TheVariants.{Val}
+use Rattle.smith_syntax.specs.declared.composite_type.SubType.{SubType}
 use Rattle.smith_types.specs.Expressions.{field_values}
 use Rattle.smith_types.specs.Grounded.{IsGrounded}
 use Rattle.smith_types.specs.Subtyping.{itself}
@@ -14,7 +14,7 @@ use Rattle.smith_types.proofs.GroundedLemmas.{grounded_at}
 use Rattle.smith_config.specs.Config.{default_config}
 use Rattle.smith_draw_types.specs.HeldFields.{fields_of}
 use Rattle.smith_config.specs.Granted.{IsUngrounded}
-use Rattle.smith_const_expr.specs.ExampleConstExprs.{context_of_types}
+use Rattle.smith_draw_consts.specs.ExampleConstExprs.{context_of_types}
 use Rattle.smith_draw_types.proofs.FilledLemmas.{each_none}
 use Rattle.smith_draw_examples.proofs.references.ungrounded.Goals as goal
 

@@ -4,8 +4,8 @@ use Rattle.smith_draw_types.proofs.StandingLemmas.{func_stands}
 use Rattle.smith_draw_types.proofs.DrawingLemmas.{of_drawn}
 use Rattle.std.specs.Prelude.{All}
 use Rattle.smith_types.specs.ValidTypes.{values_of}
-use Rattle.smith_data.specs.declared.composite_type.FuncType.{FuncType}
-use Rattle.smith_data.specs.declared.composite_type.CompositeInnerType.TheVariants.{Func}
+use Rattle.smith_syntax.specs.declared.composite_type.FuncType.{FuncType}
+use Rattle.smith_syntax.specs.declared.composite_type.CompositeInnerType.TheVariants.{Func}
 use Rattle.smith_config.specs.Granted.{IsGranted}
 use Rattle.smith_draw_types.specs.Grounding.{standing_in}
 use Rattle.smith_draw_types.proofs.GrantedLemmas.{matching_func_granted}

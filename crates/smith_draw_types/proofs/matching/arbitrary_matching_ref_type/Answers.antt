@@ -1,6 +1,6 @@
 use Rattle.std.proofs.Common.{◌≡◌, ◌⊎◌, inl, inr}
 use Rattle.smith_types.specs.Grounded.{IsGrounded}
-use Rattle.smith_data.specs.declared.value_type.RefType.{RefType}
+use Rattle.smith_syntax.specs.declared.value_type.RefType.{RefType}
 use Rattle.smith_draw_types.specs.Grounding.{standing_in}
 use Rattle.smith_draw_types.proofs.GroundingLemmas.{grounded_if}
 use Rattle.smith_draw_types.proofs.SharedLemmas.{below_shared}

@@ -1,6 +1,6 @@
 use Rattle.std.proofs.Common.{◌≡◌, ◌<◌, length, drop, Some}
 use Rattle.std.specs.Prelude.{slice_get}
-use Rattle.smith_data.specs.declared.value_type.HeapType.{HeapType}
+use Rattle.smith_syntax.specs.declared.value_type.HeapType.{HeapType}
 use Rattle.smith_draw_types.specs.Offered.{of_kinds}
 use Rattle.smith_draw_types.proofs.offered.offered_of_kinds.Given as goal
 

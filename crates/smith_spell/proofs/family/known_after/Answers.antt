@@ -1,6 +1,6 @@
 use Rattle.std.proofs.Common.{◌++◌, List, take, length-append, length-take, append-nil, sym, subst, arith}
 use Rattle.std.proofs.lemmas.List.{drop_all, take_all}
-use Rattle.smith_data.specs.declared.composite_type.SubType.{SubType}
+use Rattle.smith_syntax.specs.declared.composite_type.SubType.{SubType}
 use Rattle.smith_spell.specs.Decided.{AreMembersAfter, IsKnown}
 use Rattle.smith_spell.specs.Family.{IsMemberType}
 use Rattle.smith_spell.proofs.MemberLemmas.{all_types, after_same, type_taken, type_turn, type_among}

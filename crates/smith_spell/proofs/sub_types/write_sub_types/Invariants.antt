@@ -1,5 +1,5 @@
 use Rattle.std.proofs.Common.{◌≡◌, ◌+◌, ◌++◌, List, take, drop}
-use Rattle.smith_data.specs.declared.composite_type.SubType.{SubType}
+use Rattle.smith_syntax.specs.declared.composite_type.SubType.{SubType}
 use Rattle.smith_draw_types.specs.Spelling.{SpellsSubTypes}
 use Rattle.smith_spell.specs.Written.{IsSummary}
 use Rattle.smith_spell.proofs.WritingLoop.{Leads}

@@ -1,9 +1,9 @@
 use Rattle.std.proofs.Common.{rules, arith, [], ◌∷◌, take, refl, inl, inr, false}
 use Rattle.std.proofs.lemmas.List.Elements.{All-from_recursion, All-head}
-use Rattle.smith_data.specs.declared.value_type.AbstractHeapType.TheVariants as heap
-use Rattle.smith_data.specs.declared.value_type.HeapType.TheVariants.{Concrete}
-use Rattle.smith_data.specs.declared.value_type.ValType.TheVariants.{I32, Ref}
-use Rattle.smith_data.specs.declared.composite_type.StorageType.TheVariants.{Val}
+use Rattle.smith_syntax.specs.declared.value_type.AbstractHeapType.TheVariants as heap
+use Rattle.smith_syntax.specs.declared.value_type.HeapType.TheVariants.{Concrete}
+use Rattle.smith_syntax.specs.declared.value_type.ValType.TheVariants.{I32, Ref}
+use Rattle.smith_syntax.specs.declared.composite_type.StorageType.TheVariants.{Val}
 use Rattle.smith_types.specs.ExampleTypes.{plain, constant, not_null}
 use Rattle.smith_types.specs.Entities.{IsFuncTypeIndex}
 use Rattle.smith_config.specs.Config.{default_config}

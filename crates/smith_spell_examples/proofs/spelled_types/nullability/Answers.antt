@@ -1,7 +1,7 @@
 use Rattle.std.proofs.Common.{true, false, [], ◌∷◌, refl}
 use Rattle.smith_bytes.specs.Draws.{digit_count}
 use Rattle.smith_bytes.specs.Spelling.{SpellsNothing, Joined}
-use Rattle.smith_data.specs.declared.value_type.AbstractHeapType.TheVariants.{Func}
+use Rattle.smith_syntax.specs.declared.value_type.AbstractHeapType.TheVariants.{Func}
 use Rattle.smith_draw_types.specs.Choices.{enabled}
 use Rattle.smith_draw_types.specs.ValueTypes.{abstract_heap_types}
 use Rattle.smith_draw_types.specs.Spelling.{SpellsPlace, SpellsValType}

@@ -2,7 +2,7 @@ use Rattle.std.proofs.Common.{true, false, [], ◌∷◌, refl}
 use Rattle.smith_bytes.specs.Draws.{digit_count}
 use Rattle.smith_bytes.specs.Spelling.{SpellsBool, SpellsNumber, SpellsNothing, Listed, Each}
 use Rattle.smith_draw_types.specs.Spelling.{class_of, SpellsPlace, SpellsField, SpellsValType, SpellsFuncType, SpellsStructType}
-use Rattle.smith_data.specs.declared.value_type.ValType.TheVariants.{I32}
+use Rattle.smith_syntax.specs.declared.value_type.ValType.TheVariants.{I32}
 use Rattle.smith_draw_types.specs.Choices.{enabled}
 use Rattle.smith_draw_types.specs.ValueTypes.{value_classes}
 use Rattle.smith_config.specs.ExampleMembers.{single_results}

@@ -1,5 +1,5 @@
 use Rattle.std.proofs.Common.{◌≡◌, drop, map}
-use Rattle.smith_data.specs.declared.imports.ImportItem.{ImportItem}
+use Rattle.smith_syntax.specs.declared.imports.ImportItem.{ImportItem}
 use Rattle.smith_types.specs.EntitySpaces.{spaces_in, with_entities}
 use Rattle.smith_types.proofs.entity_spaces.push_items.Given as goal
 

@@ -1,5 +1,5 @@
 use Rattle.smith_types_examples.proofs.Common.{rules, false, pos, refl, Concrete, I32, Ref, I32Const, RefNull, RefFunc, RefI31, funcref, usual_features, plain, not_null, anyref, context_types, context_with, IsRefBelow-refl, below_abstract, alone, after_one}
-use Rattle.smith_data.specs.declared.value_type.AbstractHeapType.TheVariants as heap
+use Rattle.smith_syntax.specs.declared.value_type.AbstractHeapType.TheVariants as heap
 use Rattle.smith_types_examples.proofs.expressions.references.Goals as goal
 
 pub returns-clause-null_function : goal.returns-clause-null_function

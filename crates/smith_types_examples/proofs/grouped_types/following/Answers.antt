@@ -1,5 +1,5 @@
 use Rattle.smith_types_examples.proofs.Common.{◌≡◌, ◌<◌, ◌∙◌, ℕ, zero, suc, Some, None, refl, sym, ap, subst, arith, slice_get, same_Some, SubType, kind, IsAlike, open_type, empty_struct, plain_func, struct_and_below}
-use Rattle.smith_data.specs.declared.value_type.AbstractHeapType.TheVariants as heap
+use Rattle.smith_syntax.specs.declared.value_type.AbstractHeapType.TheVariants as heap
 use Rattle.smith_types_examples.proofs.grouped_types.following.Goals as goal
 
 stands_before : (i s : ℕ) (t : SubType) → slice_get struct_and_below i ≡ Some t → t.supertype ≡ Some s → (s < i) × ((u : SubType) × (slice_get struct_and_below s ≡ Some u) × IsAlike t u)

@@ -1,5 +1,5 @@
 use Rattle.smith_types_examples.proofs.Common.{◌≡◌, [], false, All, IsTrue, refl, All-from_recursion, AbstractHeapType, is_abstract_below, IsBelow, plain, tops, kinds_of_values}
-use Rattle.smith_data.specs.declared.value_type.AbstractHeapType.TheVariants as heap
+use Rattle.smith_syntax.specs.declared.value_type.AbstractHeapType.TheVariants as heap
 use Rattle.smith_types_examples.proofs.TypeExamples.{abstract_apart}
 use Rattle.smith_types_examples.proofs.subtyping.abstract_types_apart.Goals as goal
 

@@ -1,5 +1,5 @@
 use Rattle.smith_types_examples.proofs.Common.{rules, arith, common_steps, lit<, ◌≡◌, [], ◌∷◌, true, false, Some, None, IsTrue, sym, ap, ◌∙◌, subst, refl, same_Some, Abstract, Concrete, I8, kind, shared, bottom, is_abstract_below, itself, open_type, final_type, shared_type, array, empty_struct, plain_func, struct_and_below, plain, variable, IsBelow-trans, below_declared, below_kind, below_abstract, above_bottom, by_cases_from_below, below_alone}
-use Rattle.smith_data.specs.declared.value_type.AbstractHeapType.TheVariants as heap
+use Rattle.smith_syntax.specs.declared.value_type.AbstractHeapType.TheVariants as heap
 use Rattle.smith_types_examples.proofs.TypeExamples.{struct_orderly, upper_not_below}
 use Rattle.smith_types_examples.proofs.subtyping.concrete_types.Goals as goal
 

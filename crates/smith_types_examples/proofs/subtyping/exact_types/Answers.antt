@@ -1,5 +1,5 @@
 use Rattle.smith_types_examples.proofs.Common.{arith, true, false, ◌≡◌, Some, None, sym, ap, ◌∙◌, refl, same_Some, Abstract, Concrete, Exact, bottom, shared, itself, open_type, empty_struct, struct_and_below, plain, IsBelow-trans, below_declared, below_kind, exact_below, exact_above_bottom, by_cases_from_below, below_from_by_cases}
-use Rattle.smith_data.specs.declared.value_type.AbstractHeapType.TheVariants as heap
+use Rattle.smith_syntax.specs.declared.value_type.AbstractHeapType.TheVariants as heap
 use Rattle.smith_types_examples.proofs.TypeExamples.{struct_orderly, upper_not_below}
 use Rattle.smith_types_examples.proofs.subtyping.exact_types.Goals as goal
 

@@ -1,11 +1,11 @@
 use Rattle.std.proofs.Common.{◌≡◌, Ok, refl, subst, sym}
 use Rattle.smith_config.specs.declared.config.Config.{Config}
-use Rattle.smith_rules.specs.Bounds.{KeepsBounds, MeetsMinimums}
+use Rattle.smith_module_rules.specs.Bounds.{KeepsBounds, MeetsMinimums}
 use Rattle.wasm_smith.specs.Build.{as_drawn, module_at, parts_of}
-use Rattle.smith_rules.specs.InterestingValues.{HasInterestingValues}
-use Rattle.smith_rules.specs.Module.{IsValid}
-use Rattle.smith_rules.specs.Promises.{KeepsPromises}
-use Rattle.smith_rules.specs.ShapesKept.{KeepsShapes}
+use Rattle.smith_module_rules.specs.InterestingValues.{HasInterestingValues}
+use Rattle.smith_module_rules.specs.Module.{IsValid}
+use Rattle.smith_module_rules.specs.Promises.{KeepsPromises}
+use Rattle.smith_module_rules.specs.ShapesKept.{KeepsShapes}
 use Rattle.wasm_smith.proofs.build.build.Goals as goal
 
 -- a fact about the borrowed configuration is a fact about the caller's, and about the module's

@@ -1,6 +1,6 @@
 use Rattle.std.proofs.Common.{◌≡◌, refl, true, ◌∙◌}
-use Rattle.smith_data.specs.FeatureBits.{joined, feature_rows}
-use Rattle.smith_data.proofs.FeatureBitLemmas.{joined_all, features_in-joined}
+use Rattle.smith_syntax.specs.FeatureBits.{joined, feature_rows}
+use Rattle.smith_syntax.proofs.FeatureBitLemmas.{joined_all, features_in-joined}
 use Rattle.smith_config.specs.Features.{features_of}
 use Rattle.smith_config.proofs.FeatureNumberLemmas.{joined_all-number}
 use Rattle.smith_config.proofs.config.Config.features.Goals as goal

@@ -1,5 +1,5 @@
 use Rattle.std.proofs.Common.{List, subst}
-use Rattle.smith_data.specs.declared.composite_type.SubType.{SubType}
+use Rattle.smith_syntax.specs.declared.composite_type.SubType.{SubType}
 use Rattle.smith_types.proofs.GroundedLemmas.{and_on, and_off}
 use Rattle.smith_spell.specs.Decided.{IsKnown}
 use Rattle.smith_spell.proofs.KnownLemmas.{abstract_known, concrete_known}

@@ -1,5 +1,5 @@
 use Rattle.std.proofs.Common.{arith, true, false}
-use Rattle.smith_data.specs.declared.value_type.AbstractHeapType.TheVariants as heap
+use Rattle.smith_syntax.specs.declared.value_type.AbstractHeapType.TheVariants as heap
 use Rattle.smith_types.proofs.kind_counts.KindCounts.with.Goals as goal
 
 pub overflow_add-result : goal.overflow_add-result

@@ -4,7 +4,7 @@ use Rattle.std.specs.List.{Contains}
 use Rattle.smith_types.specs.Imports.{EntitySpaces, flattened, imported_spaces}
 use Rattle.smith_config.specs.Shapes.{shape_imports, shape_spaces, space_of}
 use Rattle.wasm_smith.specs.FirstParts.{ModuleSoFar}
-use Rattle.smith_defined.specs.Defined.{nothing_defined}
+use Rattle.smith_draw_definitions.specs.Defined.{nothing_defined}
 use Rattle.wasm_smith.proofs.FirstPartsLemmas.{stands_alone, taken_enabled, offered_all}
 use Rattle.wasm_smith.proofs.build.first_parts.begin_with_imports.Goals as goal
 

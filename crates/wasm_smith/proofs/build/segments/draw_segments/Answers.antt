@@ -4,9 +4,9 @@ use Rattle.smith_types.specs.Expressions.{Context}
 use Rattle.smith_types.specs.Segments.{IsElementSegmentValid, IsDataValid}
 use Rattle.wasm_smith.specs.DrawnContents.{imported_in}
 use Rattle.wasm_smith.proofs.ContentsLemmas.{may_draw_elements, spaces_valid, memories_few}
-use Rattle.smith_const_expr.proofs.ConstStepLemmas.{passed_on}
-use Rattle.smith_imports.specs.Imported.{spaces_of}
-use Rattle.smith_defined.specs.Defined.{drawn_beside}
+use Rattle.smith_draw_consts.proofs.ConstStepLemmas.{passed_on}
+use Rattle.smith_draw_imports.specs.Imported.{spaces_of}
+use Rattle.smith_draw_definitions.specs.Defined.{drawn_beside}
 use Rattle.wasm_smith.proofs.RefusalLemmas.{elements_refuse, none_lacks}
 use Rattle.wasm_smith.proofs.SegmentScopeLemmas.{seen_over}
 use Rattle.wasm_smith.proofs.build.segments.draw_segments.Goals as goal

@@ -11,8 +11,8 @@ use Rattle.smith_bytes.specs.Steps.{Returns, is_lack}
 use Rattle.wasm_smith.specs.Build.{IsGiven, as_drawn, module_at}
 use Rattle.wasm_smith.specs.CheckedShapes.{IsFirstFaulty}
 use Rattle.wasm_smith.specs.Generated.{IsFaulted, IsGenerated, is_distinct}
-use Rattle.smith_rules.specs.Module.{ModuleParts}
-use Rattle.smith_rules.specs.Refusals.{AreShapesValid, AsksNothingImpossible, MayGive, MayRefuse}
+use Rattle.smith_module_rules.specs.Module.{ModuleParts}
+use Rattle.smith_module_rules.specs.Refusals.{AreShapesValid, AsksNothingImpossible, MayGive, MayRefuse}
 use Rattle.wasm_smith.proofs.NeedlessLemmas.{memory_alone, first_faulty_refuses, first_faulty_memory}
 use Rattle.wasm_smith.proofs.ReachedLemmas.{members_reached, rests_reached}
 use Rattle.wasm_smith.proofs.module.Module.new_internal.Goals as goal

@@ -1,0 +1,9 @@
+use Rattle.std.proofs.Common.{◌≡◌, length, arith}
+use Rattle.std.proofs.lemmas.Result.{on_ok_weaker}
+use Rattle.smith_binary.proofs.WrittenLemmas.{joined_written, written_as}
+use Rattle.smith_binary_instr.proofs.vector.write_shuffle.Goals as goal
+
+pub returns-clause-writes : goal.returns-clause-writes
+returns-clause-writes c =
+    let sixteen : length c.args.lanes ≡ 16 = omega arith in
+    on_ok_weaker c.write_bytes.result (λ last. joined_written c.in_ok-write_numbered.ensures.writes (written_as (λ piece h. (sixteen, h)) last)) c.write_bytes.ensures.writes

@@ -1,0 +1,12 @@
+pub mod Aggregate
+pub mod Atomic
+pub mod Bodies
+pub mod Control
+pub mod Instructions
+pub mod Long
+pub mod Memory
+pub mod Nesting
+pub mod Numeric
+pub mod References
+pub mod Vector
+pub mod VectorNumbers

@@ -1,0 +1,32 @@
+-- Instructions and bodies that the binary format cannot express.
+use Rattle.std.specs.Prelude.{◌^◌, ◌≤◌, ◌⊎◌, List, Any}
+use Rattle.smith_syntax.specs.declared.value_type.ValType.{ValType}
+use Rattle.smith_binary_sections.specs.Long.{IsLongContent, IsLongList, IsNeverLong}
+use Rattle.smith_instr.specs.declared.instr.Instr.{Instr}
+use Rattle.smith_instr.specs.declared.instr.Instr.TheVariants as instr
+use Rattle.smith_instr.specs.declared.memory.MemArg.{MemArg}
+use Rattle.smith_binary_instr.specs.Bodies.{IsFuncWritten}
+
+-- an alignment of more than six bits
+abbrev pub IsWide : MemArg → Type 0
+IsWide at = 2 ^ 6 ≤ at.align
+
+-- an instruction with a list of 2^32 items or more, with an alignment of more bits than the format
+-- has, or on a lane of another size than the four that have numbers
+abbrev pub IsLongInstr : Instr → Type 0
+IsLongInstr (instr.BrTable labels last) = IsLongList IsNeverLong labels
+IsLongInstr (instr.TryTable ty clauses) = IsLongList IsNeverLong clauses
+IsLongInstr (instr.Load op at) = IsWide at
+IsLongInstr (instr.Store op at) = IsWide at
+IsLongInstr (instr.VectorLoad op at) = IsWide at
+IsLongInstr (instr.VectorStore at) = IsWide at
+IsLongInstr (instr.VectorLoadLane log2_bytes at lane) = (4 ≤ log2_bytes) ⊎ IsWide at
+IsLongInstr (instr.VectorStoreLane log2_bytes at lane) = (4 ≤ log2_bytes) ⊎ IsWide at
+IsLongInstr (instr.Atomic access at) = IsWide at
+IsLongInstr _ = ⊥
+
+-- a body with 2^32 locals or more, with such an instruction, or with 2^32 bytes or more where each
+-- local is a run of its own
+abbrev pub IsLongFunc : List ValType → List Instr → Type 0
+IsLongFunc locals instructions =
+    IsLongList IsNeverLong locals ⊎ (Any IsLongInstr instructions ⊎ IsLongContent (IsFuncWritten locals instructions))

@@ -1,0 +1,50 @@
+ghost use Rattle.std.specs.Prelude.{◌≡◌, ◌+◌, ◌<◌};
+ghost use Rattle.smith_binary_instr.specs.Atomic.{atomic_number, update_number, width_number};
+
+use smith_instr::{AtomicAccess, AtomicUpdate, AtomicWidth};
+
+// Returns the number of the access of the width `width`. `first` is that of the first width.
+fn sized_number(first: u32, width: AtomicWidth) -> u32
+    requires { first < 200 }
+    ensures { result ≡ first + width_number width }
+{
+    match width {
+        AtomicWidth::I32 => first,
+        AtomicWidth::I64 => first + 1,
+        AtomicWidth::I32Of8 => first + 2,
+        AtomicWidth::I32Of16 => first + 3,
+        AtomicWidth::I64Of8 => first + 4,
+        AtomicWidth::I64Of16 => first + 5,
+        AtomicWidth::I64Of32 => first + 6,
+    }
+}
+
+// Returns the number of the update `update` of the first width.
+fn update_number(update: AtomicUpdate) -> u32
+    ensures is { result ≡ update_number update }
+    ensures small { result < 200 }
+{
+    match update {
+        AtomicUpdate::Add => 0x1E,
+        AtomicUpdate::Sub => 0x25,
+        AtomicUpdate::And => 0x2C,
+        AtomicUpdate::Or => 0x33,
+        AtomicUpdate::Xor => 0x3A,
+        AtomicUpdate::Exchange => 0x41,
+    }
+}
+
+// Returns the number of an atomic access, after its prefix.
+pub(crate) fn atomic_number(access: AtomicAccess) -> u32
+    ensures { result ≡ atomic_number access }
+{
+    match access {
+        AtomicAccess::Notify => 0x00,
+        AtomicAccess::Wait32 => 0x01,
+        AtomicAccess::Wait64 => 0x02,
+        AtomicAccess::Load(width) => sized_number(0x10, width),
+        AtomicAccess::Store(width) => sized_number(0x17, width),
+        AtomicAccess::Update(update, width) => sized_number(update_number(update), width),
+        AtomicAccess::CompareExchange(width) => sized_number(0x48, width),
+    }
+}

@@ -1,0 +1,159 @@
+ghost use Rattle.std.specs.Prelude.{◌≡◌, ◌≤◌, ◌<◌, ◌^◌, ◌⊎◌, OnOk, IfErr};
+ghost use Rattle.smith_binary.specs.declared.error.EncodeError.TheVariants.{Memory as OutOfMemory};
+ghost use Rattle.smith_binary.specs.Faults.{IsFault};
+ghost use Rattle.smith_binary.specs.Pieces.{IsByte, Joined, Writes};
+ghost use Rattle.smith_binary_sections.specs.Instructions.{IsPrefixed};
+ghost use Rattle.smith_binary_instr.specs.Memory.{
+  IsLaneAccessWritten,
+  IsMemArgWritten,
+  IsMemory,
+  load_opcode,
+  store_opcode,
+  vector_load_number,
+};
+
+use crate::opcodes::{write_indexed, write_prefixed_index, write_prefixed_indices};
+use crate::prefixed::write_prefixed;
+use smith_binary::{EncodeError, Sink};
+use smith_instr::{Load, MemArg, MemoryInstr, Store, VectorLoad};
+
+// Writes `at`. Names the memory unless it is the first.
+fn write_mem_arg(at: MemArg, sink: &mut Sink) -> Result<(), EncodeError>
+    ensures writes { OnOk result (Writes (IsMemArgWritten at) sink.old sink.new) }
+    ensures fault { IfErr result (IsFault (2 ^ 6 ≤ at.align)) }
+{
+    if at.align >= 64 {
+        return Err(EncodeError::TooLong);
+    }
+    if at.memory == 0 {
+        sink.write_u32(at.align)?;
+        return sink.write_u64(at.offset);
+    }
+    sink.write_u32(at.align + 64)?;
+    sink.write_u32(at.memory)?;
+    sink.write_u64(at.offset)
+}
+
+// Writes the access to memory with the opcode `opcode`.
+pub(crate) fn write_access(opcode: u8, at: MemArg, sink: &mut Sink) -> Result<(), EncodeError>
+    ensures writes { OnOk result
+        (Writes (Joined (IsByte opcode) (IsMemArgWritten at)) sink.old sink.new) }
+    ensures fault { IfErr result (IsFault (2 ^ 6 ≤ at.align)) }
+{
+    sink.write_byte(opcode)?;
+    write_mem_arg(at, sink)
+}
+
+// Writes the access to memory with the prefix `prefix` and the number `number`.
+pub(crate) fn write_prefixed_access(
+    prefix: u8,
+    number: u32,
+    at: MemArg,
+    sink: &mut Sink,
+) -> Result<(), EncodeError>
+    ensures writes { OnOk result
+        (Writes (Joined (IsPrefixed prefix number) (IsMemArgWritten at)) sink.old sink.new) }
+    ensures fault { IfErr result (IsFault (2 ^ 6 ≤ at.align)) }
+{
+    write_prefixed(prefix, number, sink)?;
+    write_mem_arg(at, sink)
+}
+
+// Writes the access to the lane `lane` of `2 ^ log2_bytes` bytes. The number of the least lane is
+// `first`.
+pub(crate) fn write_lane_access(
+    first: u32,
+    log2_bytes: u32,
+    at: MemArg,
+    lane: u8,
+    sink: &mut Sink,
+) -> Result<(), EncodeError>
+    requires { first < 200 }
+    ensures writes { OnOk result
+        (Writes (IsLaneAccessWritten first log2_bytes at lane) sink.old sink.new) }
+    ensures fault { IfErr result (IsFault ((4 ≤ log2_bytes) ⊎ (2 ^ 6 ≤ at.align))) }
+{
+    if log2_bytes >= 4 {
+        return Err(EncodeError::TooLong);
+    }
+    write_prefixed(0xFD, first + log2_bytes, sink)?;
+    write_mem_arg(at, sink)?;
+    sink.write_byte(lane)
+}
+
+// Returns the opcode of a load.
+pub(crate) fn load_opcode(op: Load) -> u8
+    ensures { result ≡ load_opcode op }
+{
+    match op {
+        Load::I32 => 0x28,
+        Load::I64 => 0x29,
+        Load::F32 => 0x2A,
+        Load::F64 => 0x2B,
+        Load::I32From8S => 0x2C,
+        Load::I32From8U => 0x2D,
+        Load::I32From16S => 0x2E,
+        Load::I32From16U => 0x2F,
+        Load::I64From8S => 0x30,
+        Load::I64From8U => 0x31,
+        Load::I64From16S => 0x32,
+        Load::I64From16U => 0x33,
+        Load::I64From32S => 0x34,
+        Load::I64From32U => 0x35,
+    }
+}
+
+// Returns the opcode of a store.
+pub(crate) fn store_opcode(op: Store) -> u8
+    ensures { result ≡ store_opcode op }
+{
+    match op {
+        Store::I32 => 0x36,
+        Store::I64 => 0x37,
+        Store::F32 => 0x38,
+        Store::F64 => 0x39,
+        Store::I32To8 => 0x3A,
+        Store::I32To16 => 0x3B,
+        Store::I64To8 => 0x3C,
+        Store::I64To16 => 0x3D,
+        Store::I64To32 => 0x3E,
+    }
+}
+
+// Returns the number of a load of a vector, after its prefix.
+pub(crate) fn vector_load_number(op: VectorLoad) -> u32
+    ensures { result ≡ vector_load_number op }
+{
+    match op {
+        VectorLoad::V128 => 0,
+        VectorLoad::I8x8S => 1,
+        VectorLoad::I8x8U => 2,
+        VectorLoad::I16x4S => 3,
+        VectorLoad::I16x4U => 4,
+        VectorLoad::I32x2S => 5,
+        VectorLoad::I32x2U => 6,
+        VectorLoad::Splat8 => 7,
+        VectorLoad::Splat16 => 8,
+        VectorLoad::Splat32 => 9,
+        VectorLoad::Splat64 => 10,
+        VectorLoad::Zero32 => 92,
+        VectorLoad::Zero64 => 93,
+    }
+}
+
+// Writes the instruction `instruction` on a whole memory or a data segment.
+pub(crate) fn write_memory(instruction: MemoryInstr, sink: &mut Sink) -> Result<(), EncodeError>
+    ensures writes { OnOk result (Writes (IsMemory instruction) sink.old sink.new) }
+    ensures memory { IfErr result (λ e. e ≡ OutOfMemory) }
+{
+    match instruction {
+        MemoryInstr::Size(memory) => write_indexed(0x3F, memory, sink),
+        MemoryInstr::Grow(memory) => write_indexed(0x40, memory, sink),
+        MemoryInstr::Init { memory, segment } => {
+            write_prefixed_indices(0xFC, 8, segment, memory, sink)
+        }
+        MemoryInstr::DataDrop(segment) => write_prefixed_index(0xFC, 9, segment, sink),
+        MemoryInstr::Copy { to, from } => write_prefixed_indices(0xFC, 10, to, from, sink),
+        MemoryInstr::Fill(memory) => write_prefixed_index(0xFC, 11, memory, sink),
+    }
+}

@@ -1,0 +1,20 @@
+-- Values of examples.
+use Rattle.std.specs.Prelude.{None, []}
+use Rattle.smith_binary_sections.specs.Modules.{Contents}
+
+-- a module in which nothing is defined
+abbrev pub empty_module : Contents
+empty_module = record {
+  types = [];
+  imports = [];
+  functions = [];
+  tables = [];
+  memories = [];
+  tags = [];
+  globals = [];
+  exports = [];
+  start = None;
+  elems = [];
+  bodies = [];
+  datas = [];
+}

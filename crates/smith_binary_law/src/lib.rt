@@ -1,0 +1,7 @@
+//! Laws of the binary format: the grammars of modules, of instructions and of bodies are
+//! unambiguous.
+#![tactic(auto)]
+
+mod examples;
+/// Laws: functions with empty bodies whose clauses state theorems.
+pub mod laws;

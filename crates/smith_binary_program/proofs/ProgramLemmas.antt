@@ -1,0 +1,97 @@
+-- Bodies as they are written are those of a module with bytes of expressions.
+use Rattle.std.proofs.Common.{◌≡◌, ℕ, suc, Bool, true, false, List, [], ◌∷◌, length, refl, sym, subst, ap}
+use Rattle.std.specs.List.{zip}
+use Rattle.smith_binary.specs.Numbers.{IsUnsigned}
+use Rattle.smith_binary.specs.Pieces.{Joined, Each}
+use Rattle.smith_syntax.specs.declared.code.Code.{Code}
+use Rattle.smith_module_rules.specs.Module.{ModuleParts}
+use Rattle.smith_binary_sections.specs.Codes.{IsBody}
+use Rattle.smith_binary_sections.specs.Data.{IsData}
+use Rattle.smith_binary_sections.specs.Modules.{Contents}
+use Rattle.smith_binary_sections.specs.Sections.{IsOptionalSection, IsListSection, IsSectionIf}
+use Rattle.smith_binary_sections.proofs.ListLemmas.{locals_spelled}
+use Rattle.smith_binary_module.specs.Around.{IsModuleAround}
+use Rattle.smith_binary_module.specs.Contents.{contents_of}
+use Rattle.smith_binary_module.specs.Layout.{is_filled}
+use Rattle.smith_binary_module.proofs.LayoutLemmas.{not_filled}
+use Rattle.smith_program.specs.declared.program.Body.{Body}
+use Rattle.smith_binary_program.specs.Bodies.{AreBodiesOf, IsBodyOf}
+use Rattle.smith_binary_program.specs.Programs.{AreExpressionsOf, IsProgramBinary, with_expressions}
+
+-- expressions of functions with their bodies
+abbrev Expressions : List ℕ → List Code → List Body → Type 0
+Expressions counters codes bodies = (expressions : List (List ℕ)) × AreExpressionsOf counters (zip codes bodies) expressions
+
+-- bodies of which the expressions are these, one for each function with a body
+pub record AreRead (counters : List ℕ) (codes : List Code) (bodies : List Body) (piece : List ℕ) : Type 0 where
+  pub expressions : Expressions counters codes bodies
+  pub many : length (with_expressions codes expressions.0) ≡ length (zip codes bodies)
+  pub spelled : Each IsBody (with_expressions codes expressions.0) piece
+
+each_read : (counters : List ℕ) (codes : List Code) (bodies : List Body) (piece : List ℕ) → Each (IsBodyOf counters) (zip codes bodies) piece → AreRead counters codes bodies piece
+unfolding Each
+each_read counters [] bodies piece h = record { expressions = ([], tt); many = refl; spelled = h }
+each_read counters (code ∷ codes) [] piece h = record { expressions = ([], tt); many = refl; spelled = h }
+each_read counters (code ∷ codes) (given ∷ bodies) piece h =
+    let rest = each_read counters codes bodies h.second h.is_second in
+    let content = h.is_first.is_content in
+    record {
+      expressions = (content.second ∷ rest.expressions.0, (content.is_second, rest.expressions.1));
+      many = ap suc rest.many;
+      spelled = record {
+        first = h.first;
+        second = h.second;
+        is_first = record {
+          content = h.is_first.content;
+          is_content = record { first = content.first; second = content.second; is_first = locals_spelled code.locals content.first content.is_first; is_second = refl; whole = content.whole };
+          form = h.is_first.form;
+        };
+        is_second = rest.spelled;
+        whole = h.whole;
+      };
+    }
+
+-- the code section of a program is that of a module with its expressions
+code_read : (is_written : Bool) (counters : List ℕ) (codes : List Code) (bodies : List Body) → (is_written ≡ false → codes ≡ []) → (piece : List ℕ) → IsSectionIf is_written 10 (AreBodiesOf counters codes bodies) piece
+    → (x : Expressions counters codes bodies) × IsListSection 10 IsBody (with_expressions codes x.0) piece
+code_read true counters codes bodies nothing piece h =
+    let list = h.is_second.is_content in
+    let rest = each_read counters codes bodies list.second list.is_second in (
+      rest.expressions,
+      IsOptionalSection.present (record {
+        first = h.first;
+        second = h.second;
+        is_first = h.is_first;
+        is_second = record {
+          content = h.is_second.content;
+          is_content = record { first = list.first; second = list.second; is_first = subst (λ (n : ℕ). IsUnsigned 32 n list.first) (sym rest.many) list.is_first; is_second = rest.spelled; whole = list.whole };
+          form = h.is_second.form;
+        };
+        whole = h.whole;
+      }),
+    )
+code_read false counters codes bodies nothing piece h =
+    subst (λ (codes : List Code). (x : Expressions counters codes bodies) × IsListSection 10 IsBody (with_expressions codes x.0) piece) (sym (nothing refl))
+    (([], tt), IsOptionalSection.absent refl h)
+
+-- a piece, then another of some kind
+after_some : {X : Type 0} {First Other : List ℕ → Type 0} {Second : X → List ℕ → Type 0} → ((piece : List ℕ) → Other piece → (x : X) × Second x piece) → (piece : List ℕ) → Joined First Other piece
+    → (x : X) × Joined First (Second x) piece
+after_some some piece h =
+    let (x, is) = some h.second h.is_second in
+    (x, record { first = h.first; second = h.second; is_first = h.is_first; is_second = is; whole = h.whole })
+
+-- a module whose code section is one of some kind
+around_some : {X : Type 0} (m : Contents) (Code : List ℕ → Type 0) (Some : X → List ℕ → Type 0) → ((piece : List ℕ) → Code piece → (x : X) × Some x piece) → (piece : List ℕ) → IsModuleAround m Code piece
+    → (x : X) × IsModuleAround m (Some x) piece
+around_some {X = X} m Code Some some piece h =
+    let last : (p : List ℕ) → Joined Code (IsListSection 11 IsData m.datas) p → (x : X) × Joined (Some x) (IsListSection 11 IsData m.datas) p =
+    λ p code. let (x, is) = some code.first code.is_first in (x, record { first = code.first; second = code.second; is_first = is; is_second = code.is_second; whole = code.whole }) in
+    after_some (after_some (after_some (after_some (after_some (after_some (after_some (after_some (after_some (after_some (after_some (after_some last))))))))))) piece h
+
+-- a module around the bodies of a program
+pub program_is : (m : ModuleParts) (bodies : List Body) (piece : List ℕ) → IsModuleAround (contents_of m) (IsSectionIf (is_filled m.code) 10 (AreBodiesOf m.fuel_globals m.code bodies)) piece → IsProgramBinary m bodies piece
+program_is m bodies piece h =
+    let (x, is) = around_some (contents_of m) (IsSectionIf (is_filled m.code) 10 (AreBodiesOf m.fuel_globals m.code bodies)) (λ (x : Expressions m.fuel_globals m.code bodies). IsListSection 10 IsBody (with_expressions m.code x.0))
+    (code_read (is_filled m.code) m.fuel_globals m.code bodies (not_filled m.code)) piece h in
+    record { expressions = x.0; each = x.1; spelled = is }

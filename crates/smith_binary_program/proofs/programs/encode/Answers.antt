@@ -1,0 +1,22 @@
+use Rattle.std.proofs.lemmas.Result.{IfOk-weaker}
+use Rattle.smith_binary_module.specs.Around.{IsModuleAround}
+use Rattle.smith_binary_module.specs.Contents.{contents_of}
+use Rattle.smith_binary_module.specs.Layout.{is_filled}
+use Rattle.smith_binary_sections.specs.Sections.{IsSectionIf}
+use Rattle.smith_binary_program.specs.Bodies.{AreBodiesOf}
+use Rattle.smith_binary_program.specs.Programs.{IsProgramBinary}
+use Rattle.smith_binary_program.proofs.ProgramLemmas.{program_is}
+use Rattle.smith_binary_program.proofs.programs.encode.Goals as goal
+
+pub returns-clause-spelled : goal.returns-clause-spelled
+returns-clause-spelled c =
+    let m = c.args.program.now.«module» in
+    let bodies = c.args.program.now.bodies in
+    IfOk-weaker c.encode_with_bodies.result (λ bytes. IsModuleAround (contents_of m) (IsSectionIf (is_filled m.code) 10 (AreBodiesOf m.fuel_globals m.code bodies)) bytes.items) (λ bytes. IsProgramBinary m bodies bytes.items)
+    (λ bytes. program_is m bodies bytes.items) (rw (c.fuel_globals.ensures, c.code.ensures, c.as_slice.ensures) at c.encode_with_bodies.ensures.spelled)
+
+pub returns-clause-fault : goal.returns-clause-fault
+returns-clause-fault c = rw (c.fuel_globals.ensures, c.code.ensures, c.as_slice.ensures) at c.encode_with_bodies.ensures.fault
+
+pub returns-clause-written : goal.returns-clause-written
+returns-clause-written c = rw (c.fuel_globals.ensures, c.code.ensures, c.as_slice.ensures) at c.encode_with_bodies.ensures.written

@@ -1,0 +1,30 @@
+-- Programs in the binary format: the section Binary Format, Modules, of the WebAssembly Core
+-- Specification 3.0.
+use Rattle.std.specs.Prelude.{ℕ, List, map}
+use Rattle.std.specs.List.{AllZip, zip}
+use Rattle.smith_syntax.specs.declared.code.Code.{Code}
+use Rattle.smith_syntax.specs.declared.value_type.ValType.{ValType}
+use Rattle.smith_module_rules.specs.Module.{ModuleParts}
+use Rattle.smith_binary_sections.specs.Modules.{Contents, IsModule}
+use Rattle.smith_binary_module.specs.Contents.{contents_of}
+use Rattle.smith_program.specs.declared.program.Body.{Body}
+use Rattle.smith_binary_program.specs.Bodies.{IsExpressionOf}
+
+-- an expression for each function with its body
+abbrev pub AreExpressionsOf : List ℕ → List (Code × Body) → List (List ℕ) → Type 0
+AreExpressionsOf counters given expressions = AllZip (λ (pair : Code × Body). IsExpressionOf counters pair.0 pair.1) given expressions
+
+-- the bodies of a module: the locals of each function, and the bytes of its expression
+abbrev pub with_expressions : List Code → List (List ℕ) → List (List ValType × List ℕ)
+with_expressions codes expressions = zip (map (λ (code : Code). code.locals) codes) expressions
+
+-- the module, with these bytes of expressions (Structure, Modules)
+abbrev pub program_contents : ModuleParts → List (List ℕ) → Contents
+program_contents m expressions = record (contents_of m) { bodies = with_expressions m.code expressions }
+
+-- bytes are the module in the binary format, in which the bytes of each function's expression are
+-- those of its body (Modules)
+pub record IsProgramBinary (m : ModuleParts) (bodies : List Body) (bytes : List ℕ) : Type 0 where
+  pub expressions : List (List ℕ)
+  pub each : AreExpressionsOf m.fuel_globals (zip m.code bodies) expressions
+  pub spelled : IsModule (program_contents m expressions) bytes

@@ -1,0 +1,79 @@
+-- Lists that are written item by item.
+use Rattle.std.proofs.Common.{◌≡◌, ℕ, ◌⊎◌, inl, inr, List, [], ◌∷◌, length, get_or, refl, sym, subst, ap, arith}
+use Rattle.std.specs.Prelude.{map}
+use Rattle.std.specs.List.{zip}
+use Rattle.std.proofs.lemmas.List.{length-map}
+use Rattle.smith_binary.specs.Numbers.{IsUnsigned}
+use Rattle.smith_binary.specs.Pieces.{Each, IsList, Writes}
+use Rattle.smith_binary.proofs.WrittenLemmas.{Leads, joined_written, nothing_written, written_as}
+use Rattle.smith_syntax.specs.declared.value_type.ValType.{ValType}
+use Rattle.smith_binary_sections.specs.Codes.{IsRun, locals_of, IsLocals, IsLocalsWritten, IsBody, IsBodyWritten}
+
+pub single_list : {A : Type 0} (xs : List A) (x d : A) → length xs ≡ 1 → x ≡ get_or xs 0 d → xs ≡ x ∷ []
+single_list [] x d one read = absurd (omega arith)
+single_list (y ∷ []) x d one read = ap (λ item. item ∷ []) (sym read)
+single_list (y ∷ z ∷ xs) x d one read = absurd (omega arith)
+
+-- one more pair
+pub pair_step : {A B : Type 0} (Item : A × B → List ℕ → Type 0) {Whole : List ℕ → Type 0} {start now later : List ℕ} (xs more : List A) (ys others : List B) (x : A) (y : B) → xs ≡ x ∷ more → ys ≡ y ∷ others
+    → Leads (Each Item (zip xs ys)) Whole start now → Writes (Item (x, y)) now later → Leads (Each Item (zip more others)) Whole start later
+unfolding Each
+pair_step Item xs more ys others x y first second so_far item =
+    record { to = λ final rest. so_far.to final (written_as (λ piece h. rw (first, second) h) (joined_written item rest)) }
+
+none_zipped : {A B : Type 0} (xs : List A) → zip {X = B} xs [] ≡ []
+none_zipped [] = refl
+none_zipped (x ∷ xs) = refl
+
+-- no pair is left
+pub pair_end : {A B : Type 0} (Item : A × B → List ℕ → Type 0) {Whole : List ℕ → Type 0} {start now : List ℕ} (xs : List A) (ys : List B) → (xs ≡ []) ⊎ (ys ≡ []) → Leads (Each Item (zip xs ys)) Whole start now → Writes Whole start now
+unfolding Each
+pair_end Item xs ys (inl none) so_far = so_far.to _ (rw none (nothing_written refl))
+pair_end Item xs ys (inr none) so_far = so_far.to _ (rw (none, none_zipped xs) (nothing_written refl))
+
+-- items, by their meaning
+each_mapped : {A B : Type 0} (P : B → List ℕ → Type 0) (f : A → B) (xs : List A) (piece : List ℕ) → Each (λ (x : A). P (f x)) xs piece → Each P (map f xs) piece
+unfolding Each
+each_mapped P f [] piece h = h
+each_mapped P f (x ∷ xs) piece h = record { first = h.first; second = h.second; is_first = h.is_first; is_second = each_mapped P f xs h.second h.is_second; whole = h.whole }
+
+pub list_mapped : {A B : Type 0} (P : B → List ℕ → Type 0) (f : A → B) (xs : List A) (piece : List ℕ) → IsList (λ (x : A). P (f x)) xs piece → IsList P (map f xs) piece
+list_mapped P f xs piece h = record {
+  first = h.first;
+  second = h.second;
+  is_first = subst (λ (n : ℕ). IsUnsigned 32 n h.first) (sym (length-map xs f)) h.is_first;
+  is_second = each_mapped P f xs h.second h.is_second;
+  whole = h.whole;
+}
+
+-- items with a spelling that implies another
+each_as : {A : Type 0} (P Q : A → List ℕ → Type 0) → ((x : A) (piece : List ℕ) → P x piece → Q x piece) → (xs : List A) (piece : List ℕ) → Each P xs piece → Each Q xs piece
+unfolding Each
+each_as P Q weaker [] piece h = h
+each_as P Q weaker (x ∷ xs) piece h = record {
+  first = h.first;
+  second = h.second;
+  is_first = weaker x h.first h.is_first;
+  is_second = each_as P Q weaker xs h.second h.is_second;
+  whole = h.whole;
+}
+
+pub list_as : {A : Type 0} (P Q : A → List ℕ → Type 0) → ((x : A) (piece : List ℕ) → P x piece → Q x piece) → (xs : List A) (piece : List ℕ) → IsList P xs piece → IsList Q xs piece
+list_as P Q weaker xs piece h = record { first = h.first; second = h.second; is_first = h.is_first; is_second = each_as P Q weaker xs h.second h.is_second; whole = h.whole }
+
+one_each : (locals : List ValType) → locals ≡ locals_of (map (λ (t : ValType). (1, t)) locals)
+one_each [] = refl
+one_each (t ∷ locals) = ap (λ (ts : List ValType). t ∷ ts) (one_each locals)
+
+-- locals, each as a run of its own
+pub locals_spelled : (locals : List ValType) (piece : List ℕ) → IsLocalsWritten locals piece → IsLocals locals piece
+locals_spelled locals piece h = record { runs = map (λ (t : ValType). (1, t)) locals; cut = one_each locals; form = list_mapped IsRun (λ (t : ValType). (1, t)) locals piece h }
+
+pub body_spelled : (body : List ValType × List ℕ) (piece : List ℕ) → IsBodyWritten body piece → IsBody body piece
+body_spelled body piece h =
+    let content = h.is_content in
+    record {
+      content = h.content;
+      is_content = record { first = content.first; second = content.second; is_first = locals_spelled body.0 content.first content.is_first; is_second = content.is_second; whole = content.whole };
+      form = h.form;
+    }

@@ -1,0 +1,6 @@
+use Rattle.std.proofs.lemmas.Result.{on_ok_weaker}
+use Rattle.smith_binary.proofs.WrittenLemmas.{joined_written}
+use Rattle.smith_binary_sections.proofs.imports.ImportItemEncode.encode.Goals as goal
+
+pub returns-clause-writes : goal.returns-clause-writes
+returns-clause-writes c = on_ok_weaker c.encode-2.result (joined_written c.in_ok-encode.ensures.writes) c.encode-2.ensures.writes

@@ -1,0 +1,65 @@
+-- Bodies: the section Binary Format, Modules, Code Section, of the WebAssembly Core Specification
+-- 3.0.
+use Rattle.std.specs.Prelude.{◌≡◌, ℕ, List, [], ◌∷◌, ◌++◌, replicate}
+use Rattle.std.specs.List.{flat_map}
+use Rattle.smith_binary.specs.Numbers.{IsUnsigned, shortest_bytes}
+use Rattle.smith_binary.specs.Pieces.{Is, Joined, IsList, IsSized}
+use Rattle.smith_syntax.specs.declared.value_type.ValType.{ValType}
+use Rattle.smith_syntax.specs.declared.code.Code.{Code}
+use Rattle.smith_syntax.specs.declared.code.Instructions.{Instructions}
+use Rattle.smith_syntax.specs.declared.code.Instructions.TheVariants.{Unreachable, Arbitrary}
+use Rattle.smith_binary_sections.specs.Types.{IsValType}
+
+-- a run of locals of one type: their number, then the type (Code Section)
+abbrev pub IsRun : ℕ × ValType → List ℕ → Type 0
+IsRun run = Joined (IsUnsigned 32 run.0) (IsValType run.1)
+
+-- the locals of runs (Code Section)
+abbrev pub locals_of : List (ℕ × ValType) → List ValType
+locals_of runs = flat_map (λ (run : ℕ × ValType). replicate run.0 run.1) runs
+
+-- locals: a list of runs, however the locals are split (Code Section)
+pub record IsLocals (locals : List ValType) (piece : List ℕ) : Type 0 where
+  pub runs : List (ℕ × ValType)
+  pub cut : locals ≡ locals_of runs
+  pub form : IsList IsRun runs piece
+
+-- locals as they are written (Code Section): each as a run of its own (own rule)
+abbrev pub IsLocalsWritten : List ValType → List ℕ → Type 0
+IsLocalsWritten locals = IsList (λ (local : ValType). IsRun (1, local)) locals
+
+-- a body after its size: its locals, then the bytes of its expression (Code Section)
+abbrev pub IsBody : List ValType × List ℕ → List ℕ → Type 0
+IsBody body = IsSized (Joined (IsLocals body.0) (Is body.1))
+
+-- a body as it is written, after its size (Code Section): its locals, each as a run of its own (own
+-- rule), then the bytes of its expression
+abbrev pub IsBodyWritten : List ValType × List ℕ → List ℕ → Type 0
+IsBodyWritten body = IsSized (Joined (IsLocalsWritten body.0) (Is body.1))
+
+-- the shortest spelling of an index, of at most five bytes (own rule)
+abbrev pub index_bytes : ℕ → List ℕ
+index_bytes index = shortest_bytes 5 index
+
+-- the check of a counter of fuel: `global.get`, `i32.eqz`, `if`, `unreachable`, `end`,
+-- `global.get`, `i32.const 1`, `i32.sub`, `global.set` (own rule)
+abbrev pub check_bytes : ℕ → List ℕ
+check_bytes counter =
+    (0x23 ∷ index_bytes counter) ++ (0x45 ∷ 0x04 ∷ 0x40 ∷ 0x00 ∷ 0x0B ∷ []) ++ (0x23 ∷ index_bytes counter)
+    ++ (0x41 ∷ 0x01 ∷ 0x6B ∷ []) ++ (0x24 ∷ index_bytes counter)
+
+-- the checks of counters, the last one first (own rule)
+abbrev pub checks_bytes : List ℕ → List ℕ
+checks_bytes [] = []
+checks_bytes (counter ∷ counters) = checks_bytes counters ++ check_bytes counter
+
+-- the bytes of a body's expression: the checks of the counters, `unreachable` and the end; or the
+-- raw bytes as they are (own rule)
+abbrev pub body_bytes : List ℕ → Instructions → List ℕ
+body_bytes counters Unreachable = checks_bytes counters ++ (0x00 ∷ 0x0B ∷ [])
+body_bytes counters (Arbitrary bytes) = bytes
+
+-- a body in a module with these counters of fuel: its locals, and the bytes of its expression (own
+-- rule)
+abbrev pub body_of : List ℕ → Code → List ValType × List ℕ
+body_of counters code = (code.locals, body_bytes counters code.instructions)

@@ -1,0 +1,149 @@
+-- Element segments: the section Binary Format, Modules, Element Section, of the WebAssembly Core
+-- Specification 3.0.
+use Rattle.std.specs.Prelude.{◌≡◌, ◌==◌, ℕ, Bool, true, false, not, ◌&&◌, List, [], ◌∷◌, map, unwrap_or, if◌then◌else◌}
+use Rattle.smith_binary.specs.Numbers.{IsUnsigned}
+use Rattle.smith_binary.specs.Pieces.{IsByte, Joined, IsList}
+use Rattle.smith_syntax.specs.declared.value_type.AbstractHeapType.TheVariants as abstract
+use Rattle.smith_syntax.specs.declared.value_type.HeapType.{HeapType}
+use Rattle.smith_syntax.specs.declared.value_type.HeapType.TheVariants.{Abstract}
+use Rattle.smith_syntax.specs.declared.value_type.RefType.{RefType}
+use Rattle.smith_syntax.specs.declared.const_instr.ConstInstr.{ConstInstr}
+use Rattle.smith_syntax.specs.declared.const_instr.ConstInstr.TheVariants.{RefFunc}
+use Rattle.smith_syntax.specs.declared.segments.ElementSegment.{ElementSegment}
+use Rattle.smith_syntax.specs.declared.segments.ElementKind.{ElementKind}
+use Rattle.smith_syntax.specs.declared.segments.ElementKind.TheVariants.{Passive, Declared, Active}
+use Rattle.smith_syntax.specs.declared.segments.Elements.{Elements}
+use Rattle.smith_syntax.specs.declared.segments.Elements.TheVariants.{Functions, Expressions}
+use Rattle.smith_binary_sections.specs.Types.{IsRefType}
+use Rattle.smith_binary_sections.specs.Instructions.{IsIndex, IsExpression, offset_of}
+
+-- the mode of a segment (Structure, Element Segments)
+pub data Mode : Type 0 where
+  passive : Mode
+  declared : Mode
+  active : ℕ → List ConstInstr → Mode
+
+-- a segment in the abstract syntax, in which functions are expressions too (Structure, Element
+-- Segments)
+pub record Elem : Type 0 where
+  pub ty : RefType
+  pub items : List (List ConstInstr)
+  pub mode : Mode
+
+-- the type of references to functions, nullable or not (Element Section)
+abbrev pub func_ref : Bool → RefType
+func_ref nullable = record { nullable = nullable; heap_type = Abstract false abstract.Func }
+
+-- functions as expressions (Element Section)
+abbrev pub func_items : List ℕ → List (List ConstInstr)
+func_items funcs = map (λ (index : ℕ). RefFunc index ∷ []) funcs
+
+-- the eight forms of a segment (Element Section)
+pub data Form : Type 0 where
+  first_funcs : Form
+  passive_funcs : Form
+  table_funcs : Form
+  declared_funcs : Form
+  first_items : Form
+  passive_items : Form
+  table_items : Form
+  declared_items : Form
+
+abbrev pub form_number : Form → ℕ
+form_number first_funcs = 0
+form_number passive_funcs = 1
+form_number table_funcs = 2
+form_number declared_funcs = 3
+form_number first_items = 4
+form_number passive_items = 5
+form_number table_items = 6
+form_number declared_items = 7
+
+-- lists of functions, and of expressions (Element Section)
+abbrev pub IsFuncs : List ℕ → List ℕ → Type 0
+IsFuncs = IsList IsIndex
+
+abbrev pub IsItems : List (List ConstInstr) → List ℕ → Type 0
+IsItems = IsList IsExpression
+
+-- functions after the byte of their kind (Element Section)
+abbrev pub IsKindFuncs : List ℕ → List ℕ → Type 0
+IsKindFuncs funcs = Joined (IsByte 0x00) (IsFuncs funcs)
+
+-- a segment in a form, after the number of the form (Element Section)
+abbrev pub IsInForm : Form → Elem → List ℕ → Type 0
+IsInForm first_funcs e piece = (offset : List ConstInstr) × (funcs : List ℕ) × (e ≡ record { ty = func_ref false; items = func_items funcs; mode = active 0 offset }) × Joined (IsExpression offset) (IsFuncs funcs) piece
+IsInForm passive_funcs e piece = (funcs : List ℕ) × (e ≡ record { ty = func_ref false; items = func_items funcs; mode = passive }) × IsKindFuncs funcs piece
+IsInForm table_funcs e piece = (table : ℕ) × (offset : List ConstInstr) × (funcs : List ℕ) × (e ≡ record { ty = func_ref false; items = func_items funcs; mode = active table offset }) × Joined (IsIndex table) (Joined (IsExpression offset) (IsKindFuncs funcs)) piece
+IsInForm declared_funcs e piece = (funcs : List ℕ) × (e ≡ record { ty = func_ref false; items = func_items funcs; mode = declared }) × IsKindFuncs funcs piece
+IsInForm first_items e piece = (offset : List ConstInstr) × (items : List (List ConstInstr)) × (e ≡ record { ty = func_ref true; items = items; mode = active 0 offset }) × Joined (IsExpression offset) (IsItems items) piece
+IsInForm passive_items e piece = (ty : RefType) × (items : List (List ConstInstr)) × (e ≡ record { ty = ty; items = items; mode = passive }) × Joined (IsRefType ty) (IsItems items) piece
+IsInForm table_items e piece = (table : ℕ) × (offset : List ConstInstr) × (ty : RefType) × (items : List (List ConstInstr)) × (e ≡ record { ty = ty; items = items; mode = active table offset }) × Joined (IsIndex table) (Joined (IsExpression offset) (Joined (IsRefType ty) (IsItems items))) piece
+IsInForm declared_items e piece = (ty : RefType) × (items : List (List ConstInstr)) × (e ≡ record { ty = ty; items = items; mode = declared }) × Joined (IsRefType ty) (IsItems items) piece
+
+-- the number of a form, then a segment in it (Element Section)
+abbrev pub IsElemIn : Form → Elem → List ℕ → Type 0
+IsElemIn form e = Joined (IsUnsigned 32 (form_number form)) (IsInForm form e)
+
+-- an element segment: the number of a form, then the segment in it (Element Section)
+pub record IsElem (e : Elem) (piece : List ℕ) : Type 0 where
+  pub form : Form
+  pub spelled : IsElemIn form e piece
+
+-- the parts of an element segment in the abstract syntax: functions are of the type `(ref func)`,
+-- and a segment that names no table is over table 0 (Element Section)
+abbrev pub elem_type : Elements → RefType → RefType
+elem_type (Functions funcs) ty = func_ref false
+elem_type (Expressions items) ty = ty
+
+abbrev pub elem_items : Elements → List (List ConstInstr)
+elem_items (Functions funcs) = func_items funcs
+elem_items (Expressions items) = items
+
+abbrev pub elem_mode : ElementKind → Mode
+elem_mode Passive = passive
+elem_mode Declared = declared
+elem_mode (Active table offset) = active (unwrap_or table 0) (offset_of offset)
+
+-- an element segment in the abstract syntax (Structure, Element Segments)
+abbrev pub elem_of : ElementSegment → Elem
+elem_of segment = record {
+  ty = elem_type segment.items segment.ty;
+  items = elem_items segment.items;
+  mode = elem_mode segment.kind;
+}
+
+-- whether a type is that of nullable references to functions (own rule)
+abbrev pub is_func : HeapType → Bool
+is_func (Abstract shared abstract.Func) = not shared
+is_func _ = false
+
+abbrev pub is_func_ref : RefType → Bool
+is_func_ref ty = ty.nullable && is_func ty.heap_type
+
+-- the written form of a segment that is copied into a table: without the table if it is the first,
+-- and the items are functions or have the only type that this form states (own rule)
+abbrev pub active_funcs_form : ℕ → Form
+active_funcs_form table = if table == 0 then first_funcs else table_funcs
+
+abbrev pub active_items_form : ℕ → RefType → Form
+active_items_form table ty = if (table == 0) && is_func_ref ty then first_items else table_items
+
+-- the written form of a segment: a list of functions if it is one (own rule)
+abbrev pub funcs_form : ElementKind → Form
+funcs_form Passive = passive_funcs
+funcs_form Declared = declared_funcs
+funcs_form (Active table offset) = active_funcs_form (unwrap_or table 0)
+
+abbrev pub items_form : RefType → ElementKind → Form
+items_form ty Passive = passive_items
+items_form ty Declared = declared_items
+items_form ty (Active table offset) = active_items_form (unwrap_or table 0) ty
+
+abbrev pub elem_form : Elements → RefType → ElementKind → Form
+elem_form (Functions funcs) ty kind = funcs_form kind
+elem_form (Expressions items) ty kind = items_form ty kind
+
+-- an element segment as it is written (own rule)
+abbrev pub IsElemWritten : ElementSegment → List ℕ → Type 0
+IsElemWritten segment = IsElemIn (elem_form segment.items segment.ty segment.kind) (elem_of segment)

@@ -1,0 +1,82 @@
+-- Values that are too long for the numbers of the format: a list of 2^32 items or more, or a
+-- content of 2^32 bytes or more.
+use Rattle.std.specs.Prelude.{ℕ, ◌^◌, ◌≤◌, List, length, Any, ◌⊎◌}
+use Rattle.smith_binary.specs.Pieces.{Is, Joined, IsList}
+use Rattle.smith_syntax.specs.declared.value_type.ValType.{ValType}
+use Rattle.smith_syntax.specs.declared.composite_type.CompositeInnerType.{CompositeInnerType}
+use Rattle.smith_syntax.specs.declared.composite_type.CompositeInnerType.TheVariants as inner
+use Rattle.smith_syntax.specs.declared.composite_type.FuncType.{FuncType}
+use Rattle.smith_syntax.specs.declared.composite_type.CompositeType.{CompositeType}
+use Rattle.smith_syntax.specs.declared.composite_type.SubType.{SubType}
+use Rattle.smith_syntax.specs.declared.entity_type.ExportKind.{ExportKind}
+use Rattle.smith_syntax.specs.declared.imports.Import.{Import}
+use Rattle.smith_syntax.specs.declared.imports.ImportItem.{ImportItem}
+use Rattle.smith_syntax.specs.declared.imports.Imports.{Imports}
+use Rattle.smith_syntax.specs.declared.imports.Imports.TheVariants.{Single, Compact1, Compact2}
+use Rattle.smith_binary_sections.specs.Elements.{Elem}
+use Rattle.smith_binary_sections.specs.Codes.{IsLocalsWritten}
+use Rattle.smith_binary_sections.specs.Data.{Data}
+
+-- a list has too many items, or an item of it is too long
+abbrev pub IsLongList : {A : Type 0} → (A → Type 0) → List A → Type 0
+IsLongList IsLong xs = (2 ^ 32 ≤ length xs) ⊎ Any IsLong xs
+
+-- a content has a spelling of too many bytes
+pub record IsLongContent (Content : List ℕ → Type 0) : Type 0 where
+  pub piece : List ℕ
+  pub spelled : Content piece
+  pub long : 2 ^ 32 ≤ length piece
+
+-- a value without lists is never too long
+abbrev pub IsNeverLong : {A : Type 0} → A → Type 0
+IsNeverLong x = ⊥
+
+-- a text of too many bytes
+abbrev pub IsLongText : List ℕ → Type 0
+IsLongText text = 2 ^ 32 ≤ length text
+
+abbrev pub IsLongFuncType : FuncType → Type 0
+IsLongFuncType function = IsLongList IsNeverLong function.params ⊎ IsLongList IsNeverLong function.results
+
+abbrev pub IsLongInner : CompositeInnerType → Type 0
+IsLongInner (inner.Array array) = ⊥
+IsLongInner (inner.Struct structure) = IsLongList IsNeverLong structure.fields
+IsLongInner (inner.Func function) = IsLongFuncType function
+
+abbrev pub IsLongComposite : CompositeType → Type 0
+IsLongComposite composite = IsLongInner composite.inner
+
+abbrev pub IsLongSubType : SubType → Type 0
+IsLongSubType t = IsLongComposite t.composite_type
+
+abbrev pub IsLongGroup : List SubType → Type 0
+IsLongGroup = IsLongList IsLongSubType
+
+abbrev pub IsLongImport : Import → Type 0
+IsLongImport imported = IsLongText imported.«module» ⊎ IsLongText imported.name
+
+abbrev pub IsLongImportItem : ImportItem → Type 0
+IsLongImportItem item = IsLongText item.name
+
+abbrev pub IsLongImportGroup : Imports → Type 0
+IsLongImportGroup (Single imported) = IsLongImport imported
+IsLongImportGroup (Compact1 from items) = IsLongText from ⊎ IsLongList IsLongImportItem items
+IsLongImportGroup (Compact2 from ty names) = IsLongText from ⊎ IsLongList IsLongText names
+
+abbrev pub IsLongExport : List ℕ × ExportKind × ℕ → Type 0
+IsLongExport item = IsLongText item.0
+
+abbrev pub IsLongElem : Elem → Type 0
+IsLongElem e = IsLongList IsNeverLong e.items
+
+-- a body has too many locals, or too many bytes where each local is a run of its own; if empty runs
+-- counted, every body would be too long
+abbrev pub IsLongBody : List ValType × List ℕ → Type 0
+IsLongBody body = IsLongList IsNeverLong body.0 ⊎ IsLongContent (Joined (IsLocalsWritten body.0) (Is body.1))
+
+abbrev pub IsLongData : Data → Type 0
+IsLongData d = 2 ^ 32 ≤ length d.bytes
+
+-- the list of a section is too long, or its content is
+abbrev pub IsLongSection : {A : Type 0} → (A → List ℕ → Type 0) → (A → Type 0) → List A → Type 0
+IsLongSection Item IsLong xs = IsLongList IsLong xs ⊎ IsLongContent (IsList Item xs)

@@ -1,0 +1,71 @@
+-- Modules: the section Binary Format, Modules, of the WebAssembly Core Specification 3.0. Custom
+-- sections are left out.
+use Rattle.std.specs.Prelude.{◌≡◌, ℕ, Option, Some, None, List, [], ◌∷◌, length}
+use Rattle.smith_binary.specs.Numbers.{IsUnsigned}
+use Rattle.smith_binary.specs.Pieces.{Is, Joined, IsSection}
+use Rattle.smith_syntax.specs.declared.value_type.ValType.{ValType}
+use Rattle.smith_syntax.specs.declared.composite_type.SubType.{SubType}
+use Rattle.smith_syntax.specs.declared.entity_type.ExportKind.{ExportKind}
+use Rattle.smith_syntax.specs.declared.entity_type.GlobalType.{GlobalType}
+use Rattle.smith_syntax.specs.declared.entity_type.TableType.{TableType}
+use Rattle.smith_syntax.specs.declared.entity_type.MemoryType.{MemoryType}
+use Rattle.smith_syntax.specs.declared.imports.Import.{Import}
+use Rattle.smith_syntax.specs.declared.const_instr.ConstInstr.{ConstInstr}
+use Rattle.smith_binary_sections.specs.Types.{IsRecGroup}
+use Rattle.smith_binary_sections.specs.Instructions.{IsIndex}
+use Rattle.smith_binary_sections.specs.Entities.{IsMemoryType, IsTagType}
+use Rattle.smith_binary_sections.specs.Imports.{IsImports}
+use Rattle.smith_binary_sections.specs.Definitions.{IsTable, IsGlobal}
+use Rattle.smith_binary_sections.specs.Exports.{IsExport}
+use Rattle.smith_binary_sections.specs.Elements.{Elem, IsElem}
+use Rattle.smith_binary_sections.specs.Codes.{IsBody}
+use Rattle.smith_binary_sections.specs.Data.{Data, IsData}
+use Rattle.smith_binary_sections.specs.Sections.{IsOptionalSection, IsListSection}
+
+-- a module in the abstract syntax (Structure, Modules). A function is its type and its body, which
+-- are two lists here, as in the bytes; a body is its locals and the bytes of its expression, which
+-- aren't read further, since raw bodies need not be expressions
+pub record Contents : Type 0 where
+  pub types : List (List SubType)
+  pub imports : List Import
+  pub functions : List ℕ
+  pub tables : List (TableType × List ConstInstr)
+  pub memories : List MemoryType
+  pub tags : List ℕ
+  pub globals : List (GlobalType × List ConstInstr)
+  pub exports : List (List ℕ × ExportKind × ℕ)
+  pub start : Option ℕ
+  pub elems : List Elem
+  pub bodies : List (List ValType × List ℕ)
+  pub datas : List Data
+
+-- the magic number, then the version (Modules)
+abbrev pub IsPreamble : List ℕ → Type 0
+IsPreamble = Is (0x00 ∷ 0x61 ∷ 0x73 ∷ 0x6D ∷ 0x01 ∷ 0x00 ∷ 0x00 ∷ 0x00 ∷ [])
+
+-- the section of a start function (Start Section)
+abbrev pub IsStartSection : Option ℕ → List ℕ → Type 0
+IsStartSection (Some index) piece = IsSection 8 (IsIndex index) piece
+IsStartSection None piece = piece ≡ []
+
+-- the number of data segments, which may be stated before the bodies (Data Count Section); the
+-- standard requires it if a body names a data segment, which this relation, over bytes of bodies,
+-- does not state
+abbrev pub IsDataCount : List Data → List ℕ → Type 0
+IsDataCount datas = IsOptionalSection 12 (Unit {0}) (IsUnsigned 32 (length datas))
+
+-- a module: the preamble, then its sections in order, and no byte after them (Modules)
+abbrev pub IsModule : Contents → List ℕ → Type 0
+IsModule m =
+    Joined IsPreamble
+    (Joined (IsListSection 1 IsRecGroup m.types)
+    (Joined (IsOptionalSection 2 (m.imports ≡ []) (IsImports m.imports))
+    (Joined (IsListSection 3 IsIndex m.functions)
+    (Joined (IsListSection 4 IsTable m.tables)
+    (Joined (IsListSection 5 IsMemoryType m.memories)
+    (Joined (IsListSection 13 IsTagType m.tags)
+    (Joined (IsListSection 6 IsGlobal m.globals)
+    (Joined (IsListSection 7 IsExport m.exports)
+    (Joined (IsStartSection m.start)
+    (Joined (IsListSection 9 IsElem m.elems)
+    (Joined (IsDataCount m.datas) (Joined (IsListSection 10 IsBody m.bodies) (IsListSection 11 IsData m.datas)))))))))))))

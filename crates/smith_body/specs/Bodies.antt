@@ -1,0 +1,126 @@
+-- The body that the bytes produce. Rules of this project.
+use Rattle.std.specs.Prelude.{ℕ, zero, suc, ◌-◌, ◌==◌, Option, Some, None, option_to_list, List, [], ◌∷◌, ◌++◌, length, replicate, if◌then◌else◌}
+use Rattle.smith_bytes.specs.Draws.{range_at}
+use Rattle.smith_config.specs.declared.config.Config.{Config}
+use Rattle.smith_syntax.specs.declared.value_type.ValType.{ValType}
+use Rattle.smith_instr.specs.Contexts.{BodyContext, labelled}
+use Rattle.smith_instr.specs.declared.instr.Instr.{Instr}
+use Rattle.smith_instr.specs.declared.instr.Instr.TheVariants as instr
+use Rattle.smith_body_choices.specs.Choices.{allowed_choice_at, statement_choice_at}
+use Rattle.smith_body_leaves.specs.Leaves.{leaf_at}
+use Rattle.smith_body_nodes.specs.Nodes.{is_node_allowed, label_of, opened}
+use Rattle.smith_body_nodes.specs.declared.node.Head.{Head}
+use Rattle.smith_body_nodes.specs.declared.node.Head.TheVariants as head
+use Rattle.smith_body_nodes.specs.declared.node.Node.{Node}
+use Rattle.smith_body_nodes.specs.declared.node.Sides.{Sides}
+
+-- a body that is being drawn: the context of the next instruction, the instructions so far, the
+-- locals that were set, the budget (how many nodes may still be drawn), and the bytes left
+pub record State : Type 0 where
+  pub context : BodyContext
+  pub out : List Instr
+  pub set : List ℕ
+  pub budget : ℕ
+  pub bytes : List ℕ
+
+-- the draw of a value of a type, and the draw of statements
+pub record Drawing : Type 0 where
+  pub value : ValType → State → State
+  pub statements : State → State
+
+abbrev pub written : Instr → State → State
+written instruction s = record s { out = s.out ++ instruction ∷ [] }
+
+abbrev pub dropped : ℕ → State → State
+dropped count s = record s { out = s.out ++ replicate count instr.Drop }
+
+-- values of these types, in order
+abbrev pub values_at : Drawing → List ValType → State → State
+values_at draw [] s = s
+values_at draw (wanted ∷ more) s = values_at draw more (draw.value wanted s)
+
+-- the inside of a block: its parameters are dropped, then there are statements, then its results
+unfoldable pub inside_at : Drawing → Sides → State → State
+inside_at draw sides s = values_at draw sides.results (draw.statements (dropped (length sides.params) s))
+
+-- the inside of a block with its label; locals that are set in a block are not set after it
+unfoldable pub enclosed_at : Drawing → List ValType → Sides → State → State
+enclosed_at draw label sides s =
+    record (inside_at draw sides (record s { context = labelled s.context label })) { context = s.context; set = s.set }
+
+-- the instructions after operands, and the local that is set
+unfoldable pub head_at : Drawing → Head → Option ℕ → State → State
+head_at draw (head.Plain instruction) sets s = record s { out = s.out ++ instruction ∷ []; set = s.set ++ option_to_list sets }
+head_at draw (head.Enclosed opening ty sides) sets s =
+    written instr.End (enclosed_at draw (label_of opening sides.params sides.results) sides (written (opened opening ty) s))
+head_at draw (head.If ty sides) sets s =
+    written instr.End (enclosed_at draw sides.results sides
+    (written instr.Else (enclosed_at draw sides.results sides
+    (written (instr.If ty) s))))
+head_at draw (head.Try ty clauses sides) sets s = written instr.End (enclosed_at draw sides.results sides (written (instr.TryTable ty clauses) s))
+
+-- a node takes one unit of the budget: its operands are drawn, then its other instructions
+unfoldable pub node_at : Drawing → Node → State → State
+node_at draw node s = dropped node.drops (head_at draw node.head node.sets (values_at draw node.operands (record s { budget = s.budget - 1 })))
+
+-- a value without a budget
+unfoldable pub leaf_in : Config → ValType → State → State
+leaf_in config wanted s =
+    let leaf = leaf_at config s.context s.set wanted s.bytes in
+    record s { out = s.out ++ leaf.0; bytes = leaf.1 }
+
+-- the node that was chosen, or a value without a budget
+abbrev pub node_or_leaf_at : Config → Drawing → ValType → Option Node → State → State
+node_or_leaf_at config below wanted (Some node) s = node_at below node s
+node_or_leaf_at config below wanted None s = leaf_in config wanted s
+
+-- a value, by the draws one level deeper: without a budget, a value that needs none
+unfoldable pub value_at : Config → Drawing → ValType → State → State
+value_at config below wanted s =
+    let chosen = allowed_choice_at config s.context wanted s.bytes in
+    if s.budget == 0 then leaf_in config wanted s else node_or_leaf_at config below wanted chosen.0 (record s { bytes = chosen.1 })
+
+-- a node if it is allowed; otherwise only one unit of the budget is taken
+abbrev pub allowed_at : Config → Drawing → Node → State → State
+allowed_at config below node s =
+    if is_node_allowed s.context.features config node then node_at below node s else record s { budget = s.budget - 1 }
+
+-- a statement, by the draws one level deeper
+unfoldable pub statement_at : Config → Drawing → State → State
+statement_at config below s =
+    let chosen = statement_choice_at config s.context s.bytes in
+    allowed_at config below chosen.0 (record s { bytes = chosen.1 })
+
+-- at most `most` statements, until the budget is spent or a drawn number is 0
+abbrev pub statements_within : (State → State) → ℕ → State → State
+statements_within statement zero s = s
+statements_within statement (suc most) s =
+    let more = range_at 0 3 s.bytes in
+    let next = record s { bytes = more.1 } in
+    if s.budget == 0 then s else if more.0 == 0 then next else statements_within statement most (statement next)
+
+-- the draws at a depth, by those one level deeper: at the last level there are no statements, and
+-- values have no operands
+unfoldable pub drawing_at : Config → ℕ → Drawing
+drawing_at config zero = record { value = leaf_in config; statements = λ s. s }
+drawing_at config (suc depth) = record {
+  value = λ wanted s. value_at config (drawing_at config depth) wanted s;
+  statements = λ s. statements_within (statement_at config (drawing_at config depth)) s.budget s;
+}
+
+-- the inside of a body: statements, then the results
+unfoldable pub whole_at : Drawing → List ValType → State → State
+whole_at draw results s = values_at draw results (draw.statements s)
+
+-- the state in which a body begins, and its result at the end
+abbrev pub begun : BodyContext → ℕ → List ℕ → State
+begun context budget bytes = record { context = labelled context context.results; out = []; set = []; budget = budget; bytes = bytes }
+
+abbrev pub ended : State → List Instr × List ℕ
+ended s = (s.out, s.bytes)
+
+-- a body of at most 40 levels, without its last `end`, and the bytes left: for a budget of 0
+-- `unreachable`
+unfoldable pub body_at : Config → BodyContext → ℕ → List ℕ → List Instr × List ℕ
+body_at config context budget bytes =
+    if budget == 0 then (instr.Unreachable ∷ [], bytes) else ended (whole_at (drawing_at config 40) context.results (begun context budget bytes))

@@ -1,0 +1,11 @@
+//! Bodies of functions, drawn from bytes. The standard is the WebAssembly Core Specification 3.0.
+#![tactic(auto)]
+
+mod body;
+mod drawn;
+pub mod laws;
+mod leaf;
+mod written;
+
+pub use body::draw_body;
+pub use smith_body_nodes::Scope;

@@ -1,0 +1,196 @@
+-- The struct types, array types and fields that are offered.
+use Rattle.std.proofs.Common.{◌≡◌, ℕ, ◌<◌, Bool, true, false, List, [], ◌∷◌, Option, Some, None, length, get_or, refl, sym, subst, ap, ◌∙◌, arith}
+use Rattle.std.specs.Prelude.{slice_get, option_map, map, All}
+use Rattle.std.proofs.lemmas.List.{get_or-map, length-map}
+use Rattle.std.proofs.lemmas.List.Elements.{All-from_recursion}
+use Rattle.std.proofs.lemmas.Option.{same_Some, slice_get-get_or, slice_get_within}
+use Rattle.smith_types.specs.Expressions.{IsArrayAt, IsDefaultable, IsStructAt, field_values, unpacked}
+use Rattle.smith_types.specs.Grounded.{are_defaultable, is_defaultable}
+use Rattle.smith_types.specs.Matching.{IsStorageMatch}
+use Rattle.smith_types.specs.Types.{IsOrderly}
+use Rattle.smith_syntax.specs.declared.value_type.HeapType.TheVariants.{Concrete}
+use Rattle.smith_syntax.specs.declared.value_type.ValType.{ValType}
+use Rattle.smith_syntax.specs.declared.value_type.ValType.TheVariants.{I32, I64, F32, F64, V128, Ref}
+use Rattle.smith_syntax.specs.declared.composite_type.CompositeInnerType.{CompositeInnerType}
+use Rattle.smith_syntax.specs.declared.composite_type.CompositeInnerType.TheVariants as inner
+use Rattle.smith_syntax.specs.declared.composite_type.FieldType.{FieldType}
+use Rattle.smith_syntax.specs.declared.composite_type.StorageType.{StorageType}
+use Rattle.smith_syntax.specs.declared.composite_type.StorageType.TheVariants as storage
+use Rattle.smith_syntax.specs.declared.composite_type.StructType.{StructType}
+use Rattle.smith_syntax.specs.declared.composite_type.SubType.{SubType}
+use Rattle.smith_types.proofs.GroundedLemmas.{defaults_each, default_for}
+use Rattle.smith_draw_types.specs.HeldFields.{fields_of}
+use Rattle.smith_bytes.specs.Draws.{choose_at}
+use Rattle.smith_instr.specs.AggregateTypes.{IsFieldAt, IsOfBytes, IsReadBy, IsElemOf, value_of}
+use Rattle.smith_instr.specs.Contexts.{BodyContext, IsValid, AreValid, nullable_to}
+use Rattle.smith_body_aggregates.specs.Aggregates.{array_at, array_there, created_array_at, field_at, field_in, field_there, fields_with, is_array, is_created_array, is_field, is_struct, names_types}
+use Rattle.smith_body_aggregates.specs.Fields.{AreFieldsValid, element_in, element_of, extension_of, is_of_bytes, is_of_references, is_storage_below, is_usable, is_usable_in, struct_in, struct_of}
+use Rattle.smith_body_nodes.specs.Items.{continued}
+use Rattle.smith_body_nodes.specs.Offered.{chunk_at}
+use Rattle.smith_body_nodes.specs.Scopes.{IsScope, indexed}
+use Rattle.smith_body_tables.specs.TableChoices.{is_elem_below}
+use Rattle.smith_body_aggregates.specs.declared.fields.FieldUse.{FieldUse}
+use Rattle.smith_body_aggregates.specs.declared.fields.FieldUse.TheVariants as field_use
+use Rattle.smith_body_nodes.proofs.ItemLemmas.{given_none, given_some}
+use Rattle.smith_body_nodes.proofs.OfferLemmas.{both, tested}
+use Rattle.smith_body_tables.proofs.TableLemmas.{segment_below_at}
+
+-- the struct type, and the array type, of an index
+inner_struct : (x : CompositeInnerType) (structure : StructType) → struct_of x ≡ Some structure → x ≡ inner.Struct structure
+inner_struct (inner.Struct s) structure is = ap inner.Struct (same_Some s structure is)
+inner_struct (inner.Array array) structure is = cc
+inner_struct (inner.Func function) structure is = cc
+
+struct_option : (types : List SubType) (index : ℕ) (structure : StructType) (o : Option SubType) → slice_get types index ≡ o → struct_in o ≡ Some structure → IsStructAt types index structure.fields
+struct_option types index structure (Some t) at is = (t, at, inner_struct t.composite_type.inner structure is)
+struct_option types index structure None at is = cc
+
+pub struct_there : (types : List SubType) (index : ℕ) (structure : StructType) → struct_in (slice_get types index) ≡ Some structure → IsStructAt types index structure.fields
+struct_there types index structure is = struct_option types index structure (slice_get types index) refl is
+
+inner_element : (x : CompositeInnerType) (element : FieldType) → element_of x ≡ Some element → x ≡ inner.Array (record { 0 = element })
+inner_element (inner.Array array) element is = ap (λ (f : FieldType). inner.Array (record { 0 = f })) (same_Some array.0 element is)
+inner_element (inner.Struct structure) element is = cc
+inner_element (inner.Func function) element is = cc
+
+array_option : (types : List SubType) (index : ℕ) (element : FieldType) (o : Option SubType) → slice_get types index ≡ o → element_in o ≡ Some element → IsArrayAt types index element
+array_option types index element (Some t) at is = (t, at, inner_element t.composite_type.inner element is)
+array_option types index element None at is = cc
+
+pub array_is : (types : List SubType) (index : ℕ) (element : FieldType) → element_in (slice_get types index) ≡ Some element → IsArrayAt types index element
+array_is types index element is = array_option types index element (slice_get types index) refl is
+
+-- an array type, by the test of its element
+element_option : (types : List SubType) (index : ℕ) (o : Option FieldType) → element_in (slice_get types index) ≡ o → is_usable_in types field_use.New o ≡ true → (element : FieldType) × IsArrayAt types index element
+element_option types index (Some element) at is = (element, array_is types index element at)
+element_option types index None at is = cc
+
+pub array_tested : (types : List SubType) (index : ℕ) → is_usable_in types field_use.New (element_in (slice_get types index)) ≡ true → (element : FieldType) × IsArrayAt types index element
+array_tested types index is = element_option types index (element_in (slice_get types index)) refl is
+
+-- the values of fields and elements are valid
+pub struct_fields : (context : BodyContext) (index : ℕ) (fields : List FieldType) → IsScope context → IsStructAt context.types index fields → AreFieldsValid context fields
+struct_fields context index fields scope (t, at, is) = subst (λ (x : CompositeInnerType). AreValid context (field_values (fields_of x))) is (scope.fields_valid index t at)
+
+pub array_element : (context : BodyContext) (index : ℕ) (element : FieldType) → IsScope context → IsArrayAt context.types index element → IsValid context (value_of element)
+array_element context index element scope (t, at, is) =
+    let all : AreValid context (value_of element ∷ []) = subst (λ (x : CompositeInnerType). AreValid context (field_values (fields_of x))) is (scope.fields_valid index t at) in
+    all 0 (value_of element) (omega arith)
+
+pub field_valid : (context : BodyContext) (fields : List FieldType) (index : ℕ) (d : FieldType) → AreFieldsValid context fields → index < length fields → IsValid context (value_of (get_or fields index d))
+field_valid context fields index d valid inside =
+    let value = λ (field : FieldType). unpacked field.element_type in
+    let inside' : index < length (map value fields) = rw (length-map fields value) inside in
+    subst (IsValid context) (get_or-map value fields index d (value d) inside) (valid index (value d) inside')
+
+-- a reference to the type with an index is valid
+pub concrete_valid : (context : BodyContext) (index : ℕ) (t : SubType) → names_types context ≡ true → slice_get context.types index ≡ Some t → IsValid context (nullable_to (Concrete index))
+concrete_valid context index t named at =
+    let (on, gc) = both context.features.reference_types context.features.gc named in
+    (on, record { heap_type = (gc, slice_get_within context.types index t at); nullable = λ h. cc })
+
+-- default values
+pub all_default : (fields : List FieldType) → are_defaultable fields ≡ true → All IsDefaultable (field_values fields)
+all_default fields is = All-from_recursion IsDefaultable (field_values fields) (defaults_each fields is)
+
+pub one_default : (value : ValType) → is_defaultable value ≡ true → IsDefaultable value
+one_default value is = default_for value is
+
+-- fields that bytes may fill
+pub of_bytes : (stored : StorageType) → is_of_bytes stored ≡ true → IsOfBytes stored
+of_bytes storage.I8 is = tt
+of_bytes storage.I16 is = tt
+of_bytes (storage.Val I32) is = tt
+of_bytes (storage.Val I64) is = tt
+of_bytes (storage.Val F32) is = tt
+of_bytes (storage.Val F64) is = tt
+of_bytes (storage.Val V128) is = tt
+of_bytes (storage.Val (Ref reference)) is = cc
+
+-- an element segment whose type matches that of an element
+segment_for : (context : BodyContext) (segment : ℕ) (element : FieldType) (stored : StorageType) → IsOrderly context.types → element.element_type ≡ stored → is_of_references stored ≡ true → is_elem_below context (unpacked stored) segment ≡ true
+    → IsElemOf context segment element
+segment_for context segment element (storage.Val (Ref reference)) orderly is of below =
+    let (held, there, under) = segment_below_at context (Ref reference) segment (slice_get context.elems segment) orderly refl below in
+    record { held = held; there = there; reference = reference; of_references = is; below = under }
+segment_for context segment element (storage.Val I32) orderly is of below = cc
+segment_for context segment element (storage.Val I64) orderly is of below = cc
+segment_for context segment element (storage.Val F32) orderly is of below = cc
+segment_for context segment element (storage.Val F64) orderly is of below = cc
+segment_for context segment element (storage.Val V128) orderly is of below = cc
+segment_for context segment element storage.I8 orderly is of below = cc
+segment_for context segment element storage.I16 orderly is of below = cc
+
+pub segment_of : (context : BodyContext) (segment : ℕ) (element : FieldType) → IsOrderly context.types → is_of_references element.element_type ≡ true → is_elem_below context (value_of element) segment ≡ true → IsElemOf context segment element
+segment_of context segment element orderly of below = segment_for context segment element element.element_type orderly refl of below
+
+-- the read of a field, by its extension
+pub read_by : (stored : StorageType) (signed : Bool) → IsReadBy (extension_of stored signed) stored
+read_by (storage.Val value) signed = tt
+read_by storage.I8 true = tt
+read_by storage.I8 false = tt
+read_by storage.I16 true = tt
+read_by storage.I16 false = tt
+
+-- one storage type matches another
+pub storage_match : (types : List SubType) (a b : StorageType) → IsOrderly types → is_storage_below types a b ≡ true → IsStorageMatch types a b
+storage_match types storage.I8 storage.I8 orderly is = tt
+storage_match types storage.I16 storage.I16 orderly is = tt
+storage_match types (storage.Val a) (storage.Val b) orderly is = tested types orderly a b is
+storage_match types storage.I8 storage.I16 orderly is = cc
+storage_match types storage.I8 (storage.Val b) orderly is = cc
+storage_match types storage.I16 storage.I8 orderly is = cc
+storage_match types storage.I16 (storage.Val b) orderly is = cc
+storage_match types (storage.Val a) storage.I8 orderly is = cc
+storage_match types (storage.Val a) storage.I16 orderly is = cc
+
+-- a chosen array type
+pub array_none : (context : BodyContext) (way : FieldUse) (bytes left : List ℕ) → chunk_at (is_array context way) (indexed (length context.types)) bytes ≡ (None, left) → array_at context way bytes ≡ (None, left)
+array_none context way bytes left drawn = given_none (array_there context) (chunk_at (is_array context way) (indexed (length context.types)) bytes) left drawn
+
+pub array_some : (context : BodyContext) (way : FieldUse) (bytes left : List ℕ) (index : ℕ) (element : FieldType) → chunk_at (is_array context way) (indexed (length context.types)) bytes ≡ (Some index, left) → element_in (slice_get context.types index) ≡ Some element
+    → array_at context way bytes ≡ (Some (index, element), left)
+array_some context way bytes left index element drawn at =
+    given_some (array_there context) (chunk_at (is_array context way) (indexed (length context.types)) bytes) left index (Some (index, element)) drawn
+    (ap (λ (o : Option FieldType). option_map (λ (element : FieldType). (index, element)) o) at)
+
+pub created_array_none : (context : BodyContext) (wanted : ValType) (way : FieldUse) (bytes left : List ℕ) → chunk_at (is_created_array context wanted way) (indexed (length context.types)) bytes ≡ (None, left)
+    → created_array_at context wanted way bytes ≡ (None, left)
+created_array_none context wanted way bytes left drawn = given_none (array_there context) (chunk_at (is_created_array context wanted way) (indexed (length context.types)) bytes) left drawn
+
+pub created_array_some : (context : BodyContext) (wanted : ValType) (way : FieldUse) (bytes left : List ℕ) (index : ℕ) (element : FieldType) → chunk_at (is_created_array context wanted way) (indexed (length context.types)) bytes ≡ (Some index, left)
+    → element_in (slice_get context.types index) ≡ Some element → created_array_at context wanted way bytes ≡ (Some (index, element), left)
+created_array_some context wanted way bytes left index element drawn at =
+    given_some (array_there context) (chunk_at (is_created_array context wanted way) (indexed (length context.types)) bytes) left index (Some (index, element)) drawn
+    (ap (λ (o : Option FieldType). option_map (λ (element : FieldType). (index, element)) o) at)
+
+-- a chosen field
+pub field_none : (context : BodyContext) (way : FieldUse) (bytes left : List ℕ) → chunk_at (is_struct context way) (indexed (length context.types)) bytes ≡ (None, left) → field_at context way bytes ≡ (None, left)
+field_none context way bytes left drawn = ap (λ (d : Option ℕ × List ℕ). continued (λ (ty : ℕ) (bytes : List ℕ). field_in context way ty (struct_in (slice_get context.types ty)) bytes) d.0 d.1) drawn
+
+pub field_without : (context : BodyContext) (way : FieldUse) (bytes middle left : List ℕ) (ty : ℕ) (structure : StructType) → chunk_at (is_struct context way) (indexed (length context.types)) bytes ≡ (Some ty, middle)
+    → struct_in (slice_get context.types ty) ≡ Some structure → choose_at (fields_with context.types way structure.fields) middle ≡ (None, left) → field_at context way bytes ≡ (None, left)
+field_without context way bytes middle left ty structure drawn at drawn' =
+    ap (λ (d : Option ℕ × List ℕ). continued (λ (ty : ℕ) (bytes : List ℕ). field_in context way ty (struct_in (slice_get context.types ty)) bytes) d.0 d.1) drawn
+    ∙ ap (λ (o : Option StructType). field_in context way ty o middle) at
+    ∙ (given_none (field_there ty structure.fields) (choose_at (fields_with context.types way structure.fields) middle) left drawn')
+
+pub field_some : (context : BodyContext) (way : FieldUse) (bytes middle left : List ℕ) (ty index : ℕ) (structure : StructType) (d : FieldType) → chunk_at (is_struct context way) (indexed (length context.types)) bytes ≡ (Some ty, middle)
+    → struct_in (slice_get context.types ty) ≡ Some structure → choose_at (fields_with context.types way structure.fields) middle ≡ (Some index, left) → index < length structure.fields
+    → field_at context way bytes ≡ (Some (record { ty = ty; index = index; field = get_or structure.fields index d }), left)
+field_some context way bytes middle left ty index structure d drawn at drawn' inside =
+    ap (λ (d : Option ℕ × List ℕ). continued (λ (ty : ℕ) (bytes : List ℕ). field_in context way ty (struct_in (slice_get context.types ty)) bytes) d.0 d.1) drawn
+    ∙ ap (λ (o : Option StructType). field_in context way ty o middle) at
+    ∙ (given_some (field_there ty structure.fields) (choose_at (fields_with context.types way structure.fields) middle) left index (Some (record { ty = ty; index = index; field = get_or structure.fields index d })) drawn'
+    (ap (λ (o : Option FieldType). option_map (λ (field : FieldType). record { ty = ty; index = index; field = field }) o) (slice_get-get_or structure.fields index d inside)))
+
+pub field_is : (context : BodyContext) (ty index : ℕ) (structure : StructType) (d : FieldType) → struct_in (slice_get context.types ty) ≡ Some structure → index < length structure.fields → IsFieldAt context ty index (get_or structure.fields index d)
+field_is context ty index structure d at inside =
+    record { fields = structure.fields; structure = struct_there context.types ty structure at; there = slice_get-get_or structure.fields index d inside }
+
+-- a field is tested by its type
+pub field_tested : (types : List SubType) (way : FieldUse) (fields : List FieldType) (index : ℕ) (d : FieldType) (r : Bool) → index < length fields → r ≡ is_usable types way (get_or fields index d) → r ≡ is_field types way fields index
+field_tested types way fields index d r inside is = is ∙ sym (ap (λ (o : Option FieldType). is_usable_in types way o) (slice_get-get_or fields index d inside))
+
+pub field_usable : (types : List SubType) (way : FieldUse) (fields : List FieldType) (index : ℕ) (d : FieldType) → index < length fields → is_field types way fields index ≡ true → is_usable types way (get_or fields index d) ≡ true
+field_usable types way fields index d inside is = subst (λ (o : Option FieldType). is_usable_in types way o ≡ true) (slice_get-get_or fields index d inside) is

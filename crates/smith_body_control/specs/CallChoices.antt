@@ -1,0 +1,140 @@
+-- The call through a table or a reference that the bytes choose, and the tail call. The choices,
+-- their order and their weights are rules of this project.
+use Rattle.std.specs.Prelude.{◌≡◌, ℕ, ◌-◌, ◌==◌, ◌&&◌, ◌||◌, Bool, true, false, Option, Some, None, option_map, List, [], ◌∷◌, ◌++◌, length, slice_get, All, if◌then◌else◌}
+use Rattle.smith_bytes.specs.Draws.{range_at}
+use Rattle.smith_syntax.specs.Features.{Features}
+use Rattle.smith_types.specs.ValidTypes.{IsValTypeValid}
+use Rattle.smith_syntax.specs.declared.value_type.AbstractHeapType.TheVariants as abstract
+use Rattle.smith_syntax.specs.declared.value_type.HeapType.TheVariants.{Abstract, Concrete}
+use Rattle.smith_syntax.specs.declared.value_type.RefType.{RefType}
+use Rattle.smith_syntax.specs.declared.value_type.ValType.{ValType}
+use Rattle.smith_syntax.specs.declared.value_type.ValType.TheVariants.{Ref}
+use Rattle.smith_syntax.specs.declared.composite_type.FuncType.{FuncType}
+use Rattle.smith_syntax.specs.declared.composite_type.SubType.{SubType}
+use Rattle.smith_syntax.specs.declared.entity_type.TableType.{TableType}
+use Rattle.smith_draw_types.specs.Below.{is_val_below}
+use Rattle.smith_instr.specs.Contexts.{BodyContext, address, nullable_to}
+use Rattle.smith_instr.specs.declared.instr.Instr.{Instr}
+use Rattle.smith_instr.specs.declared.instr.Instr.TheVariants as instr
+use Rattle.smith_body_nodes.specs.Chosen.{Chosen, giving}
+use Rattle.smith_body_nodes.specs.Nodes.{node_of}
+use Rattle.smith_body_nodes.specs.Offered.{chunk_at, are_below, func_in, function_at, is_first_below}
+use Rattle.smith_body_nodes.specs.Scopes.{indexed}
+use Rattle.smith_body_control.specs.declared.outcomes.Outcome.{Outcome}
+use Rattle.smith_body_control.specs.declared.outcomes.Outcome.TheVariants as outcome
+use Rattle.smith_body_nodes.specs.declared.node.Node.{Node}
+
+-- the wanted type of a call is valid
+abbrev pub IsOutcomeOver : Features → List SubType → Outcome → Type 0
+IsOutcomeOver features types (outcome.Wanted value) = IsValTypeValid features (length types) value
+IsOutcomeOver features types _ = Unit {0}
+
+abbrev pub IsOutcome : BodyContext → Outcome → Type 0
+IsOutcome context outcome = IsOutcomeOver context.features context.types outcome
+
+-- the values that a call leaves: a tail call is followed by any valid values
+abbrev pub IsLeftOver : Features → List SubType → Outcome → List ValType → Type 0
+IsLeftOver features types (outcome.Wanted value) values = values ≡ value ∷ []
+IsLeftOver features types outcome.Dropped values = values ≡ []
+IsLeftOver features types outcome.Returned values = All (IsValTypeValid features (length types)) values
+
+abbrev pub IsLeft : BodyContext → Outcome → List ValType → Type 0
+IsLeft context outcome values = IsLeftOver context.features context.types outcome values
+
+-- the results of a function may have this outcome, if the function of the body returns values of
+-- these types
+abbrev pub is_fit : List SubType → List ValType → Outcome → FuncType → Bool
+is_fit types returned (outcome.Wanted value) function = is_first_below types value function.results
+is_fit types returned outcome.Dropped function = true
+is_fit types returned outcome.Returned function = are_below types function.results returned
+
+abbrev pub is_fit_in : List SubType → List ValType → Outcome → Option FuncType → Bool
+is_fit_in types returned outcome (Some function) = is_fit types returned outcome function
+is_fit_in types returned outcome None = false
+
+-- a function type whose results may have this outcome
+abbrev pub is_fit_type : BodyContext → Outcome → ℕ → Bool
+is_fit_type context outcome index = is_fit_in context.types context.results outcome (func_in (slice_get context.types index))
+
+-- a function whose results the function of the body may return
+abbrev pub is_returnable : BodyContext → ℕ → Bool
+is_returnable context index = is_fit_in context.types context.results outcome.Returned (function_at context index)
+
+-- a reference type matches that of functions, shared or unshared (Validation, Control Instructions,
+-- call_indirect)
+abbrev pub is_below_func : List SubType → RefType → Bool → Bool
+is_below_func types element shared = is_val_below types (Ref element) (nullable_to (Abstract shared abstract.Func))
+
+-- a reference type matches that of shared or of unshared functions
+abbrev pub holds_functions : List SubType → RefType → Bool
+holds_functions types element = is_below_func types element false || is_below_func types element true
+
+-- a table of functions (Validation, Control Instructions, call_indirect)
+abbrev pub is_function_table_at : List SubType → Option TableType → Bool
+is_function_table_at types (Some table) = holds_functions types table.element_type
+is_function_table_at types None = false
+
+abbrev pub is_function_table : BodyContext → ℕ → Bool
+is_function_table context index = is_function_table_at context.types (slice_get context.tables index)
+
+-- the number of results that are dropped
+abbrev pub dropped_of : Outcome → FuncType → ℕ
+dropped_of (outcome.Wanted value) function = length function.results - 1
+dropped_of outcome.Dropped function = length function.results
+dropped_of outcome.Returned function = 0
+
+-- a call of a function in a table: a tail call if its results are returned
+abbrev pub indirect_instr : Outcome → ℕ → ℕ → Instr
+indirect_instr outcome.Returned table ty = instr.ReturnCallIndirect table ty
+indirect_instr _ table ty = instr.CallIndirect table ty
+
+abbrev pub indirect_node : Outcome → ℕ → ℕ → Option FuncType → Option TableType → Option Node
+indirect_node outcome ty table (Some function) (Some of) =
+    Some (node_of (function.params ++ address of.table64 ∷ []) (indirect_instr outcome table ty) (dropped_of outcome function))
+indirect_node outcome ty table _ _ = None
+
+abbrev pub indirect_by : BodyContext → Outcome → Option ℕ → List ℕ → Chosen
+indirect_by context outcome None bytes = (None, bytes)
+indirect_by context outcome (Some ty) bytes =
+    giving (λ table. indirect_node outcome ty table (func_in (slice_get context.types ty)) (slice_get context.tables table))
+    (chunk_at (is_function_table context) (indexed (length context.tables)) bytes)
+
+-- a function type whose results may have this outcome
+abbrev pub fit_type_at : BodyContext → Outcome → List ℕ → Option ℕ × List ℕ
+fit_type_at context outcome bytes = chunk_at (is_fit_type context outcome) (indexed (length context.types)) bytes
+
+-- such a call, of a type whose results may have this outcome
+unfoldable pub indirect_at : BodyContext → Outcome → List ℕ → Chosen
+indirect_at context outcome bytes = let ty = fit_type_at context outcome bytes in indirect_by context outcome ty.0 ty.1
+
+-- a call of a function by a reference: a tail call if its results are returned
+abbrev pub by_reference_instr : Outcome → ℕ → Instr
+by_reference_instr outcome.Returned ty = instr.ReturnCallRef ty
+by_reference_instr _ ty = instr.CallRef ty
+
+abbrev pub by_reference_node : BodyContext → Outcome → ℕ → Option Node
+by_reference_node context outcome ty =
+    option_map (λ (function : FuncType). node_of (function.params ++ nullable_to (Concrete ty) ∷ []) (by_reference_instr outcome ty) (dropped_of outcome function))
+    (func_in (slice_get context.types ty))
+
+-- such a call, of a type whose results may have this outcome, if a reference may name a type
+unfoldable pub by_reference_at : BodyContext → Outcome → List ℕ → Chosen
+by_reference_at context outcome bytes =
+    if context.features.reference_types && context.features.gc then giving (by_reference_node context outcome) (fit_type_at context outcome bytes)
+    else (None, bytes)
+
+-- a tail call of a function
+abbrev pub return_call_node : BodyContext → ℕ → Option Node
+return_call_node context index =
+    option_map (λ (function : FuncType). node_of function.params (instr.ReturnCall index) 0) (function_at context index)
+
+unfoldable pub return_call_at : BodyContext → List ℕ → Chosen
+return_call_at context bytes = giving (return_call_node context) (chunk_at (is_returnable context) (indexed (length context.funcs)) bytes)
+
+-- a tail call of one of the three kinds
+unfoldable pub tail_call_at : BodyContext → List ℕ → Chosen
+tail_call_at context bytes =
+    let kind = range_at 0 2 bytes in
+    if kind.0 == 0 then return_call_at context kind.1
+    else if kind.0 == 1 then indirect_at context outcome.Returned kind.1
+    else by_reference_at context outcome.Returned kind.1

@@ -1,0 +1,52 @@
+-- The throw that the bytes choose. The choices, their order and their weights are rules of this
+-- project.
+use Rattle.std.specs.Prelude.{ℕ, ◌-◌, ◌==◌, ◌&&◌, Bool, false, Option, Some, None, option_map, List, [], ◌∷◌, length, slice_get, if◌then◌else◌}
+use Rattle.smith_bytes.specs.Draws.{bool_at, range_at}
+use Rattle.smith_syntax.specs.Features.{Features}
+use Rattle.smith_syntax.specs.declared.value_type.AbstractHeapType.TheVariants as abstract
+use Rattle.smith_syntax.specs.declared.value_type.HeapType.{HeapType}
+use Rattle.smith_syntax.specs.declared.value_type.HeapType.TheVariants.{Abstract}
+use Rattle.smith_syntax.specs.declared.composite_type.FuncType.{FuncType}
+use Rattle.smith_instr.specs.Contexts.{BodyContext, nullable_to}
+use Rattle.smith_instr.specs.declared.instr.Instr.TheVariants as instr
+use Rattle.smith_body_nodes.specs.Chosen.{Chosen, giving}
+use Rattle.smith_body_nodes.specs.Nodes.{node_of}
+use Rattle.smith_body_nodes.specs.Offered.{function_in}
+use Rattle.smith_body_nodes.specs.Scopes.{indexed}
+use Rattle.smith_body_nodes.specs.declared.node.Node.{Node}
+
+-- the type of a tag
+abbrev pub tag_type_at : BodyContext → ℕ → Option FuncType
+tag_type_at context tag = function_in context.types (slice_get context.tags tag)
+
+-- one of these tags, if there is one
+unfoldable pub tag_at : List ℕ → List ℕ → Option ℕ × List ℕ
+tag_at tags bytes =
+    let count = indexed (length tags) in
+    let tag = range_at 0 (count - 1) bytes in
+    if count == 0 then (None, bytes) else (Some tag.0, tag.1)
+
+-- `throw` of a tag, which takes the values of an exception
+abbrev pub throw_node : BodyContext → ℕ → Option Node
+throw_node context tag = option_map (λ (ty : FuncType). node_of ty.params (instr.Throw tag) 0) (tag_type_at context tag)
+
+unfoldable pub throw_at : BodyContext → List ℕ → Chosen
+throw_at context bytes = giving (throw_node context) (tag_at context.tags bytes)
+
+-- the heap type of exceptions
+abbrev pub exn : HeapType
+exn = Abstract false abstract.Exn
+
+-- whether references to exceptions are enabled
+abbrev pub refers_to_exceptions : Features → Bool
+refers_to_exceptions features = features.reference_types && features.exceptions
+
+-- `throw_ref`, if references to exceptions are enabled
+abbrev pub throw_ref_node : Features → Option Node
+throw_ref_node features = if refers_to_exceptions features then Some (node_of (nullable_to exn ∷ []) instr.ThrowRef 0) else None
+
+-- `throw` or `throw_ref`
+unfoldable pub any_throw_at : BodyContext → List ℕ → Chosen
+any_throw_at context bytes =
+    let tagged = bool_at bytes in
+    if tagged.0 then throw_at context tagged.1 else (throw_ref_node context.features, tagged.1)

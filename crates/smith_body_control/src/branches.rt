@@ -1,0 +1,198 @@
+ghost use Rattle.std.specs.Prelude.{◌≡◌, ◌<◌, true, List, [], All, length, min, Some, IfOk, IfErr};
+ghost use Rattle.std.specs.Prelude.{IfSome};
+ghost use Rattle.smith_bytes.specs.Draws.{choose_at};
+ghost use Rattle.smith_bytes.specs.Source.{KeepsPieces};
+ghost use Rattle.smith_syntax.specs.declared.value_type.ValType.{ValType as Val};
+ghost use Rattle.smith_instr.specs.Contexts.{AreValid};
+ghost use Rattle.smith_instr.specs.InstrTypes.{IsTaken};
+ghost use Rattle.smith_body_control.specs.BranchChoices.{branch_at, leaving_at, some_targets_at};
+ghost use Rattle.smith_body_control.specs.BranchChoices.{table_at};
+ghost use Rattle.smith_body_nodes.specs.Chosen.{or_nop};
+ghost use Rattle.smith_body_nodes.specs.Nodes.{IsNode};
+ghost use Rattle.smith_body_nodes.specs.Offered.{are_below, is_target, offered};
+ghost use Rattle.smith_body_nodes.specs.Scopes.{AreLabels, IsScope, bare, context_of, where_stands};
+
+use smith_body_nodes::{Draft, Node, Offer, Scope, choose_offered, conditional, is_below, plain};
+use smith_bytes::{Error, Unstructured};
+use smith_instr::Instr;
+use smith_types::{Items, ValType};
+use std::alloc::Global;
+
+/// Chooses an unconditional branch, to any label or out of the function.
+pub fn choose_leaving(
+    alloc: Global,
+    scope: &Scope<'_>,
+    draft: &Draft,
+    u: &mut Unstructured<'_>,
+) -> Result<Node, Error>
+    requires scope { IsScope (bare scope.now) }
+    requires labels { AreLabels scope.now draft.now.labels.items }
+    ensures exact { IfOk result (λ node.
+        leaving_at (where_stands scope.now draft.now) u.old ≡ (Some node, u.new)) }
+    ensures node { (values : List Val) → AreValid (bare scope.now) values
+        → IfOk result (IsNode (where_stands scope.now draft.now) draft.now.set.items values) }
+    ensures memory { IfErr result (λ e. e ≡ Error.Memory) }
+    ensures left { KeepsPieces u.old u.new }
+{
+    let count = draft.labels.len().min(64);
+    if count == 0 || u.arbitrary() {
+        return plain(alloc, scope.results, Instr::Return, 0);
+    }
+    let index = u.int_in_range(0..=count - 1);
+    let taken = draft.labels[index].as_slice();
+    plain(alloc, taken, Instr::Br(index as u32), 0)
+}
+
+/// Chooses a conditional branch, to any label, or `nop` if there is no label.
+pub fn choose_branch(
+    alloc: Global,
+    scope: &Scope<'_>,
+    draft: &Draft,
+    u: &mut Unstructured<'_>,
+) -> Result<Node, Error>
+    requires scope { IsScope (bare scope.now) }
+    requires labels { AreLabels scope.now draft.now.labels.items }
+    ensures exact { IfOk result (λ node.
+        or_nop (branch_at (where_stands scope.now draft.now) u.old) ≡ (node, u.new)) }
+    ensures node { IfOk result (IsNode (where_stands scope.now draft.now) draft.now.set.items []) }
+    ensures memory { IfErr result (λ e. e ≡ Error.Memory) }
+    ensures left { KeepsPieces u.old u.new }
+{
+    let count = draft.labels.len().min(64);
+    if count == 0 {
+        return plain(alloc, &[], Instr::Nop, 0);
+    }
+    let index = u.int_in_range(0..=count - 1);
+    let taken = draft.labels[index].as_slice();
+    conditional(alloc, taken, Instr::BrIf(index as u32), taken.len())
+}
+
+/// Labels that a branch with operands of the types `taken` may target.
+#[derive(Clone, Copy)]
+struct TargetOffer<'a> {
+    scope: &'a Scope<'a>,
+    labels: &'a [Items<ValType>],
+    taken: &'a [ValType],
+}
+
+impl<'a> Offer for TargetOffer<'a> {
+    ghost use Rattle.std.specs.Prelude.{length, min};
+    ghost use Rattle.smith_instr.specs.Contexts.{AreValid};
+    ghost use Rattle.smith_body_nodes.specs.Offered.{is_target};
+    ghost use Rattle.smith_body_nodes.specs.Scopes.{AreLabels, IsScope, bare};
+
+    ghost ready = { λ self. IsScope (bare self.scope.now) × AreLabels self.scope.now self.labels.now
+        × AreValid (bare self.scope.now) self.taken.now };
+
+    ghost size = { λ self. min (length self.labels.now) 64 };
+
+    ghost test = { λ self index.
+        is_target (bare self.scope.now).types self.labels.now self.taken.now index };
+
+    fn count(&self) -> usize {
+        self.labels.len().min(64)
+    }
+
+    fn is_offered(&self, index: usize) -> bool {
+        are_below(self.scope, self.taken, self.labels[index].as_slice())
+    }
+}
+
+/// Returns whether each of `values` matches the type at its place in `wanted`.
+pub(crate) fn are_below(scope: &Scope<'_>, values: &[ValType], wanted: &[ValType]) -> bool
+    requires scope { IsScope (bare scope.now) }
+    requires values { AreValid (bare scope.now) values.now }
+    requires wanted { AreValid (bare scope.now) wanted.now }
+    ensures { result ≡ are_below (bare scope.now).types values.now wanted.now }
+{
+    if values.len() != wanted.len() {
+        return false;
+    }
+    for index in 0..values.len() {
+        if !is_below(scope, values[index], wanted[index]) {
+            return false;
+        }
+    }
+    true
+}
+
+/// Chooses a label that a branch with operands of the types `taken` may target, if there is one.
+pub fn choose_target<'a>(
+    scope: &'a Scope<'a>,
+    labels: &'a [Items<ValType>],
+    taken: &'a [ValType],
+    u: &mut Unstructured<'_>,
+) -> Option<u32>
+    requires scope { IsScope (bare scope.now) }
+    requires labels { AreLabels scope.now labels.now }
+    requires taken { AreValid (bare scope.now) taken.now }
+    ensures exact { choose_at (offered (is_target (bare scope.now).types labels.now taken.now)
+        (min (length labels.now) 64)) u.old
+        ≡ (result, u.new) }
+    ensures below { IfSome result (λ label. label < length labels.now) }
+    ensures offered { IfSome result (λ label.
+        is_target (bare scope.now).types labels.now taken.now label ≡ true) }
+    ensures left { KeepsPieces u.old u.new }
+{
+    let offer = TargetOffer {
+        scope,
+        labels,
+        taken,
+    };
+    let label = choose_offered(&offer, u)?;
+    Some(label as u32)
+}
+
+fn draw_targets<'a>(
+    alloc: Global,
+    scope: &'a Scope<'a>,
+    labels: &'a [Items<ValType>],
+    taken: &'a [ValType],
+    u: &mut Unstructured<'_>,
+) -> Result<Items<u32>, Error>
+    requires scope { IsScope (bare scope.now) }
+    requires labels { AreLabels scope.now labels.now }
+    requires taken { AreValid (bare scope.now) taken.now }
+    ensures exact { IfOk result (λ targets.
+        some_targets_at (context_of scope.now labels.now) taken.now u.old ≡ (targets, u.new)) }
+    ensures taken { IfOk result (All (IsTaken (context_of scope.now labels.now) taken.now)) }
+    ensures memory { IfErr result (λ e. e ≡ Error.Memory) }
+    ensures left { KeepsPieces u.old u.new }
+{
+    let count = u.int_in_range(0..=7u8);
+    let mut targets = Items::new(alloc);
+    for _ in 0..count {
+        let Some(label) = choose_target(scope, labels, taken, u) else {
+            return Ok(targets);
+        };
+        targets.push(label)?;
+    }
+    Ok(targets)
+}
+
+/// Chooses a `br_table` to several labels, or `return` if there is no label.
+pub fn choose_table(
+    alloc: Global,
+    scope: &Scope<'_>,
+    draft: &Draft,
+    u: &mut Unstructured<'_>,
+) -> Result<Node, Error>
+    requires scope { IsScope (bare scope.now) }
+    requires labels { AreLabels scope.now draft.now.labels.items }
+    ensures exact { IfOk result (λ node.
+        table_at (where_stands scope.now draft.now) u.old ≡ (Some node, u.new)) }
+    ensures node { (values : List Val) → AreValid (bare scope.now) values
+        → IfOk result (IsNode (where_stands scope.now draft.now) draft.now.set.items values) }
+    ensures memory { IfErr result (λ e. e ≡ Error.Memory) }
+    ensures left { KeepsPieces u.old u.new }
+{
+    let labels = draft.labels.as_slice();
+    let count = labels.len().min(64);
+    if count == 0 {
+        return plain(alloc, scope.results, Instr::Return, 0);
+    }
+    let index = u.int_in_range(0..=count - 1);
+    let taken = labels[index].as_slice();
+    let targets = draw_targets(alloc, scope, labels, taken, u)?;
+    conditional(alloc, taken, Instr::BrTable(targets, index as u32), 0)
+}

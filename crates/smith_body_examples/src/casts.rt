@@ -1,0 +1,140 @@
+#![tactic(auto, unfolding(smith_body_reference_branches::specs::CastBranchChoices::cast_branch_for, smith_body_reference_branches::specs::CastBranchChoices::cast_value_at, smith_body_casts::specs::CastChoices::cast_at, smith_body_casts::specs::CastChoices::cast_choice_at, smith_body_casts::specs::CastChoices::cast_for, smith_body_casts::specs::CastChoices::conversion_at, smith_body_casts::specs::CastChoices::non_null_test_at, smith_body_casts::specs::CastChoices::scalar_at, smith_body_casts::specs::CastChoices::type_test_at, smith_body_nodes::specs::Offered::chunk_at, smith_body_nodes::specs::Offered::offered, smith_draw_types::specs::Below::is_heap_below, smith_draw_types::specs::Choices::chosen_at, smith_draw_types::specs::Offered::ancestors, smith_bytes::specs::Draws::bool_at, smith_bytes::specs::Draws::choose_at, smith_bytes::specs::Draws::digit_count, smith_bytes::specs::Draws::range_at))]
+
+ghost use Rattle.std.specs.Prelude.{◌≡◌, Some, None, [], ◌∷◌, true};
+ghost use Rattle.smith_types.specs.ExampleTypes.{not_null, nullable, plain};
+ghost use Rattle.smith_types.specs.Flags.{funcref};
+ghost use Rattle.smith_syntax.specs.declared.value_type.AbstractHeapType.TheVariants as heap;
+ghost use Rattle.smith_syntax.specs.declared.value_type.HeapType.TheVariants.{Abstract, Concrete};
+ghost use Rattle.smith_syntax.specs.declared.value_type.ValType.TheVariants.{I32, I64, Ref};
+ghost use Rattle.smith_instr.specs.declared.aggregate.AggregateInstr.TheVariants as aggregate;
+ghost use Rattle.smith_instr.specs.declared.instr.Instr.TheVariants as instr;
+ghost use Rattle.smith_instr.specs.declared.reference.ReferenceInstr.TheVariants as reference;
+ghost use Rattle.smith_body_reference_branches.specs.CastBranchChoices.{cast_branch_at, cast_value_at};
+ghost use Rattle.smith_body_casts.specs.CastChoices.{cast_choice_at};
+ghost use Rattle.smith_body_aggregates.specs.CreationChoices.{aggregate_of};
+ghost use Rattle.smith_body_nodes.specs.Nodes.{node_of};
+ghost use Rattle.smith_body_examples.specs.ExampleAggregates.{aggregates, any, any_of, branching};
+ghost use Rattle.smith_body_examples.specs.ExampleAggregates.{labelled_by, references, some};
+ghost use Rattle.smith_body_examples.specs.ExampleAggregates.{some_of, unmanaged};
+
+fn numbers()
+    ensures length { cast_choice_at (aggregates []) I32 (0 ∷ 9 ∷ [])
+        ≡ (Some (aggregate_of (any_of heap.Array ∷ []) aggregate.ArrayLen), 9 ∷ []) }
+    ensures with_its_sign { cast_choice_at (aggregates []) I32 (1 ∷ 9 ∷ [])
+        ≡ (Some (aggregate_of (any_of heap.I31 ∷ []) aggregate.I31GetS), 9 ∷ []) }
+    ensures without_a_sign { cast_choice_at (aggregates []) I32 (2 ∷ 9 ∷ [])
+        ≡ (Some (aggregate_of (any_of heap.I31 ∷ []) aggregate.I31GetU), 9 ∷ []) }
+    ensures wide { cast_choice_at (aggregates []) I64 (0 ∷ 9 ∷ []) ≡ (None, 0 ∷ 9 ∷ []) }
+    ensures without_garbage_collection { cast_choice_at unmanaged I32 (0 ∷ 9 ∷ [])
+        ≡ (None, 0 ∷ 9 ∷ []) }
+{}
+
+fn tests()
+    ensures from_a_type_above { cast_choice_at (aggregates references) I32 (3 ∷ 0 ∷ 1 ∷ []) ≡ (
+      Some (node_of (any_of heap.Struct ∷ [])
+          (instr.Reference (reference.Test (not_null (Concrete 0)))) 0),
+      [],
+    ) }
+    ensures from_another_hierarchy { ¬ (cast_choice_at (aggregates references) I32 (3 ∷ 0 ∷ 2 ∷ [])
+        ≡ (
+          Some (node_of (any_of heap.Extern ∷ [])
+              (instr.Reference (reference.Test (not_null (Concrete 0)))) 0),
+          [],
+        )) }
+    ensures from_the_type_itself { cast_choice_at (aggregates references) I32 (3 ∷ 2 ∷ 9 ∷ []) ≡ (
+      Some (node_of (any_of heap.Extern ∷ [])
+          (instr.Reference (reference.Test (nullable (plain heap.Extern)))) 0),
+      9 ∷ [],
+    ) }
+    ensures without_a_reference { cast_choice_at (aggregates (I64 ∷ [])) I32 (3 ∷ 9 ∷ [])
+        ≡ (None, 9 ∷ []) }
+    ensures without_null { cast_choice_at (aggregates references) I32 (4 ∷ 2 ∷ 9 ∷ []) ≡ (
+      Some (node_of (any_of heap.Extern ∷ [])
+          (instr.Reference (reference.Test (not_null (plain heap.Extern)))) 0),
+      9 ∷ [],
+    ) }
+{}
+
+fn conversions()
+    ensures i31 { cast_choice_at (aggregates []) (any_of heap.Eq) (0 ∷ 9 ∷ [])
+        ≡ (Some (aggregate_of (I32 ∷ []) aggregate.RefI31), 9 ∷ []) }
+    ensures shared_i31 { cast_choice_at (aggregates [])
+        (Ref (not_null (Abstract true heap.I31))) (0 ∷ 9 ∷ [])
+        ≡ (Some (aggregate_of (I32 ∷ []) aggregate.RefI31Shared), 9 ∷ []) }
+    ensures no_i31 { cast_choice_at (aggregates []) (Ref funcref) (0 ∷ 9 ∷ []) ≡ (None, 9 ∷ []) }
+    ensures to_internal { cast_choice_at (aggregates []) (any_of heap.Any) (1 ∷ 9 ∷ [])
+        ≡ (Some (aggregate_of (any_of heap.Extern ∷ []) aggregate.AnyConvertExtern), 9 ∷ []) }
+    ensures to_external { cast_choice_at (aggregates []) (some_of heap.Extern) (1 ∷ 9 ∷ [])
+        ≡ (Some (aggregate_of (some_of heap.Any ∷ []) aggregate.ExternConvertAny), 9 ∷ []) }
+    ensures null_becomes_something { ¬ (cast_choice_at (aggregates [])
+        (some_of heap.Extern) (1 ∷ 9 ∷ [])
+        ≡ (Some (aggregate_of (any_of heap.Any ∷ []) aggregate.ExternConvertAny), 9 ∷ [])) }
+    ensures to_a_struct { cast_choice_at (aggregates []) (some 0) (1 ∷ 9 ∷ []) ≡ (None, 9 ∷ []) }
+    ensures to_internal_again { cast_choice_at (aggregates []) (any_of heap.Any) (4 ∷ 9 ∷ [])
+        ≡ (Some (aggregate_of (any_of heap.Extern ∷ []) aggregate.AnyConvertExtern), 9 ∷ []) }
+{}
+
+fn casts()
+    ensures from_a_local { cast_choice_at (aggregates references) (some 1) (2 ∷ 9 ∷ []) ≡ (
+      Some (node_of (any_of heap.Struct ∷ [])
+          (instr.Reference (reference.Cast (not_null (Concrete 1)))) 0),
+      9 ∷ [],
+    ) }
+    ensures from_another_hierarchy { ¬ (cast_choice_at (aggregates references) (some 1) (2 ∷ 9 ∷ [])
+        ≡ (
+          Some (node_of (any_of heap.Extern ∷ [])
+              (instr.Reference (reference.Cast (not_null (Concrete 1)))) 0),
+          9 ∷ [],
+        )) }
+    ensures without_a_local { cast_choice_at (aggregates []) (some 0) (2 ∷ 9 ∷ []) ≡ (
+      Some (node_of (any 0 ∷ []) (instr.Reference (reference.Cast (not_null (Concrete 0)))) 0),
+      9 ∷ [],
+    ) }
+    ensures without_null { cast_choice_at (aggregates []) (any 0) (3 ∷ 9 ∷ []) ≡ (
+      Some (node_of (any 0 ∷ []) (instr.Reference (reference.Cast (not_null (Concrete 0)))) 0),
+      9 ∷ [],
+    ) }
+{}
+
+fn branches()
+    ensures on_a_cast { cast_branch_at (branching (any_of heap.Struct ∷ [])) (1 ∷ 9 ∷ []) ≡ (
+      Some (node_of (I32 ∷ any_of heap.Struct ∷ []) (instr.BrOnCast
+          (record { label = 0; from = nullable (plain heap.Struct); to = nullable (Concrete 0) }))
+          2),
+      9 ∷ [],
+    ) }
+    ensures on_its_failure { cast_branch_at (branching (I64 ∷ some 0 ∷ [])) (0 ∷ 9 ∷ []) ≡ (
+      Some (node_of (I32 ∷ any 0 ∷ []) (instr.BrOnCastFail
+          (record { label = 0; from = nullable (Concrete 0); to = not_null (Concrete 0) })) 2),
+      9 ∷ [],
+    ) }
+    ensures without_a_local { cast_branch_at (branching []) (0 ∷ 9 ∷ []) ≡ (
+      Some (node_of (I32 ∷ any 0 ∷ []) (instr.BrOnCastFail
+          (record { label = 0; from = nullable (Concrete 0); to = nullable (Concrete 0) })) 2),
+      9 ∷ [],
+    ) }
+    ensures number_is_kept { ¬ (cast_branch_at (branching []) (0 ∷ 9 ∷ []) ≡ (
+      Some (node_of (I32 ∷ any 0 ∷ []) (instr.BrOnCastFail
+          (record { label = 0; from = nullable (Concrete 0); to = nullable (Concrete 0) })) 1),
+      9 ∷ [],
+    )) }
+    ensures no_label_of_a_reference { cast_branch_at (labelled_by ((any 0 ∷ I64 ∷ []) ∷ []))
+        (1 ∷ 9 ∷ []) ≡ (None, 1 ∷ 9 ∷ []) }
+{}
+
+fn kept_casts()
+    ensures one_of_two_labels { cast_value_at
+        (labelled_by ((any_of heap.Struct ∷ []) ∷ (any 0 ∷ []) ∷ [])) (some 0) (1 ∷ 9 ∷ [])
+        ≡ (
+          Some (node_of (any 0 ∷ []) (instr.BrOnCastFail
+              (record { label = 1; from = nullable (Concrete 0); to = not_null (Concrete 0) })) 0),
+          9 ∷ [],
+        ) }
+    ensures label_of_another_hierarchy { cast_value_at
+        (labelled_by ((any_of heap.Extern ∷ []) ∷ [])) (some 0) (9 ∷ [])
+        ≡ (None, 9 ∷ []) }
+    ensures label_of_two_values { cast_value_at (labelled_by ((I32 ∷ any 0 ∷ []) ∷ []))
+        (some 0) (9 ∷ [])
+        ≡ (None, 9 ∷ []) }
+    ensures number { cast_value_at (labelled_by ((any 0 ∷ []) ∷ [])) I32 (9 ∷ []) ≡ (None, 9 ∷ []) }
+{}

@@ -1,0 +1,29 @@
+ghost use Rattle.std.specs.Prelude.{◌≡◌, [], ◌∷◌, ◌++◌};
+ghost use Rattle.smith_syntax.specs.declared.value_type.ValType.TheVariants.{I32, I64};
+ghost use Rattle.smith_config.specs.Config.{default_config};
+ghost use Rattle.smith_instr.specs.declared.instr.Instr.TheVariants as instr;
+ghost use Rattle.smith_instr_examples.specs.ExampleBodies.{function_of, number, some_func};
+ghost use Rattle.smith_body.specs.Bodies.{body_at};
+ghost use Rattle.smith_body_examples.specs.ExampleBytes.{calling, narrow, wide, wide_number};
+
+fn statements()
+    ensures none { body_at default_config (function_of [] []) 9 (4 ∷ 1 ∷ []) ≡ ([], 1 ∷ []) }
+    ensures two { body_at default_config (function_of [] []) 9 (1 ∷ 0 ∷ 2 ∷ 14 ∷ 0 ∷ 1 ∷ [])
+        ≡ (instr.Nop ∷ instr.Unreachable ∷ [], 1 ∷ []) }
+    ensures dropped_number { body_at default_config (function_of [] []) 1 (1 ∷ 1 ∷ 1 ∷ wide 5)
+        ≡ (wide_number 5 ∷ instr.Drop ∷ [], []) }
+    ensures dropped_local { body_at default_config (function_of (some_func ∷ []) []) 1
+        (1 ∷ 2 ∷ 4 ∷ 4 ∷ [])
+        ≡ (instr.Unreachable ∷ instr.Drop ∷ [], []) }
+    ensures local { body_at default_config (function_of (I32 ∷ I64 ∷ []) []) 1 (1 ∷ 15 ∷ 1 ∷ wide 5)
+        ≡ (wide_number 5 ∷ instr.LocalSet 1 ∷ [], []) }
+    ensures no_local { body_at default_config (function_of [] []) 1 (1 ∷ 15 ∷ [])
+        ≡ (instr.Nop ∷ [], []) }
+    ensures variable_global { body_at default_config (function_of [] []) 1 (1 ∷ 3 ∷ narrow 5)
+        ≡ (number 5 ∷ instr.GlobalSet 1 ∷ [], []) }
+    ensures call { body_at default_config (calling []) 1 (1 ∷ 5 ∷ 1 ∷ wide 5)
+        ≡ (wide_number 5 ∷ instr.Call 1 ∷ instr.Drop ∷ instr.Drop ∷ [], []) }
+    ensures before_the_results { body_at default_config
+        (function_of [] (I32 ∷ [])) 2 (1 ∷ 0 ∷ 0 ∷ 0 ∷ narrow 5)
+        ≡ (instr.Nop ∷ number 5 ∷ [], []) }
+{}

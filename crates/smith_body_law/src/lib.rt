@@ -1,0 +1,22 @@
+//! Laws of values that need no budget: for which types there are none, where bodies may have all
+//! kinds of instructions, and what grounds these types.
+#![tactic(auto)]
+
+mod examples;
+
+ghost use Rattle.smith_body_law.specs.Barren.{OnlyBarrenTypesHaveNoOther};
+ghost use Rattle.smith_body_law.specs.Unnamed.{BarrenTypesAreGroundedByUnnamedFunctions};
+
+/// States that, with garbage collection and where bodies may have all kinds of instructions, only
+/// barren types have no value that needs no budget. These are non-nullable references to heap types
+/// below which there is nothing that can be created or named. With `disallow_traps`, a body has
+/// `unreachable` in place of values of such types alone.
+pub fn only_barren_types_have_no_other()
+    ensures { OnlyBarrenTypesHaveNoOther }
+{}
+
+/// States that a barren heap type that is grounded is grounded by functions alone, none of which may
+/// be named in a body.
+pub fn barren_types_are_grounded_by_unnamed_functions()
+    ensures { BarrenTypesAreGroundedByUnnamedFunctions }
+{}

@@ -1,0 +1,12 @@
+use Rattle.std.proofs.Common.{arith}
+use Rattle.smith_types.specs.Expressions.{field_values}
+use Rattle.smith_instr.specs.Contexts.{AreValid}
+use Rattle.smith_body_aggregates.proofs.AggregateLemmas.{field_valid}
+use Rattle.smith_body_nodes.specs.Scopes.{bare}
+use Rattle.smith_body_leaves.proofs.SingleLemmas.{fields_valid}
+use Rattle.smith_body_leaves.proofs.unary.creation_of.Goals as goal
+
+pub returns-clause-valid : goal.returns-clause-valid
+returns-clause-valid c =
+    let all : AreValid (bare c.args.scope.now) (field_values c.fields_at.result.now) = rw c.fields_at.ensures (fields_valid (bare c.args.scope.now) c.args.ty c.requires.scope) in
+    rw c.unpacked.ensures (field_valid (bare c.args.scope.now) c.fields_at.result.now 0 _ all (omega arith))

@@ -1,0 +1,208 @@
+-- Branches on casts.
+use Rattle.std.proofs.Common.{◌≡◌, ℕ, ◌-◌, ◌<◌, ◌≤◌, Bool, true, false, List, [], ◌∷◌, ◌++◌, Option, Some, None, length, get_or, take, refl, sym, subst, ap, ◌∙◌, arith}
+use Rattle.std.specs.Prelude.{slice_get, IsTrue, min, option_map, option_and_then, unwrap_or, if◌then◌else◌}
+use Rattle.std.specs.List.{AllZip}
+use Rattle.std.proofs.lemmas.List.{length-take-le}
+use Rattle.std.proofs.lemmas.List.Elements.{All-push, All-take}
+use Rattle.std.proofs.lemmas.Option.{same_Some, slice_get-get_or}
+use Rattle.smith_bytes.specs.Draws.{bool_at, choose_at}
+use Rattle.smith_types.specs.Subtyping.{IsRefBelow, IsValBelow, itself}
+use Rattle.smith_types.specs.Types.{IsOrderly}
+use Rattle.smith_syntax.specs.declared.composite_type.SubType.{SubType}
+use Rattle.smith_syntax.specs.declared.value_type.RefType.{RefType}
+use Rattle.smith_syntax.specs.declared.value_type.ValType.{ValType}
+use Rattle.smith_syntax.specs.declared.value_type.ValType.TheVariants.{I32, I64, F32, F64, V128, Ref}
+use Rattle.smith_types.proofs.GrowthLemmas.{IsValBelow-refl}
+use Rattle.smith_draw_types.specs.Below.{is_val_below}
+use Rattle.smith_instr.specs.Contexts.{BodyContext, IsValid, AreValid}
+use Rattle.smith_instr.specs.InstrTypes.{HasInstrType, difference, sets}
+use Rattle.smith_instr.specs.declared.instr.Instr.{Instr}
+use Rattle.smith_instr.specs.declared.instr.Instr.TheVariants as instr
+use Rattle.smith_body_reference_branches.specs.CastBranchChoices.{below_at, below_in, br_on_cast_at, br_on_cast_fail_at, cast_branch_for, cast_down_of, cast_fail_of, cast_label, cast_label_at, cast_label_there, cast_node, cast_value_at, kept_cast, kept_cast_node, last_of}
+use Rattle.smith_body_casts.specs.CastChoices.{above_at}
+use Rattle.smith_body_nodes.specs.Chosen.{giving}
+use Rattle.smith_body_nodes.specs.Nodes.{IsNode}
+use Rattle.smith_body_control.specs.NullChoices.{is_of_reference, last_reference, reference_in}
+use Rattle.smith_body_nodes.specs.Offered.{is_below_at, is_local_below, is_target, offered}
+use Rattle.smith_body_nodes.specs.Scopes.{AreLabels, bare, context_of, indexed, widest}
+use Rattle.smith_body_reference_branches.specs.declared.cast_branches.CastLabel.{CastLabel}
+use Rattle.smith_body_nodes.specs.declared.scope.Scope.{Scope}
+use Rattle.smith_body_nodes.proofs.ItemLemmas.{given_none, given_some}
+use Rattle.smith_body_control.proofs.BranchNodeLemmas.{label_at}
+use Rattle.smith_body_nodes.proofs.NodeLemmas.{no_valid, one_valid}
+use Rattle.smith_body_reference_branches.proofs.NullLemmas.{last_is, last_there, one_longer}
+use Rattle.smith_body_nodes.proofs.OfferLemmas.{target_there, tested}
+use Rattle.smith_body_nodes.proofs.PlainLemmas.{gives_one}
+
+-- the type of a local that matches a reference type, or the type itself
+pub below_valid : (context : BodyContext) (value : ValType) (from : RefType) → IsValid context value → IsValid context (Ref from) → IsValid context (Ref (unwrap_or (reference_in (Some value)) from))
+below_valid context (Ref to) from valid valid' = valid
+below_valid context I32 from valid valid' = valid'
+below_valid context I64 from valid valid' = valid'
+below_valid context F32 from valid valid' = valid'
+below_valid context F64 from valid valid' = valid'
+below_valid context V128 from valid valid' = valid'
+
+below_it : (types : List SubType) (value : ValType) (from : RefType) → IsOrderly types → is_val_below types value (Ref from) ≡ true → IsRefBelow types (unwrap_or (reference_in (Some value)) from) from
+below_it types (Ref to) from orderly is = tested types orderly (Ref to) (Ref from) is
+below_it types I32 from orderly is = IsValBelow-refl types (Ref from)
+below_it types I64 from orderly is = IsValBelow-refl types (Ref from)
+below_it types F32 from orderly is = IsValBelow-refl types (Ref from)
+below_it types F64 from orderly is = IsValBelow-refl types (Ref from)
+below_it types V128 from orderly is = IsValBelow-refl types (Ref from)
+
+pub itself_below : (types : List SubType) (from : RefType) → IsRefBelow types from from
+itself_below types from = IsValBelow-refl types (Ref from)
+
+pub drawn_below : (context : BodyContext) (from : RefType) (index : ℕ) (d : ValType) → IsOrderly context.types → index < length context.locals → is_local_below context (Ref from) index ≡ true
+    → IsRefBelow context.types (unwrap_or (reference_in (Some (get_or context.locals index d))) from) from
+drawn_below context from index d orderly inside is =
+    below_it context.types (get_or context.locals index d) from orderly (subst (λ (o : Option ValType). is_below_at context.types (Ref from) o ≡ true) (slice_get-get_or context.locals index d inside) is)
+
+pub below_none : (context : BodyContext) (from : RefType) (bytes left : List ℕ) → choose_at (offered (is_local_below context (Ref from)) (indexed (length context.locals))) bytes ≡ (None, left) → below_at context from bytes ≡ (from, left)
+below_none context from bytes left drawn = ap (λ (d : Option ℕ × List ℕ). (below_in context from d.0, d.1)) drawn
+
+pub below_some : (context : BodyContext) (from : RefType) (bytes left : List ℕ) (index : ℕ) (d : ValType) → choose_at (offered (is_local_below context (Ref from)) (indexed (length context.locals))) bytes ≡ (Some index, left) → index < length context.locals
+    → below_at context from bytes ≡ (unwrap_or (reference_in (Some (get_or context.locals index d))) from, left)
+below_some context from bytes left index d drawn inside =
+    ap (λ (d : Option ℕ × List ℕ). (below_in context from d.0, d.1)) drawn ∙ ap (λ (o : Option ValType). (unwrap_or (reference_in o) from, left)) (slice_get-get_or context.locals index d inside)
+
+-- a label whose last value is a reference
+pub cast_label_none : (labels : List (List ValType)) (bytes left : List ℕ) → choose_at (offered (is_of_reference labels) (min (length labels) 64)) bytes ≡ (None, left) → cast_label_at labels bytes ≡ (None, left)
+cast_label_none labels bytes left drawn = given_none (cast_label_there labels) (choose_at (offered (is_of_reference labels) (min (length labels) 64)) bytes) left drawn
+
+pub cast_label_some : (labels : List (List ValType)) (bytes left : List ℕ) (index : ℕ) (taken : List ValType) (o : Option RefType) → choose_at (offered (is_of_reference labels) (min (length labels) 64)) bytes ≡ (Some index, left) → slice_get labels index ≡ Some taken
+    → last_reference taken ≡ o → cast_label_at labels bytes ≡ (option_map (cast_label index) o, left)
+cast_label_some labels bytes left index taken o drawn at is =
+    given_some (cast_label_there labels) (choose_at (offered (is_of_reference labels) (min (length labels) 64)) bytes) left index (option_map (cast_label index) o) drawn
+    (ap (λ (values : Option (List ValType)). option_map (cast_label index) (option_and_then last_reference values)) at ∙ ap (λ (o : Option RefType). option_map (cast_label index) o) is)
+
+pub last_at : (labels : List (List ValType)) (index : ℕ) (taken : List ValType) (last : RefType) → slice_get labels index ≡ Some taken → last_reference taken ≡ Some last → last_of labels index ≡ Some last
+last_at labels index taken last at is = ap (λ (values : Option (List ValType)). option_and_then last_reference values) at ∙ is
+
+last_in : (labels : List (List ValType)) (index : ℕ) (taken : List ValType) (last : RefType) → slice_get labels index ≡ Some taken → last_of labels index ≡ Some last → last_reference taken ≡ Some last
+last_in labels index taken last at is = subst (λ (values : Option (List ValType)). option_and_then last_reference values ≡ Some last) at is
+
+pub last_valid : (scope : Scope) (labels : List (List ValType)) (index : ℕ) (last : RefType) → AreLabels scope labels → index < length labels → last_of labels index ≡ Some last → IsValid (bare scope) (Ref last)
+last_valid scope labels index last are inside is =
+    let taken = get_or labels index [] in
+    let (within, here) = last_there taken last (last_in labels index taken last (slice_get-get_or labels index [] inside) is) in
+    subst (IsValid (bare scope)) here (are.valid index [] inside (length taken - 1) (Ref last) within)
+
+-- the type that remains after a cast matches the type before
+weaker : (a b : Bool) → IsTrue (if a then false else b) → IsTrue b
+weaker true b h = cc
+weaker false b h = h
+
+left_below : (types : List SubType) (from to : RefType) → IsRefBelow types (difference from to) from
+left_below types from to = record { heap = itself; nullable = weaker to.nullable from.nullable }
+
+last_below : (types : List SubType) (values : List ValType) (left from : RefType) → IsRefBelow types left from → AllZip (IsValBelow types) (values ++ Ref left ∷ []) (values ++ Ref from ∷ [])
+last_below types [] left from below = (below, tt)
+last_below types (value ∷ values) left from below = (IsValBelow-refl types value, last_below types values left from below)
+
+-- a branch whose values are dropped if it is not taken
+cast_drops : (scope : Scope) (labels : List (List ValType)) (set : List ℕ) (taken : List ValType) (from last left : RefType) (instruction : Instr) → AreValid (bare scope) taken → length taken ≤ widest scope.types.now.types → last_reference taken ≡ Some last
+    → IsValid (bare scope) (Ref from) → IsRefBelow scope.types.now.types left from → sets instruction ≡ []
+    → ((more : List ℕ) → HasInstrType (context_of scope labels) (set ++ more) instruction (take (length taken - 1) taken ++ Ref from ∷ []) (take (length taken - 1) taken ++ Ref left ∷ []))
+    → IsNode (context_of scope labels) set [] (cast_node from instruction taken)
+cast_drops scope labels set taken from last left instruction valid few is from_valid below none typed =
+    let others = take (length taken - 1) taken in
+    let (within, here) = last_there taken last is in
+    let count : length others ≡ length taken - 1 = length-take-le (length taken - 1) taken (omega arith) in
+    let longer = one_longer others (Ref from) in
+    let operands_valid : AreValid (bare scope) (others ++ Ref from ∷ []) = All-push (IsValid (bare scope)) others (Ref from) (All-take (IsValid (bare scope)) (length taken - 1) taken valid) from_valid in
+    record {
+      results = others ++ Ref left ∷ [];
+      dropped = others ++ Ref from ∷ [];
+      typed = typed;
+      below = last_below scope.types.now.types others left from below;
+      given = no_valid (bare scope);
+      spare = operands_valid;
+      drops = omega arith;
+      sets_local = none;
+      few = omega arith;
+      valid = operands_valid;
+      inside = tt;
+    }
+
+pub br_on_cast_gives : (scope : Scope) (labels : List (List ValType)) (set : List ℕ) (label : CastLabel) (from : RefType) (taken : List ValType) → AreLabels scope labels → label.index < length labels → taken ≡ get_or labels label.index taken → last_of labels label.index ≡ Some label.last
+    → IsValid (bare scope) (Ref from) → IsRefBelow scope.types.now.types label.last from → IsNode (context_of scope labels) set [] (cast_node from (instr.BrOnCast (cast_down_of label from)) taken)
+br_on_cast_gives scope labels set label from taken are inside is last from_valid below =
+    let (at, valid, few) = label_at scope labels are label.index taken inside is in
+    let last' = last_in labels label.index taken label.last at last in
+    let to_valid = last_valid scope labels label.index label.last are inside last in
+    let at' : slice_get labels label.index ≡ Some (take (length taken - 1) taken ++ Ref label.last ∷ []) = at ∙ ap (λ (values : List ValType). Some values) (last_is taken label.last last') in
+    cast_drops scope labels set taken from label.last (difference from label.last) (instr.BrOnCast (cast_down_of label from)) valid few last' from_valid (left_below scope.types.now.types from label.last) refl
+    (λ more. (take (length taken - 1) taken, record { from_valid = from_valid.1; to_valid = to_valid.1; below = below; wanted = label.last; taken = at'; arrives = itself_below scope.types.now.types label.last }, (refl, refl)))
+
+pub br_on_cast_fail_gives : (scope : Scope) (labels : List (List ValType)) (set : List ℕ) (label : CastLabel) (to : RefType) (taken : List ValType) → AreLabels scope labels → label.index < length labels → taken ≡ get_or labels label.index taken → last_of labels label.index ≡ Some label.last
+    → IsValid (bare scope) (Ref to) → IsRefBelow scope.types.now.types to label.last → IsNode (context_of scope labels) set [] (cast_node label.last (instr.BrOnCastFail (cast_fail_of label to)) taken)
+br_on_cast_fail_gives scope labels set label to taken are inside is last to_valid below =
+    let (at, valid, few) = label_at scope labels are label.index taken inside is in
+    let last' = last_in labels label.index taken label.last at last in
+    let from_valid = last_valid scope labels label.index label.last are inside last in
+    let at' : slice_get labels label.index ≡ Some (take (length taken - 1) taken ++ Ref label.last ∷ []) = at ∙ ap (λ (values : List ValType). Some values) (last_is taken label.last last') in
+    cast_drops scope labels set taken label.last label.last to (instr.BrOnCastFail (cast_fail_of label to)) valid few last' from_valid below refl
+    (λ more. (take (length taken - 1) taken, record { from_valid = from_valid.1; to_valid = to_valid.1; below = below; wanted = label.last; taken = at'; arrives = left_below scope.types.now.types label.last to }, (refl, refl)))
+
+-- the chosen branch
+pub br_on_cast_some : (context : BodyContext) (label : CastLabel) (from : RefType) (bytes left : List ℕ) (taken : List ValType) → above_at context label.last bytes ≡ (from, left) → slice_get context.labels label.index ≡ Some taken
+    → br_on_cast_at context label bytes ≡ (Some (cast_node from (instr.BrOnCast (cast_down_of label from)) taken), left)
+br_on_cast_some context label from bytes left taken drawn at =
+    ap (λ (d : RefType × List ℕ). (option_map (cast_node d.0 (instr.BrOnCast (cast_down_of label d.0))) (slice_get context.labels label.index), d.1)) drawn
+    ∙ ap (λ (o : Option (List ValType)). (option_map (cast_node from (instr.BrOnCast (cast_down_of label from))) o, left)) at
+
+pub br_on_cast_fail_some : (context : BodyContext) (label : CastLabel) (to : RefType) (bytes left : List ℕ) (taken : List ValType) → below_at context label.last bytes ≡ (to, left) → slice_get context.labels label.index ≡ Some taken
+    → br_on_cast_fail_at context label bytes ≡ (Some (cast_node label.last (instr.BrOnCastFail (cast_fail_of label to)) taken), left)
+br_on_cast_fail_some context label to bytes left taken drawn at =
+    ap (λ (d : RefType × List ℕ). (option_map (cast_node label.last (instr.BrOnCastFail (cast_fail_of label d.0))) (slice_get context.labels label.index), d.1)) drawn
+    ∙ ap (λ (o : Option (List ValType)). (option_map (cast_node label.last (instr.BrOnCastFail (cast_fail_of label to))) o, left)) at
+
+pub branch_succeeds : (context : BodyContext) (label : CastLabel) (bytes left : List ℕ) → bool_at bytes ≡ (true, left) → cast_branch_for context label bytes ≡ br_on_cast_at context label left
+unfolding cast_branch_for
+branch_succeeds context label bytes left drawn = rw drawn refl
+
+pub branch_fails : (context : BodyContext) (label : CastLabel) (bytes left : List ℕ) → bool_at bytes ≡ (false, left) → cast_branch_for context label bytes ≡ br_on_cast_fail_at context label left
+unfolding cast_branch_for
+branch_fails context label bytes left drawn = rw drawn refl
+
+-- a reference of the type of the cast, if the branch is not taken
+one_above : (types : List SubType) (to : RefType) (taken : List ValType) (from : RefType) → AllZip (IsValBelow types) (Ref to ∷ []) taken → last_reference taken ≡ Some from → (taken ≡ Ref from ∷ []) × IsRefBelow types to from
+one_above types to [] from below is = absurd below
+one_above types to (Ref value ∷ []) from below is =
+    let same : value ≡ from = same_Some value from is in
+    (ap (λ (r : RefType). Ref r ∷ []) same, subst (λ (r : RefType). IsRefBelow types to r) same below.0)
+one_above types to (I32 ∷ []) from below is = absurd below.0
+one_above types to (I64 ∷ []) from below is = absurd below.0
+one_above types to (F32 ∷ []) from below is = absurd below.0
+one_above types to (F64 ∷ []) from below is = absurd below.0
+one_above types to (V128 ∷ []) from below is = absurd below.0
+one_above types to (value ∷ other ∷ more) from below is = absurd below.1
+
+pub kept_cast_gives : (scope : Scope) (labels : List (List ValType)) (set : List ℕ) (to from : RefType) (label : ℕ) (taken : List ValType) → IsOrderly (bare scope).types → AreLabels scope labels → label < length labels → taken ≡ get_or labels label taken
+    → is_target (bare scope).types labels (Ref to ∷ []) label ≡ true → last_reference taken ≡ Some from → IsValid (bare scope) (Ref to) → IsNode (context_of scope labels) set (Ref to ∷ []) (kept_cast_node to label from)
+kept_cast_gives scope labels set to from label taken orderly are inside is target last to_valid =
+    let types = scope.types.now.types in
+    let (at, valid, few) = label_at scope labels are label taken inside is in
+    let (taken', at', below) = target_there scope labels (Ref to ∷ []) label orderly target in
+    let same : taken' ≡ taken = same_Some taken' taken (sym at' ∙ at) in
+    let below' = subst (λ (values : List ValType). AllZip (IsValBelow types) (Ref to ∷ []) values) same below in
+    let (only, under) = one_above types to taken from below' last in
+    let from_valid = last_valid scope labels label from are inside (last_at labels label taken from at last) in
+    let one : slice_get labels label ≡ Some (Ref from ∷ []) = at ∙ ap (λ (values : List ValType). Some values) only in
+    gives_one (context_of scope labels) set (Ref to) (Ref to) (Ref from ∷ []) (instr.BrOnCastFail (cast_fail_of (cast_label label from) to))
+    (λ more. ([], record { from_valid = from_valid.1; to_valid = to_valid.1; below = under; wanted = from; taken = one; arrives = left_below types from to }, (refl, refl)))
+    (itself_below types to) to_valid refl (omega arith) (one_valid (context_of scope labels) (Ref from) from_valid)
+
+pub cast_value_none : (context : BodyContext) (to : RefType) (bytes left : List ℕ) → choose_at (offered (is_target context.types context.labels (Ref to ∷ [])) (min (length context.labels) 64)) bytes ≡ (None, left) → cast_value_at context (Ref to) bytes ≡ (None, left)
+unfolding cast_value_at
+cast_value_none context to bytes left drawn = ap (λ (label : Option ℕ × List ℕ). giving (kept_cast context.labels to) label) drawn
+
+pub cast_value_some : (context : BodyContext) (to : RefType) (bytes left : List ℕ) (label : ℕ) (taken : List ValType) (o : Option RefType) → choose_at (offered (is_target context.types context.labels (Ref to ∷ [])) (min (length context.labels) 64)) bytes ≡ (Some label, left)
+    → slice_get context.labels label ≡ Some taken → last_reference taken ≡ o → cast_value_at context (Ref to) bytes ≡ (option_map (kept_cast_node to label) o, left)
+unfolding cast_value_at
+cast_value_some context to bytes left label taken o drawn at last =
+    ap (λ (label : Option ℕ × List ℕ). giving (kept_cast context.labels to) label) drawn
+    ∙ (ap (λ (values : Option (List ValType)). (option_map (kept_cast_node to label) (option_and_then last_reference values), left)) at
+    ∙ ap (λ (o : Option RefType). (option_map (kept_cast_node to label) o, left)) last)

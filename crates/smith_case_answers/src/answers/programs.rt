@@ -1,0 +1,70 @@
+use crate::answers::configured::taken;
+use crate::answers::made::{Fuelled, tell_binary, tell_fuel, tell_text, terminate};
+use crate::told::{tell_refusal, tell_rest};
+use smith_binary_program::encode;
+use smith_bytes::{Error, Unstructured};
+use smith_case::call::ProgramCall;
+use smith_case::{Case, Fault, Obstacle};
+use smith_config::Config;
+use smith_program::Program;
+use smith_text_program::text;
+use std::alloc::Global;
+
+/// Appends the text of the program drawn from `input`, or its binary if `call` encodes it, or the
+/// refusal; then the bytes of `input` left. The configuration `config` is used up. Each argument is
+/// fuel that is added to the program.
+pub(crate) fn answer_program(
+    alloc: Global,
+    case: &Case,
+    call: ProgramCall,
+    config: &mut Config,
+    input: &[u8],
+    answer: &mut String,
+) -> Result<(), Fault> {
+    let mut u = Unstructured::new(input);
+    let made = Program::new(alloc, taken(config), &mut u);
+    tell_made(alloc, case, call, made, answer)?;
+    tell_rest(&u, answer)
+}
+
+// Appends the form of the program that `call` names, or the refusal.
+fn tell_made(
+    alloc: Global,
+    case: &Case,
+    call: ProgramCall,
+    made: Result<Program, Error>,
+    answer: &mut String,
+) -> Result<(), Fault> {
+    match made {
+        Ok(mut program) => {
+            let told = tell_program(alloc, case, call, &mut program, answer);
+            drop(program);
+            told
+        }
+        Err(refusal) => tell_refusal(refusal, answer),
+    }
+}
+
+// Appends `program` in the form that `call` names, after fuel is added for each argument.
+fn tell_program(
+    alloc: Global,
+    case: &Case,
+    call: ProgramCall,
+    program: &mut Program,
+    answer: &mut String,
+) -> Result<(), Fault> {
+    terminate(alloc, case, program, answer)?;
+    match call {
+        ProgramCall::New => tell_text(text(alloc, program), answer),
+        ProgramCall::Encode => tell_binary(alloc, encode(alloc, program), answer),
+    }
+}
+
+impl Fuelled for Program {
+    fn add_fuel(&mut self, alloc: Global, fuel: u32, answer: &mut String) -> Result<(), Fault> {
+        if self.module.globals().len() >= u32::MAX as usize {
+            return Err(Fault::NotCallable(Obstacle::TooManyGlobals));
+        }
+        tell_fuel(self.ensure_termination(alloc, fuel), answer)
+    }
+}

@@ -1,7 +1,0 @@
-ghost use Rattle.smith_code_leaves.specs.Laws.{TrapsOnlyForNoOther};
-
-/// States that, if traps are disallowed, a value is `unreachable` only if no other permitted
-/// instructions without a budget produce one of its type.
-pub fn traps_only_for_no_other()
-    ensures { TrapsOnlyForNoOther }
-{}

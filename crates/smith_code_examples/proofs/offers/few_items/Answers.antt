@@ -1,5 +1,0 @@
-use Rattle.smith_code_examples.proofs.OneChunkLemmas.{one_chunk}
-use Rattle.smith_code_examples.proofs.offers.few_items.Goals as goal
-
-pub returns : goal.returns
-returns c = one_chunk

@@ -1,9 +1,0 @@
-use Rattle.std.proofs.Common.{◌≡◌, ◌≤◌, length}
-use Rattle.smith_code_nodes.specs.Offered.{offered}
-use Rattle.smith_code_nodes.proofs.offer.count_offered.Given as goal
-
-abbrev pub invariant-loop-index : goal.invariant-loop-index
-invariant-loop-index g l = record {
-  counted : l.count ≡ length (offered (g.O.Offer.test l.offer) l.index);
-  few : l.count ≤ l.index;
-}

@@ -1,0 +1,3 @@
+pub mod DigitLemmas
+pub mod LineLemmas
+pub mod MemberLemmas

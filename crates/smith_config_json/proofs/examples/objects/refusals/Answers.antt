@@ -1,0 +1,20 @@
+use Rattle.std.proofs.Common.{refl}
+use Rattle.smith_config_json.specs.Fields.{fields}
+use Rattle.smith_config_json.specs.Objects.{repeats, refuses, sets}
+use Rattle.smith_config_json.proofs.examples.objects.refusals.Goals as goal
+
+pub returns-clause-unknown : goal.returns-clause-unknown
+unfolding fields
+returns-clause-unknown c = refuses refl refl refl
+
+pub returns-clause-repeated : goal.returns-clause-repeated
+unfolding fields
+returns-clause-repeated c = sets refl refl refl (repeats refl refl)
+
+pub returns-clause-wrong_type : goal.returns-clause-wrong_type
+unfolding fields
+returns-clause-wrong_type c = refuses refl refl refl
+
+pub returns-clause-out_of_range : goal.returns-clause-out_of_range
+unfolding fields
+returns-clause-out_of_range c = refuses refl refl refl

@@ -1,0 +1,6 @@
+pub mod Fields
+pub mod Lines
+pub mod Objects
+pub mod Places
+pub mod Sets
+pub mod Values

@@ -1,0 +1,95 @@
+-- The values that tokens denote, for the fields that take them. Rules of this project.
+use Rattle.std.specs.Prelude.{◌≡◌, ℕ, ◌-◌, ◌^◌, nat_lt, List, [], ◌∷◌, drop, Bool, false, ◌==◌, if◌then◌else◌, Option, Some, None, option_map, Result, Ok, Err, length}
+use Rattle.std.specs.List.{list_all}
+use Rattle.std.specs.Char.{is_ascii_digit}
+use Rattle.std.specs.Str.Parse.{digits_value}
+use Rattle.json.specs.Token.{Token, begin_object, end_object, begin_array, end_array, key, string, number, boolean, null, bad}
+use Rattle.smith_syntax.specs.Instructions.{kinds_bits, AreReadKinds}
+use Rattle.smith_syntax.specs.declared.instruction_kind.InstructionKinds.{InstructionKinds}
+use Rattle.smith_syntax.specs.declared.instruction_kind.UnknownKind.{UnknownKind}
+use Rattle.smith_config.specs.declared.offset_choices.MemoryOffsetChoices.{MemoryOffsetChoices}
+use Rattle.smith_config_json.specs.declared.fault.Fault.{Fault}
+use Rattle.smith_config_json.specs.declared.fault.Fault.TheVariants.{NotAnObject, WrongType, OutOfRange}
+
+abbrev pub map_ok : {A B E : Type 0} → (A → B) → Result A E → Result B E
+map_ok f (Ok x) = Ok (f x)
+map_ok f (Err e) = Err e
+
+abbrev pub and_then : {A B E : Type 0} → Result A E → (A → Result B E) → Result B E
+and_then (Ok x) f = f x
+and_then (Err e) f = Err e
+
+-- the first token; the end of the tokens counts as a bad one
+abbrev pub first : List Token → Token
+first [] = bad
+first (t ∷ ts) = t
+
+-- the fault of a token that a field doesn't take: a value of another type, or none at all
+abbrev pub unwanted : Token → Fault
+unwanted begin_object = WrongType
+unwanted end_object = NotAnObject
+unwanted begin_array = WrongType
+unwanted end_array = NotAnObject
+unwanted (key s) = NotAnObject
+unwanted (string s) = WrongType
+unwanted (number s) = WrongType
+unwanted (boolean b) = WrongType
+unwanted null = WrongType
+unwanted bad = NotAnObject
+
+-- whether a text has a digit, and only digits
+abbrev pub are_digits : List ℕ → Bool
+are_digits text = if length text == 0 then false else list_all is_ascii_digit text
+
+-- the number that digits denote, if it is at most `most`
+abbrev pub number_of : ℕ → List ℕ → Result ℕ Fault
+number_of most text = if are_digits text then (if nat_lt most (digits_value 10 text) then Err OutOfRange else Ok (digits_value 10 text)) else Err WrongType
+
+-- a whole number of at most `most`, or none at null
+abbrev pub whole_value : ℕ → Token → Result (Option ℕ) Fault
+whole_value most null = Ok None
+whole_value most (number text) = map_ok Some (number_of most text)
+whole_value most t = Err (unwanted t)
+
+-- true or false, or none at null
+abbrev pub truth_value : Token → Result (Option Bool) Fault
+truth_value null = Ok None
+truth_value (boolean b) = Ok (Some b)
+truth_value t = Err (unwanted t)
+
+-- null in place of a path
+abbrev pub file_value : Token → Result (Unit {0}) Fault
+file_value null = Ok tt
+file_value t = Err (unwanted t)
+
+-- a text that names no kinds is out of range
+abbrev pub of_names : Result InstructionKinds UnknownKind → Result (Option InstructionKinds) Fault
+of_names (Ok all) = Ok (Some all)
+of_names (Err e) = Err OutOfRange
+
+-- a set of kinds of instructions, by its twelve bits or by the names of the kinds, or none at null
+abbrev pub AreKinds : Token → Result (Option InstructionKinds) Fault → Type 0
+AreKinds null v = v ≡ Ok None
+AreKinds (number text) v = map_ok (option_map kinds_bits) v ≡ map_ok Some (number_of (2 ^ 12 - 1) text)
+AreKinds (string text) v = (r : Result InstructionKinds UnknownKind) × AreReadKinds text r × (v ≡ of_names r)
+AreKinds t v = v ≡ Err (unwanted t)
+
+-- one of the three weights; at the end of the list, the list is too short
+abbrev pub weight : Token → Result ℕ Fault
+weight (number text) = number_of (2 ^ 32 - 1) text
+weight end_array = Err WrongType
+weight t = Err (unwanted t)
+
+-- the end of the list; at another value, the list is too long
+abbrev pub list_end : Token → Result (Unit {0}) Fault
+list_end end_array = Ok tt
+list_end t = Err (unwanted t)
+
+-- three weights and the end of their list
+abbrev pub weights : List Token → Result MemoryOffsetChoices Fault
+weights ts =
+    and_then (weight (first ts)) (λ inside.
+    and_then (weight (first (drop 1 ts))) (λ between.
+    and_then (weight (first (drop 2 ts))) (λ past.
+    and_then (list_end (first (drop 3 ts))) (λ _.
+    Ok (record { 0 = inside; 1 = between; 2 = past })))))

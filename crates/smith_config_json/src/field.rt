@@ -1,0 +1,230 @@
+ghost use Rattle.std.specs.Prelude.{◌≡◌, option_map};
+ghost use Rattle.smith_config_json.specs.Fields.{AreOfKind, HasKind, named, field_named};
+ghost use Rattle.smith_config_json.specs.Places.{field_of, fields_in};
+
+use crate::place::{Flag, Long, Number, Place, Size, Word};
+use std::fmt;
+
+/// The kind of value that a field takes. Each field also takes `null`, which leaves it unchanged.
+#[derive(Clone, Copy, Debug, PartialEq, Eq)]
+pub enum FieldKind {
+    /// A whole number below 2 to the power of this number, written in digits alone.
+    Whole(u32),
+    /// `true` or `false`.
+    Flag,
+    /// The bits of a set of kinds of instructions as a number below `2^12`, or a string of the
+    /// names of the kinds with commas between them.
+    InstructionKinds,
+    /// A list of three whole numbers below `2^32`.
+    OffsetChoices,
+    /// The path of a file in the Rust crate. No file is read, so only `null` is taken.
+    File,
+}
+
+impl fmt::Display for FieldKind {
+    fn fmt<W: fmt::Write>(&self, f: &mut fmt::Formatter<W>) -> fmt::Result {
+        let text = match self {
+            FieldKind::Whole(bits) => return write!(f, "a whole number below 2^{bits}"),
+            FieldKind::Flag => "true or false",
+            FieldKind::InstructionKinds => {
+                "a whole number below 2^12 or names of kinds of instructions separated by commas"
+            }
+            FieldKind::OffsetChoices => "a list of three whole numbers below 2^32",
+            FieldKind::File => "only null, since no file is read",
+        };
+        f.write_str(text)
+    }
+}
+
+/// Makes an array of the fields, in the order of `Config`: of what the macro `$row` writes for the
+/// name, the place and one sentence of each.
+#[macro_export]
+macro_rules! fields {
+    ($row:ident) => {
+        [
+            $row!("min-types", Size(MinTypes), "The minimum number of types."),
+            $row!("max-types", Size(MaxTypes), "The maximum number of types."),
+            $row!("min-imports", Size(MinImports),
+                "The minimum number of imports, including each item of a compact group."),
+            $row!("max-imports", Size(MaxImports),
+                "The maximum number of imports, including each item of a compact group."),
+            $row!("min-tags", Size(MinTags), "The minimum number of tags."),
+            $row!("max-tags", Size(MaxTags), "The maximum number of tags."),
+            $row!("min-funcs", Size(MinFuncs), "The minimum number of functions."),
+            $row!("max-funcs", Size(MaxFuncs), "The maximum number of functions."),
+            $row!("min-globals", Size(MinGlobals), "The minimum number of globals."),
+            $row!("max-globals", Size(MaxGlobals), "The maximum number of globals."),
+            $row!("min-exports", Size(MinExports), "The minimum number of exports."),
+            $row!("max-exports", Size(MaxExports), "The maximum number of exports."),
+            $row!("min-element-segments", Size(MinElementSegments),
+                "The minimum number of element segments."),
+            $row!("max-element-segments", Size(MaxElementSegments),
+                "The maximum number of element segments."),
+            $row!("min-elements", Size(MinElements),
+                "The minimum number of items in each element segment."),
+            $row!("max-elements", Size(MaxElements),
+                "The maximum number of items in all element segments together."),
+            $row!("min-data-segments", Size(MinDataSegments),
+                "The minimum number of data segments."),
+            $row!("max-data-segments", Size(MaxDataSegments),
+                "The maximum number of data segments."),
+            $row!("min-memories", Word(MinMemories), "The minimum number of memories."),
+            $row!("max-memories", Size(MaxMemories), "The maximum number of memories."),
+            $row!("min-tables", Word(MinTables), "The minimum number of tables."),
+            $row!("max-tables", Size(MaxTables), "The maximum number of tables."),
+            $row!("max-memory32-bytes", Long(MaxMemory32Bytes),
+                "The upper bound for the minimum and the maximum of a 32-bit memory, in bytes."),
+            $row!("max-memory64-bytes", MaxMemory64Bytes,
+                "The upper bound for the minimum and the maximum of a 64-bit memory, in bytes."),
+            $row!("memory-max-size-required", Flag(MemoryMaxSizeRequired),
+                "Whether each memory has a maximum."),
+            $row!("max-table-elements", Long(MaxTableElements),
+                "The upper bound for the minimum and the maximum of a table, in elements."),
+            $row!("table-max-size-required", Flag(TableMaxSizeRequired),
+                "Whether each table has a maximum."),
+            $row!("max-type-size", Word(MaxTypeSize),
+                "The maximum type size of a module: the sum of the sizes of its imports and exports."),
+            $row!("const-expr-fuel", Word(ConstExprFuel),
+                "The number of instructions with operands that a constant expression may draw before it is completed by the shortest means."),
+            $row!("limit-arrays-in-const-exprs", Flag(LimitArraysInConstExprs),
+                "Whether the length of an array in a constant expression is a small number, paid for with `const-expr-fuel`, instead of any i32 expression."),
+            $row!("allow-start-export", Flag(AllowStartExport),
+                "Whether a module may have a start function."),
+            $row!("export-everything", Flag(ExportEverything),
+                "Whether each function, table, memory, global and tag is exported exactly once."),
+            $row!("allow-floats", Flag(AllowFloats),
+                "Whether f32 and f64 may occur in types and constants, and instructions on floats in bodies."),
+            $row!("disallow-traps", Flag(DisallowTraps),
+                "Whether active segments lie within their tables and memories, so that they never trap, and no instruction of a generated body traps except `unreachable`, which is then used only as the whole body if `max-instructions` is 0, in the checks of fuel, or for a value that no other permitted instructions produce without a budget."),
+            $row!("allow-invalid-funcs", Flag(AllowInvalidFuncs),
+                "Whether a body may be raw bytes of the input, which need not be valid."),
+            $row!("reference-types-enabled", Flag(ReferenceTypesEnabled),
+                "References as value types, tables of other types than `funcref`, element expressions, and a second table."),
+            $row!("gc-enabled", Flag(GcEnabled),
+                "Struct and array types, recursive groups, subtypes, and typed references."),
+            $row!("custom-descriptors-enabled", Flag(CustomDescriptorsEnabled),
+                "Exact references."),
+            $row!("multi-value-enabled", Flag(MultiValueEnabled),
+                "Functions with several results."),
+            $row!("bulk-memory-enabled", Flag(BulkMemoryEnabled),
+                "Passive and declared segments, segments with an explicit table, and instructions that fill, copy and initialise memories and tables."),
+            $row!("simd-enabled", Flag(SimdEnabled), "The value type v128, and vector instructions in bodies."),
+            $row!("exceptions-enabled", Flag(ExceptionsEnabled), "Tags, exception references, and `throw`, `throw_ref` and `try_table` in bodies."),
+            $row!("threads-enabled", Flag(ThreadsEnabled), "Shared memories, and atomic accesses in bodies."),
+            $row!("shared-everything-threads-enabled", Flag(SharedEverythingThreadsEnabled),
+                "Shared types, tables, globals and functions."),
+            $row!("memory64-enabled", Flag(Memory64Enabled), "64-bit memories and tables."),
+            $row!("custom-page-sizes-enabled", Flag(CustomPageSizesEnabled),
+                "Memories with an explicit page size of 1 or 65,536 bytes."),
+            $row!("extended-const-enabled", Flag(ExtendedConstEnabled),
+                "Addition, subtraction and multiplication in constant expressions."),
+            $row!("compact-imports-enabled", Flag(CompactImportsEnabled),
+                "Groups of imports with a common module name, or a common module name and type."),
+            $row!("relaxed-simd-enabled", Flag(RelaxedSimdEnabled), "Relaxed vector instructions."),
+            $row!("saturating-float-to-int-enabled", Flag(SaturatingFloatToIntEnabled),
+                "Saturating conversions from floats to integers."),
+            $row!("sign-extension-ops-enabled", Flag(SignExtensionOpsEnabled),
+                "Sign-extension instructions."),
+            $row!("tail-call-enabled", Flag(TailCallEnabled), "Tail calls."),
+            $row!("wide-arithmetic-enabled", Flag(WideArithmeticEnabled), "128-bit arithmetic."),
+            $row!("acquire-release-atomics-enabled", Flag(AcquireReleaseAtomicsEnabled),
+                "Atomic accesses with acquire and release ordering."),
+            $row!("multibyte-array-access-enabled", Flag(MultibyteArrayAccessEnabled),
+                "Accesses to several bytes of an array at once."),
+            $row!("non-nullable-enabled", Flag(NonNullableEnabled),
+                "Non-nullable references, to heap types for which an existing struct type or function provides one without operands."),
+            $row!("allowed-instructions", AllowedInstructions,
+                "The kinds of instructions that bodies of a program may have, without those on floats if `allow-floats` is false."),
+            $row!("memory-offset-choices", MemoryOffsetChoices,
+                "The weights for the position of the offset of a memory access."),
+            $row!("max-instructions", Size(MaxInstructions),
+                "The maximum number of statements and values to choose for a body of a program, besides leaves, such as constants and locals."),
+            $row!("canonicalize-nans", Flag(CanonicalizeNans),
+                "Whether NaN results are made canonical."),
+            $row!("generate-custom-sections", Flag(GenerateCustomSections),
+                "Whether custom sections are generated."),
+            $row!("min-uleb-size", MinUlebSize,
+                "The minimum length of an encoded unsigned integer, in bytes."),
+            $row!("max-aliases", Size(MaxAliases), "The maximum number of aliases of a component."),
+            $row!("max-components", Size(MaxComponents),
+                "The maximum number of components of a component."),
+            $row!("max-instances", Size(MaxInstances),
+                "The maximum number of instances of a component."),
+            $row!("max-modules", Size(MaxModules), "The maximum number of modules of a component."),
+            $row!("max-nesting-depth", Size(MaxNestingDepth),
+                "The maximum nesting depth of components."),
+            $row!("max-values", Size(MaxValues), "The maximum number of values of a component."),
+            $row!("available-imports", File,
+                "The imports to choose from, instead of drawn imports."),
+            $row!("exports", File, "The exports of a module, instead of drawn exports."),
+            $row!("module-shape", File,
+                "The first types of a module and all of its imports and exports, in order."),
+        ]
+    };
+}
+
+/// The row of a field for its place.
+macro_rules! place {
+    ($name:literal, Flag($flag:ident), $about:literal) => {
+        ($name, Place::Flag(Flag::$flag))
+    };
+    ($name:literal, $number:ident($part:ident), $about:literal) => {
+        ($name, Place::Number(Number::$number($number::$part)))
+    };
+    ($name:literal, MinUlebSize, $about:literal) => {
+        ($name, Place::Number(Number::MinUlebSize))
+    };
+    ($name:literal, MaxMemory64Bytes, $about:literal) => {
+        ($name, Place::Number(Number::MaxMemory64Bytes))
+    };
+    ($name:literal, $place:ident, $about:literal) => {
+        ($name, Place::$place)
+    };
+}
+
+/// The name and the place of every field, in the order of `Config`.
+static PLACES: [(&str, Place); 71] = fields!(place);
+
+/// Finds the place of the field named `name`.
+#[tactic(auto, unfolding(crate::specs::Fields::fields))]
+pub(crate) fn place_named(name: &str) -> Option<Place>
+    ensures { option_map field_of result ≡ field_named name.now }
+{
+    found(&PLACES, name)
+}
+
+/// Finds the first item with the name `name`.
+fn found(table: &[(&str, Place)], name: &str) -> Option<Place>
+    ensures { option_map field_of result ≡ named name.now (fields_in table.now) }
+{
+    for (other, place) in table {
+        if name == *other {
+            return Some(*place);
+        }
+    }
+    None
+}
+
+/// Finds the kind of the values of the field named `name`.
+pub fn kind_of(name: &str) -> Option<FieldKind>
+    ensures { AreOfKind (field_named name.now) result }
+{
+    let place = place_named(name)?;
+    Some(kind_at(place))
+}
+
+/// Returns the kind of the values at a place.
+fn kind_at(place: Place) -> FieldKind
+    ensures { HasKind (field_of place) result }
+{
+    match place {
+        Place::Number(Number::Size(_) | Number::Long(_)) => FieldKind::Whole(64),
+        Place::Number(Number::Word(_)) => FieldKind::Whole(32),
+        Place::Number(Number::MinUlebSize) => FieldKind::Whole(8),
+        Place::Number(Number::MaxMemory64Bytes) => FieldKind::Whole(128),
+        Place::Flag(_) => FieldKind::Flag,
+        Place::AllowedInstructions => FieldKind::InstructionKinds,
+        Place::MemoryOffsetChoices => FieldKind::OffsetChoices,
+        Place::File => FieldKind::File,
+    }
+}

@@ -1,0 +1,21 @@
+//! Reads a configuration from a JSON object whose members are named after the fields of `Config`.
+//!
+//! A name has hyphens in place of the field's underscores, as in `max-types`. The macro [`fields`]
+//! lists the names, with a sentence on each field. A field that no member names keeps its default,
+//! and so does a field whose member is `null`.
+#![tactic(auto)]
+
+mod examples;
+mod fault;
+mod field;
+mod lend;
+mod place;
+mod read;
+mod refusal;
+mod value;
+
+pub use fault::Fault;
+pub use field::{FieldKind, kind_of};
+pub use read::{config, read_config, read_text};
+pub use refusal::{ConfigRefusal, Refusal};
+pub use value::set_field;

@@ -1,7 +1,0 @@
-use Rattle.std.proofs.Common.{ℕ, ◌<◌, get_or}
-use Rattle.smith_const_expr.specs.KeptOffers.{IsFor}
-use Rattle.smith_const_expr.specs.declared.kept_offers.KeptOffer.{KeptOffer}
-use Rattle.smith_const_expr.proofs.kept_offers.find.Given as goal
-
-abbrev pub invariant-loop-place : goal.invariant-loop-place
-invariant-loop-place l = (i : ℕ) (d : KeptOffer) → i < l.place → ¬ IsFor l.wanted l.visible (get_or l.kept i d)

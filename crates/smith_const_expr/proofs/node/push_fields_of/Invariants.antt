@@ -1,8 +1,0 @@
-use Rattle.std.proofs.Common.{◌≡◌, ◌++◌, map, drop}
-use Rattle.smith_types.specs.Expressions.{field_values}
-use Rattle.smith_draw_types.specs.HeldFields.{fields_of}
-use Rattle.smith_const_expr.specs.declared.node.Operand.TheVariants.{Value}
-use Rattle.smith_const_expr.proofs.node.push_fields_of.Given as goal
-
-abbrev pub invariant-loop-field : goal.invariant-loop-field
-invariant-loop-field l = l.operands ++ map Value (field_values (drop l.field-index l.field-items)) ≡ l.fn.operands ++ map Value (field_values (fields_of l.fn.inner))

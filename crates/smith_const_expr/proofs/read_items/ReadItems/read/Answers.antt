@@ -1,5 +1,0 @@
-use Rattle.std.proofs.lemmas.Result.{on_ok_weaker}
-use Rattle.smith_const_expr.proofs.read_items.ReadItems.read.Goals as goal
-
-pub returns-clause-globals : goal.returns-clause-globals
-returns-clause-globals c = λ types wanted flags are. on_ok_weaker c.read_funcs.result (λ all. c.in_ok-read_globals.ensures.flags types wanted flags are) c.read_funcs.ensures.all

@@ -1,7 +1,0 @@
-use Rattle.std.proofs.Common.{◌≡◌, ◌++◌, ◌-◌, length, map, drop}
-use Rattle.std.specs.Prelude.{reverse}
-use Rattle.smith_const_expr.specs.declared.task.Task.TheVariants.{Draw}
-use Rattle.smith_const_expr.proofs.task.push_operands.Given as goal
-
-abbrev pub invariant-loop-index : goal.invariant-loop-index
-invariant-loop-index l = reverse l.tasks.items ≡ map Draw (drop (length l.operands - l.index) l.operands) ++ reverse l.fn.tasks.items

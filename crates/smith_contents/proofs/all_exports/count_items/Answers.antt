@@ -1,7 +1,0 @@
-use Rattle.std.proofs.Common.{arith}
-use Rattle.smith_types.specs.EntitySpaces.{spaces_in}
-use Rattle.smith_contents.proofs.AllExportsLemmas.{length-every_item}
-use Rattle.smith_contents.proofs.all_exports.count_items.Goals as goal
-
-pub returns : goal.returns
-returns c = omega (arith, length-every_item (spaces_in c.args.spaces.now))

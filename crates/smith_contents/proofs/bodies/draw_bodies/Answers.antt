@@ -1,4 +1,0 @@
-use Rattle.smith_contents.proofs.bodies.draw_bodies.Goals as goal
-
-pub returns : goal.returns
-returns c = rw c.standing-kept.ensures at c.draw_each_body.ensures

@@ -1,7 +1,0 @@
-use Rattle.smith_bytes.proofs.GrowingLoop.{IsGrowing}
-use Rattle.smith_draw_types.specs.Choices.{chosen_at}
-use Rattle.smith_contents.specs.ElementSegments.{chosen_functions_at}
-use Rattle.smith_contents.proofs.element_items.choose_functions.Given as goal
-
-abbrev pub invariant-loop-made : goal.invariant-loop-made
-invariant-loop-made l = IsGrowing (λ _. chosen_at 0 l.funcs.offered) l.config.min_elements l.most l.made l.items l.fn.u l.u (chosen_functions_at l.config l.funcs.offered l.most l.fn.u)

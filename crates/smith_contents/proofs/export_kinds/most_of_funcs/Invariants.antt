@@ -1,7 +1,0 @@
-use Rattle.std.proofs.Common.{take}
-use Rattle.std.specs.Prelude.{All}
-use Rattle.smith_contents.specs.Exported.{IsFuncWithin}
-use Rattle.smith_contents.proofs.export_kinds.most_of_funcs.Given as goal
-
-abbrev pub invariant-loop-func : goal.invariant-loop-func
-invariant-loop-func l = All (IsFuncWithin l.types.types l.most) (take l.func-index l.funcs)

@@ -1,4 +1,0 @@
-use Rattle.smith_contents.proofs.offset_globals.OffsetGlobals.len.Goals as goal
-
-pub returns : goal.returns
-returns c = rw (← c.self.view_is) c.self.invariant.counted

@@ -1,9 +1,0 @@
-use Rattle.std.proofs.Common.{◌≤◌, ℕ, take}
-use Rattle.smith_config.specs.Features.{features_of}
-use Rattle.smith_draw_types.specs.Grounding.{function_context}
-use Rattle.smith_draw_types.specs.KeptGrounds.{AreKeptGrounds}
-use Rattle.smith_defined.proofs.funcs.note_defined.Given as goal
-
-abbrev pub invariant-loop-function : goal.invariant-loop-function
-invariant-loop-function l =
-    (imported : ℕ) → imported ≤ l.before → AreKeptGrounds (function_context (features_of l.config) l.types.types (take l.before l.funcs) imported) l.fn.grounds → AreKeptGrounds (function_context (features_of l.config) l.types.types (take l.function l.funcs) imported) l.grounds

@@ -1,0 +1,60 @@
+-- The instructions added by each step of drawing a constant expression.
+use Rattle.std.specs.Prelude.{◌≡◌, ◌⊎◌, ℕ, ◌+◌, ◌*◌, ◌≤◌, ◌<◌, true, IsTrue, Option, List, Some, None, Result, Ok, Err, length, map, slice_get, All}
+use Rattle.smith_types.specs.Expressions.{Context, HasType}
+use Rattle.smith_types.specs.Flags.{IsInstrEnabled}
+use Rattle.smith_types.specs.Subtyping.{IsValBelow}
+use Rattle.smith_types.specs.ValidTypes.{IsValTypeValid}
+use Rattle.smith_syntax.specs.declared.value_type.ValType.{ValType}
+use Rattle.smith_syntax.specs.declared.value_type.ValType.TheVariants.{I32, I64}
+use Rattle.smith_syntax.specs.declared.const_instr.ConstInstr.{ConstInstr}
+use Rattle.smith_bytes.specs.declared.error.Error.{Error}
+use Rattle.smith_bytes.specs.declared.error.Error.TheVariants as errors
+use Rattle.smith_config.specs.declared.config.Config.{Config}
+use Rattle.smith_draw_consts.specs.Putting.{Puts}
+use Rattle.smith_draw_consts.specs.ConstBounds.{widest, MayLack}
+use Rattle.smith_draw_consts.specs.ConstNodes.{is_extended, node_at}
+use Rattle.smith_draw_consts.specs.ConstExprs.{State, expression_at}
+use Rattle.smith_draw_consts.specs.declared.node_choice.Choice.{Choice}
+use Rattle.smith_draw_consts.specs.declared.node.Operand.{Operand}
+use Rattle.smith_draw_consts.specs.declared.node.Operand.TheVariants.{Value, Length}
+use Rattle.smith_draw_consts.specs.declared.node.Node.{Node}
+
+-- the type of an operand
+abbrev pub operand_type : Operand → ValType
+operand_type (Value value) = value
+operand_type Length = I32
+
+-- values of these types are appended to the old instructions, and the fuel that this takes
+pub record IsDrawn (context : Context) (values : List ValType) (old : List ConstInstr) (fuel : ℕ) (new : List ConstInstr) (left : ℕ) : Type 0 where
+  pub puts : Puts context values old new
+  pub spent : left ≤ fuel
+  pub short : length new + 23 * widest context.types * left ≤ length old + 23 * length values + 23 * widest context.types * fuel
+
+-- a node produces a value of the wanted type from its operands, which are few, valid and paid for
+pub record IsNode (config : Config) (context : Context) (wanted : ValType) (fuel : ℕ) (node : Node) : Type 0 where
+  pub result : ValType
+  pub typed : HasType context node.instruction (map operand_type node.operands) result
+  pub below : IsValBelow context.types result wanted
+  pub enabled : IsInstrEnabled context.features context.imported_globals node.instruction
+  pub paid : 0 < length node.operands → 0 < fuel
+  pub few : length node.operands ≤ widest context.types
+  pub valid : All (λ operand. IsValTypeValid context.features (length context.types) (operand_type operand)) node.operands
+  pub lacks : (operand : Operand) (place : ℕ) → slice_get node.operands place ≡ Some operand → MayLack config context (operand_type operand) → MayLack config context wanted
+
+-- each node of a choice has the wanted type; an extended constant has an integer type and is
+-- enabled
+pub record IsFit (config : Config) (context : Context) (wanted : ValType) (fuel : ℕ) (choice : Choice) : Type 0 where
+  pub node : (bytes : List ℕ) → IsNode config context wanted fuel (node_at context.types wanted choice bytes).0
+  pub extended : is_extended choice ≡ true → ((wanted ≡ I32) ⊎ (wanted ≡ I64)) × IsTrue context.features.extended_const
+
+-- a successful step leaves the state that its definition returns; if a step had no choice, its
+-- definition returns none
+abbrev pub Reads : Result (Unit {0}) Error → State → Option State → Type 0
+Reads (Ok done) new read = read ≡ Some new
+Reads (Err errors.Memory) new read = Unit {0}
+Reads (Err errors.EmptyChoose) new read = read ≡ None
+Reads (Err _) new read = ⊥
+
+-- a value, by its definition at any depth above the fuel
+pub record ReadsValue (context : Context) (config : Config) (wanted : ValType) (old new : State) (result : Result (Unit {0}) Error) : Type 0 where
+  pub exact : (depth : ℕ) → old.fuel < depth → Reads result new (expression_at context config depth wanted old)

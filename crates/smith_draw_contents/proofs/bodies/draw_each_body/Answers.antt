@@ -1,0 +1,10 @@
+use Rattle.std.proofs.Common.{rules}
+use Rattle.smith_bytes.proofs.GrowingLoop.{grow_full}
+use Rattle.smith_draw_types.proofs.UntilLoop.{until_go}
+use Rattle.smith_draw_contents.proofs.bodies.draw_each_body.Goals as goal
+
+pub loop-made-preserved : goal.loop-made-preserved
+loop-made-preserved c = until_go c.loop-made.invariant c.loop-made-test.true c.in_ok-draw_body.ensures.exact c.in_ok-push.ensures.ok c.draw_body.ensures.left
+
+pub returns : goal.returns
+returns c = record { exact = grow_full c.loop-made.invariant c.loop-made-test.false; memory = search rules; left = search rules }

@@ -1,0 +1,17 @@
+use Rattle.std.proofs.Common.{refl, subst, arith, List, ℕ}
+use Rattle.std.proofs.lemmas.Bool.{le-leb}
+use Rattle.std.proofs.lemmas.List.{take_all}
+use Rattle.smith_config.specs.Features.{features_of}
+use Rattle.smith_draw_types.specs.Grounding.{function_context}
+use Rattle.smith_draw_types.specs.KeptGrounds.{AreKeptGrounds}
+use Rattle.smith_draw_types.proofs.KeptGroundLemmas.{function_added}
+use Rattle.smith_draw_definitions.proofs.funcs.note_defined.Goals as goal
+
+pub loop-function-preserved : goal.loop-function-preserved
+loop-function-preserved c = λ imported within h.
+    let context = function_context (features_of c.args.config.now) c.args.types.now.types c.args.funcs.now imported in
+    c.note.ensures _ _ refl (function_added context c.args.funcs.now c.loop-function.function _ 0 _ c.loop-function-test.true refl (rw (le-leb imported c.loop-function.function (omega (arith, within, c.loop-function.auto.function))) refl)) (c.loop-function.invariant imported within h)
+
+pub returns : goal.returns
+returns c = λ imported within h.
+    subst (λ (funcs : List ℕ). AreKeptGrounds (function_context (features_of c.args.config.now) c.args.types.now.types funcs imported) c.loop-function.grounds) (take_all c.loop-function.function c.args.funcs.now c.loop-function-test.false) (c.loop-function.invariant imported within h)

@@ -1,0 +1,63 @@
+ghost use Rattle.std.specs.Prelude.{◌≡◌, ◌<◌, ◌⊎◌, length, IfErr};
+ghost use Rattle.smith_bytes.specs.Source.{KeepsPieces};
+ghost use Rattle.smith_draw_types.specs.Choices.{chosen_at};
+ghost use Rattle.smith_draw_types.specs.Drawing.{DrawsInto};
+ghost use Rattle.smith_bytes.specs.Steps.{ReturnsWhy};
+ghost use Rattle.smith_draw_definitions.specs.Definitions.{items_defined_at, appended_to, type_indices_at};
+
+use crate::past_maximum::discard_past_maximum;
+use smith_bytes::{Count, Error, Unstructured, Why, goes_on};
+use smith_draw_types::choose;
+use smith_types::Items;
+
+/// Adds items to the end of `items`, each as the index of its type, which is one of `choices`.
+fn choose_types(
+    choices: &[u32],
+    least: usize,
+    most: usize,
+    items: &mut Items<u32>,
+    u: &mut Unstructured<'_>,
+) -> Result<(), Error>
+    requires some { 0 < length choices.now }
+    ensures { DrawsInto (appended_to items.old
+        (items_defined_at (λ _. chosen_at 0 choices.now) least most (length items.old) u.old))
+        items.new result u.old u.new }
+{
+    let before = items.len();
+    let needed = least.saturating_sub(before);
+    for made in 0..most.saturating_sub(before) {
+        if !goes_on(u, made, needed) {
+            return Ok(());
+        }
+        items.push(choose(choices, u))?;
+    }
+    discard_past_maximum(before, most, u);
+    Ok(())
+}
+
+/// Adds items to the end of `items`, each as the index of its type, which is one of `choices`. If
+/// `choices` is empty, adds no item, and fails if `least` items are required.
+#[tactic(auto, unfolding(crate::specs::Definitions::type_indices_at))]
+pub(crate) fn define_typed(
+    count: Count,
+    choices: &[u32],
+    least: usize,
+    most: usize,
+    items: &mut Items<u32>,
+    u: &mut Unstructured<'_>,
+) -> Result<(), Error>
+    ensures exact { ReturnsWhy (λ _. (items.new, u.new)) result
+        (type_indices_at count choices.now least most items.old u.old) }
+    ensures refusal { IfErr result (λ e. (e ≡ Error.Memory)
+        ⊎ ((e ≡ Error.IncorrectFormat (Why.Unmet count)) × (0 < least)
+        × (length choices.now ≡ 0))) }
+    ensures left { KeepsPieces u.old u.new }
+{
+    if !choices.is_empty() {
+        return choose_types(choices, least, most, items, u);
+    }
+    if items.len() < least {
+        return Err(Error::IncorrectFormat(Why::Unmet(count)));
+    }
+    Ok(())
+}

@@ -1,0 +1,6 @@
+use Rattle.std.proofs.Common.{◌≡◌, ◌++◌, take, map}
+use Rattle.smith_types.specs.Imports.{import_of}
+use Rattle.smith_draw_shape_imports.proofs.flat_imports.push_names.Given as goal
+
+abbrev pub invariant-loop-name : goal.invariant-loop-name
+invariant-loop-name l = l.flat ≡ l.fn.flat ++ map (λ name. import_of l.from name l.entity_type) (take l.name-index l.names)

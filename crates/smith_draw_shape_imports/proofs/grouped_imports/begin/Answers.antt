@@ -1,0 +1,15 @@
+use Rattle.std.proofs.lemmas.Result.{IfOk-weaker}
+use Rattle.std.proofs.Common.{arith}
+use Rattle.smith_config.specs.Features.{features_of}
+use Rattle.smith_draw_shape_imports.proofs.GroupedImportsLoop.{begun_one, begun_enabled}
+use Rattle.smith_draw_shape_imports.proofs.grouped_imports.begin.Goals as goal
+
+pub returns-clause-one : goal.returns-clause-one
+returns-clause-one c = IfOk-weaker c.begun.result _ _ (λ group is. rw is (begun_one c.draw_group_kind-kind.result c.args.first.now)) c.begun.ensures.group
+
+pub returns-clause-valid : goal.returns-clause-valid
+returns-clause-valid c = IfOk-weaker c.begun.result _ _
+    (λ group is. rw is (record {
+      filled = rw (begun_one c.draw_group_kind-kind.result c.args.first.now) (omega arith);
+      enabled = begun_enabled (features_of c.args.config.now) c.draw_group_kind-kind.result c.args.first.now c.draw_group_kind-kind.ensures.enabled;
+    })) c.begun.ensures.group

@@ -1,0 +1,6 @@
+use Rattle.std.proofs.Common.{◌≡◌, ◌+◌, drop, length}
+use Rattle.smith_types.specs.Imports.{flattened}
+use Rattle.smith_draw_shape_imports.proofs.module_shape.count_imports.Given as goal
+
+abbrev pub invariant-loop-group : goal.invariant-loop-group
+invariant-loop-group l = l.count + length (flattened (drop l.group-index l.groups)) ≡ length (flattened l.groups)

@@ -1,5 +1,0 @@
-use Rattle.smith_encode_law.proofs.ModuleLemmas.{module_same}
-use Rattle.smith_encode_law.proofs.laws.modules_are_unambiguous.Goals as goal
-
-pub returns : goal.returns
-returns c = module_same

@@ -1,3 +1,0 @@
-pub mod Checks
-pub mod Examples
-pub mod Segments

@@ -1,4 +1,0 @@
-pub mod Fields
-pub mod Places
-pub mod Values
-pub mod Sets

@@ -1,7 +1,0 @@
-use Rattle.std.proofs.Common.{◌≡◌, take}
-use Rattle.std.specs.List.{flat_map}
-use Rattle.smith_given_imports.specs.KeptImports.{kept_of}
-use Rattle.smith_given_imports.proofs.module_shape.kept_groups_of.Given as goal
-
-abbrev pub invariant-loop-group : goal.invariant-loop-group
-invariant-loop-group l = l.groups ≡ flat_map (kept_of l.config.compact_imports_enabled) (take l.group-index l.shape.imports)

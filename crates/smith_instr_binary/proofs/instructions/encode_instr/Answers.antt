@@ -1,7 +1,0 @@
-use Rattle.std.proofs.lemmas.Result.{on_ok_weaker}
-use Rattle.smith_binary.proofs.WrittenLemmas.{written_as}
-use Rattle.smith_instr_binary.proofs.FormLemmas.{instr_is}
-use Rattle.smith_instr_binary.proofs.instructions.encode_instr.Goals as goal
-
-pub returns-clause-writes : goal.returns-clause-writes
-returns-clause-writes c = on_ok_weaker c.write_instr.result (written_as (instr_is c.args.instruction.now)) c.write_instr.ensures.writes

@@ -1,8 +1,0 @@
-use Rattle.std.proofs.Common.{drop}
-use Rattle.smith_binary.specs.Pieces.{Each}
-use Rattle.smith_binary.proofs.WrittenLemmas.{Leads}
-use Rattle.smith_instr_binary.specs.Instructions.{IsInstrWritten}
-use Rattle.smith_instr_binary.proofs.instructions.encode_instrs.Given as goal
-
-abbrev pub invariant-loop-instruction : goal.invariant-loop-instruction
-invariant-loop-instruction l = Leads (Each IsInstrWritten (drop l.instruction-index l.instructions)) (Each IsInstrWritten l.instructions) l.fn.sink l.sink

@@ -1,2 +1,0 @@
-pub mod ExampleInstructions
-pub mod ExampleSegments

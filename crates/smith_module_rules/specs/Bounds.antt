@@ -1,0 +1,144 @@
+-- Sizes of a module: its type size, and the maximum and minimum of each kind. Rules of this
+-- project.
+use Rattle.std.specs.Prelude.{◌≡◌, ℕ, ◌+◌, ◌≤◌, ◌⊎◌, max, false, ◌||◌, is_some, ⊤, List, [], ◌++◌, Option, option_map, unwrap_or, length, slice_get, sum_by, All, if◌then◌else◌}
+use Rattle.std.specs.List.{Contains}
+use Rattle.smith_bytes.specs.declared.error.Count.{Count}
+use Rattle.smith_bytes.specs.declared.error.Count.TheVariants as counts
+use Rattle.smith_types.specs.Imports.{EntitySpaces, flattened, imported_spaces}
+use Rattle.smith_types.specs.Segments.{item_count}
+use Rattle.smith_types.specs.Sizes.{size_in}
+use Rattle.smith_syntax.specs.declared.entity_type.EntityType.TheVariants as entity
+use Rattle.smith_syntax.specs.declared.entity_type.ExportKind.{ExportKind}
+use Rattle.smith_syntax.specs.declared.entity_type.ExportKind.TheVariants as kind
+use Rattle.smith_syntax.specs.declared.imports.Import.{Import}
+use Rattle.smith_syntax.specs.declared.segments.ElementSegment.{ElementSegment}
+use Rattle.smith_config.specs.declared.config.Config.{Config}
+use Rattle.smith_config.specs.declared.shape.Shape.{Shape}
+use Rattle.smith_config.specs.Faults.{minimum_of, maximum_of}
+use Rattle.smith_config.specs.InUse.{shapes_of, FixesImports, FixesExports}
+use Rattle.smith_config.specs.Shapes.{shape_types, shape_imports, shape_spaces}
+use Rattle.smith_config.specs.EntityBounds.{IsTableWithin, IsMemoryWithin}
+use Rattle.smith_module_rules.specs.Held.{HasItems}
+use Rattle.smith_module_rules.specs.ShapeImports.{count_in}
+use Rattle.smith_module_rules.specs.Module.{ModuleParts}
+
+-- the number of items of a kind in a module, imported ones included; elements are those of all
+-- segments together
+abbrev pub count_of : ModuleParts → Count → ℕ
+count_of m counts.Types = length m.types
+count_of m counts.Imports = m.num_imports
+count_of m counts.Tags = length m.tags
+count_of m counts.Funcs = length m.funcs
+count_of m counts.Tables = length m.tables
+count_of m counts.Memories = length m.memories
+count_of m counts.Globals = length m.globals
+count_of m counts.Exports = length m.exports
+count_of m counts.ElementSegments = length m.elems
+count_of m counts.Elements = sum_by (λ (segment : ElementSegment). item_count segment.items) m.elems
+count_of m counts.DataSegments = length m.datas
+
+-- the number that an exported item adds to a count; a function or a tag of a shape for exports adds
+-- a type too
+abbrev pub counts_as : Count → ExportKind → ℕ
+counts_as counts.Tags kind.Tag = 1
+counts_as counts.Funcs kind.Func = 1
+counts_as counts.Tables kind.Table = 1
+counts_as counts.Memories kind.Memory = 1
+counts_as counts.Globals kind.Global = 1
+counts_as counts.Types kind.Tag = 1
+counts_as counts.Types kind.Func = 1
+counts_as _ _ = 0
+
+-- the number of items of a kind that the exports of a shape add
+abbrev pub items_of_exports : Count → Shape → ℕ
+items_of_exports count shape = sum_by (λ (one : List ℕ × ExportKind × ℕ). counts_as count one.1) shape.exports
+
+-- the number of items of a kind that a module shape adds: its types, its imports, and the imports
+-- and exports of the kind
+abbrev pub items_of_module_shape : Count → Shape → ℕ
+items_of_module_shape counts.Types shape = length (shape_types shape)
+items_of_module_shape counts.Imports shape = length (shape_imports shape)
+items_of_module_shape count shape = count_in (imported_spaces (shape_imports shape)) count + items_of_exports count shape
+
+-- available imports add only their types for certain
+abbrev pub items_of_available_imports : Count → Shape → ℕ
+items_of_available_imports counts.Types shape = length (shape_types shape)
+items_of_available_imports count shape = 0
+
+-- the number for a shape, or 0 if there is none
+abbrev pub where_given : (Shape → ℕ) → Option Shape → ℕ
+where_given of_shape given = unwrap_or (option_map of_shape given) 0
+
+-- the number of items of a kind that a module may have even if the maximum is lower: those of a
+-- module shape and of available imports
+abbrev pub items_of_shapes : Config → Count → ℕ
+items_of_shapes config count =
+    let used = shapes_of config in
+    where_given (items_of_module_shape count) used.module_shape + where_given (items_of_available_imports count) used.available_imports
+
+-- the number of items of a kind that a module may have in addition: those of a shape for exports
+abbrev pub items_of_export_shape : Config → Count → ℕ
+items_of_export_shape config count = where_given (items_of_exports count) (shapes_of config).exports
+
+-- the maximum of a kind applies: that of exports unless a shape fixes them, or everything is
+-- exported
+abbrev pub MaximumApplies : Config → Count → Type 0
+MaximumApplies config counts.Exports = (FixesExports config → ⊥) × (config.export_everything ≡ false)
+MaximumApplies config count = ⊤
+
+-- the minimum of a kind applies to the whole module: that of imports unless a shape fixes them,
+-- that of exports unless a shape fixes them or everything is exported; that of elements applies to
+-- each segment
+abbrev pub MinimumApplies : Config → Count → Type 0
+MinimumApplies config counts.Imports = FixesImports config → ⊥
+MinimumApplies config counts.Exports = (FixesExports config → ⊥) × (config.export_everything ≡ false)
+MinimumApplies config counts.Elements = ⊥
+MinimumApplies config count = ⊤
+
+-- the size of an import
+abbrev pub import_size : ModuleParts → Import → ℕ
+import_size m one = size_in m.types one.entity_type
+
+-- the size of an export: that of its type for a function, else 1
+abbrev pub export_size : ModuleParts → ExportKind → ℕ → ℕ
+export_size m kind.Func index = unwrap_or (option_map (λ func. size_in m.types (entity.Func func)) (slice_get m.funcs index)) 1
+export_size m _ index = 1
+
+-- the amount that imports add to the type size: nothing if a module shape fixes them, else their
+-- sizes, and one more each if they are drawn freely
+abbrev pub imports_size : Config → ModuleParts → ℕ
+imports_size config m =
+    if is_some config.module_shape then 0
+    else if is_some config.available_imports then sum_by (import_size m) (flattened m.imports)
+    else sum_by (λ one. import_size m one + 1) (flattened m.imports)
+
+-- the amount that exports add to the type size: nothing if a shape fixes them, else their sizes and
+-- one more each
+abbrev pub exports_size : Config → ModuleParts → ℕ
+exports_size config m =
+    if is_some config.module_shape || is_some config.exports then 0
+    else sum_by (λ (one : List ℕ × ExportKind × ℕ). export_size m one.1 one.2 + 1) m.exports
+
+-- the tables and memories of the shapes that are used
+abbrev pub of_shapes : {A : Type 0} → (EntitySpaces → List A) → Config → List A
+of_shapes {A} space config =
+    let one = λ (given : Option Shape). unwrap_or (option_map (λ (shape : Shape). space (shape_spaces shape)) given) [] in
+    let used = shapes_of config in
+    one used.available_imports ++ (one used.exports ++ one used.module_shape)
+
+-- no more than the configuration and its shapes allow
+pub record KeepsBounds (config : Config) (m : ModuleParts) : Type 0 where
+  pub most : (count : Count) → MaximumApplies config count → count_of m count ≤ max (maximum_of config count) (items_of_shapes config count) + items_of_export_shape config count
+  pub tables : All (λ table. Contains (of_shapes (λ spaces. spaces.tables) config) table ⊎ IsTableWithin config table) m.tables
+  pub memories : All (λ memory. Contains (of_shapes (λ spaces. spaces.memories) config) memory ⊎ IsMemoryWithin config memory) m.memories
+  pub type_size : m.type_size ≡ imports_size config m + exports_size config m
+  pub type_size_most : m.type_size ≤ config.max_type_size
+
+-- an element segment of a module has enough items
+abbrev pub HasEnough : Config → ModuleParts → ElementSegment → Type 0
+HasEnough config m segment = HasItems config m.types m.funcs segment.items
+
+-- no fewer than the configuration requires
+pub record MeetsMinimums (config : Config) (m : ModuleParts) : Type 0 where
+  pub least : (count : Count) → MinimumApplies config count → minimum_of config count ≤ count_of m count
+  pub elems : All (HasEnough config m) m.elems

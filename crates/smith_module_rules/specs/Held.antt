@@ -1,0 +1,29 @@
+-- Contents of element segments and bodies. Rules of this project.
+use Rattle.std.specs.Prelude.{◌≡◌, ℕ, ◌≤◌, ◌⊎◌, IsTrue, List, [], Some, slice_get, All}
+use Rattle.smith_syntax.specs.Kinds.{shared}
+use Rattle.smith_types.specs.Segments.{item_count}
+use Rattle.smith_syntax.specs.declared.code.Instructions.{Instructions}
+use Rattle.smith_syntax.specs.declared.code.Instructions.TheVariants.{Unreachable, Arbitrary}
+use Rattle.smith_syntax.specs.declared.composite_type.SubType.{SubType}
+use Rattle.smith_syntax.specs.declared.const_instr.ConstInstr.{ConstInstr}
+use Rattle.smith_syntax.specs.declared.segments.Elements.{Elements}
+use Rattle.smith_syntax.specs.declared.segments.Elements.TheVariants.{Functions, Expressions}
+use Rattle.smith_config.specs.declared.config.Config.{Config}
+
+-- the expressions of an element segment
+abbrev pub expressions_of : Elements → List (List ConstInstr)
+expressions_of (Functions functions) = []
+expressions_of (Expressions expressions) = expressions
+
+-- no function can be an item that lists a function: each is of a shared type
+abbrev pub HasNoCandidates : List SubType → List ℕ → Type 0
+HasNoCandidates types funcs = All (λ index. (t : SubType) × (slice_get types index ≡ Some t) × IsTrue (shared t)) funcs
+
+-- at least the minimum number of items, or an empty list of functions if there is no candidate
+abbrev pub HasItems : Config → List SubType → List ℕ → Elements → Type 0
+HasItems config types funcs items = (config.min_elements ≤ item_count items) ⊎ ((items ≡ Functions []) × HasNoCandidates types funcs)
+
+-- instructions that are raw bytes, before which no check can be placed
+abbrev pub IsRaw : Instructions → Type 0
+IsRaw Unreachable = ⊥
+IsRaw (Arbitrary bytes) = Unit {0}

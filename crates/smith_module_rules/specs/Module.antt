@@ -1,0 +1,157 @@
+-- The parts of a module, and its validity: the section Validation, Modules, of the WebAssembly Core
+-- Specification 3.0.
+use Rattle.std.specs.Prelude.{◌≡◌, ℕ, ◌+◌, Bool, IsTrue, Option, Some, None, List, length, slice_get}
+use Rattle.std.specs.List.{All}
+use Rattle.std.specs.declared.ops.Range.{Range}
+use Rattle.smith_syntax.specs.Features.{Features}
+use Rattle.smith_types.specs.GroupedTypes.{GroupedTypes}
+use Rattle.smith_types.specs.ValidTypes.{AreTypesValid}
+use Rattle.smith_types.specs.Imports.{EntitySpaces, Defines, IsImportsValid, flattened, imported_spaces}
+use Rattle.smith_types.specs.Entities.{AreEntitiesValid, AreCountsEnabled}
+use Rattle.smith_types.specs.Expressions.{Context, IsConstExpr, seeing, seen_by_tables, seen_by_global, seen_by_segments}
+use Rattle.smith_types.specs.Segments.{IsElementSegmentValid, IsDataValid}
+use Rattle.smith_types.specs.Exports.{AreExportsValid, IsStartValid}
+use Rattle.smith_types.specs.Bodies.{IsBodyValid, IsCounterGlobal}
+use Rattle.smith_syntax.specs.declared.value_type.ValType.TheVariants.{Ref}
+use Rattle.smith_syntax.specs.declared.composite_type.SubType.{SubType}
+use Rattle.smith_syntax.specs.declared.entity_type.TableType.{TableType}
+use Rattle.smith_syntax.specs.declared.entity_type.MemoryType.{MemoryType}
+use Rattle.smith_syntax.specs.declared.entity_type.GlobalType.{GlobalType}
+use Rattle.smith_syntax.specs.declared.entity_type.ExportKind.{ExportKind}
+use Rattle.smith_syntax.specs.declared.imports.Imports.{Imports}
+use Rattle.smith_syntax.specs.declared.const_instr.ConstInstr.{ConstInstr}
+use Rattle.smith_syntax.specs.declared.segments.ElementSegment.{ElementSegment}
+use Rattle.smith_syntax.specs.declared.segments.DataSegment.{DataSegment}
+use Rattle.smith_syntax.specs.declared.code.Code.{Code}
+use Rattle.smith_config.specs.declared.config.Config.{Config}
+use Rattle.smith_config.specs.Features.{features_of}
+use Rattle.smith_config.specs.Sanitized.{sanitized}
+
+-- The parts of a module. Each index space is complete, with imported items first (Structure,
+-- Modules; Structure, Indices).
+pub record ModuleParts : Type 0 where
+  pub config : Config
+  pub types : List SubType
+  pub groups : List (Range ℕ)
+  pub imports : List Imports
+  pub num_imports : ℕ
+  pub tags : List ℕ
+  pub funcs : List ℕ
+  pub tables : List TableType
+  pub defined_tables : List (Option (List ConstInstr))
+  pub memories : List MemoryType
+  pub globals : List GlobalType
+  pub defined_globals : List (ℕ × List ConstInstr)
+  pub num_defined_tags : ℕ
+  pub num_defined_funcs : ℕ
+  pub num_defined_memories : ℕ
+  pub exports : List (List ℕ × ExportKind × ℕ)
+  pub start : Option ℕ
+  pub elems : List ElementSegment
+  pub datas : List DataSegment
+  pub code : List Code
+  pub fuel_globals : List ℕ
+  pub encodes_types : Bool
+  pub encodes_imports : Bool
+  pub type_size : ℕ
+  pub interesting_values32 : List ℕ
+  pub interesting_values64 : List ℕ
+
+-- the configuration that a module returns: that of the caller, sanitised, and without its
+-- available imports (own rule)
+abbrev pub shown_config : Config → Config
+shown_config config = record (sanitized config) { available_imports = None }
+
+-- the features of a module's configuration (own rule)
+abbrev pub module_features : ModuleParts → Features
+module_features m = features_of m.config
+
+-- a module's types in their groups (Structure, Recursive Types)
+abbrev pub module_types : ModuleParts → GroupedTypes
+module_types m = record { types = m.types; groups = m.groups }
+
+-- a module's index spaces (Structure, Indices)
+abbrev pub module_spaces : ModuleParts → EntitySpaces
+module_spaces m = record { tags = m.tags; funcs = m.funcs; tables = m.tables; memories = m.memories; globals = m.globals }
+
+-- the index spaces of a module's imports, which come first in its index spaces (Structure, Indices)
+abbrev pub module_imports : ModuleParts → EntitySpaces
+module_imports m = imported_spaces (flattened m.imports)
+
+-- the context of a module's expressions with no global visible (Validation, Modules)
+abbrev pub module_context : ModuleParts → Context
+module_context m = record {
+  features = module_features m;
+  types = m.types;
+  funcs = m.funcs;
+  globals = m.globals;
+  imported_funcs = length (module_imports m).funcs;
+  imported_globals = length (module_imports m).globals;
+  visible = 0;
+}
+
+-- the context of the initialiser of a table, and of the global of this index (Validation, Modules)
+abbrev pub table_context : ModuleParts → Context
+table_context m = seeing (module_context m) (seen_by_tables (module_context m))
+
+abbrev pub global_context : ModuleParts → ℕ → Context
+global_context m index = seeing (module_context m) (seen_by_global (module_context m) index)
+
+-- the context of the offset or an item of a segment (Validation, Modules)
+abbrev pub segment_context : ModuleParts → Context
+segment_context m = seeing (module_context m) (seen_by_segments (module_context m))
+
+-- imports come first in each index space, then definitions (Structure, Indices)
+pub record AreSpacesMade (m : ModuleParts) : Type 0 where
+  pub imports : m.num_imports ≡ length (flattened m.imports)
+  pub tags : Defines (module_imports m).tags m.num_defined_tags m.tags
+  pub funcs : Defines (module_imports m).funcs m.num_defined_funcs m.funcs
+  pub tables : Defines (module_imports m).tables (length m.defined_tables) m.tables
+  pub memories : Defines (module_imports m).memories m.num_defined_memories m.memories
+  pub globals : Defines (module_imports m).globals (length m.defined_globals) m.globals
+
+-- a table has an initialiser of its element type, or none if that is nullable (Validation, Tables);
+-- an initialiser requires garbage collection (own rule)
+abbrev pub IsTableInitialised : Context → TableType → Option (List ConstInstr) → Type 0
+IsTableInitialised context table None = IsTrue table.element_type.nullable
+IsTableInitialised context table (Some expression) = IsTrue context.features.gc × IsConstExpr context (Ref table.element_type) expression
+
+-- a definition of a table (Validation, Tables)
+abbrev pub IsTableDefined : ModuleParts → ℕ → Option (List ConstInstr) → Type 0
+IsTableDefined m place initial =
+    (table : TableType) × (slice_get m.tables (length (module_imports m).tables + place) ≡ Some table) × IsTableInitialised (table_context m) table initial
+
+-- a definition of a global, which holds its index (Validation, Globals)
+pub record IsGlobalDefined (m : ModuleParts) (place index : ℕ) (initial : List ConstInstr) : Type 0 where
+  pub in_order : index ≡ length (module_imports m).globals + place
+  pub global : GlobalType
+  pub stands : slice_get m.globals index ≡ Some global
+  pub initialised : IsConstExpr (global_context m index) global.val_type initial
+
+-- definitions of tables and globals (Validation, Tables; Globals)
+pub record AreDefinitionsValid (m : ModuleParts) : Type 0 where
+  pub tables : (place : ℕ) (initial : Option (List ConstInstr)) → slice_get m.defined_tables place ≡ Some initial → IsTableDefined m place initial
+  pub globals : (place index : ℕ) (initial : List ConstInstr) → slice_get m.defined_globals place ≡ Some (index, initial) → IsGlobalDefined m place index initial
+
+-- each function that is defined has a body (Validation, Functions), and each counter of fuel is a
+-- global that may be one (own rule)
+pub record AreBodiesValid (m : ModuleParts) : Type 0 where
+  pub each : length m.code ≡ m.num_defined_funcs
+  pub bodies : All (IsBodyValid (module_features m) (length m.types) m.config.allow_invalid_funcs) m.code
+  pub counters : All (IsCounterGlobal m.globals (length (module_imports m).globals)) m.fuel_globals
+
+-- a valid module, under the features of its configuration, except for raw bodies (Validation,
+-- Modules); the rules for features and for shared and exact types are own rules, and so is the rule
+-- that equal groups are different types
+pub record IsValid (m : ModuleParts) : Type 0 where
+  pub types : AreTypesValid (module_features m) (module_types m)
+  pub imports : All (IsImportsValid (module_features m)) m.imports
+  pub spaces : AreSpacesMade m
+  pub entities : AreEntitiesValid (module_features m) m.types (module_spaces m)
+  pub counts : AreCountsEnabled (module_features m) (module_spaces m)
+  pub definitions : AreDefinitionsValid m
+  pub exports : AreExportsValid (module_spaces m) m.exports
+  pub start : IsStartValid m.types m.funcs m.start
+  pub elems : All (IsElementSegmentValid (segment_context m) m.tables) m.elems
+  pub data_segments : All (IsDataValid (segment_context m) m.memories) m.datas
+  pub bodies : AreBodiesValid m

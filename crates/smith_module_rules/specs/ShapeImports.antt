@@ -1,0 +1,74 @@
+-- The groups of imports of a module shape, and the imports taken of a shape of available imports.
+-- Rules of this project.
+use Rattle.std.specs.Prelude.{ℕ, suc, ◌+◌, ◌%◌, ◌==◌, ◌&&◌, nat_le, nat_lt, Bool, true, List, [], ◌∷◌, ◌++◌, map, length, sum_by, slice_index_or, if◌then◌else◌}
+use Rattle.std.specs.List.{filter}
+use Rattle.smith_bytes.specs.declared.error.Count.{Count}
+use Rattle.smith_bytes.specs.declared.error.Count.TheVariants as counts
+use Rattle.smith_types.specs.Imports.{EntitySpaces, imports_of, imported_spaces}
+use Rattle.smith_types.specs.Sizes.{size_in}
+use Rattle.smith_syntax.specs.declared.composite_type.SubType.{SubType}
+use Rattle.smith_syntax.specs.declared.entity_type.EntityType.{EntityType}
+use Rattle.smith_syntax.specs.declared.entity_type.EntityType.TheVariants as entity
+use Rattle.smith_syntax.specs.declared.imports.Import.{Import}
+use Rattle.smith_syntax.specs.declared.imports.Imports.{Imports}
+use Rattle.smith_syntax.specs.declared.imports.Imports.TheVariants.{Single}
+use Rattle.smith_config.specs.declared.config.Config.{Config}
+use Rattle.smith_config.specs.declared.shape.Shape.{Shape}
+use Rattle.smith_config.specs.Faults.{maximum_of}
+use Rattle.smith_config.specs.Shapes.{shape_imports}
+
+-- a group of imports is not empty
+abbrev pub is_filled : Imports → Bool
+is_filled group = nat_lt 0 (length (imports_of group))
+
+-- the groups of a shape's imports in the form that a module has them: without the empty ones, or
+-- one by one
+abbrev pub kept_groups : Config → Shape → List Imports
+kept_groups config shape = if config.compact_imports_enabled then filter is_filled shape.imports else map Single (shape_imports shape)
+
+-- the number of items of a kind in index spaces
+abbrev pub count_in : EntitySpaces → Count → ℕ
+count_in spaces counts.Tags = length spaces.tags
+count_in spaces counts.Funcs = length spaces.funcs
+count_in spaces counts.Tables = length spaces.tables
+count_in spaces counts.Memories = length spaces.memories
+count_in spaces counts.Globals = length spaces.globals
+count_in spaces _ = 0
+
+-- whether the bytes pick the import at this place: the byte there is odd; past the end none is
+-- picked
+abbrev pub is_picked : List ℕ → ℕ → Bool
+is_picked bytes place = slice_index_or bytes place 0 % 2 == 1
+
+-- the count that an entity adds to
+abbrev pub count_for : EntityType → Count
+count_for (entity.Global global) = counts.Globals
+count_for (entity.Table table) = counts.Tables
+count_for (entity.Memory memory) = counts.Memories
+count_for (entity.Tag index) = counts.Tags
+count_for (entity.Func index) = counts.Funcs
+
+-- tags require their feature
+abbrev pub is_allowed : Config → EntityType → Bool
+is_allowed config (entity.Tag index) = config.exceptions_enabled
+is_allowed config _ = true
+
+-- the sum of the sizes of imports
+abbrev pub sizes_of : List SubType → List Import → ℕ
+sizes_of types imports = sum_by (λ (one : Import). size_in types one.entity_type) imports
+
+-- whether one more import fits after those taken: in number, number of its kind, and size
+unfoldable pub is_fitting : Config → List SubType → List Import → Import → Bool
+is_fitting config types taken one =
+    let count = count_for one.entity_type in
+    nat_lt (length taken) config.max_imports
+    && nat_lt (count_in (imported_spaces taken) count) (maximum_of config count)
+    && is_allowed config one.entity_type
+    && nat_le (sizes_of types taken + size_in types one.entity_type) config.max_type_size
+
+-- imports followed by those available imports, from this place on, that the bytes pick and that fit
+abbrev pub taken_from : Config → List SubType → List ℕ → ℕ → List Import → List Import → List Import
+taken_from config types bytes place taken [] = taken
+taken_from config types bytes place taken (one ∷ more) =
+    let next = if is_picked bytes place && is_fitting config types taken one then taken ++ one ∷ [] else taken in
+    taken_from config types bytes (suc place) next more

@@ -1,0 +1,35 @@
+ghost use Rattle.std.specs.Prelude.{◌≡◌, IfOk, IfErr};
+ghost use Rattle.smith_binary.specs.declared.error.EncodeError.TheVariants.{Memory};
+ghost use Rattle.smith_binary_module.specs.Layout.{section_ids, HasSections};
+ghost use Rattle.smith_binary_program.specs.Programs.{IsProgramBinary};
+ghost use Rattle.smith_request.specs.Output.{IsUnwritten};
+ghost use Rattle.smith_request.specs.declared.refusal.Refusal.TheVariants.{Encoding};
+
+use crate::refusal::Refusal;
+use smith_binary::EncodeError;
+use smith_program::Program;
+use std::alloc::Global;
+
+/// Writes `program` in the binary format.
+pub fn write_binary(alloc: Global, program: &Program) -> Result<Vec<u8>, Refusal>
+    ensures spelled { IfOk result (λ bytes.
+        IsProgramBinary program.now.«module» program.now.bodies bytes.items) }
+    ensures sections { IfOk result (λ bytes.
+        HasSections (section_ids program.now.«module») bytes.items) }
+    ensures refused { IfErr result (IsUnwritten program.now) }
+{
+    match smith_binary_program::encode(alloc, program) {
+        Ok(bytes) => Ok(bytes),
+        Err(fault) => Err(Refusal::Encoding(fault)),
+    }
+}
+
+/// Writes `program` in the text format. Refuses it for lack of memory alone.
+pub fn write_text(alloc: Global, program: &Program) -> Result<String, Refusal>
+    ensures memory { IfErr result (λ refusal. refusal ≡ Encoding Memory) }
+{
+    match smith_text_program::text(alloc, program) {
+        Ok(text) => Ok(text),
+        Err(_) => Err(Refusal::Encoding(EncodeError::Memory)),
+    }
+}

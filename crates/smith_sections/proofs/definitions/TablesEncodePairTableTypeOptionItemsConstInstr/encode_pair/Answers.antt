@@ -1,7 +1,0 @@
-use Rattle.std.proofs.lemmas.Result.{on_ok_weaker}
-use Rattle.smith_binary.proofs.WrittenLemmas.{joined_written}
-use Rattle.smith_sections.proofs.definitions.TablesEncodePairTableTypeOptionItemsConstInstr.encode_pair.Goals as goal
-
-pub returns-in_ok-encode-in-Some-clause-writes : goal.returns-in_ok-encode-in-Some-clause-writes
-returns-in_ok-encode-in-Some-clause-writes c =
-    rw c.in-Some.is (on_ok_weaker c.encode-in-Some-2.result (λ last. joined_written c.in_ok-write_bytes-in-Some.ensures.writes (joined_written c.in_ok-encode-in-Some.ensures.writes last)) c.encode-in-Some-2.ensures.writes)
