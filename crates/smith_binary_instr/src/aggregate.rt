@@ -4,7 +4,7 @@ ghost use Rattle.smith_binary.specs.Pieces.{Writes};
 ghost use Rattle.smith_binary_instr.specs.Aggregate.{IsAggregate, IsOn, IsOnTwo, get_number};
 
 use crate::opcodes::{write_prefixed_index, write_prefixed_indices};
-use crate::prefixed::write_prefixed;
+use crate::prefix::write_prefixed;
 use smith_binary::{EncodeError, Sink};
 use smith_instr::{AggregateInstr, Extension};
 

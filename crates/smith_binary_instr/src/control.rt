@@ -8,7 +8,7 @@ ghost use Rattle.smith_binary_sections.specs.Types.{IsValType};
 ghost use Rattle.smith_binary_instr.specs.Control.{IsBlockType, IsBranchCast, IsCatch, cast_byte};
 
 use crate::opcodes::{write_indexed, write_two_indices};
-use crate::prefixed::write_prefixed;
+use crate::prefix::write_prefixed;
 use smith_binary::{EncodeError, Sink};
 use smith_binary_sections::{Encode, EncodeItem, Listed, Plain};
 use smith_instr::{BlockType, BranchCast, Catch};

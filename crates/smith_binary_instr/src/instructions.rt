@@ -19,7 +19,7 @@ use crate::memory::{
 };
 use crate::numeric::write_numeric;
 use crate::opcodes::{write_indexed, write_two_indices};
-use crate::prefixed::write_prefixed;
+use crate::prefix::write_prefixed;
 use crate::references::{write_reference, write_table};
 use crate::vector::{write_vector, write_vector_const};
 use smith_binary::{EncodeError, Sink};

@@ -13,7 +13,7 @@ mod instructions;
 mod memory;
 mod numeric;
 mod opcodes;
-mod prefixed;
+mod prefix;
 mod references;
 mod vector;
 mod vector_numbers;

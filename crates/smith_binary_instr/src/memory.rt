@@ -13,7 +13,7 @@ ghost use Rattle.smith_binary_instr.specs.Memory.{
 };
 
 use crate::opcodes::{write_indexed, write_prefixed_index, write_prefixed_indices};
-use crate::prefixed::write_prefixed;
+use crate::prefix::write_prefixed;
 use smith_binary::{EncodeError, Sink};
 use smith_instr::{Load, MemArg, MemoryInstr, Store, VectorLoad};
 

@@ -15,7 +15,7 @@ ghost use Rattle.smith_binary_instr.specs.Numeric.{
   IsNumeric,
 };
 
-use crate::prefixed::write_prefixed;
+use crate::prefix::write_prefixed;
 use smith_binary::{EncodeError, Sink};
 use smith_instr::{
     Conversion, FloatBinary, FloatCompare, FloatUnary, IntBinary, IntCompare, IntUnary,

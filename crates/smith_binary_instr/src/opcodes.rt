@@ -3,7 +3,7 @@ ghost use Rattle.smith_binary.specs.declared.error.EncodeError.TheVariants.{Memo
 ghost use Rattle.smith_binary.specs.Pieces.{IsByte, Joined, Writes};
 ghost use Rattle.smith_binary_sections.specs.Instructions.{IsIndex, IsPrefixed};
 
-use crate::prefixed::write_prefixed;
+use crate::prefix::write_prefixed;
 use smith_binary::{EncodeError, Sink};
 
 // Writes the opcode `opcode`, then the index `index`.

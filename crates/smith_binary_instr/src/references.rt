@@ -4,7 +4,7 @@ ghost use Rattle.smith_binary.specs.Pieces.{Writes};
 ghost use Rattle.smith_binary_instr.specs.References.{IsCast, IsReference, IsTable, cast_number};
 
 use crate::opcodes::{write_indexed, write_prefixed_index, write_prefixed_indices};
-use crate::prefixed::write_prefixed;
+use crate::prefix::write_prefixed;
 use smith_binary::{EncodeError, Sink};
 use smith_binary_sections::Encode;
 use smith_instr::{ReferenceInstr, TableInstr};

@@ -4,7 +4,7 @@ ghost use Rattle.smith_binary.specs.Numbers.{IsVector};
 ghost use Rattle.smith_binary.specs.Pieces.{IsByte, Joined, Writes};
 ghost use Rattle.smith_binary_instr.specs.Vector.{IsLanes, IsNumbered, IsVectorInstr};
 
-use crate::prefixed::write_prefixed;
+use crate::prefix::write_prefixed;
 use crate::vector_numbers::{
     all_true_number, bitmask_number, extract_number, relaxed_binary_number,
     relaxed_float_binary_number, relaxed_float_ternary_number, relaxed_float_unary_number,

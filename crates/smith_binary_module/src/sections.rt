@@ -33,7 +33,7 @@ fn is_filled<T>(items: &[T]) -> bool
 }
 
 // Returns the last `count` items of an index space: the defined ones.
-fn defined<T>(space: &[T], count: usize) -> &[T]
+fn defined_items<T>(space: &[T], count: usize) -> &[T]
     ensures { result.now ≡ defined count space.now }
 {
     let (_, defined) = space.split_at(space.len().saturating_sub(count));
@@ -98,7 +98,7 @@ pub(crate) fn write_functions(module: &Module, sink: &mut Sink) -> Result<(), En
 {
     let functions = Listed {
         writer: Plain,
-        items: defined(module.funcs(), module.num_defined_funcs()),
+        items: defined_items(module.funcs(), module.num_defined_funcs()),
     };
     write_section_if(is_filled(functions.items), 3, &functions, sink)
 }
@@ -114,7 +114,7 @@ pub(crate) fn write_tables(module: &Module, sink: &mut Sink) -> Result<(), Encod
     let initialisers = module.defined_tables();
     let tables = Zipped {
         writer: Tables,
-        firsts: defined(module.tables(), initialisers.len()),
+        firsts: defined_items(module.tables(), initialisers.len()),
         seconds: initialisers,
     };
     write_section_if(is_filled(initialisers), 4, &tables, sink)
@@ -129,7 +129,7 @@ pub(crate) fn write_memories(module: &Module, sink: &mut Sink) -> Result<(), Enc
 {
     let memories = Listed {
         writer: Plain,
-        items: defined(module.memories(), module.num_defined_memories()),
+        items: defined_items(module.memories(), module.num_defined_memories()),
     };
     write_section_if(is_filled(memories.items), 5, &memories, sink)
 }
@@ -143,7 +143,7 @@ pub(crate) fn write_tags(module: &Module, sink: &mut Sink) -> Result<(), EncodeE
 {
     let tags = Listed {
         writer: Tags,
-        items: defined(module.tags(), module.num_defined_tags()),
+        items: defined_items(module.tags(), module.num_defined_tags()),
     };
     write_section_if(is_filled(tags.items), 13, &tags, sink)
 }
@@ -157,7 +157,7 @@ pub(crate) fn write_globals(module: &Module, sink: &mut Sink) -> Result<(), Enco
     let definitions = module.defined_globals();
     let globals = Zipped {
         writer: Globals,
-        firsts: defined(module.globals(), definitions.len()),
+        firsts: defined_items(module.globals(), definitions.len()),
         seconds: definitions,
     };
     write_section_if(is_filled(definitions), 6, &globals, sink)

@@ -7,7 +7,7 @@ ghost use Rattle.smith_program.specs.Counted.{counted};
 ghost use Rattle.smith_binary_program.specs.Bodies.{IsBodyOf};
 ghost use Rattle.smith_binary_program.specs.Long.{IsLongBodyOf, IsLongDrawn};
 
-use crate::counted::write_expression;
+use crate::fuel_checks::write_expression;
 use smith_binary::{EncodeError, Sink};
 use smith_binary_instr::encode_locals;
 use smith_binary_sections::{Bodies as OwnBodies, Encode, EncodeItem};

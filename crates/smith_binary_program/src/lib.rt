@@ -3,8 +3,8 @@
 #![tactic(auto)]
 
 mod bodies;
-mod counted;
 mod examples;
+mod fuel_checks;
 mod programs;
 
 pub use programs::encode;

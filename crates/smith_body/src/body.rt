@@ -9,7 +9,7 @@ ghost use Rattle.smith_body.specs.Stops.{HasNeededStops};
 ghost use Rattle.smith_body_nodes.specs.Scopes.{IsScope, bare, kinds_of_bodies, most};
 ghost use Rattle.smith_body_nodes.specs.Traps.{IsTrapless};
 
-use crate::drawn::draw_whole;
+use crate::draws::draw_whole;
 use smith_body_nodes::{Draft, Scope, SetLocals};
 use smith_bytes::{Error, Unstructured};
 use smith_instr::Instr;

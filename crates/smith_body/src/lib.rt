@@ -2,10 +2,10 @@
 #![tactic(auto)]
 
 mod body;
-mod drawn;
+mod draws;
 pub mod laws;
 mod leaf;
-mod written;
+mod writes;
 
 pub use body::draw_body;
 pub use smith_body_nodes::Scope;

@@ -15,7 +15,7 @@ ghost use Rattle.smith_body_nodes.specs.Scopes.{IsScope, bare, indexed};
 
 use crate::fields::{FieldUse, element_at, is_usable, struct_type_at};
 use smith_body_nodes::{
-    Offer, Scope, choose_in_chunk, choose_offered, count_offered, indexed, is_sub_type,
+    Offer, Scope, choose_in_chunk, choose_offered, count_offered, indexed_count, is_sub_type,
 };
 use smith_bytes::Unstructured;
 use smith_types::{
@@ -53,7 +53,7 @@ impl<'a> Offer for ArrayOffer<'a> {
     ghost test = { λ self index. is_array (bare self.scope.now) self.of index };
 
     fn count(&self) -> usize {
-        indexed(self.scope.types.types().len())
+        indexed_count(self.scope.types.types().len())
     }
 
     fn is_offered(&self, index: usize) -> bool {
@@ -84,7 +84,7 @@ impl<'a> Offer for CreatedArrayOffer<'a> {
     ghost test = { λ self index. is_created_array (bare self.scope.now) self.wanted self.of index };
 
     fn count(&self) -> usize {
-        indexed(self.scope.types.types().len())
+        indexed_count(self.scope.types.types().len())
     }
 
     fn is_offered(&self, index: usize) -> bool {
@@ -116,7 +116,7 @@ impl<'a> Offer for CreatedStructOffer<'a> {
         is_created_struct (bare self.scope.now) self.wanted self.defaults index };
 
     fn count(&self) -> usize {
-        indexed(self.scope.types.types().len())
+        indexed_count(self.scope.types.types().len())
     }
 
     fn is_offered(&self, index: usize) -> bool {
@@ -153,7 +153,7 @@ impl<'a> Offer for FieldOffer<'a> {
         is_field (bare self.scope.now).types self.of self.fields.now index };
 
     fn count(&self) -> usize {
-        indexed(self.fields.len())
+        indexed_count(self.fields.len())
     }
 
     fn is_offered(&self, index: usize) -> bool {
@@ -181,7 +181,7 @@ impl<'a> Offer for StructOffer<'a> {
     ghost test = { λ self index. is_struct (bare self.scope.now) self.of index };
 
     fn count(&self) -> usize {
-        indexed(self.scope.types.types().len())
+        indexed_count(self.scope.types.types().len())
     }
 
     fn is_offered(&self, index: usize) -> bool {

@@ -19,12 +19,14 @@ ghost use Rattle.smith_body_aggregates.specs.declared.fields.FieldUse.TheVariant
 
 use crate::aggregates::{choose_created_array, choose_created_struct};
 use crate::fields::{FieldUse, struct_type_at};
-use smith_body_nodes::{Draft, Node, Scope, draw_index, field_values, plain, repeated, taking};
+use smith_body_nodes::{
+    Draft, Node, Scope, draw_index, field_values, node_taking, plain, repeat_value,
+};
 use smith_body_tables::choose_segment_below;
 use smith_bytes::{Error, Unstructured};
 use smith_draw_types::choose;
 use smith_instr::{AggregateInstr, Instr};
-use smith_types::{FieldType, RefType, ValType, unpacked};
+use smith_types::{FieldType, RefType, ValType, unpack};
 use std::alloc::Global;
 
 /// Ways to create a struct or an array.
@@ -139,7 +141,7 @@ fn choose_struct_new(
         return Ok(None);
     };
     let operands = field_values(alloc, structure.fields.as_slice())?;
-    let node = taking(operands, Instr::Aggregate(AggregateInstr::StructNew(ty)));
+    let node = node_taking(operands, Instr::Aggregate(AggregateInstr::StructNew(ty)));
     Ok(Some(node))
 }
 
@@ -188,7 +190,7 @@ fn choose_array_new(
         return Ok(None);
     };
     let (ty, element) = array;
-    let operands = [unpacked(element.element_type), ValType::I32];
+    let operands = [unpack(element.element_type), ValType::I32];
     let instruction = Instr::Aggregate(AggregateInstr::ArrayNew(ty));
     let node = plain(alloc, &operands, instruction, 0)?;
     Ok(Some(node))
@@ -262,9 +264,9 @@ fn fixed_of(
 {
     let (ty, element) = array;
     let size = u.int_in_range(0..=7u32);
-    let operands = repeated(alloc, unpacked(element.element_type), size)?;
+    let operands = repeat_value(alloc, unpack(element.element_type), size)?;
     let instruction = Instr::Aggregate(AggregateInstr::ArrayNewFixed { ty, size });
-    Ok(Some(taking(operands, instruction)))
+    Ok(Some(node_taking(operands, instruction)))
 }
 
 fn choose_array_data(
@@ -364,7 +366,7 @@ fn elem_of(
     ensures left { KeepsPieces u.old u.new }
 {
     let (ty, element) = array;
-    let Some(segment) = choose_segment_below(scope, unpacked(element.element_type), u) else {
+    let Some(segment) = choose_segment_below(scope, unpack(element.element_type), u) else {
         return Ok(None);
     };
     let instruction = Instr::Aggregate(AggregateInstr::ArrayNewElem { ty, segment });

@@ -24,7 +24,7 @@ use smith_body_tables::choose_segment_below;
 use smith_bytes::{Error, Unstructured};
 use smith_draw_types::choose;
 use smith_instr::{AggregateInstr, Instr};
-use smith_types::{FieldType, HeapType, ValType, unpacked};
+use smith_types::{FieldType, HeapType, ValType, unpack};
 use std::alloc::Global;
 
 /// Statements on a struct or an array.
@@ -117,7 +117,7 @@ fn choose_struct_set(
     };
     let operands = [
         nullable_to(HeapType::Concrete(chosen.ty)),
-        unpacked(chosen.field.element_type),
+        unpack(chosen.field.element_type),
     ];
     let instruction = Instr::Aggregate(AggregateInstr::StructSet {
         ty: chosen.ty,
@@ -148,7 +148,7 @@ fn choose_array_set(
     let operands = [
         nullable_to(HeapType::Concrete(ty)),
         ValType::I32,
-        unpacked(element.element_type),
+        unpack(element.element_type),
     ];
     let instruction = Instr::Aggregate(AggregateInstr::ArraySet(ty));
     plain(alloc, &operands, instruction, 0)
@@ -176,7 +176,7 @@ fn choose_array_fill(
     let operands = [
         nullable_to(HeapType::Concrete(ty)),
         ValType::I32,
-        unpacked(element.element_type),
+        unpack(element.element_type),
         ValType::I32,
     ];
     let instruction = Instr::Aggregate(AggregateInstr::ArrayFill(ty));
@@ -326,7 +326,7 @@ fn init_elem_of(
     ensures left { KeepsPieces u.old u.new }
 {
     let (ty, element) = into;
-    let Some(segment) = choose_segment_below(scope, unpacked(element.element_type), u) else {
+    let Some(segment) = choose_segment_below(scope, unpack(element.element_type), u) else {
         return plain(alloc, &[], Instr::Nop, 0);
     };
     let array = nullable_to(HeapType::Concrete(ty));

@@ -12,7 +12,7 @@ use smith_body_nodes::{Scope, is_below};
 use smith_instr::Extension;
 use smith_types::{
     CompositeInnerType, FieldType, StorageType, StructType, SubType, ValType, is_defaultable,
-    unpacked,
+    unpack,
 };
 
 /// Uses of a field of a struct or of an element of an array.
@@ -46,9 +46,9 @@ pub(crate) fn is_usable(scope: &Scope<'_>, of: FieldUse, field: FieldType) -> bo
 {
     let stored = field.element_type;
     match of {
-        FieldUse::Read(wanted) => is_below(scope, unpacked(stored), wanted),
+        FieldUse::Read(wanted) => is_below(scope, unpack(stored), wanted),
         FieldUse::New => true,
-        FieldUse::NewDefault => is_defaultable(unpacked(stored)),
+        FieldUse::NewDefault => is_defaultable(unpack(stored)),
         FieldUse::NewBytes => is_of_bytes(stored),
         FieldUse::NewReferences => is_of_references(stored),
         FieldUse::Set => field.mutable,

@@ -10,7 +10,9 @@ ghost use Rattle.smith_body_nodes.specs.Scopes.{IsScope, bare, where_stands};
 
 use crate::function_tables::choose_function_table;
 use smith_body_control::{Outcome, choose_fit_type, dropped_of};
-use smith_body_nodes::{Draft, Node, Scope, address, func_type_at, nullable_to, or_nop, topped};
+use smith_body_nodes::{
+    Draft, Node, Scope, address, func_type_at, node_with_top, nullable_to, or_nop,
+};
 use smith_bytes::{Error, Unstructured};
 use smith_instr::Instr;
 use smith_types::{HeapType, WasmFeatures};
@@ -42,7 +44,7 @@ pub fn choose_indirect(
     let Some(function) = func_type_at(scope, ty as usize) else {
         return Ok(None);
     };
-    let node = topped(
+    let node = node_with_top(
         alloc,
         function.params.as_slice(),
         address(scope.tables[table as usize].table64),
@@ -89,7 +91,7 @@ pub fn choose_by_reference(
     let Some(function) = func_type_at(scope, ty as usize) else {
         return Ok(None);
     };
-    let node = topped(
+    let node = node_with_top(
         alloc,
         function.params.as_slice(),
         nullable_to(HeapType::Concrete(ty)),

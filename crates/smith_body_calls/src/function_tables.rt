@@ -7,7 +7,7 @@ ghost use Rattle.smith_body_control.specs.CallChoices.{is_function_table};
 ghost use Rattle.smith_body_nodes.specs.Offered.{chunk_at};
 ghost use Rattle.smith_body_nodes.specs.Scopes.{IsScope, bare, indexed};
 
-use smith_body_nodes::{Offer, Scope, choose_in_chunk, indexed, is_sub_type, nullable_to};
+use smith_body_nodes::{Offer, Scope, choose_in_chunk, indexed_count, is_sub_type, nullable_to};
 use smith_bytes::Unstructured;
 use smith_types::{AbstractHeapType, HeapType, RefType, ValType};
 
@@ -29,7 +29,7 @@ impl<'a> Offer for FunctionTableOffer<'a> {
     ghost test = { λ self index. is_function_table (bare self.scope.now) index };
 
     fn count(&self) -> usize {
-        indexed(self.scope.tables.len())
+        indexed_count(self.scope.tables.len())
     }
 
     fn is_offered(&self, index: usize) -> bool {

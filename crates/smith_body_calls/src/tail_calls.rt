@@ -11,7 +11,7 @@ ghost use Rattle.smith_body_nodes.specs.Scopes.{IsScope, bare, indexed, where_st
 use crate::calls::{choose_by_reference, choose_indirect};
 use smith_body_control::{Outcome, is_fit};
 use smith_body_nodes::{
-    Draft, Node, Offer, Scope, choose_in_chunk, function_of, indexed, or_nop, plain,
+    Draft, Node, Offer, Scope, choose_in_chunk, function_of, indexed_count, or_nop, plain,
 };
 use smith_bytes::{Error, Unstructured};
 use smith_instr::Instr;
@@ -35,7 +35,7 @@ impl<'a> Offer for ReturnOffer<'a> {
     ghost test = { λ self index. is_returnable (bare self.scope.now) index };
 
     fn count(&self) -> usize {
-        indexed(self.scope.funcs.len())
+        indexed_count(self.scope.funcs.len())
     }
 
     fn is_offered(&self, index: usize) -> bool {

@@ -18,7 +18,8 @@ ghost use Rattle.smith_body_nodes.specs.Scopes.{IsScope, bare, where_stands};
 
 use smith_body_aggregates::names_types;
 use smith_body_nodes::{
-    Draft, Node, Offer, Scope, choose_offered, indexed, is_below, is_sub_type, nullable_to, plain,
+    Draft, Node, Offer, Scope, choose_offered, indexed_count, is_below, is_sub_type, nullable_to,
+    plain,
 };
 use smith_bytes::{Error, Unstructured};
 use smith_draw_types::choose;
@@ -100,7 +101,7 @@ impl<'a> Offer for AboveOffer<'a> {
     ghost test = { λ self index. is_above (bare self.scope.now) self.to index };
 
     fn count(&self) -> usize {
-        indexed(self.scope.locals.len())
+        indexed_count(self.scope.locals.len())
     }
 
     fn is_offered(&self, index: usize) -> bool {
@@ -126,7 +127,7 @@ impl<'a> Offer for ReferenceLocalOffer<'a> {
     ghost test = { λ self index. is_reference_local (bare self.scope.now) index };
 
     fn count(&self) -> usize {
-        indexed(self.scope.locals.len())
+        indexed_count(self.scope.locals.len())
     }
 
     fn is_offered(&self, index: usize) -> bool {
@@ -390,10 +391,10 @@ fn choose_i31(
     ensures memory { IfErr result (λ e. e ≡ Error.Memory) }
 {
     if is_i31_below(scope, to, false) {
-        return converted(alloc, ValType::I32, AggregateInstr::RefI31);
+        return conversion_node(alloc, ValType::I32, AggregateInstr::RefI31);
     }
     if is_i31_below(scope, to, true) {
-        return converted(alloc, ValType::I32, AggregateInstr::RefI31Shared);
+        return conversion_node(alloc, ValType::I32, AggregateInstr::RefI31Shared);
     }
     Ok(None)
 }
@@ -436,11 +437,11 @@ fn choose_converted(
     match ty {
         AbstractHeapType::Any => {
             let from = abstract_reference(shared, to.nullable, AbstractHeapType::Extern);
-            converted(alloc, from, AggregateInstr::AnyConvertExtern)
+            conversion_node(alloc, from, AggregateInstr::AnyConvertExtern)
         }
         AbstractHeapType::Extern => {
             let from = abstract_reference(shared, to.nullable, AbstractHeapType::Any);
-            converted(alloc, from, AggregateInstr::ExternConvertAny)
+            conversion_node(alloc, from, AggregateInstr::ExternConvertAny)
         }
         _ => Ok(None),
     }
@@ -457,7 +458,7 @@ fn abstract_reference(shared: bool, nullable: bool, ty: AbstractHeapType) -> Val
 }
 
 /// Creates the node of `op`, which takes `from`.
-fn converted(alloc: Global, from: ValType, op: AggregateInstr) -> Result<Option<Node>, Error>
+fn conversion_node(alloc: Global, from: ValType, op: AggregateInstr) -> Result<Option<Node>, Error>
     ensures exact { IfOk result (λ chosen. chosen ≡ Some (aggregate_of (from ∷ []) op)) }
     ensures memory { IfErr result (λ e. e ≡ Error.Memory) }
 {

@@ -28,7 +28,7 @@ use smith_body_memory::{
 };
 use smith_body_nodes::{
     Draft, Node, Scope, choose_callable, choose_local, choose_mutable, choose_numeric,
-    choose_reference_value, choose_select, choose_select_typed, function_of, indexed,
+    choose_reference_value, choose_select, choose_select_typed, function_of, indexed_count,
     is_node_allowed, plain, setter,
 };
 use smith_body_reference_branches::{
@@ -296,7 +296,7 @@ fn choose_set(
     ensures memory { IfErr result (λ e. e ≡ Error.Memory) }
     ensures left { KeepsPieces u.old u.new }
 {
-    let count = indexed(scope.locals.len());
+    let count = indexed_count(scope.locals.len());
     if count == 0 {
         return plain(alloc, &[], Instr::Nop, 0);
     }
@@ -338,7 +338,7 @@ fn choose_any_call(
     ensures memory { IfErr result (λ e. e ≡ Error.Memory) }
     ensures left { KeepsPieces u.old u.new }
 {
-    let count = indexed(scope.funcs.len());
+    let count = indexed_count(scope.funcs.len());
     if count == 0 {
         return plain(alloc, &[], Instr::Nop, 0);
     }

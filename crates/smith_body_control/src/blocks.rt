@@ -7,7 +7,7 @@ ghost use Rattle.smith_body_nodes.specs.Chosen.{or_nop};
 ghost use Rattle.smith_body_nodes.specs.Nodes.{IsNode, IsOffer};
 ghost use Rattle.smith_body_nodes.specs.Scopes.{IsScope, bare, where_stands};
 
-use smith_body_nodes::{Draft, Node, Opening, Scope, block, func_type_at, indexed};
+use smith_body_nodes::{Draft, Node, Opening, Scope, block, func_type_at, indexed_count};
 use smith_bytes::{Error, Unstructured};
 use smith_instr::BlockType;
 use smith_types::ValType;
@@ -61,7 +61,7 @@ pub fn choose_any_block(
     ensures left { KeepsPieces u.old u.new }
 {
     let opening = draw_opening(u);
-    let index = u.int_in_range(0..=indexed(scope.types.types().len()));
+    let index = u.int_in_range(0..=indexed_count(scope.types.types().len()));
     match func_type_at(scope, index) {
         Some(function) => block(
             alloc,

@@ -6,7 +6,9 @@ ghost use Rattle.smith_body_control.specs.CallChoices.{is_fit_type};
 ghost use Rattle.smith_body_nodes.specs.Scopes.{IsScope, bare, indexed};
 
 use crate::branches::are_below;
-use smith_body_nodes::{Offer, Scope, choose_in_chunk, func_type_at, indexed, is_first_below};
+use smith_body_nodes::{
+    Offer, Scope, choose_in_chunk, func_type_at, indexed_count, is_first_below,
+};
 use smith_bytes::Unstructured;
 use smith_types::{FuncType, ValType};
 
@@ -41,7 +43,7 @@ impl<'a> Offer for TypeOffer<'a> {
     ghost test = { λ self index. is_fit_type (bare self.scope.now) self.outcome index };
 
     fn count(&self) -> usize {
-        indexed(self.scope.types.types().len())
+        indexed_count(self.scope.types.types().len())
     }
 
     fn is_offered(&self, index: usize) -> bool {

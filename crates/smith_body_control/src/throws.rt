@@ -10,7 +10,9 @@ ghost use Rattle.smith_body_control.specs.ThrowChoices.{any_throw_at, exn, refer
 ghost use Rattle.smith_body_control.specs.ThrowChoices.{tag_at, tag_type_at, throw_at};
 ghost use Rattle.smith_body_control.specs.ThrowChoices.{throw_ref_node};
 
-use smith_body_nodes::{Draft, Node, Scope, func_type_at, indexed, nullable_to, or_nop, plain};
+use smith_body_nodes::{
+    Draft, Node, Scope, func_type_at, indexed_count, nullable_to, or_nop, plain,
+};
 use smith_bytes::{Error, Unstructured};
 use smith_instr::Instr;
 use smith_types::{AbstractHeapType, FuncType, HeapType, WasmFeatures};
@@ -31,7 +33,7 @@ pub(crate) fn draw_tag(scope: &Scope<'_>, u: &mut Unstructured<'_>) -> Option<u3
     ensures below { IfSome result (λ tag. tag < length scope.now.tags.now) }
     ensures left { KeepsPieces u.old u.new }
 {
-    let count = indexed(scope.tags.len());
+    let count = indexed_count(scope.tags.len());
     if count == 0 {
         return None;
     }

@@ -14,7 +14,7 @@ ghost use Rattle.smith_body_control.specs.TryChoices.{tagged_clause_at, try_at};
 
 use crate::branches::choose_target;
 use crate::throws::{draw_tag, exn, refers_to_exceptions, tag_type_of};
-use smith_body_nodes::{Draft, Node, Scope, func_type_at, indexed, try_table};
+use smith_body_nodes::{Draft, Node, Scope, func_type_at, indexed_count, try_table};
 use smith_bytes::{Error, Unstructured};
 use smith_instr::{BlockType, Catch};
 use smith_types::{Items, RefType, ValType, WasmFeatures};
@@ -237,7 +237,7 @@ pub fn choose_any_try(
     ensures left { KeepsPieces u.old u.new }
 {
     let clauses = draw_clauses(alloc, scope, draft.labels.as_slice(), u)?;
-    let index = u.int_in_range(0..=indexed(scope.types.types().len()));
+    let index = u.int_in_range(0..=indexed_count(scope.types.types().len()));
     match func_type_at(scope, index) {
         Some(function) => try_table(
             alloc,

@@ -21,7 +21,7 @@ use Rattle.smith_draw_types.specs.Below.{is_val_below}
 use Rattle.smith_instr.specs.AggregateTypes.{external, internal}
 use Rattle.smith_instr.specs.Contexts.{BodyContext, created_reference, nullable_to, reference_to_function}
 use Rattle.smith_instr.specs.Enabled.{is_enabled}
-use Rattle.smith_instr.specs.InstrTypes.{IsNumeric}
+use Rattle.smith_instr.specs.InstrTypes.{IsNumberOrVector}
 use Rattle.smith_instr.specs.declared.aggregate.AggregateInstr.TheVariants as aggregate
 use Rattle.smith_instr.specs.declared.instr.Instr.{Instr}
 use Rattle.smith_instr.specs.declared.instr.Instr.TheVariants as instr
@@ -293,7 +293,7 @@ no_function config context set wanted orderly none function (is, leaf) =
     none_offered (is_reference context wanted) (length context.references) place unnamed' inside (reference_is context wanted place function index orderly named there below)
 
 -- a constant
-number_alone : (types : List SubType) (value wanted : ValType) → IsNumeric value → IsValBelow types value wanted → wanted ≡ value
+number_alone : (types : List SubType) (value wanted : ValType) → IsNumberOrVector value → IsValBelow types value wanted → wanted ≡ value
 number_alone types I32 I32 numeric below = refl
 number_alone types I64 I64 numeric below = refl
 number_alone types F32 F32 numeric below = refl
@@ -302,7 +302,7 @@ number_alone types V128 V128 numeric below = refl
 number_alone types (Ref reference) wanted numeric below = absurd numeric
 number_alone types value wanted numeric below = absurd below
 
-no_constant : (config : Config) (context : BodyContext) (wanted value result : ValType) → IsNumeric value → first_constant config context wanted ≡ None → result ∷ [] ≡ value ∷ [] → IsValBelow context.types result wanted → is_permitted context.features config (constant_instr_at value []).0 ≡ true → ⊥
+no_constant : (config : Config) (context : BodyContext) (wanted value result : ValType) → IsNumberOrVector value → first_constant config context wanted ≡ None → result ∷ [] ≡ value ∷ [] → IsValBelow context.types result wanted → is_permitted context.features config (constant_instr_at value []).0 ≡ true → ⊥
 no_constant config context wanted value result numeric none results below is =
     let same : wanted ≡ value = number_alone context.types value wanted numeric (typed_below context.types result value wanted results below) in
     let none' : first_constant config context value ≡ None = subst (λ (v : ValType). first_constant config context v ≡ None) same none in

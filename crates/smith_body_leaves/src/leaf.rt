@@ -4,7 +4,7 @@ ghost use Rattle.smith_body_leaves.specs.Leaves.{first_leaf, instructions_of, on
 ghost use Rattle.smith_body_leaves.specs.Leaves.{with_last};
 ghost use Rattle.smith_body_nodes.specs.Scopes.{IsScope, bare, where_stands};
 
-use crate::created::{created_type, write_created};
+use crate::creations::{created_type, write_created};
 use crate::search::leaf_within;
 use smith_body_nodes::{Draft, Scope};
 use smith_bytes::Error;

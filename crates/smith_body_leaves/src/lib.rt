@@ -4,7 +4,7 @@
 //! A call that returns a `Result` fails only if an allocation fails.
 #![tactic(auto)]
 
-mod created;
+mod creations;
 mod families;
 mod leaf;
 mod references;

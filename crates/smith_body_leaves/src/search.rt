@@ -7,7 +7,7 @@ ghost use Rattle.smith_body_nodes.specs.Scopes.{IsScope, bare, where_stands};
 use crate::leaf::{Leaf, only, with_last};
 use crate::single::first_single;
 use crate::unary::{Unary, conversion_to, creation_of, i31_creation, named_type};
-use smith_body_nodes::{Draft, Scope, indexed, is_allowed};
+use smith_body_nodes::{Draft, Scope, indexed_count, is_allowed};
 use smith_instr::Instr;
 use smith_types::ValType;
 
@@ -112,7 +112,7 @@ fn created_leaf(
     if !search {
         return None;
     }
-    for ty in 0..indexed(scope.types.types().len()) {
+    for ty in 0..indexed_count(scope.types.types().len()) {
         if let Some(leaf) = created_over(scope, wanted, ty as u32, more, false, draft) {
             return Some(leaf);
         }

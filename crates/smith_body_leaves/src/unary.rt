@@ -9,7 +9,7 @@ ghost use Rattle.smith_body_nodes.specs.Scopes.{IsScope, bare};
 use smith_body_aggregates::{created_reference, struct_type_at};
 use smith_body_nodes::{Scope, is_allowed, is_sub_type};
 use smith_instr::{AggregateInstr, Instr};
-use smith_types::{AbstractHeapType, FieldType, HeapType, RefType, ValType, unpacked};
+use smith_types::{AbstractHeapType, FieldType, HeapType, RefType, ValType, unpack};
 
 /// An instruction that takes one operand.
 #[derive(Drop)]
@@ -124,7 +124,7 @@ pub(crate) fn creation_of(scope: &Scope<'_>, wanted: ValType, ty: u32) -> Option
     }
     Some(Unary {
         instruction: Instr::Aggregate(AggregateInstr::StructNew(ty)),
-        operand: unpacked(field.element_type),
+        operand: unpack(field.element_type),
     })
 }
 

@@ -16,7 +16,7 @@ ghost use Rattle.smith_body_memory.specs.MemoryRows.{loads_of, stores};
 ghost use Rattle.smith_body_nodes.specs.Scopes.{IsScope, bare, indexed, where_stands};
 
 use smith_body_nodes::{
-    Draft, Node, Offer, Scope, address, choose_in_chunk, indexed, is_address, plain,
+    Draft, Node, Offer, Scope, address, choose_in_chunk, indexed_count, is_address, plain,
 };
 use smith_bytes::{Error, Unstructured};
 use smith_config::MemoryOffsetChoices;
@@ -91,7 +91,7 @@ pub(crate) fn draw_access(
     ensures aligned { IfSome result (λ access. access.at.align ≤ log2_bytes) }
     ensures left { KeepsPieces u.old u.new }
 {
-    let count = indexed(scope.memories.len());
+    let count = indexed_count(scope.memories.len());
     if count == 0 {
         return None;
     }
@@ -200,7 +200,7 @@ impl<'a> Offer for AddressOffer<'a> {
     ghost test = { λ self index. is_addressed (bare self.scope.now) self.wanted index };
 
     fn count(&self) -> usize {
-        indexed(self.scope.memories.len())
+        indexed_count(self.scope.memories.len())
     }
 
     fn is_offered(&self, index: usize) -> bool {

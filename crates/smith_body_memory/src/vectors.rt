@@ -159,7 +159,7 @@ fn draw_lanes(row: VectorInstr, u: &mut Unstructured<'_>) -> VectorInstr
 {
     match row {
         VectorInstr::ExtractLane(op, _) => {
-            let lane = u.int_in_range(0..=last_lane(extracted(op)));
+            let lane = u.int_in_range(0..=last_lane(extraction_shape(op)));
             VectorInstr::ExtractLane(op, lane)
         }
         VectorInstr::ReplaceLane(shape, _) => {
@@ -184,7 +184,7 @@ fn draw_shuffle(u: &mut Unstructured<'_>) -> [u8; 16]
 }
 
 /// Returns the shape from which a lane is extracted.
-fn extracted(op: LaneExtract) -> LaneShape
+fn extraction_shape(op: LaneExtract) -> LaneShape
     ensures { result ≡ extracted op }
 {
     match op {

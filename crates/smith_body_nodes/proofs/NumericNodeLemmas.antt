@@ -6,7 +6,7 @@ use Rattle.smith_syntax.specs.declared.value_type.ValType.{ValType}
 use Rattle.smith_syntax.specs.declared.value_type.ValType.TheVariants.{I32, I64, F32, F64, V128, Ref}
 use Rattle.smith_types.proofs.GrowthLemmas.{IsValBelow-refl}
 use Rattle.smith_instr.specs.Contexts.{BodyContext, IsValid, AreValid, AreBelow}
-use Rattle.smith_instr.specs.InstrTypes.{IsNumeric}
+use Rattle.smith_instr.specs.InstrTypes.{IsNumberOrVector}
 use Rattle.smith_instr.specs.NumericTypes.{signature}
 use Rattle.smith_instr.specs.declared.instr.Instr.TheVariants as instr
 use Rattle.smith_instr.specs.declared.numeric.NumericInstr.{NumericInstr}
@@ -69,7 +69,7 @@ numeric_at rows index op wanted are inside is =
     let test' : begins wanted (signature op).results ≡ true = subst (λ (o : NumericInstr). begins wanted (signature o).results ≡ true) (sym is) test in
     numeric_node op wanted (begins_with wanted (signature op).results test')
 
-pub select_node : (wanted : ValType) → IsNumeric wanted → (context : BodyContext) (set : List ℕ) → IsValid context wanted → IsNode context set (wanted ∷ []) (node_of (wanted ∷ wanted ∷ I32 ∷ []) instr.Select 0)
+pub select_node : (wanted : ValType) → IsNumberOrVector wanted → (context : BodyContext) (set : List ℕ) → IsValid context wanted → IsNode context set (wanted ∷ []) (node_of (wanted ∷ wanted ∷ I32 ∷ []) instr.Select 0)
 select_node wanted numeric context set valid = record {
   results = wanted ∷ [];
   dropped = [];

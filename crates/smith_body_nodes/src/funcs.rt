@@ -8,7 +8,7 @@ ghost use Rattle.smith_body_nodes.specs.Scopes.{IsScope, bare, indexed};
 
 use crate::locals::is_below;
 use crate::offer::{Offer, choose_in_chunk};
-use crate::scope::{Scope, indexed};
+use crate::scope::{Scope, indexed_count};
 use smith_bytes::Unstructured;
 use smith_types::{CompositeInnerType, FuncType, SubType, ValType};
 
@@ -33,7 +33,7 @@ impl<'a> Offer for CallOffer<'a> {
     ghost test = { λ self index. is_callable (bare self.scope.now) self.wanted index };
 
     fn count(&self) -> usize {
-        indexed(self.scope.funcs.len())
+        indexed_count(self.scope.funcs.len())
     }
 
     fn is_offered(&self, index: usize) -> bool {

@@ -6,7 +6,7 @@ ghost use Rattle.smith_body_nodes.specs.Scopes.{IsScope, bare, indexed};
 
 use crate::locals::is_below;
 use crate::offer::{Offer, Reach, choose_in_chunk, choose_within};
-use crate::scope::{Scope, indexed};
+use crate::scope::{Scope, indexed_count};
 use smith_bytes::Unstructured;
 use smith_types::ValType;
 
@@ -31,7 +31,7 @@ impl<'a> Offer for GlobalOffer<'a> {
     ghost test = { λ self index. is_global_below (bare self.scope.now) self.wanted index };
 
     fn count(&self) -> usize {
-        indexed(self.scope.globals.len())
+        indexed_count(self.scope.globals.len())
     }
 
     fn is_offered(&self, index: usize) -> bool {
@@ -58,7 +58,7 @@ impl<'a> Offer for MutableOffer<'a> {
     ghost test = { λ self index. is_mutable (bare self.scope.now) index };
 
     fn count(&self) -> usize {
-        indexed(self.scope.globals.len())
+        indexed_count(self.scope.globals.len())
     }
 
     fn is_offered(&self, index: usize) -> bool {

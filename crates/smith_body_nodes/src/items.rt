@@ -2,7 +2,7 @@ ghost use Rattle.std.specs.Prelude.{◌≡◌, ◌<◌, Some, slice_get, IfSome}
 ghost use Rattle.smith_bytes.specs.Source.{KeepsPieces};
 ghost use Rattle.smith_body_nodes.specs.Items.{index_at, item_at};
 
-use crate::scope::indexed;
+use crate::scope::indexed_count;
 use smith_bytes::Unstructured;
 
 /// Draws the index of one of `count` items. Returns `None` if there are no items.
@@ -11,7 +11,7 @@ pub fn draw_index(count: usize, u: &mut Unstructured<'_>) -> Option<u32>
     ensures below { IfSome result (λ index. index < count) }
     ensures left { KeepsPieces u.old u.new }
 {
-    let last = indexed(count);
+    let last = indexed_count(count);
     if last == 0 {
         return None;
     }

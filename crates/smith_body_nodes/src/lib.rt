@@ -26,14 +26,14 @@ pub use globals::{choose_global, choose_mutable};
 pub use items::{draw_index, draw_item};
 pub use locals::{choose_local, choose_set_local, is_below, is_sub_type};
 pub use node::{
-    Head, Node, Opening, Sides, block, conditional, is_allowed, is_node_allowed, or_nop, plain,
-    setter, topped, try_table,
+    Head, Node, Opening, Sides, block, conditional, is_allowed, is_node_allowed, node_with_top,
+    or_nop, plain, setter, try_table,
 };
 pub use numeric::{choose_numeric, choose_select};
 pub use offer::{Offer, Reach, choose_in_chunk, choose_offered, choose_within, count_offered};
-pub use operands::{field_values, repeated, taking};
+pub use operands::{field_values, node_taking, repeat_value};
 pub use reference_values::{
     choose_reference_value, choose_select_typed, draw_referent, nullable_to,
 };
-pub use scope::{Draft, Scope, indexed};
+pub use scope::{Draft, Scope, indexed_count};
 pub use set_locals::SetLocals;

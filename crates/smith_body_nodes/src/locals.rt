@@ -9,7 +9,7 @@ ghost use Rattle.smith_body_nodes.specs.Offered.{is_readable, offered};
 ghost use Rattle.smith_body_nodes.specs.Scopes.{IsScope, bare, indexed};
 
 use crate::offer::{Offer, choose_offered};
-use crate::scope::{Draft, Scope, indexed};
+use crate::scope::{Draft, Scope, indexed_count};
 use crate::set_locals::SetLocals;
 use smith_bytes::Unstructured;
 use smith_types::ValType;
@@ -35,7 +35,7 @@ impl<'a> Offer for LocalOffer<'a> {
     ghost test = { λ self index. is_local_below (bare self.scope.now) self.wanted index };
 
     fn count(&self) -> usize {
-        indexed(self.scope.locals.len())
+        indexed_count(self.scope.locals.len())
     }
 
     fn is_offered(&self, index: usize) -> bool {
@@ -67,7 +67,7 @@ impl<'a> Offer for SetLocalOffer<'a> {
         is_readable (bare self.scope.now) self.set.now.items self.wanted index };
 
     fn count(&self) -> usize {
-        indexed(self.scope.locals.len())
+        indexed_count(self.scope.locals.len())
     }
 
     fn is_offered(&self, index: usize) -> bool {

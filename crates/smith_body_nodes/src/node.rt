@@ -96,12 +96,12 @@ pub fn conditional(
         node ≡ node_of (operands.now ++ I32 ∷ []) instruction drops) }
     ensures memory { IfErr result (λ e. e ≡ Error.Memory) }
 {
-    topped(alloc, operands, ValType::I32, instruction, drops)
+    node_with_top(alloc, operands, ValType::I32, instruction, drops)
 }
 
 /// Creates the node of `instruction`, which takes `operands` and then a `top`. Drops `drops` of its
 /// results.
-pub fn topped(
+pub fn node_with_top(
     alloc: Global,
     operands: &[ValType],
     top: ValType,

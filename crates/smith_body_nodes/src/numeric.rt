@@ -1,7 +1,7 @@
 ghost use Rattle.std.specs.Prelude.{◌≡◌, ◌-◌, ℕ, List, length, [], ◌∷◌, IfOk, IfErr, IsTrue, ◌<◌};
 ghost use Rattle.smith_bytes.specs.Source.{KeepsPieces};
 ghost use Rattle.smith_instr.specs.Contexts.{BodyContext, IsValid};
-ghost use Rattle.smith_instr.specs.InstrTypes.{IsNumeric};
+ghost use Rattle.smith_instr.specs.InstrTypes.{IsNumberOrVector};
 ghost use Rattle.smith_body_nodes.specs.NumericChoices.{is_numeric, numeric_at, select_node};
 ghost use Rattle.smith_body_nodes.specs.Nodes.{IsOffer};
 ghost use Rattle.smith_body_nodes.specs.NumericRows.{numeric_rows};
@@ -66,7 +66,7 @@ pub fn choose_select(alloc: Global, wanted: ValType) -> Result<Option<Node>, Err
 
 fn is_numeric(value: ValType) -> bool
     ensures exact { result ≡ is_numeric value }
-    ensures numeric { IsTrue result → IsNumeric value }
+    ensures numeric { IsTrue result → IsNumberOrVector value }
 {
     match value {
         ValType::Ref(_) => false,

@@ -5,7 +5,7 @@ ghost use Rattle.smith_body_nodes.specs.Nodes.{node_of};
 use crate::node::{Head, Node};
 use smith_bytes::Error;
 use smith_instr::Instr;
-use smith_types::{FieldType, Items, ValType, unpacked};
+use smith_types::{FieldType, Items, ValType, unpack};
 use std::alloc::Global;
 
 /// Lists the types of the values that `fields` hold.
@@ -15,13 +15,13 @@ pub fn field_values(alloc: Global, fields: &[FieldType]) -> Result<Items<ValType
 {
     let mut values = Items::new(alloc);
     for index in 0..fields.len() {
-        values.push(unpacked(fields[index].element_type))?;
+        values.push(unpack(fields[index].element_type))?;
     }
     Ok(values)
 }
 
 /// Lists `value` `count` times.
-pub fn repeated(alloc: Global, value: ValType, count: u32) -> Result<Items<ValType>, Error>
+pub fn repeat_value(alloc: Global, value: ValType, count: u32) -> Result<Items<ValType>, Error>
     ensures exact { IfOk result (λ values. values ≡ replicate count value) }
     ensures memory { IfErr result (λ e. e ≡ Error.Memory) }
 {
@@ -31,7 +31,7 @@ pub fn repeated(alloc: Global, value: ValType, count: u32) -> Result<Items<ValTy
 }
 
 /// Creates the node of `instruction`, which takes `operands`.
-pub fn taking(operands: Items<ValType>, instruction: Instr) -> Node
+pub fn node_taking(operands: Items<ValType>, instruction: Instr) -> Node
     ensures { result ≡ node_of operands instruction 0 }
 {
     Node {

@@ -107,7 +107,7 @@ fn choose_eq(alloc: Global, scope: &Scope<'_>, draft: &Draft) -> Result<Option<N
     if !scope.features.contains(WasmFeatures::GC) {
         return Ok(None);
     }
-    let eqref = nullable_to(unshared(AbstractHeapType::Eq));
+    let eqref = nullable_to(unshared_heap_type(AbstractHeapType::Eq));
     let node = plain(
         alloc,
         &[eqref, eqref],
@@ -148,13 +148,13 @@ pub fn draw_referent(scope: &Scope<'_>, u: &mut Unstructured<'_>) -> HeapType
 {
     let count = scope.locals.len();
     match u.int_in_range(0..=count + 1) {
-        0 => unshared(AbstractHeapType::Func),
-        1 => unshared(AbstractHeapType::Extern),
+        0 => unshared_heap_type(AbstractHeapType::Func),
+        1 => unshared_heap_type(AbstractHeapType::Extern),
         place => {
             if place - 2 < count {
                 return referent(scope.locals[place - 2]);
             }
-            unshared(AbstractHeapType::Func)
+            unshared_heap_type(AbstractHeapType::Func)
         }
     }
 }
@@ -165,12 +165,12 @@ fn referent(value: ValType) -> HeapType
 {
     match value {
         ValType::Ref(to) => to.heap_type,
-        _ => unshared(AbstractHeapType::Func),
+        _ => unshared_heap_type(AbstractHeapType::Func),
     }
 }
 
 /// Returns the unshared abstract heap type `ty`.
-fn unshared(ty: AbstractHeapType) -> HeapType
+fn unshared_heap_type(ty: AbstractHeapType) -> HeapType
     ensures { result ≡ HeapType.Abstract false ty }
 {
     HeapType::Abstract { shared: false, ty }

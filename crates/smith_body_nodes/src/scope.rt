@@ -59,7 +59,7 @@ pub struct Draft {
 }
 
 /// Returns the number of those of `count` items that have an index: at most `2^32 - 1`.
-pub fn indexed(count: usize) -> usize
+pub fn indexed_count(count: usize) -> usize
     ensures { result ≡ indexed count }
 {
     count.min(0xffff_ffff)

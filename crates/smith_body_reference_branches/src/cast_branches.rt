@@ -14,7 +14,7 @@ ghost use Rattle.smith_body_nodes.specs.Scopes.{AreLabels, IsScope, bare, where_
 use crate::null_branches::{choose_of_reference, last_reference};
 use smith_body_casts::{draw_above, reference_or};
 use smith_body_control::choose_target;
-use smith_body_nodes::{Draft, Node, Scope, choose_local, or_nop, plain, topped};
+use smith_body_nodes::{Draft, Node, Scope, choose_local, node_with_top, or_nop, plain};
 use smith_bytes::{Error, Unstructured};
 use smith_instr::{BranchCast, Instr};
 use smith_types::{RefType, ValType};
@@ -130,7 +130,7 @@ fn choose_br_on_cast(
         to: label.last,
     };
     let taken = draft.labels[label.index as usize].as_slice();
-    let node = dropping(alloc, from, Instr::BrOnCast(cast), taken)?;
+    let node = dropping_branch(alloc, from, Instr::BrOnCast(cast), taken)?;
     Ok(Some(node))
 }
 
@@ -158,7 +158,7 @@ fn choose_br_on_cast_fail(
         to,
     };
     let taken = draft.labels[label.index as usize].as_slice();
-    let node = dropping(alloc, label.last, Instr::BrOnCastFail(cast), taken)?;
+    let node = dropping_branch(alloc, label.last, Instr::BrOnCastFail(cast), taken)?;
     Ok(Some(node))
 }
 
@@ -179,7 +179,7 @@ fn draw_below(scope: &Scope<'_>, from: RefType, u: &mut Unstructured<'_>) -> Ref
 
 /// Creates the node of `instruction`, a branch to a label of the values `taken`, whose last operand
 /// is a reference of the type `from`. Drops the values that it leaves.
-fn dropping(
+fn dropping_branch(
     alloc: Global,
     from: RefType,
     instruction: Instr,
@@ -189,7 +189,7 @@ fn dropping(
     ensures memory { IfErr result (λ e. e ≡ Error.Memory) }
 {
     let others = taken.len().saturating_sub(1);
-    topped(
+    node_with_top(
         alloc,
         &taken[..others],
         ValType::Ref(from),

@@ -12,7 +12,8 @@ ghost use Rattle.smith_body_nodes.specs.Offered.{offered};
 ghost use Rattle.smith_body_nodes.specs.Scopes.{AreLabels, IsScope, bare, where_stands};
 
 use smith_body_nodes::{
-    Draft, Node, Offer, Scope, choose_offered, draw_referent, nullable_to, or_nop, plain, topped,
+    Draft, Node, Offer, Scope, choose_offered, draw_referent, node_with_top, nullable_to, or_nop,
+    plain,
 };
 use smith_bytes::{Error, Unstructured};
 use smith_instr::Instr;
@@ -184,7 +185,7 @@ fn choose_br_on_null(
     };
     let heap_type = draw_referent(scope, u);
     let taken = draft.labels[label as usize].as_slice();
-    let node = topped(
+    let node = node_with_top(
         alloc,
         taken,
         nullable_to(heap_type),
@@ -215,7 +216,7 @@ fn choose_br_on_non_null(
         return Ok(None);
     };
     let others = taken.len().saturating_sub(1);
-    let node = topped(
+    let node = node_with_top(
         alloc,
         &taken[..others],
         nullable_to(to.heap_type),

@@ -20,7 +20,7 @@ ghost use Rattle.smith_body_tables.specs.TableChoices.{table_init_at, table_init
 ghost use Rattle.smith_body_tables.specs.TableChoices.{table_set_node, table_value_at};
 
 use smith_body_nodes::{
-    Draft, Node, Offer, Scope, address, choose_in_chunk, draw_index, draw_item, indexed,
+    Draft, Node, Offer, Scope, address, choose_in_chunk, draw_index, draw_item, indexed_count,
     is_address, is_sub_type, narrower, plain,
 };
 use smith_bytes::{Error, Unstructured};
@@ -72,7 +72,7 @@ impl<'a> Offer for TableOffer<'a> {
     ghost test = { λ self index. is_table_below (bare self.scope.now) self.wanted index };
 
     fn count(&self) -> usize {
-        indexed(self.scope.tables.len())
+        indexed_count(self.scope.tables.len())
     }
 
     fn is_offered(&self, index: usize) -> bool {
@@ -102,7 +102,7 @@ impl<'a> Offer for SegmentOffer<'a> {
     ghost test = { λ self index. is_elem_below (bare self.scope.now) self.wanted index };
 
     fn count(&self) -> usize {
-        indexed(self.scope.elems.len())
+        indexed_count(self.scope.elems.len())
     }
 
     fn is_offered(&self, index: usize) -> bool {
@@ -130,7 +130,7 @@ impl<'a> Offer for TableAddressOffer<'a> {
     ghost test = { λ self index. is_table_addressed (bare self.scope.now) self.wanted index };
 
     fn count(&self) -> usize {
-        indexed(self.scope.tables.len())
+        indexed_count(self.scope.tables.len())
     }
 
     fn is_offered(&self, index: usize) -> bool {

@@ -47,7 +47,7 @@ pub fn arbitrary_loop<'a, F: FnMut(&mut Unstructured<'a>) -> Result<bool, Error>
         if !goes_on(u, calls, min) {
             return Ok(());
         }
-        if !called(&mut f, u)? {
+        if !call_once(&mut f, u)? {
             return at_false(min, calls);
         }
         calls += 1;
@@ -56,7 +56,7 @@ pub fn arbitrary_loop<'a, F: FnMut(&mut Unstructured<'a>) -> Result<bool, Error>
 }
 
 /// Calls `f` once with `u`. Requires `f` to be callable with any source, repeatedly.
-fn called<'a, F: FnMut(&mut Unstructured<'a>) -> Result<bool, Error>>(
+fn call_once<'a, F: FnMut(&mut Unstructured<'a>) -> Result<bool, Error>>(
     f: &mut F,
     u: &mut Unstructured<'a>,
 ) -> Result<bool, Error>

@@ -151,7 +151,7 @@ fn read_members(
         for _ in 0..most {
             match reader.next_key() {
                 Ok(Some(key)) => read_member(alloc, key, reader, case)?,
-                Ok(None) => return ended(reader),
+                Ok(None) => return check_end(reader),
                 Err(_) => break,
             }
         }
@@ -160,7 +160,7 @@ fn read_members(
 }
 
 // Checks that nothing follows the object.
-fn ended(reader: &mut Reader<'_>) -> Result<(), Fault> {
+fn check_end(reader: &mut Reader<'_>) -> Result<(), Fault> {
     match reader.next() {
         None => Ok(()),
         Some(_) => Err(Fault::Syntax(reader.offset())),

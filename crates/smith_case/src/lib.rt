@@ -43,14 +43,14 @@
 pub mod arguments;
 pub mod call;
 mod case;
+mod comparison;
 mod fault;
 mod input;
 mod keys;
 pub mod shapes;
-mod wanted;
 
 pub use case::{Case, ShapeNames, Wanted, read_case, text_or};
+pub use comparison::{Difference, check_wanted, first_difference};
 pub use fault::{Fault, Obstacle};
 pub use input::bytes_of;
 pub use keys::check_keys;
-pub use wanted::{Difference, check_wanted, first_difference};

@@ -6,9 +6,9 @@
 //! call itself is part of the answer. The documentation of `smith_case` explains the keys of a case.
 #![tactic(auto)]
 
+mod answer_lines;
 mod answers;
-mod judged;
+mod judgement;
 mod recorded;
-mod told;
 
-pub use judged::judge;
+pub use judgement::judge;

@@ -20,7 +20,7 @@ use std::io;
 use std::process::ExitCode;
 
 fn main(rt: HostRuntime) -> io::Result<ExitCode> {
-    match answered(&rt) {
+    match answer_lines(&rt) {
         Err(error) if error.kind() == io::ErrorKind::OutOfMemory => {
             println!(rt; "not ok: Memory while reading")?;
             Ok(ExitCode::FAILURE)
@@ -31,7 +31,7 @@ fn main(rt: HostRuntime) -> io::Result<ExitCode> {
 
 // Answers the cases of the standard input. Fails if a line can't be read or written, or if memory
 // for a line runs out.
-fn answered(rt: &HostRuntime) -> io::Result<ExitCode> {
+fn answer_lines(rt: &HostRuntime) -> io::Result<ExitCode> {
     let alloc = rt.alloc();
     let mut right: u64 = 0;
     let mut wrong: u64 = 0;

@@ -32,7 +32,7 @@ impl Config {
         ensures kept { sanitized result ≡ result }
         ensures left { KeepsPieces u.old u.new }
     {
-        let config = Config::draw_counts(Config::undrawn(), u);
+        let config = Config::draw_counts(Config::with_undrawn_fields(), u);
         let config = Config::draw_sizes(config, u);
         let config = Config::draw_proposals(config, u);
         let config = Config::draw_kinds(config, u);
@@ -41,7 +41,7 @@ impl Config {
         config
     }
 
-    fn undrawn() -> Config
+    fn with_undrawn_fields() -> Config
         ensures { result ≡ undrawn_config }
     {
         let mut config = Config::default();

@@ -190,11 +190,11 @@ static PLACES: [(&str, Place); 71] = fields!(place);
 pub(crate) fn place_named(name: &str) -> Option<Place>
     ensures { option_map field_of result ≡ field_named name.now }
 {
-    found(&PLACES, name)
+    find_place(&PLACES, name)
 }
 
 /// Finds the first item with the name `name`.
-fn found(table: &[(&str, Place)], name: &str) -> Option<Place>
+fn find_place(table: &[(&str, Place)], name: &str) -> Option<Place>
     ensures { option_map field_of result ≡ named name.now (fields_in table.now) }
 {
     for (other, place) in table {

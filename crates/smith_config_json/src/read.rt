@@ -109,7 +109,7 @@ fn read_members<'a>(
             return Ok(());
         };
         if is_given(given.as_slice(), name) {
-            return Err(refused(alloc, Fault::RepeatedField, name, start));
+            return Err(refusal_of(alloc, Fault::RepeatedField, name, start));
         }
         read_member(alloc, reader, config, name, start)?;
         if given.push(name).is_err() {
@@ -149,8 +149,8 @@ fn read_member(
     let offset = reader.offset();
     match set_field(config, name, reader) {
         Ok(()) => Ok(()),
-        Err(Fault::UnknownField) => Err(refused(alloc, Fault::UnknownField, name, start)),
-        Err(fault) => Err(refused(alloc, fault, name, offset)),
+        Err(Fault::UnknownField) => Err(refusal_of(alloc, Fault::UnknownField, name, start)),
+        Err(fault) => Err(refusal_of(alloc, fault, name, offset)),
     }
 }
 
@@ -166,7 +166,7 @@ fn nameless(alloc: Global, fault: Fault, offset: usize) -> Refusal
 }
 
 /// Returns the refusal of the member `name`.
-fn refused(alloc: Global, fault: Fault, name: &str, offset: usize) -> Refusal
+fn refusal_of(alloc: Global, fault: Fault, name: &str, offset: usize) -> Refusal
     ensures { result.fault ≢ Fault.OutOfMemory
         → (result.fault ≡ fault) × (string_bytes result.field ≡ name.now) }
 {

@@ -38,7 +38,7 @@ fn next<'a>(reader: &mut Reader<'a>) -> Token<'a>
 }
 
 /// Returns the fault of a token that a field doesn't take.
-fn unwanted(token: Token<'_>) -> Fault
+fn fault_of_token(token: Token<'_>) -> Fault
     ensures { result ≡ unwanted (token_of token.entry) }
 {
     match token {
@@ -94,7 +94,7 @@ fn whole(reader: &mut Reader<'_>, most: u128) -> Result<Option<u128>, Fault>
     match next(reader) {
         Token::Null => Ok(None),
         Token::Number(text) => Ok(Some(number(text, most)?)),
-        token => Err(unwanted(token)),
+        token => Err(fault_of_token(token)),
     }
 }
 
@@ -106,7 +106,7 @@ fn truth(reader: &mut Reader<'_>) -> Result<Option<bool>, Fault>
     match next(reader) {
         Token::Null => Ok(None),
         Token::Bool(value) => Ok(Some(value)),
-        token => Err(unwanted(token)),
+        token => Err(fault_of_token(token)),
     }
 }
 
@@ -117,7 +117,7 @@ fn no_file(reader: &mut Reader<'_>) -> Result<(), Fault>
 {
     match next(reader) {
         Token::Null => Ok(()),
-        token => Err(unwanted(token)),
+        token => Err(fault_of_token(token)),
     }
 }
 
@@ -136,7 +136,7 @@ fn kinds(reader: &mut Reader<'_>) -> Result<Option<InstructionKinds>, Fault>
             Ok(kinds) => Ok(Some(kinds)),
             Err(_) => Err(Fault::OutOfRange),
         },
-        token => Err(unwanted(token)),
+        token => Err(fault_of_token(token)),
     }
 }
 
@@ -148,7 +148,7 @@ fn weight(reader: &mut Reader<'_>) -> Result<u32, Fault>
     match next(reader) {
         Token::Number(text) => Ok(number(text, u32::MAX as u128)? as u32),
         Token::EndArray => Err(Fault::WrongType),
-        token => Err(unwanted(token)),
+        token => Err(fault_of_token(token)),
     }
 }
 
@@ -159,7 +159,7 @@ fn list_end(reader: &mut Reader<'_>) -> Result<(), Fault>
 {
     match next(reader) {
         Token::EndArray => Ok(()),
-        token => Err(unwanted(token)),
+        token => Err(fault_of_token(token)),
     }
 }
 
@@ -275,7 +275,7 @@ fn read_choices(config: &mut Config, reader: &mut Reader<'_>) -> Result<(), Faul
     match next(reader) {
         Token::Null => {}
         Token::BeginArray => config.memory_offset_choices = weights(reader)?,
-        token => return Err(unwanted(token)),
+        token => return Err(fault_of_token(token)),
     }
     Ok(())
 }

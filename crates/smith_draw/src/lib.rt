@@ -7,7 +7,7 @@ pub use smith_draw_consts::{
     globals_for_const_expr,
 };
 pub use smith_draw_types::{
-    Entities, KeptGrounds, Spaces, Standing, TypeUse, add_type, arbitrary_composite_type,
+    Entities, KeptGrounds, ReferenceScope, Spaces, TypeUse, add_type, arbitrary_composite_type,
     arbitrary_field_type, arbitrary_func_type, arbitrary_global_type, arbitrary_heap_type,
     arbitrary_limits64, arbitrary_locals, arbitrary_matching_field_type,
     arbitrary_matching_func_type, arbitrary_matching_heap_type, arbitrary_matching_ref_type,

@@ -33,8 +33,8 @@ use Rattle.smith_draw_consts.specs.ConstExprs.{State, state_of, add_instruction,
 use Rattle.smith_draw_consts.specs.ConstSteps.{operand_type}
 use Rattle.smith_draw_consts.specs.declared.node_choice.Choice.{Choice}
 use Rattle.smith_draw_consts.specs.declared.node_choice.Choice.TheVariants as choice
-use Rattle.smith_draw_consts.specs.declared.extended.Operator.{Operator}
-use Rattle.smith_draw_consts.specs.declared.extended.Operator.TheVariants.{Add, Sub, Mul}
+use Rattle.smith_draw_consts.specs.declared.extended_constant.Operator.{Operator}
+use Rattle.smith_draw_consts.specs.declared.extended_constant.Operator.TheVariants.{Add, Sub, Mul}
 use Rattle.smith_draw_consts.specs.declared.node.Node.{Node}
 use Rattle.smith_draw_consts.specs.declared.node.Operand.{Operand}
 use Rattle.smith_draw_consts.specs.declared.node.Operand.TheVariants.{Value, Length}

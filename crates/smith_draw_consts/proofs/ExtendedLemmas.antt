@@ -13,7 +13,7 @@ use Rattle.smith_types.proofs.ConstStepLemmas.{one_step}
 use Rattle.smith_types.proofs.ValidityLemmas.{before_or_not}
 use Rattle.std.specs.Prelude.{Some, None}
 use Rattle.smith_draw_consts.specs.Constants.{constant_at, is_wide, operation, operator_at, extended_within, extended_at}
-use Rattle.smith_draw_consts.specs.declared.extended.Operator.{Operator}
+use Rattle.smith_draw_consts.specs.declared.extended_constant.Operator.{Operator}
 use Rattle.smith_draw_consts.specs.Putting.{Adds}
 use Rattle.smith_draw_consts.proofs.PuttingLemmas.{below_itself}
 

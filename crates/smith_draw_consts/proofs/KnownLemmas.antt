@@ -17,8 +17,8 @@ use Rattle.smith_draw_consts.specs.ConstScopes.{IsScope}
 use Rattle.smith_draw_consts.specs.KeptOffers.{AreClasses, AreRecorded, IsKnown, IsWhole, counts_of, is_offered, readable}
 use Rattle.smith_draw_consts.specs.declared.classes.Classes.{Classes}
 use Rattle.smith_draw_consts.specs.declared.kept_offers.KeptOffer.{KeptOffer}
-use Rattle.smith_draw_consts.specs.declared.known.Known.{Known}
-use Rattle.smith_draw_consts.specs.declared.known.Known.TheVariants.{Few, Many}
+use Rattle.smith_draw_consts.specs.declared.knowledge.Known.{Known}
+use Rattle.smith_draw_consts.specs.declared.knowledge.Known.TheVariants.{Few, Many}
 use Rattle.smith_draw_consts.specs.declared.node_choice.Choice.TheVariants as choice
 use Rattle.smith_draw_consts.proofs.ClassLemmas.{get_front, get_last, readable_in_range, readable_same, same_element}
 use Rattle.smith_draw_types.proofs.GroundingLemmas.{within_reference}

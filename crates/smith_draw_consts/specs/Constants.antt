@@ -6,8 +6,8 @@ use Rattle.smith_syntax.specs.declared.value_type.ValType.{ValType}
 use Rattle.smith_syntax.specs.declared.value_type.ValType.TheVariants.{I32, I64, F32, F64, V128, Ref}
 use Rattle.smith_syntax.specs.declared.const_instr.ConstInstr.{ConstInstr}
 use Rattle.smith_syntax.specs.declared.const_instr.ConstInstr.TheVariants as instr
-use Rattle.smith_draw_consts.specs.declared.extended.Operator.{Operator}
-use Rattle.smith_draw_consts.specs.declared.extended.Operator.TheVariants.{Add, Sub, Mul}
+use Rattle.smith_draw_consts.specs.declared.extended_constant.Operator.{Operator}
+use Rattle.smith_draw_consts.specs.declared.extended_constant.Operator.TheVariants.{Add, Sub, Mul}
 
 -- a constant of a type: the drawn value or bits, or null for a reference
 unfoldable pub constant_at : ValType → List ℕ → ConstInstr × List ℕ

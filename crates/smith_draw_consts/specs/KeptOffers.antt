@@ -16,8 +16,8 @@ use Rattle.smith_draw_consts.specs.declared.kept_offers.KeptOffer.{KeptOffer}
 use Rattle.smith_draw_consts.specs.declared.few_items.FewItems.{FewItems}
 use Rattle.smith_draw_consts.specs.declared.kept_offers.KeptOffers.{KeptOffers}
 use Rattle.smith_draw_consts.specs.declared.kept_offers.ManyItems.{ManyItems}
-use Rattle.smith_draw_consts.specs.declared.known.Known.{Known}
-use Rattle.smith_draw_consts.specs.declared.known.Known.TheVariants.{Few, Many}
+use Rattle.smith_draw_consts.specs.declared.knowledge.Known.{Known}
+use Rattle.smith_draw_consts.specs.declared.knowledge.Known.TheVariants.{Few, Many}
 use Rattle.smith_draw_consts.specs.declared.read_items.ReadItems.{ReadItems}
 
 -- how many of the first items of a list are offered

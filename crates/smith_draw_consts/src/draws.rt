@@ -16,7 +16,7 @@ ghost use Rattle.smith_draw_consts.specs.ConstScopes.{seen_by, IsReadable, AreSp
 ghost use Rattle.smith_draw_consts.specs.ConstBounds.{most_instructions, MayRefuseConstExpr};
 ghost use Rattle.smith_draw_consts.specs.KeptOffers.{AreKeptOffers};
 
-use crate::drawn::draw_whole_expression;
+use crate::expression::draw_whole_expression;
 use crate::kept_offers::KeptOffers;
 use crate::references::is_below;
 use crate::scope::{Scope, visible_end};

@@ -15,7 +15,7 @@ ghost use Rattle.smith_draw_consts.specs.declared.read_items.ReadItems.{ReadItem
 
 use crate::block_counts::BlockCounts;
 use crate::few_items::{FewItems, MOST};
-use crate::known::Known;
+use crate::knowledge::Known;
 use crate::read_items::ReadItems;
 use crate::references::{is_offered, widest};
 use crate::scope::Scope;
@@ -113,7 +113,7 @@ impl KeptOffers {
 
     /// Returns what has been read, for the type whose entry is at `place`: the position that `look`
     /// returned.
-    pub(crate) fn known(&self, place: usize) -> Known<'_>
+    pub(crate) fn known_at(&self, place: usize) -> Known<'_>
         requires { (context : Context) × (wanted : Wanted)
             × HasReadAll context wanted place self.now }
         ensures { (context : Context) (wanted : Wanted) → HasReadAll context wanted place self.now

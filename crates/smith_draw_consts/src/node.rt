@@ -13,7 +13,7 @@ use crate::node_choice::Choice;
 use smith_bytes::{Error, Unstructured};
 use smith_types::{
     AbstractHeapType, CompositeInnerType, ConstInstr, HeapType, Items, RefType, SubType, ValType,
-    unpacked,
+    unpack,
 };
 use std::alloc::Global;
 
@@ -59,11 +59,11 @@ pub(crate) fn draw_node(
         Choice::I31 => of_value(alloc, ValType::I32, ConstInstr::RefI31),
         Choice::SharedI31 => of_value(alloc, ValType::I32, ConstInstr::RefI31Shared),
         Choice::FromExtern => {
-            let outside = converted(wanted, AbstractHeapType::Extern);
+            let outside = source_reference(wanted, AbstractHeapType::Extern);
             of_value(alloc, outside, ConstInstr::AnyConvertExtern)
         }
         Choice::FromAny => {
-            let inside = converted(wanted, AbstractHeapType::Any);
+            let inside = source_reference(wanted, AbstractHeapType::Any);
             of_value(alloc, inside, ConstInstr::ExternConvertAny)
         }
     }
@@ -188,12 +188,12 @@ fn push_fields_of(operands: &mut Items<Operand>, inner: &CompositeInnerType) -> 
     match inner {
         CompositeInnerType::Struct(structure) => {
             for field in structure.fields.as_slice() {
-                operands.push(Operand::Value(unpacked(field.element_type)))?;
+                operands.push(Operand::Value(unpack(field.element_type)))?;
             }
             Ok(())
         }
         CompositeInnerType::Array(array) => {
-            operands.push(Operand::Value(unpacked(array.0.element_type)))
+            operands.push(Operand::Value(unpack(array.0.element_type)))
         }
         CompositeInnerType::Func(_) => Ok(()),
     }
@@ -201,7 +201,7 @@ fn push_fields_of(operands: &mut Items<Operand>, inner: &CompositeInnerType) -> 
 
 /// Returns the reference type to convert to `wanted`: to the heap type `ty`, with the nullability
 /// and sharedness of `wanted`.
-fn converted(wanted: ValType, ty: AbstractHeapType) -> ValType
+fn source_reference(wanted: ValType, ty: AbstractHeapType) -> ValType
     ensures { result ≡ converted wanted ty }
 {
     match wanted {

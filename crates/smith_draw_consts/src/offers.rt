@@ -30,14 +30,14 @@ ghost use Rattle.smith_draw_consts.specs.KeptOffers.{IsKnown};
 // first of them. It returns that choice as an `Err`, so that `?` ends the search. If there are too
 // few choices, it returns the place, counted from the end of them, as an `Ok`.
 
-use crate::known::{Known, kind_of_function, kind_of_global};
+use crate::knowledge::{Known, kind_of_function, kind_of_global};
 use crate::node_choice::Choice;
 use crate::references::{gives, i31, is_below, is_offered};
 use crate::scope::Scope;
 use smith_config::Config;
 use smith_types::{
     AbstractHeapType, CompositeInnerType, FieldType, HeapType, RefType, ValType, are_defaultable,
-    is_defaultable, unpacked,
+    is_defaultable, unpack,
 };
 
 /// Searches all choices offered for a value of the type `wanted`.
@@ -281,7 +281,7 @@ fn past_array_ways(index: u32, element: FieldType, place: usize) -> Result<usize
     let place = past_if(true, Choice::Array(index), place)?;
     let place = past_if(true, Choice::FixedArray(index), place)?;
     past_if(
-        is_defaultable(unpacked(element.element_type)),
+        is_defaultable(unpack(element.element_type)),
         Choice::ArrayDefault(index),
         place,
     )

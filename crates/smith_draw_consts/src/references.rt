@@ -57,7 +57,7 @@ pub(crate) fn i31(shared: bool) -> ValType
 
 /// Returns the type of a reference to a created value of the type `index`. It is exact with custom
 /// descriptors.
-fn created(scope: &Scope<'_>, index: u32) -> ValType
+fn created_type(scope: &Scope<'_>, index: u32) -> ValType
     ensures { result ≡ created (context_of scope.now) index }
 {
     let heap_type = if scope.config.custom_descriptors_enabled {
@@ -82,7 +82,7 @@ pub(crate) fn function_reference(scope: &Scope<'_>, function: usize, index: u32)
             heap_type: HeapType::Concrete(index),
         });
     }
-    created(scope, index)
+    created_type(scope, index)
 }
 
 /// Returns whether a reference to a created value of the type `index` has a subtype of `wanted`.
@@ -92,7 +92,7 @@ pub(crate) fn gives(scope: &Scope<'_>, index: u32, wanted: ValType) -> bool
     ensures { result
         ≡ is_val_below (context_of scope.now).types (created (context_of scope.now) index) wanted }
 {
-    is_below(scope.spaces.types, created(scope, index), wanted)
+    is_below(scope.spaces.types, created_type(scope, index), wanted)
 }
 
 /// Returns the type of nullable references to the unshared type `ty`.

@@ -25,7 +25,7 @@ use Rattle.smith_module_rules.specs.ExportedItems.{Export, item_size, exported_s
 use Rattle.smith_draw_contents.specs.Exporting.{candidates, candidate_row, offered_kinds, exports_from, free_exports_at}
 use Rattle.smith_draw_contents.specs.Exported.{MayExportFreely, AreExported, MayRunOut}
 use Rattle.smith_draw_contents.specs.AllExports.{everything_at, exports_at}
-use Rattle.smith_draw_contents.specs.declared.exported.Exports.{Exports}
+use Rattle.smith_draw_contents.specs.declared.exports_so_far.Exports.{Exports}
 use Rattle.smith_draw_contents.proofs.CandidateLemmas.{length_alike}
 use Rattle.smith_bytes.proofs.StepLemmas.{given_takes}
 use Rattle.smith_draw_types.proofs.FuncSizeLemmas.{small_at}

@@ -8,7 +8,7 @@ ghost use Rattle.smith_draw_contents.specs.Exported.{IsIndexed, MayExport, AreEx
 ghost use Rattle.smith_draw_contents.specs.AllExports.{everything_at};
 
 use crate::export_names::draw_export_name;
-use crate::exported::{Exports, item_size};
+use crate::exports_so_far::{Exports, item_size};
 use smith_bytes::{Error, Unstructured, Why};
 use smith_config::Config;
 use smith_types::{EntitySpaces, ExportKind, Items, TypeSpace};

@@ -14,7 +14,7 @@ ghost use Rattle.smith_module_rules.specs.Held.{IsRaw};
 
 use smith_bytes::{Error, Unstructured};
 use smith_config::Config;
-use smith_draw_types::{KeptGrounds, Spaces, Standing, draw_locals};
+use smith_draw_types::{KeptGrounds, ReferenceScope, Spaces, draw_locals};
 use smith_types::{Code, Instructions, Items};
 use std::alloc::Global;
 
@@ -58,7 +58,7 @@ fn draw_instructions(
 fn draw_body(
     alloc: Global,
     config: &Config,
-    standing: &Standing<'_>,
+    standing: &ReferenceScope<'_>,
     u: &mut Unstructured<'_>,
 ) -> Result<Code, Error>
     ensures { Draws (body_at config.now standing.now u.old) result u.old u.new }
@@ -75,7 +75,7 @@ fn draw_body(
 fn draw_each_body(
     alloc: Global,
     config: &Config,
-    standing: &Standing<'_>,
+    standing: &ReferenceScope<'_>,
     count: usize,
     u: &mut Unstructured<'_>,
 ) -> Result<Items<Code>, Error>
@@ -100,7 +100,7 @@ fn draw_bodies(
     ensures { Draws (bodies_at config.now (standing_in config.now spaces.now) count u.old)
         result u.old u.new }
 {
-    let kept = grounds.standing(config, spaces);
+    let kept = grounds.scope(config, spaces);
     draw_each_body(alloc, config, &kept, count, u)
 }
 

@@ -37,7 +37,7 @@ use crate::offered_indices::OfferedIndices;
 use smith_bytes::{Count, Error, Unstructured, Why, goes_on};
 use smith_config::Config;
 use smith_draw_consts::{KeptOffers, draw_const_expr};
-use smith_draw_types::{Spaces, Standing, draw_matching_ref_type, draw_ref_type};
+use smith_draw_types::{ReferenceScope, Spaces, draw_matching_ref_type, draw_ref_type};
 use smith_types::{ConstInstr, Elements, Items, RefType, SubType, ValType};
 use std::alloc::Global;
 
@@ -45,7 +45,7 @@ use std::alloc::Global;
 fn draw_type_for(
     alloc: Global,
     config: &Config,
-    standing: &Standing<'_>,
+    standing: &ReferenceScope<'_>,
     choice: KindChoice,
     u: &mut Unstructured<'_>,
 ) -> Result<RefType, Error>
@@ -65,7 +65,7 @@ pub(crate) fn draw_item_type(
     alloc: Global,
     config: &Config,
     spaces: &Spaces<'_>,
-    standing: &Standing<'_>,
+    standing: &ReferenceScope<'_>,
     choice: KindChoice,
     u: &mut Unstructured<'_>,
 ) -> Result<RefType, Error>

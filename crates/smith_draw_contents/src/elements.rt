@@ -26,7 +26,7 @@ use crate::element_offsets::draw_kind;
 use crate::offered_kinds::OfferedKinds;
 use smith_bytes::{Count, Error, Unstructured, Why, goes_on};
 use smith_config::Config;
-use smith_draw_types::{KeptGrounds, Spaces, Standing};
+use smith_draw_types::{KeptGrounds, ReferenceScope, Spaces};
 use smith_types::{ElementSegment, Elements, Items};
 use std::alloc::Global;
 
@@ -49,7 +49,7 @@ fn draw_segment(
     alloc: Global,
     config: &Config,
     spaces: &Spaces<'_>,
-    standing: &Standing<'_>,
+    standing: &ReferenceScope<'_>,
     kinds: &OfferedKinds<'_>,
     total: usize,
     u: &mut Unstructured<'_>,
@@ -93,7 +93,7 @@ fn draw_segments(
     alloc: Global,
     config: &Config,
     spaces: &Spaces<'_>,
-    standing: &Standing<'_>,
+    standing: &ReferenceScope<'_>,
     kinds: &OfferedKinds<'_>,
     u: &mut Unstructured<'_>,
 ) -> Result<Items<ElementSegment>, Error>
@@ -163,7 +163,7 @@ fn draw_elements(
     if kinds.is_empty() {
         return none(alloc, config);
     }
-    let standing = grounds.standing(config, spaces);
+    let standing = grounds.scope(config, spaces);
     draw_segments(alloc, config, spaces, &standing, &kinds, u)
 }
 

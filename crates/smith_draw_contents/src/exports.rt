@@ -19,7 +19,7 @@ ghost use Rattle.smith_draw_contents.specs.AllExports.{exports_at};
 use crate::all_exports::export_everything;
 use crate::export_kinds::{choose_candidate, choose_export_kind, has_candidates, most_of_funcs};
 use crate::export_names::draw_export_name;
-use crate::exported::{Exports, item_size};
+use crate::exports_so_far::{Exports, item_size};
 use smith_bytes::{Count, Error, Unstructured, Why, goes_on};
 use smith_config::Config;
 use smith_types::{EntitySpaces, ExportKind, Items, Name, TypeSpace};

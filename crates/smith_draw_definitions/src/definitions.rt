@@ -11,7 +11,7 @@ ghost use Rattle.smith_draw_definitions.specs.Defined.{MayRefuseDefined, AreDefi
 use crate::funcs::{define_funcs, note_defined};
 use crate::globals::define_globals;
 use crate::memories::define_memories;
-use crate::standing::{standing, standing_imported};
+use crate::reference_scopes::{reference_scope, reference_scope_of_imports};
 use crate::tables::define_tables;
 use crate::tags::define_tags;
 use smith_bytes::{Error, Unstructured};
@@ -105,10 +105,16 @@ pub fn define(
     define_funcs(alloc, config, types, &mut spaces.funcs, u)?;
     let func_types = spaces.funcs.as_slice();
     note_defined(config, types, func_types, funcs_before, grounds);
-    let scope = standing(types, func_types, imported_funcs, &[], 0);
-    let drawn = grounds.standing(config, &scope);
+    let scope = reference_scope(types, func_types, imported_funcs, &[], 0);
+    let drawn = grounds.scope(config, &scope);
     let globals = spaces.globals.as_slice();
-    let imported = standing_imported(types, func_types, imported_funcs, globals, imported_globals);
+    let imported = reference_scope_of_imports(
+        types,
+        func_types,
+        imported_funcs,
+        globals,
+        imported_globals,
+    );
     let initials = &mut definitions.tables;
     let tables = &mut spaces.tables;
     define_tables(alloc, config, &imported, &drawn, tables, initials, u)?;

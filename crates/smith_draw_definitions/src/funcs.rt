@@ -16,7 +16,7 @@ ghost use Rattle.smith_draw_types.specs.TypeUses.{func_types};
 ghost use Rattle.smith_draw_types.specs.SpelledParts.{SpellsFuncs};
 ghost use Rattle.smith_module_rules.specs.Refusals.{MayRefuse};
 
-use crate::typed::define_typed;
+use crate::typed_entities::define_typed;
 use smith_bytes::{Count, Error, Unstructured, Why};
 use smith_config::Config;
 use smith_draw_types::{KeptGrounds, TypeUse, list_types};

@@ -22,7 +22,7 @@ use crate::past_maximum::discard_past_maximum;
 use smith_bytes::{Error, Unstructured, goes_on};
 use smith_config::Config;
 use smith_draw_consts::{KeptOffers, draw_const_expr};
-use smith_draw_types::{Entities, Spaces, Standing, draw_global_type};
+use smith_draw_types::{Entities, ReferenceScope, Spaces, draw_global_type};
 use smith_types::{ConstInstr, GlobalType, Items, TypeSpace};
 use std::alloc::Global;
 
@@ -32,7 +32,7 @@ fn draw_initialised_global(
     alloc: Global,
     config: &Config,
     spaces: &Spaces<'_>,
-    standing: &Standing<'_>,
+    standing: &ReferenceScope<'_>,
     kept: &mut KeptOffers,
     u: &mut Unstructured<'_>,
 ) -> Result<(GlobalType, (u32, Items<ConstInstr>)), Error>
@@ -78,7 +78,7 @@ fn push_globals<'a>(
     funcs: &'a [u32],
     imported_funcs: usize,
     imported_globals: usize,
-    standing: &Standing<'_>,
+    standing: &ReferenceScope<'_>,
     globals: &mut Items<GlobalType>,
     initials: &mut Items<(u32, Items<ConstInstr>)>,
     kept: &mut KeptOffers,
@@ -163,7 +163,7 @@ pub(crate) fn define_globals<'a>(
     funcs: &'a [u32],
     imported_funcs: usize,
     imported_globals: usize,
-    standing: &Standing<'_>,
+    standing: &ReferenceScope<'_>,
     globals: &mut Items<GlobalType>,
     initials: &mut Items<(u32, Items<ConstInstr>)>,
     u: &mut Unstructured<'_>,

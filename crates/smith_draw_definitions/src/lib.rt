@@ -10,14 +10,14 @@ mod funcs;
 mod globals;
 mod memories;
 mod past_maximum;
+mod reference_scopes;
 mod required_entities;
 mod required_types;
 mod shape_entities;
 mod shape_exports;
-mod standing;
 mod tables;
 mod tags;
-mod typed;
+mod typed_entities;
 
 pub use definitions::{Definitions, define};
 pub use shape_exports::{make_required_exports, make_shape_exports};

@@ -17,7 +17,7 @@ ghost use Rattle.smith_draw_definitions.specs.RequiredExports.{next_index, sever
 ghost use Rattle.smith_draw_definitions.specs.RequiredExports.{defined_with_at, entity_required_at};
 
 use crate::definitions::Definitions;
-use crate::standing::standing;
+use crate::reference_scopes::reference_scope;
 use smith_bytes::{Error, Unstructured, Why};
 use smith_config::Config;
 use smith_draw_consts::{KeptOffers, draw_const_expr, draw_table_init};
@@ -69,7 +69,7 @@ fn scope<'a>(
         → MayDefineMore config types.now (spaces_in spaces.now) definitions.now 1
         → AreSpacesValid config result }
 {
-    standing(
+    reference_scope(
         types,
         spaces.funcs.as_slice(),
         spaces.funcs.len() - definitions.num_funcs,

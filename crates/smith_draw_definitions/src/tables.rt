@@ -20,7 +20,7 @@ use crate::past_maximum::discard_past_maximum;
 use smith_bytes::{Error, Unstructured, goes_on};
 use smith_config::Config;
 use smith_draw_consts::{KeptOffers, draw_table_init};
-use smith_draw_types::{Spaces, Standing, draw_table_type};
+use smith_draw_types::{ReferenceScope, Spaces, draw_table_type};
 use smith_types::{ConstInstr, Items, TableType};
 use std::alloc::Global;
 
@@ -29,7 +29,7 @@ fn draw_initialised_table(
     alloc: Global,
     config: &Config,
     spaces: &Spaces<'_>,
-    standing: &Standing<'_>,
+    standing: &ReferenceScope<'_>,
     kept: &mut KeptOffers,
     u: &mut Unstructured<'_>,
 ) -> Result<(TableType, Option<Items<ConstInstr>>), Error>
@@ -56,7 +56,7 @@ fn push_tables(
     alloc: Global,
     config: &Config,
     spaces: &Spaces<'_>,
-    standing: &Standing<'_>,
+    standing: &ReferenceScope<'_>,
     tables: &mut Items<TableType>,
     initials: &mut Items<Option<Items<ConstInstr>>>,
     kept: &mut KeptOffers,
@@ -97,7 +97,7 @@ pub(crate) fn define_tables(
     alloc: Global,
     config: &Config,
     spaces: &Spaces<'_>,
-    standing: &Standing<'_>,
+    standing: &ReferenceScope<'_>,
     tables: &mut Items<TableType>,
     initials: &mut Items<Option<Items<ConstInstr>>>,
     u: &mut Unstructured<'_>,

@@ -10,7 +10,7 @@ ghost use Rattle.smith_draw_definitions.specs.Definitions.{tag_types, tags_at};
 ghost use Rattle.smith_draw_types.specs.SpelledParts.{SpellsNoTag};
 ghost use Rattle.smith_module_rules.specs.Refusals.{MayRefuse};
 
-use crate::typed::define_typed;
+use crate::typed_entities::define_typed;
 use smith_bytes::{Count, Error, Unstructured};
 use smith_config::Config;
 use smith_draw_types::{TypeUse, list_types};

@@ -14,7 +14,7 @@ ghost use Rattle.smith_draw_types.specs.MatchingComposites.{matching_struct_type
 ghost use Rattle.smith_draw_types.specs.SubTypes.{may_have_subtypes, supertype_wanted_at, root_type_at};
 ghost use Rattle.smith_draw_types.specs.SubTypes.{sub_type_of_at};
 ghost use Rattle.smith_draw_types.specs.RecGroups.{clone_wanted_at};
-ghost use Rattle.smith_draw_types.specs.ExampleStanding.{chain};
+ghost use Rattle.smith_draw_types.specs.ExampleReferenceScopes.{chain};
 
 #[tactic(auto, unfolding(smith_draw_types::specs::CompositeTypes::struct_type_at, smith_draw_types::specs::MatchingComposites::matching_struct_type_at, smith_draw_types::specs::MatchingTypes::matched_fields_at, smith_draw_types::specs::MatchingTypes::each_at, smith_draw_types::specs::MatchingTypes::matching_field_type_at, smith_draw_types::specs::FieldTypes::fields_until_at, smith_draw_types::specs::FieldTypes::field_type_at, smith_draw_types::specs::FieldTypes::storage_type_at, smith_bytes::specs::Growth::grow_at, smith_bytes::specs::Draws::bool_at, smith_bytes::specs::Draws::range_at, smith_bytes::specs::Draws::digit_count))]
 fn fields()

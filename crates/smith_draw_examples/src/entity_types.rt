@@ -12,7 +12,7 @@ ghost use Rattle.smith_syntax.specs.declared.value_type.AbstractHeapType.TheVari
 ghost use Rattle.smith_draw_consts.specs.ExampleConstExprs.{context_of_types};
 ghost use Rattle.smith_config.specs.Config.{default_config};
 ghost use Rattle.smith_draw_types.specs.Choices.{chosen_at};
-ghost use Rattle.smith_draw_types.specs.ExampleStanding.{of_each_kind};
+ghost use Rattle.smith_draw_types.specs.ExampleReferenceScopes.{of_each_kind};
 ghost use Rattle.smith_draw_types.specs.GlobalTypes.{global_type_at};
 ghost use Rattle.smith_draw_types.specs.SharedHeapTypes.{is_heap_type_shared};
 ghost use Rattle.smith_draw_types.specs.TableTypes.{drawn_elements, table_type_at};

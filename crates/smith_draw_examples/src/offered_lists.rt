@@ -8,7 +8,7 @@ ghost use Rattle.smith_syntax.specs.declared.value_type.HeapType.TheVariants.{Ex
 ghost use Rattle.smith_types.specs.ExampleTypes.{plain, struct_and_below};
 ghost use Rattle.smith_config.specs.Config.{default_config};
 ghost use Rattle.smith_draw_types.specs.Offered.{subtypes_offered, supertypes_offered};
-ghost use Rattle.smith_draw_types.specs.ExampleStanding.{of_each_kind, chain};
+ghost use Rattle.smith_draw_types.specs.ExampleReferenceScopes.{of_each_kind, chain};
 
 #[tactic(auto, unfolding(smith_draw_types::specs::Offered::subtypes_offered))]
 fn subtypes()

@@ -43,7 +43,7 @@ use Rattle.smith_draw_imports.specs.Importing.{module_name, with_import}
 use Rattle.smith_draw_imports.specs.Imported.{Counts, AreImportsCounted, AreNumbersWithin, AreSpacesWithin, AreImportsFit, IsEntityFit, IsFitBeside, IsNext, IsOpen, IsOfGroup, IsCompact, IsImported, MayEnd, MayEndAt, spaces_of}
 use Rattle.smith_types.specs.Floats.{HasNoFloatValue}
 use Rattle.smith_types.proofs.DistinctLemmas.{distinct_push}
-use Rattle.smith_draw_imports.specs.declared.imported.Imported.{Imported}
+use Rattle.smith_draw_imports.specs.declared.imports_so_far.Imported.{Imported}
 
 -- the imports of a kind, with one more import
 pub imported_more : {A : Type 0} (of_kind : EntityType → List A) (imports : List Import) (one : Import) → imported of_kind (imports ++ one ∷ []) ≡ imported of_kind imports ++ of_kind one.entity_type

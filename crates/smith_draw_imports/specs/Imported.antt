@@ -32,7 +32,7 @@ use Rattle.smith_draw_imports.specs.ImportNames.{KnowsPairs}
 use Rattle.smith_draw_imports.specs.ImportedEntities.{has_room, may_import, import_scope, sizes}
 use Rattle.smith_bytes.specs.Spelling.{SpellsNone}
 use Rattle.smith_module_rules.specs.Refusals.{MayLackImports}
-use Rattle.smith_draw_imports.specs.declared.imported.Imported.{Imported}
+use Rattle.smith_draw_imports.specs.declared.imports_so_far.Imported.{Imported}
 
 -- imports may be drawn over these types: no shape fixes the imports, and the function types are
 -- small

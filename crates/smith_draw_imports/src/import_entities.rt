@@ -11,11 +11,11 @@ ghost use Rattle.smith_draw_imports.specs.ImportedEntities.{entity_of_kind_at, f
 
 use crate::import_kinds::{draw_kind, has_room};
 use crate::import_types::ImportTypes;
-use crate::imported::Imported;
+use crate::imports_so_far::Imported;
 use smith_bytes::{Error, Unstructured};
 use smith_config::Config;
 use smith_draw_types::{
-    Entities, KeptGrounds, Spaces, Standing, arbitrary_memtype, choose, draw_global_type,
+    Entities, KeptGrounds, ReferenceScope, Spaces, arbitrary_memtype, choose, draw_global_type,
     draw_table_type,
 };
 use smith_types::{EntityType, ExportKind, TypeSpace};
@@ -35,12 +35,12 @@ pub fn entity_kind(added: &EntityType) -> ExportKind
 
 /// Returns the context in which the entity after `imported` is drawn: `types` and the functions
 /// imported so far. `grounds` holds the heap types that these functions ground.
-fn standing_after<'a>(
+fn reference_scope_after<'a>(
     config: &'a Config,
     types: &'a TypeSpace,
     imported: &'a Imported,
     grounds: &'a KeptGrounds,
-) -> Standing<'a>
+) -> ReferenceScope<'a>
     requires { AreKeptGrounds
         (import_scope config.now types.now.types (spaces_of imported.now)) grounds.now }
     ensures { result ≡ import_scope config.now types.now.types (spaces_of imported.now) }
@@ -51,7 +51,7 @@ fn standing_after<'a>(
         imported_funcs: funcs.len(),
         ..Entities::none()
     };
-    grounds.standing(config, &Spaces { types, entities })
+    grounds.scope(config, &Spaces { types, entities })
 }
 
 /// Draws an entity of the kind `kind`, for an import after `imported`. `kind` may be imported over
@@ -75,7 +75,7 @@ fn draw_entity_of_kind(
     ensures kind { IfOk result (λ added. entity_kind added ≡ kind) }
     ensures fit { IfOk result (IsFitBeside config.now types.now.types (spaces_of imported.now)) }
 {
-    let standing = standing_after(config, types.space(), imported, grounds);
+    let standing = reference_scope_after(config, types.space(), imported, grounds);
     match kind {
         ExportKind::Tag => Ok(EntityType::Tag(choose(types.for_tags(), u))),
         ExportKind::Func => Ok(EntityType::Func(choose(types.for_funcs(), u))),
@@ -149,7 +149,7 @@ pub(crate) fn draw_entity(
 
 /// Returns the entity `added` if its kind has room and an import of it fits after `imported`, or
 /// `None`.
-pub(crate) fn again(
+pub(crate) fn repeat_entity(
     config: &Config,
     types: &TypeSpace,
     imported: &Imported,

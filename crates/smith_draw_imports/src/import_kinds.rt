@@ -4,7 +4,7 @@ ghost use Rattle.smith_draw_imports.specs.Imported.{MayImportKind, spaces_of};
 ghost use Rattle.smith_draw_imports.specs.ImportedEntities.{has_room, may_import, kind_row, kind_at};
 
 use crate::import_types::ImportTypes;
-use crate::imported::Imported;
+use crate::imports_so_far::Imported;
 use smith_bytes::Unstructured;
 use smith_config::Config;
 use smith_draw_types::{choose_enabled, count_enabled};

@@ -27,11 +27,11 @@ ghost use Rattle.smith_draw_types.specs.KeptGrounds.{AreKeptGrounds};
 ghost use Rattle.smith_draw_imports.specs.Importing.{next_entity_at, fill_at, filled_at};
 ghost use Rattle.smith_draw_imports.specs.Importing.{group_of_kind_at, group_at, groups_at, imports_at};
 
-use crate::import_entities::{again, draw_entity};
+use crate::import_entities::{draw_entity, repeat_entity};
 use crate::import_groups::{GroupKind, draw_group_kind, has_imports, module_name, push_import};
 use crate::import_names::draw_import_name;
 use crate::import_types::ImportTypes;
-use crate::imported::Imported;
+use crate::imports_so_far::Imported;
 use smith_bytes::{Count, Error, Unstructured, Why, goes_on, limited_string};
 use smith_config::Config;
 use smith_draw_types::KeptGrounds;
@@ -74,7 +74,7 @@ fn draw_next_entity(
         drawn ≡ None → MayEndAt config.now (spaces_of imported.now) imported.now.type_size) }
 {
     match group {
-        Imports::Compact2 { entity_type, .. } => Ok(again(
+        Imports::Compact2 { entity_type, .. } => Ok(repeat_entity(
             config,
             types.space(),
             imported,

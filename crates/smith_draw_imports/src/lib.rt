@@ -10,11 +10,11 @@ mod import_groups;
 mod import_kinds;
 mod import_names;
 mod import_types;
-mod imported;
 mod imports;
+mod imports_so_far;
 
 pub use import_entities::entity_kind;
 pub use import_groups::{GroupKind, draw_group_kind, has_imports, push_import};
 pub use import_kinds::has_room;
-pub use imported::Imported;
 pub use imports::arbitrary_imports;
+pub use imports_so_far::Imported;

@@ -31,7 +31,7 @@ use Rattle.smith_draw_imports.specs.ImportedEntities.{has_room}
 use Rattle.smith_types.specs.Exports.{entity_kind}
 use Rattle.smith_draw_imports.specs.Imported.{spaces_of}
 use Rattle.smith_draw_shape_imports.specs.AvailableImports.{picked_at, fits_beside, CountsTaken, IsImportSized, AreImportsWithin, AreTakenFit}
-use Rattle.smith_draw_imports.specs.declared.imported.Imported.{Imported}
+use Rattle.smith_draw_imports.specs.declared.imports_so_far.Imported.{Imported}
 use Rattle.smith_draw_imports.proofs.ImportedEntityLemmas.{first_holds, second_holds}
 use Rattle.smith_draw_imports.proofs.ImportsGrownLemmas.{imported_more, spaces_more, numbers_more, tags_on}
 

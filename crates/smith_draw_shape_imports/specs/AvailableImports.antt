@@ -25,7 +25,7 @@ use Rattle.smith_draw_imports.specs.Importing.{with_import}
 use Rattle.smith_module_rules.specs.ShapeImports.{is_allowed, is_fitting, sizes_of}
 use Rattle.smith_draw_imports.specs.declared.import_groups.GroupKind.{GroupKind}
 use Rattle.smith_draw_imports.specs.declared.import_groups.GroupKind.TheVariants as groups
-use Rattle.smith_draw_imports.specs.declared.imported.Imported.{Imported}
+use Rattle.smith_draw_imports.specs.declared.imports_so_far.Imported.{Imported}
 
 -- imports followed by those of a list that fit and for which a drawn bool, one for each, is true
 unfoldable pub picked_at : Config → List SubType → List Import → List Import → List ℕ → List Import × List ℕ

@@ -10,7 +10,7 @@ use Rattle.smith_config.specs.Features.{features_of}
 use Rattle.smith_config.specs.Shapes.{shape_types, shape_imports}
 use Rattle.smith_draw_imports.specs.Imported.{spaces_of}
 use Rattle.smith_module_rules.specs.ShapeImports.{is_filled, kept_groups}
-use Rattle.smith_draw_imports.specs.declared.imported.Imported.{Imported}
+use Rattle.smith_draw_imports.specs.declared.imports_so_far.Imported.{Imported}
 
 -- a group in the form in which a module has it: unless empty, whole if imports are compact, else
 -- one by one

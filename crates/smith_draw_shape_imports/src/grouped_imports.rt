@@ -30,7 +30,7 @@ fn may_join(group: &Imports, next: &Import) -> bool
 }
 
 /// Creates a group of the kind `kind` with the one import `first`, allocated from `alloc`.
-fn begun(alloc: Global, kind: GroupKind, first: &Import) -> Result<Imports, Error>
+fn start_group(alloc: Global, kind: GroupKind, first: &Import) -> Result<Imports, Error>
     ensures group { IfOk result (λ group. group ≡ group_begun kind first.now) }
     ensures memory { IfErr result (λ e. e ≡ Error.Memory) }
 {
@@ -75,7 +75,7 @@ fn begin(
     ensures valid { IfOk result (IsImportsValid (features_of config.now)) }
 {
     let kind = draw_group_kind(config, u);
-    begun(alloc, kind, first)
+    start_group(alloc, kind, first)
 }
 
 /// Draws whether the import `next` joins `group`. Without a draw, returns `false` if it may not.

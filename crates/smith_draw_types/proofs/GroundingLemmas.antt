@@ -68,13 +68,13 @@ held_any test start (suc place) index (y ∷ xs) x at same on =
     right_is (test start y) (any_from test (start + 1) xs) (held_any test (start + 1) place index xs x at (omega arith) on)
 
 -- an item that passes a test together with its index, counted from 0
-record Standing {A : Type 0} (test : ℕ → A → Bool) (xs : List A) : Type 0 where
+record ReferenceScope {A : Type 0} (test : ℕ → A → Bool) (xs : List A) : Type 0 where
   index : ℕ
   item : A
   at : slice_get xs index ≡ Some item
   on : test index item ≡ true
 
-any_stands : {A : Type 0} (test : ℕ → A → Bool) (xs : List A) → any_from test 0 xs ≡ true → Standing test xs
+any_stands : {A : Type 0} (test : ℕ → A → Bool) (xs : List A) → any_from test 0 xs ≡ true → ReferenceScope test xs
 any_stands {A = A} test xs e =
     let held = any_held test 0 xs e in
     let same = held.same in

@@ -24,7 +24,7 @@ pub mod TableTypes
 pub mod TypeUses
 pub mod Spelling
 pub mod ExampleSpellings
-pub mod ExampleStanding
+pub mod ExampleReferenceScopes
 pub mod Below
 pub mod SpelledConstants
 pub mod SpelledGlobals

@@ -3,8 +3,8 @@ ghost use Rattle.smith_draw_types.specs.Grounding.{standing_in};
 ghost use Rattle.smith_draw_types.specs.KeptGrounds.{HasBegun};
 
 use crate::kept_grounds::KeptGrounds;
+use crate::reference_scope::ReferenceScope;
 use crate::spaces::Spaces;
-use crate::standing::Standing;
 use smith_bytes::Error;
 use smith_config::Config;
 use std::alloc::Global;
@@ -55,7 +55,7 @@ impl<'a> CallGrounds<'a> {
 
     /// Records nothing. Each check of whether a function grounds a heap type reads all functions, so
     /// this is for calls that draw a single reference.
-    pub(crate) fn unread(config: &'a Config, spaces: &Spaces<'a>) -> CallGrounds<'a>
+    pub(crate) fn without_record(config: &'a Config, spaces: &Spaces<'a>) -> CallGrounds<'a>
         ensures { result.context ≡ standing_in config.now spaces.now }
     {
         CallGrounds {
@@ -66,9 +66,9 @@ impl<'a> CallGrounds<'a> {
     }
 
     /// Returns the types and functions, for the draws of this call.
-    pub(crate) fn standing(&self) -> Standing<'_>
+    pub(crate) fn scope(&self) -> ReferenceScope<'_>
         ensures { result ≡ self.now.context }
     {
-        self.grounds.standing(self.config, &self.spaces)
+        self.grounds.scope(self.config, &self.spaces)
     }
 }

@@ -26,8 +26,8 @@ ghost use Rattle.smith_draw_types.specs.Spelling.{SpellsCompositeType};
 
 use crate::call_grounds::CallGrounds;
 use crate::field_type::draw_field_type;
+use crate::reference_scope::ReferenceScope;
 use crate::spaces::{Spaces, orderly};
-use crate::standing::Standing;
 use crate::value_type::{draw_sharedness, draw_val_type_among, value_classes};
 use smith_bytes::{Error, Unstructured, goes_on};
 use smith_config::Config;
@@ -41,7 +41,7 @@ use std::alloc::Global;
 pub(crate) fn draw_val_types(
     alloc: Global,
     config: &Config,
-    standing: &Standing<'_>,
+    standing: &ReferenceScope<'_>,
     must_share: bool,
     limit: u32,
     most: usize,
@@ -66,7 +66,7 @@ pub(crate) fn draw_val_types(
 fn draw_func_type(
     alloc: Global,
     config: &Config,
-    standing: &Standing<'_>,
+    standing: &ReferenceScope<'_>,
     must_share: bool,
     limit: u32,
     u: &mut Unstructured<'_>,
@@ -84,7 +84,7 @@ fn draw_func_type(
 #[tactic(auto, unfolding(crate::specs::FieldTypes::fields_until_at))]
 pub(crate) fn draw_fields(
     config: &Config,
-    standing: &Standing<'_>,
+    standing: &ReferenceScope<'_>,
     must_share: bool,
     limit: u32,
     end: usize,
@@ -104,7 +104,7 @@ pub(crate) fn draw_fields(
 fn draw_struct_type(
     alloc: Global,
     config: &Config,
-    standing: &Standing<'_>,
+    standing: &ReferenceScope<'_>,
     must_share: bool,
     limit: u32,
     u: &mut Unstructured<'_>,
@@ -131,7 +131,7 @@ fn draw_inner_number(config: &Config, u: &mut Unstructured<'_>) -> u8
 fn draw_inner_of_number(
     alloc: Global,
     config: &Config,
-    standing: &Standing<'_>,
+    standing: &ReferenceScope<'_>,
     must_share: bool,
     limit: u32,
     number: u8,
@@ -160,7 +160,7 @@ fn draw_inner_of_number(
 pub(crate) fn draw_composite_type(
     alloc: Global,
     config: &Config,
-    standing: &Standing<'_>,
+    standing: &ReferenceScope<'_>,
     limit: u32,
     u: &mut Unstructured<'_>,
 ) -> Result<CompositeType, Error>
@@ -210,7 +210,7 @@ pub fn arbitrary_func_type(
 {
     orderly(spaces);
     let call = CallGrounds::over(alloc, config, spaces)?;
-    let standing = call.standing();
+    let standing = call.scope();
     let drawn = draw_func_type(alloc, config, &standing, must_share, limit, u);
     drop(call);
     drawn
@@ -257,7 +257,7 @@ pub fn arbitrary_struct_type(
 {
     orderly(spaces);
     let call = CallGrounds::over(alloc, config, spaces)?;
-    let standing = call.standing();
+    let standing = call.scope();
     let drawn = draw_struct_type(alloc, config, &standing, must_share, limit, u);
     drop(call);
     drawn
@@ -303,7 +303,7 @@ pub fn arbitrary_composite_type(
 {
     orderly(spaces);
     let call = CallGrounds::over(alloc, config, spaces)?;
-    let standing = call.standing();
+    let standing = call.scope();
     let drawn = draw_composite_type(alloc, config, &standing, limit, u);
     drop(call);
     drawn

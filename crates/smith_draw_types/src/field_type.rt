@@ -11,8 +11,8 @@ ghost use Rattle.smith_draw_types.specs.FieldTypes.{storage_of_number_at, storag
 ghost use Rattle.smith_draw_types.specs.Spelling.{RefersTo, SpellsStorage, SpellsField};
 
 use crate::call_grounds::CallGrounds;
+use crate::reference_scope::ReferenceScope;
 use crate::spaces::{Spaces, orderly};
-use crate::standing::Standing;
 use crate::value_type::draw_val_type;
 use smith_bytes::{Error, Unstructured};
 use smith_config::Config;
@@ -22,7 +22,7 @@ use std::alloc::Global;
 #[tactic(auto, unfolding(crate::specs::FieldTypes::storage_type_at))]
 fn draw_storage_type(
     config: &Config,
-    standing: &Standing<'_>,
+    standing: &ReferenceScope<'_>,
     must_share: bool,
     limit: u32,
     u: &mut Unstructured<'_>,
@@ -40,7 +40,7 @@ fn draw_storage_type(
 #[tactic(auto, unfolding(crate::specs::FieldTypes::field_type_at))]
 pub(crate) fn draw_field_type(
     config: &Config,
-    standing: &Standing<'_>,
+    standing: &ReferenceScope<'_>,
     must_share: bool,
     limit: u32,
     u: &mut Unstructured<'_>,
@@ -97,8 +97,8 @@ pub fn arbitrary_storage_type(
         (SpellsStorage config.now limit)) u.old drawn u.new) }
 {
     orderly(spaces);
-    let call = CallGrounds::unread(config, spaces);
-    let standing = call.standing();
+    let call = CallGrounds::without_record(config, spaces);
+    let standing = call.scope();
     let drawn = draw_storage_type(config, &standing, must_share, limit, u);
     drop(call);
     Ok(drawn)
@@ -146,8 +146,8 @@ pub fn arbitrary_field_type(
         (SpellsField config.now limit)) u.old drawn u.new) }
 {
     orderly(spaces);
-    let call = CallGrounds::unread(config, spaces);
-    let standing = call.standing();
+    let call = CallGrounds::without_record(config, spaces);
+    let standing = call.scope();
     let drawn = draw_field_type(config, &standing, must_share, limit, u);
     drop(call);
     Ok(drawn)

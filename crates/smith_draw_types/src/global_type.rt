@@ -13,9 +13,9 @@ ghost use Rattle.smith_draw_types.specs.GlobalTypes.{global_sharedness_at, globa
 ghost use Rattle.smith_draw_types.specs.SpelledGlobals.{mutable_i32, SpellsMutableI32};
 
 use crate::call_grounds::CallGrounds;
+use crate::reference_scope::ReferenceScope;
 use crate::shared_reference::is_reference_shared;
 use crate::spaces::Spaces;
-use crate::standing::Standing;
 use crate::value_type::{draw_sharedness, draw_val_type};
 use smith_bytes::{Error, Unstructured};
 use smith_config::Config;
@@ -40,7 +40,11 @@ fn is_global_shared(
 }
 
 #[tactic(auto, unfolding(crate::specs::GlobalTypes::global_type_at))]
-fn draw_global(config: &Config, standing: &Standing<'_>, u: &mut Unstructured<'_>) -> GlobalType
+fn draw_global(
+    config: &Config,
+    standing: &ReferenceScope<'_>,
+    u: &mut Unstructured<'_>,
+) -> GlobalType
     ensures { AlwaysDraws (global_type_at config.now standing.now u.old) result u.old u.new }
 {
     let types = standing.types().types();
@@ -57,7 +61,7 @@ fn draw_global(config: &Config, standing: &Standing<'_>, u: &mut Unstructured<'_
 /// Draws a global type over `standing` as [`arbitrary_global_type`] does.
 pub fn draw_global_type(
     config: &Config,
-    standing: &Standing<'_>,
+    standing: &ReferenceScope<'_>,
     u: &mut Unstructured<'_>,
 ) -> GlobalType
     requires { IsSanitized config.now }
@@ -119,8 +123,8 @@ pub fn arbitrary_global_type(
         Takes (SpellsSuch (λ global. global ≡ mutable_i32) (λ _. SpellsMutableI32 config.now))
         u.old drawn u.new) }
 {
-    let call = CallGrounds::unread(config, spaces);
-    let standing = call.standing();
+    let call = CallGrounds::without_record(config, spaces);
+    let standing = call.scope();
     let drawn = draw_global_type(config, &standing, u);
     drop(call);
     Ok(drawn)

@@ -5,8 +5,8 @@ ghost use Rattle.smith_types.specs.FuncGrounds.{AreFuncGrounds, IsFunctionAdded}
 ghost use Rattle.smith_draw_types.specs.Grounding.{standing_in, with_functions};
 ghost use Rattle.smith_draw_types.specs.KeptGrounds.{AreKeptGrounds, HasBegun};
 
+use crate::reference_scope::ReferenceScope;
 use crate::spaces::Spaces;
-use crate::standing::Standing;
 use smith_bytes::Error;
 use smith_config::Config;
 use smith_types::{FuncGrounds, TypeSpace};
@@ -68,11 +68,11 @@ impl KeptGrounds {
     }
 
     /// Returns the types and functions of `spaces`, with this record.
-    pub fn standing<'a>(&'a self, config: &'a Config, spaces: &Spaces<'a>) -> Standing<'a>
+    pub fn scope<'a>(&'a self, config: &'a Config, spaces: &Spaces<'a>) -> ReferenceScope<'a>
         requires { AreKeptGrounds (standing_in config.now spaces.now) self.now }
         ensures { result ≡ standing_in config.now spaces.now }
     {
-        Standing::kept(config, spaces, &self.kept)
+        ReferenceScope::with_record(config, spaces, &self.kept)
     }
 }
 

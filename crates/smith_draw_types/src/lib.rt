@@ -19,12 +19,12 @@ mod limits;
 mod locals;
 mod matching;
 mod matching_composite;
-mod offered;
+mod offers;
 mod offset;
 mod rec_group;
+mod reference_scope;
 mod shared_reference;
 mod spaces;
-mod standing;
 mod sub_type;
 mod super_type;
 mod table_type;
@@ -48,8 +48,8 @@ pub use matching::{
 pub use matching_composite::arbitrary_matching_struct_type;
 pub use offset::arbitrary_offset;
 pub use rec_group::{add_type, arbitrary_rec_group, arbitrary_types, clone_rec_group};
+pub use reference_scope::ReferenceScope;
 pub use spaces::{Entities, Spaces};
-pub use standing::Standing;
 pub use sub_type::{arbitrary_sub_type, arbitrary_sub_type_of_super_type};
 pub use super_type::{
     arbitrary_super_type_of_heap_type, arbitrary_super_type_of_ref_type,

@@ -10,8 +10,8 @@ ghost use Rattle.smith_draw_types.specs.Locals.{locals_at};
 
 use crate::call_grounds::CallGrounds;
 use crate::composite_type::draw_val_types;
+use crate::reference_scope::ReferenceScope;
 use crate::spaces::{Spaces, orderly};
-use crate::standing::Standing;
 use smith_bytes::{Error, Unstructured};
 use smith_config::Config;
 use smith_types::{Items, ValType};
@@ -22,7 +22,7 @@ use std::alloc::Global;
 pub fn draw_locals(
     alloc: Global,
     config: &Config,
-    standing: &Standing<'_>,
+    standing: &ReferenceScope<'_>,
     u: &mut Unstructured<'_>,
 ) -> Result<Items<ValType>, Error>
     ensures { Draws (locals_at config.now standing.now u.old) result u.old u.new }
@@ -60,7 +60,7 @@ pub fn arbitrary_locals(
 {
     orderly(spaces);
     let call = CallGrounds::over(alloc, config, spaces)?;
-    let standing = call.standing();
+    let standing = call.scope();
     let drawn = draw_locals(alloc, config, &standing, u);
     drop(call);
     drawn

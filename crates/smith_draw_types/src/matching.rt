@@ -45,12 +45,12 @@ ghost use Rattle.smith_draw_types.specs.MatchingTypes.{
 
 use crate::call_grounds::CallGrounds;
 use crate::each::{Replacement, draw_each};
-use crate::offered::{
+use crate::offers::{
     abstract_subtypes, count_concrete_subtypes, count_of_kinds_below, count_subtypes, kinds_below,
     offered_abstract, offered_concrete_subtype, offered_subtype,
 };
+use crate::reference_scope::ReferenceScope;
 use crate::spaces::{Spaces, orderly};
-use crate::standing::Standing;
 use crate::super_type::Above;
 use smith_bytes::{Error, Unstructured};
 use smith_config::Config;
@@ -127,7 +127,7 @@ fn draw_concrete_subtype(
 /// Draws `ty` or one of its other offered subtypes that are grounded.
 fn draw_grounded_heap_type(
     config: &Config,
-    standing: &Standing<'_>,
+    standing: &ReferenceScope<'_>,
     ty: HeapType,
     u: &mut Unstructured<'_>,
 ) -> HeapType
@@ -147,7 +147,7 @@ fn draw_grounded_heap_type(
 
 /// Counts the grounded types among the subtypes of `ty` that are offered with garbage collection,
 /// without `ty` itself.
-fn count_grounded(config: &Config, standing: &Standing<'_>, ty: HeapType) -> usize
+fn count_grounded(config: &Config, standing: &ReferenceScope<'_>, ty: HeapType) -> usize
     ensures { result ≡ length (filter (is_grounded standing.now)
         (drop 1 (gc_subtypes config.now standing.now.types ty))) }
 {
@@ -166,7 +166,7 @@ fn count_grounded(config: &Config, standing: &Standing<'_>, ty: HeapType) -> usi
 /// Returns the type at `place` among those that [`count_grounded`] counts.
 fn offered_grounded(
     config: &Config,
-    standing: &Standing<'_>,
+    standing: &ReferenceScope<'_>,
     ty: HeapType,
     place: usize,
 ) -> HeapType
@@ -201,7 +201,7 @@ fn are_all_offered(config: &Config, ty: RefType) -> bool
 /// Draws the heap type of a reference that is a subtype of `ty`.
 fn draw_referent(
     config: &Config,
-    standing: &Standing<'_>,
+    standing: &ReferenceScope<'_>,
     ty: RefType,
     u: &mut Unstructured<'_>,
 ) -> Result<HeapType, Error>
@@ -220,7 +220,7 @@ fn draw_referent(
 pub fn draw_matching_ref_type(
     alloc: Global,
     config: &Config,
-    standing: &Standing<'_>,
+    standing: &ReferenceScope<'_>,
     ty: RefType,
     u: &mut Unstructured<'_>,
 ) -> Result<RefType, Error>
@@ -236,7 +236,7 @@ pub fn draw_matching_ref_type(
 fn draw_matching_val_type(
     alloc: Global,
     config: &Config,
-    standing: &Standing<'_>,
+    standing: &ReferenceScope<'_>,
     ty: ValType,
     u: &mut Unstructured<'_>,
 ) -> Result<ValType, Error>
@@ -252,7 +252,7 @@ fn draw_matching_val_type(
 fn draw_matching_storage_type(
     alloc: Global,
     config: &Config,
-    standing: &Standing<'_>,
+    standing: &ReferenceScope<'_>,
     ty: StorageType,
     u: &mut Unstructured<'_>,
 ) -> Result<StorageType, Error>
@@ -269,7 +269,7 @@ fn draw_matching_storage_type(
 pub(crate) fn draw_matching_field_type(
     alloc: Global,
     config: &Config,
-    standing: &Standing<'_>,
+    standing: &ReferenceScope<'_>,
     field: FieldType,
     u: &mut Unstructured<'_>,
 ) -> Result<FieldType, Error>
@@ -290,7 +290,7 @@ pub(crate) fn draw_matching_field_type(
 #[derive(Clone, Copy)]
 pub(crate) struct Matching<'a> {
     pub(crate) config: &'a Config,
-    pub(crate) standing: &'a Standing<'a>,
+    pub(crate) standing: &'a ReferenceScope<'a>,
 }
 
 impl<'a> Replacement<ValType> for Matching<'a> {
@@ -324,7 +324,7 @@ impl<'a> Replacement<FieldType> for Matching<'a> {
 pub(crate) fn draw_matching_func_type(
     alloc: Global,
     config: &Config,
-    standing: &Standing<'_>,
+    standing: &ReferenceScope<'_>,
     function: &FuncType,
     u: &mut Unstructured<'_>,
 ) -> Result<FuncType, Error>
@@ -410,7 +410,7 @@ pub fn arbitrary_matching_ref_type(
 {
     orderly(spaces);
     let call = CallGrounds::over(alloc, config, spaces)?;
-    let standing = call.standing();
+    let standing = call.scope();
     let drawn = draw_matching_ref_type(alloc, config, &standing, ty, u);
     drop(call);
     drawn
@@ -446,7 +446,7 @@ pub fn arbitrary_matching_val_type(
 {
     orderly(spaces);
     let call = CallGrounds::over(alloc, config, spaces)?;
-    let standing = call.standing();
+    let standing = call.scope();
     let drawn = draw_matching_val_type(alloc, config, &standing, ty, u);
     drop(call);
     drawn
@@ -484,7 +484,7 @@ pub fn arbitrary_matching_storage_type(
 {
     orderly(spaces);
     let call = CallGrounds::over(alloc, config, spaces)?;
-    let standing = call.standing();
+    let standing = call.scope();
     let drawn = draw_matching_storage_type(alloc, config, &standing, ty, u);
     drop(call);
     drawn
@@ -523,7 +523,7 @@ pub fn arbitrary_matching_field_type(
 {
     orderly(spaces);
     let call = CallGrounds::over(alloc, config, spaces)?;
-    let standing = call.standing();
+    let standing = call.scope();
     let drawn = draw_matching_field_type(alloc, config, &standing, field, u);
     drop(call);
     drawn
@@ -562,7 +562,7 @@ pub fn arbitrary_matching_func_type(
 {
     orderly(spaces);
     let call = CallGrounds::over(alloc, config, spaces)?;
-    let standing = call.standing();
+    let standing = call.scope();
     let drawn = draw_matching_func_type(alloc, config, &standing, function, u);
     drop(call);
     drawn

@@ -18,8 +18,8 @@ use crate::call_grounds::CallGrounds;
 use crate::composite_type::draw_fields;
 use crate::each::draw_each;
 use crate::matching::{Matching, draw_matching_field_type, draw_matching_func_type};
+use crate::reference_scope::ReferenceScope;
 use crate::spaces::{Spaces, orderly};
-use crate::standing::Standing;
 use smith_bytes::{Error, Unstructured};
 use smith_config::Config;
 use smith_types::{ArrayType, CompositeInnerType, CompositeType, StructType};
@@ -29,7 +29,7 @@ use std::alloc::Global;
 fn draw_matching_struct_type(
     alloc: Global,
     config: &Config,
-    standing: &Standing<'_>,
+    standing: &ReferenceScope<'_>,
     structure: &StructType,
     must_share: bool,
     limit: u32,
@@ -51,7 +51,7 @@ fn draw_matching_struct_type(
 fn draw_matching_inner(
     alloc: Global,
     config: &Config,
-    standing: &Standing<'_>,
+    standing: &ReferenceScope<'_>,
     must_share: bool,
     limit: u32,
     inner: &CompositeInnerType,
@@ -83,7 +83,7 @@ fn draw_matching_inner(
 pub(crate) fn draw_matching_composite_type(
     alloc: Global,
     config: &Config,
-    standing: &Standing<'_>,
+    standing: &ReferenceScope<'_>,
     limit: u32,
     composite: &CompositeType,
     u: &mut Unstructured<'_>,
@@ -139,7 +139,7 @@ pub fn arbitrary_matching_struct_type(
 {
     orderly(spaces);
     let call = CallGrounds::over(alloc, config, spaces)?;
-    let standing = call.standing();
+    let standing = call.scope();
     let drawn = draw_matching_struct_type(
         alloc, config, &standing, structure, must_share, limit, u,
     );

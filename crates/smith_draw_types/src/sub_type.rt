@@ -28,8 +28,8 @@ use crate::choice::choose;
 use crate::composite_type::draw_composite_type;
 use crate::early_grounds::EarlyGrounds;
 use crate::matching_composite::draw_matching_composite_type;
+use crate::reference_scope::ReferenceScope;
 use crate::spaces::{Entities, Spaces, orderly};
-use crate::standing::Standing;
 use smith_bytes::{Error, Unstructured};
 use smith_config::Config;
 use smith_types::{SubType, TypeSpace};
@@ -57,7 +57,7 @@ fn is_final(config: &Config, u: &mut Unstructured<'_>) -> bool
 fn draw_root_type(
     alloc: Global,
     config: &Config,
-    standing: &Standing<'_>,
+    standing: &ReferenceScope<'_>,
     limit: u32,
     u: &mut Unstructured<'_>,
 ) -> Result<SubType, Error>
@@ -77,7 +77,7 @@ fn draw_root_type(
 fn draw_sub_type_below(
     alloc: Global,
     config: &Config,
-    standing: &Standing<'_>,
+    standing: &ReferenceScope<'_>,
     limit: u32,
     index: u32,
     u: &mut Unstructured<'_>,
@@ -107,7 +107,7 @@ fn draw_sub_type_below(
 fn draw_sub_type_of(
     alloc: Global,
     config: &Config,
-    standing: &Standing<'_>,
+    standing: &ReferenceScope<'_>,
     limit: u32,
     indices: &[u32],
     u: &mut Unstructured<'_>,
@@ -149,7 +149,7 @@ pub(crate) fn draw_sub_type(
         (over (functions_of config.now grounds.now) types.now.types) limit u.old)
         result u.old u.new }
 {
-    let standing = Standing::beside(config, types, grounds);
+    let standing = ReferenceScope::beside(config, types, grounds);
     let indices = supertypes(types);
     if is_supertype_wanted(config, indices.len(), u) {
         return draw_sub_type_of(alloc, config, &standing, limit, indices, u);
@@ -219,7 +219,7 @@ pub fn arbitrary_sub_type_of_super_type(
     orderly(spaces);
     let indices = supertypes(spaces.types);
     let call = CallGrounds::over(alloc, config, spaces)?;
-    let standing = call.standing();
+    let standing = call.scope();
     let drawn = draw_sub_type_of(alloc, config, &standing, limit, indices, u);
     drop(call);
     drawn

@@ -12,7 +12,7 @@ ghost use Rattle.smith_draw_types.specs.MatchingTypes.{super_heap_type_at, super
 ghost use Rattle.smith_draw_types.specs.MatchingTypes.{super_val_type_at};
 
 use crate::each::Replacement;
-use crate::offered::{count_supertypes, offered_supertype};
+use crate::offers::{count_supertypes, offered_supertype};
 use crate::spaces::{Spaces, orderly};
 use smith_bytes::{Error, Unstructured};
 use smith_config::Config;

@@ -14,9 +14,9 @@ ghost use Rattle.smith_draw_types.specs.TableTypes.{least_elements, drawn_elemen
 use crate::call_grounds::CallGrounds;
 use crate::entity_type::draw_memory64;
 use crate::limits::arbitrary_limits64;
+use crate::reference_scope::ReferenceScope;
 use crate::shared_reference::is_reference_shared;
 use crate::spaces::Spaces;
-use crate::standing::Standing;
 use crate::value_type::draw_ref_type;
 use smith_bytes::{Error, Unstructured};
 use smith_config::Config;
@@ -42,7 +42,7 @@ fn drawn_elements(config: &Config, table64: bool) -> u64
 #[tactic(auto, unfolding(crate::specs::TableTypes::table_type_at))]
 pub fn draw_table_type(
     config: &Config,
-    standing: &Standing<'_>,
+    standing: &ReferenceScope<'_>,
     u: &mut Unstructured<'_>,
 ) -> TableType
     requires { IsSanitized config.now }
@@ -104,8 +104,8 @@ pub fn arbitrary_table_type(
     ensures grounded { IfOk result (λ drawn.
         ¬ IsUngrounded config.now (standing_in config.now spaces.now) (Ref drawn.element_type)) }
 {
-    let call = CallGrounds::unread(config, spaces);
-    let standing = call.standing();
+    let call = CallGrounds::without_record(config, spaces);
+    let standing = call.scope();
     let drawn = draw_table_type(config, &standing, u);
     drop(call);
     Ok(drawn)

@@ -34,8 +34,8 @@ ghost use Rattle.smith_draw_types.specs.Spelling.{RefersTo, SpellsHeapType, Spel
 
 use crate::call_grounds::CallGrounds;
 use crate::choice::choose;
+use crate::reference_scope::ReferenceScope;
 use crate::spaces::{Spaces, orderly};
-use crate::standing::Standing;
 use smith_bytes::{Error, Unstructured};
 use smith_config::Config;
 use smith_types::{AbstractHeapType, HeapType, RefType, SubType, ValType};
@@ -166,7 +166,7 @@ fn draw_heap_type(
 #[tactic(auto, unfolding(crate::specs::ValueTypes::granted_at))]
 fn is_granted(
     config: &Config,
-    standing: &Standing<'_>,
+    standing: &ReferenceScope<'_>,
     heap_type: HeapType,
     u: &mut Unstructured<'_>,
 ) -> bool
@@ -182,7 +182,7 @@ fn is_granted(
 #[tactic(auto, unfolding(crate::specs::ValueTypes::ref_type_at))]
 pub fn draw_ref_type(
     config: &Config,
-    standing: &Standing<'_>,
+    standing: &ReferenceScope<'_>,
     must_share: bool,
     limit: u32,
     u: &mut Unstructured<'_>,
@@ -227,7 +227,7 @@ pub(crate) fn value_classes(config: &Config) -> &'static [ValueClass]
 
 fn draw_value_of_class(
     config: &Config,
-    standing: &Standing<'_>,
+    standing: &ReferenceScope<'_>,
     must_share: bool,
     limit: u32,
     class: ValueClass,
@@ -252,7 +252,7 @@ fn draw_value_of_class(
 #[tactic(auto, unfolding(crate::specs::ValueTypes::val_type_at))]
 pub(crate) fn draw_val_type_among(
     config: &Config,
-    standing: &Standing<'_>,
+    standing: &ReferenceScope<'_>,
     classes: &[ValueClass],
     must_share: bool,
     limit: u32,
@@ -268,7 +268,7 @@ pub(crate) fn draw_val_type_among(
 
 pub(crate) fn draw_val_type(
     config: &Config,
-    standing: &Standing<'_>,
+    standing: &ReferenceScope<'_>,
     must_share: bool,
     limit: u32,
     u: &mut Unstructured<'_>,
@@ -367,8 +367,8 @@ pub fn arbitrary_ref_type(
         (SpellsRefType config.now limit)) u.old drawn u.new) }
 {
     orderly(spaces);
-    let call = CallGrounds::unread(config, spaces);
-    let standing = call.standing();
+    let call = CallGrounds::without_record(config, spaces);
+    let standing = call.scope();
     let drawn = draw_ref_type(config, &standing, must_share, limit, u);
     drop(call);
     Ok(drawn)
@@ -411,8 +411,8 @@ pub fn arbitrary_valtype(
         u.old drawn u.new) }
 {
     orderly(spaces);
-    let call = CallGrounds::unread(config, spaces);
-    let standing = call.standing();
+    let call = CallGrounds::without_record(config, spaces);
+    let standing = call.scope();
     let drawn = draw_val_type(config, &standing, must_share, limit, u);
     drop(call);
     Ok(drawn)

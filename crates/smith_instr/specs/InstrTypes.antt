@@ -26,9 +26,9 @@ use Rattle.smith_instr.specs.declared.instr.Instr.{Instr}
 use Rattle.smith_instr.specs.declared.instr.Instr.TheVariants as instr
 
 -- a number type or a vector type (Validation, Parametric Instructions, select)
-abbrev pub IsNumeric : ValType → Type 0
-IsNumeric (Ref reference) = ⊥
-IsNumeric _ = Unit {0}
+abbrev pub IsNumberOrVector : ValType → Type 0
+IsNumberOrVector (Ref reference) = ⊥
+IsNumberOrVector _ = Unit {0}
 
 -- the locals that an instruction sets (Validation, Variable Instructions)
 abbrev pub sets : Instr → List ℕ
@@ -139,7 +139,7 @@ HasInstrType context set (instr.ReturnCallRef ty) operands results =
     × Leaves context operands results (function.params ++ nullable_to (Concrete ty) ∷ [])
 HasInstrType context set instr.Drop operands results = (value : ValType) × To operands results (value ∷ []) []
 HasInstrType context set instr.Select operands results =
-    (value : ValType) × IsNumeric value × To operands results (value ∷ value ∷ I32 ∷ []) (value ∷ [])
+    (value : ValType) × IsNumberOrVector value × To operands results (value ∷ value ∷ I32 ∷ []) (value ∷ [])
 HasInstrType context set (instr.SelectTyped value) operands results =
     IsValid context value × To operands results (value ∷ value ∷ I32 ∷ []) (value ∷ [])
 HasInstrType context set (instr.LocalGet index) operands results =

@@ -36,10 +36,10 @@ impl NumericInstr {
             NumericInstr::F64Binary(_) | NumericInstr::F64Compare(_) => {
                 &[ValType::F64, ValType::F64]
             }
-            NumericInstr::Convert(op) => converted(op),
-            NumericInstr::Saturate(op) => saturated(op),
-            NumericInstr::Extend(op) => extended(op),
-            NumericInstr::Wide(op) => widened(op),
+            NumericInstr::Convert(op) => conversion_operands(op),
+            NumericInstr::Saturate(op) => saturation_operands(op),
+            NumericInstr::Extend(op) => extension_types(op),
+            NumericInstr::Wide(op) => wide_operands(op),
         }
     }
 
@@ -57,14 +57,14 @@ impl NumericInstr {
             NumericInstr::F32Compare(_) | NumericInstr::F64Compare(_) => &[ValType::I32],
             NumericInstr::Convert(op) => conversions(op),
             NumericInstr::Saturate(op) => saturations(op),
-            NumericInstr::Extend(op) => extended(op),
+            NumericInstr::Extend(op) => extension_types(op),
             NumericInstr::Wide(_) => &[ValType::I64, ValType::I64],
         }
     }
 }
 
 /// Returns the types of the operands of the conversion `op`.
-fn converted<'a>(op: Conversion) -> &'a [ValType]
+fn conversion_operands<'a>(op: Conversion) -> &'a [ValType]
     ensures { result.now ≡ (conversion op).operands }
 {
     match op {
@@ -105,7 +105,7 @@ fn conversions<'a>(op: Conversion) -> &'a [ValType]
     }
 }
 
-fn saturated<'a>(op: SaturatingConversion) -> &'a [ValType]
+fn saturation_operands<'a>(op: SaturatingConversion) -> &'a [ValType]
     ensures { result.now ≡ (saturating_conversion op).operands }
 {
     match op {
@@ -144,7 +144,7 @@ fn saturations<'a>(op: SaturatingConversion) -> &'a [ValType]
 }
 
 /// Returns the type of the operand and of the result of the sign extension `op`.
-fn extended<'a>(op: SignExtension) -> &'a [ValType]
+fn extension_types<'a>(op: SignExtension) -> &'a [ValType]
     ensures operands { result.now ≡ (sign_extension op).operands }
     ensures results { result.now ≡ (sign_extension op).results }
 {
@@ -155,7 +155,7 @@ fn extended<'a>(op: SignExtension) -> &'a [ValType]
     }
 }
 
-fn widened<'a>(op: WideArithmetic) -> &'a [ValType]
+fn wide_operands<'a>(op: WideArithmetic) -> &'a [ValType]
     ensures { result.now ≡ (wide_arithmetic op).operands }
 {
     match op {

@@ -26,7 +26,7 @@ mod numbers;
 mod plain;
 mod scalars;
 mod sequences;
-mod shared;
+mod sharing;
 mod stores;
 mod subsumption;
 mod tables;

@@ -173,7 +173,7 @@ fn draw_instructions(
     ensures refusal { IfErr result (λ e. e ≡ Error.Memory) }
     ensures left { KeepsPieces u.old u.new }
 {
-    let locals = joined(alloc, function.params.as_slice(), code.locals.as_slice())?;
+    let locals = join_locals(alloc, function.params.as_slice(), code.locals.as_slice())?;
     let config = module.config();
     let scope = Scope {
         features: config.features(),
@@ -195,7 +195,11 @@ fn draw_instructions(
     draw_body(alloc, &scope, config.max_instructions, u)
 }
 
-fn joined(alloc: Global, params: &[ValType], locals: &[ValType]) -> Result<Items<ValType>, Error>
+fn join_locals(
+    alloc: Global,
+    params: &[ValType],
+    locals: &[ValType],
+) -> Result<Items<ValType>, Error>
     ensures joined { IfOk result (λ joined. joined ≡ params.now ++ locals.now) }
     ensures memory { IfErr result (λ e. e ≡ Error.Memory) }
 {

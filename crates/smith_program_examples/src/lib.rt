@@ -4,6 +4,6 @@
 
 mod bodies;
 mod contexts;
-mod counted;
-mod kept;
+mod fuel_checks;
+mod kept_forms;
 mod types;

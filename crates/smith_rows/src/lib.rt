@@ -7,7 +7,7 @@
 #[cfg(test)]
 mod error_texts;
 #[cfg(test)]
-mod expecting;
+mod expectation;
 #[cfg(test)]
 mod instruction_bytes;
 #[cfg(test)]

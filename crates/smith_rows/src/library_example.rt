@@ -101,12 +101,12 @@ fn parameters_of_seeds(alloc: Global, corpus: &[Items<u8>]) -> Result<(usize, us
     Ok((corpus.len(), count))
 }
 
-fn seeded(alloc: Global) -> Result<(usize, usize), Error> {
+fn count_parameters(alloc: Global) -> Result<(usize, usize), Error> {
     let corpus = corpus_of(alloc)?;
     parameters_of_seeds(alloc, corpus.as_slice())
 }
 
 #[test]
 fn a_seed_has_the_wanted_functions(rt: HostRuntime) {
-    assert_eq!(rt; seeded(rt.alloc()).ok(), Some((1, 1)));
+    assert_eq!(rt; count_parameters(rt.alloc()).ok(), Some((1, 1)));
 }

@@ -4,8 +4,8 @@
 //! takes all memory that the process can have. Blocks that nobody touches take only address space.
 #![tactic(auto)]
 
-mod hoard;
-mod tried;
+mod attempt;
+mod held_memory;
 
-pub use hoard::Hoard;
-pub use tried::{Ended, Tried, is_piece, refusals};
+pub use attempt::{Attempt, Ended, is_piece, refusals};
+pub use held_memory::HeldMemory;

@@ -2,7 +2,7 @@ use crate::run::{Outcome, RunFault, run};
 use crate::sink::FromWrite;
 use crate::source::FromRead;
 use smith_bytes::Error;
-use smith_rows_memory::{Ended, Tried, refusals};
+use smith_rows_memory::{Attempt, Ended, refusals};
 use std::alloc::Global;
 use std::io;
 use std::io::{ErrorKind, Read, Write};
@@ -66,7 +66,7 @@ impl Page {
         }
     }
 
-    fn written(&self) -> &[u8] {
+    fn written_bytes(&self) -> &[u8] {
         self.line.get(..self.length).unwrap_or(&[])
     }
 }
@@ -95,7 +95,7 @@ impl Write for Page {
 
 // Runs the program on `input`, with a reader that fails at the read number `read`, and with `page`
 // for its line.
-fn ended(
+fn run_with(
     alloc: Global,
     input: &'static [u8],
     read: usize,
@@ -115,7 +115,7 @@ fn each_read_fails_in_turn(rt: HostRuntime) {
     for input in INPUTS {
         for read in 1..=input.len().saturating_add(1) {
             let mut page = Page::failing_at(0);
-            let ended = ended(rt.alloc(), input, read, &mut page);
+            let ended = run_with(rt.alloc(), input, read, &mut page);
             assert_eq!(rt; ended, Err(RunFault::Read), "at {read}");
             assert_eq!(rt; page.length, 0, "at {read}");
         }
@@ -133,8 +133,11 @@ fn short_reads_and_writes_change_nothing(rt: HostRuntime) {
             Ok(Outcome::Made)
         );
         let mut page = Page::failing_at(0);
-        assert_eq!(rt; ended(rt.alloc(), input, 0, &mut page), Ok(Outcome::Made));
-        assert_eq!(rt; page.written(), out.as_slice());
+        assert_eq!(rt;
+            run_with(rt.alloc(), input, 0, &mut page),
+            Ok(Outcome::Made)
+        );
+        assert_eq!(rt; page.written_bytes(), out.as_slice());
     }
 }
 
@@ -142,14 +145,17 @@ fn short_reads_and_writes_change_nothing(rt: HostRuntime) {
 fn each_write_fails_in_turn(rt: HostRuntime) {
     for input in INPUTS {
         let mut whole = Page::failing_at(0);
-        assert_eq!(rt; ended(rt.alloc(), input, 0, &mut whole), Ok(Outcome::Made));
+        assert_eq!(rt;
+            run_with(rt.alloc(), input, 0, &mut whole),
+            Ok(Outcome::Made)
+        );
         for written in 0..whole.length {
             let mut page = Page::failing_at(written + 1);
-            let ended = ended(rt.alloc(), input, 0, &mut page);
+            let ended = run_with(rt.alloc(), input, 0, &mut page);
             assert_eq!(rt; ended, Err(RunFault::Write), "after {written}");
             assert_eq!(rt; page.length, written);
             assert!(rt;
-                whole.written().starts_with(page.written()),
+                whole.written().starts_with(page.written_bytes()),
                 "after {written}"
             );
         }
@@ -162,14 +168,14 @@ struct Running {
     input: &'static [u8],
 }
 
-impl Tried for Running {
-    fn ended(&mut self, alloc: Global) -> Ended {
+impl Attempt for Running {
+    fn run(&mut self, alloc: Global) -> Ended {
         let mut page = Page::failing_at(0);
-        let outcome = ended(alloc, self.input, 0, &mut page);
+        let outcome = run_with(alloc, self.input, 0, &mut page);
         match outcome {
-            Ok(Outcome::Made) if page.written().starts_with(b"types ") => Ended::Given,
+            Ok(Outcome::Made) if page.written_bytes().starts_with(b"types ") => Ended::Given,
             Ok(Outcome::Refused(Error::Memory))
-                if page.written() == b"refused: Memory\n".as_slice() => { Ended::Refused }
+                if page.written_bytes() == b"refused: Memory\n".as_slice() => { Ended::Refused }
             _ => Ended::Wrong("a run comes to something else"),
         }
     }

@@ -15,7 +15,7 @@ pub fn line(answer: &Result<Module, Error>) -> Line
 {
     match answer {
         Ok(module) => counts(module),
-        Err(refusal) => refused(refusal),
+        Err(refusal) => refusal_line(refusal),
     }
 }
 
@@ -60,7 +60,7 @@ fn push_start(line: &mut Line, start: Option<u32>)
     }
 }
 
-fn refused(refusal: &Error) -> Line
+fn refusal_line(refusal: &Error) -> Line
     ensures { result.bytes ≡ codes "refused: " ++ refusal_name refusal.now ++ codes "\n" }
 {
     let mut line = Line::new();

@@ -56,13 +56,13 @@ pub fn run<R: Source, W: Sink>(
     ensures unwritten { IsErrOf result RunFault.Read → w.new ≡ w.old }
 {
     match read_whole(alloc, r) {
-        Ok(input) => tell(w, generated(alloc, drawn, &input)),
-        Err(InputFault::Memory) => tell(w, Err(Error::Memory)),
+        Ok(input) => write_outcome(w, generate(alloc, drawn, &input)),
+        Err(InputFault::Memory) => write_outcome(w, Err(Error::Memory)),
         Err(InputFault::Read) => Err(RunFault::Read),
     }
 }
 
-fn generated(alloc: Global, drawn: bool, input: &[u8]) -> Result<Module, Error>
+fn generate(alloc: Global, drawn: bool, input: &[u8]) -> Result<Module, Error>
     ensures { MayAnswer drawn input.now result }
 {
     let mut u = Unstructured::new(input);
@@ -73,7 +73,7 @@ fn generated(alloc: Global, drawn: bool, input: &[u8]) -> Result<Module, Error>
     Module::arbitrary(alloc, &mut u)
 }
 
-fn tell<W: Sink>(w: &mut W, answer: Result<Module, Error>) -> Result<Outcome, RunFault>
+fn write_outcome<W: Sink>(w: &mut W, answer: Result<Module, Error>) -> Result<Outcome, RunFault>
     ensures written { OnOk result (Appends (W.written w.old) (W.written w.new) (line_of answer)) }
     ensures told { IfOk result (λ outcome. outcome ≡ outcome_of answer) }
     ensures fault { IfErr result (λ fault. fault ≡ RunFault.Write) }

@@ -2,19 +2,19 @@
 //! Defines the family of lists that have such bytes, and the bytes that spell them.
 #![tactic(auto)]
 
-mod asked;
 mod composite_types;
 mod earlier;
 mod family;
 mod funcs;
 mod groups;
+mod requirements;
 /// Laws: functions with empty bodies whose clauses state theorems.
 pub mod laws;
 mod member;
 mod member_type;
 mod pieces;
-mod spelled;
+mod spelling;
 mod sub_types;
 mod value_types;
 
-pub use spelled::spell;
+pub use spelling::spell;

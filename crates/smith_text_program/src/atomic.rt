@@ -28,7 +28,7 @@ fn bits_of(width: AtomicWidth) -> &'static str {
 
 // Returns the end of the keyword of an access that produces a value, which is extended by zeros if
 // the access is narrower.
-fn extended(width: AtomicWidth) -> &'static str {
+fn extension_suffix(width: AtomicWidth) -> &'static str {
     match width {
         AtomicWidth::I32 | AtomicWidth::I64 => "",
         _ => "_u",
@@ -53,7 +53,7 @@ fn write_update<S: Sink>(operation: &str, width: AtomicWidth, sink: &mut S) -> f
     ensures fault { S.failed sink.new ≡ is_err result }
     ensures writes { OnOk result (Writes S.has sink.old 1 sink.new) }
 {
-    let (ty, bits, extended) = (type_of(width), bits_of(width), extended(width));
+    let (ty, bits, extended) = (type_of(width), bits_of(width), extension_suffix(width));
     write!(sink, "{ty}.atomic.rmw{bits}.{operation}{extended}")
 }
 
@@ -69,7 +69,7 @@ fn write_keyword<S: Sink>(access: AtomicAccess, sink: &mut S) -> fmt::Result
         AtomicAccess::Wait64 => sink.write_str("memory.atomic.wait64"),
         AtomicAccess::Load(width) => {
             write!(sink, "{}.atomic.load{}", type_of(width), bits_of(width))?;
-            sink.write_str(extended(width))
+            sink.write_str(extension_suffix(width))
         }
         AtomicAccess::Store(width) => {
             write!(sink, "{}.atomic.store{}", type_of(width), bits_of(width))

@@ -143,7 +143,7 @@ pub fn are_defaultable(fields: &[FieldType]) -> bool
 {
     fields
         .iter()
-        .all(|field| is_defaultable(unpacked(field.element_type)))
+        .all(|field| is_defaultable(unpack(field.element_type)))
 }
 
 /// Returns whether `value` has a default value. All value types have one except non-nullable
@@ -159,7 +159,7 @@ pub fn is_defaultable(value: ValType) -> bool
 
 /// Returns the type of the values written to a field that stores `stored`. A packed integer is
 /// unpacked to `i32`.
-pub fn unpacked(stored: StorageType) -> ValType
+pub fn unpack(stored: StorageType) -> ValType
     ensures { result ≡ unpacked stored }
 {
     match stored {

@@ -1,7 +1,7 @@
-use crate::asked::{Asked, module_of};
-use crate::configured::check_config;
+use crate::configuration::check_config;
 use crate::failure::Failure;
 use crate::files::{make_folder, write_whole_file};
+use crate::request::{Request, module_of};
 use crate::words::{COUNT, SEED, SIZE};
 use rand_core::{Rng, SeedableRng};
 use rand_xoshiro::Xoshiro256PlusPlus;
@@ -32,7 +32,7 @@ struct Corpus {
 /// has a line for each refused input, and a last line that counts.
 pub(crate) fn make_corpus(
     rt: &HostRuntime,
-    asked: &Asked<'_, '_>,
+    asked: &Request<'_, '_>,
     folder: &str,
 ) -> Result<(), Failure> {
     check_config(rt.alloc(), asked)?;
@@ -51,7 +51,7 @@ pub(crate) fn make_corpus(
 /// Makes the modules of `count` random inputs, and keeps in `corpus` what became of them.
 fn make_each(
     rt: &HostRuntime,
-    asked: &Asked<'_, '_>,
+    asked: &Request<'_, '_>,
     folder: &str,
     count: u32,
     corpus: &mut Corpus,
@@ -81,7 +81,7 @@ fn show_refusals(rt: &HostRuntime, corpus: &Corpus) -> Result<(), Failure> {
 }
 
 /// Makes room for an input of the requested length.
-fn empty_input(rt: &HostRuntime, asked: &Asked<'_, '_>) -> Result<Vec<u8>, Failure> {
+fn empty_input(rt: &HostRuntime, asked: &Request<'_, '_>) -> Result<Vec<u8>, Failure> {
     let size = asked.matches.get_one::<u32>(SIZE).unwrap_or(DEFAULT_SIZE);
     Ok(vec![in rt.alloc(); 0; size as usize]?)
 }
@@ -90,7 +90,7 @@ fn empty_input(rt: &HostRuntime, asked: &Asked<'_, '_>) -> Result<Vec<u8>, Failu
 /// refused. Lack of memory is a failure.
 fn refusal_of(
     rt: &HostRuntime,
-    asked: &Asked<'_, '_>,
+    asked: &Request<'_, '_>,
     folder: &str,
     number: u32,
     input: &[u8],

@@ -4,47 +4,47 @@ use std::{fs, io};
 
 /// Reads the file at `path` whole.
 pub(crate) fn read_file(rt: &HostRuntime, path: &str) -> Result<Vec<u8>, Failure> {
-    named(rt, path, fs::read(rt, path))
+    with_path(rt, path, fs::read(rt, path))
 }
 
 /// Reads the text of the file at `path`.
 pub(crate) fn read_text(rt: &HostRuntime, path: &str) -> Result<String, Failure> {
-    named(rt, path, fs::read_to_string(rt, path))
+    with_path(rt, path, fs::read_to_string(rt, path))
 }
 
 /// Reads standard input to its end.
 pub(crate) fn read_input(rt: &HostRuntime) -> Result<Vec<u8>, Failure> {
     let mut bytes = Vec::new(rt.alloc());
     let read = rt.stdin().read_to_end(&mut bytes);
-    let _length = named(rt, "standard input", read)?;
+    let _length = with_path(rt, "standard input", read)?;
     Ok(bytes)
 }
 
 /// Writes `bytes` to the file at `path`, which is created or replaced.
 pub(crate) fn write_file(rt: &HostRuntime, path: &str, bytes: &[u8]) -> Result<(), Failure> {
-    named(rt, path, fs::write(rt, path, bytes))
+    with_path(rt, path, fs::write(rt, path, bytes))
 }
 
 /// Writes `bytes` to the file at `path`, which is created or replaced. If not all are written, the
 /// file is removed. A file that can't be opened stays as it is.
 pub(crate) fn write_whole_file(rt: &HostRuntime, path: &str, bytes: &[u8]) -> Result<(), Failure> {
-    let mut file = named(rt, path, fs::File::create(rt, path))?;
+    let mut file = with_path(rt, path, fs::File::create(rt, path))?;
     let written = file.write_all(bytes);
     drop(file);
     if written.is_err() {
         let _ = fs::remove_file(rt, path);
     }
-    named(rt, path, written)
+    with_path(rt, path, written)
 }
 
 /// Creates the folder at `path`, and those above it, if they do not exist.
 pub(crate) fn make_folder(rt: &HostRuntime, path: &str) -> Result<(), Failure> {
-    named(rt, path, fs::create_dir_all(rt, path))
+    with_path(rt, path, fs::create_dir_all(rt, path))
 }
 
 /// Writes `bytes` to standard output.
 pub(crate) fn write_output(rt: &HostRuntime, bytes: &[u8]) -> Result<(), Failure> {
-    named(rt, "standard output", put(rt, bytes))
+    with_path(rt, "standard output", put(rt, bytes))
 }
 
 fn put(rt: &HostRuntime, bytes: &[u8]) -> io::Result<()> {
@@ -59,7 +59,7 @@ pub(crate) fn shows_output(rt: &HostRuntime) -> bool {
 }
 
 /// Returns what `done` holds. An error becomes a failure of the file or the stream `path`.
-fn named<T: Drop>(rt: &HostRuntime, path: &str, done: io::Result<T>) -> Result<T, Failure> {
+fn with_path<T: Drop>(rt: &HostRuntime, path: &str, done: io::Result<T>) -> Result<T, Failure> {
     match done {
         Ok(value) => Ok(value),
         Err(error) => Err(Failure::File(String::from_str(rt.alloc(), path)?, error)),

@@ -5,17 +5,17 @@
 //! word of its own, named as in a configuration file.
 #![tactic(auto)]
 
-mod asked;
-mod configured;
+mod configuration;
 mod corpus;
 mod failure;
 mod fields;
 mod files;
+mod request;
 mod warnings;
 mod words;
 
-use crate::asked::answer;
 use crate::failure::Failure;
+use crate::request::answer;
 use crate::words::command;
 use std::env;
 use std::process::ExitCode;

@@ -1,5 +1,5 @@
-use crate::asked::Asked;
 use crate::failure::Failure;
+use crate::request::Request;
 
 // The fields for two features without instructions here, and the fields of the Rust crate for NaNs
 // in bodies, for custom sections and the encoding, and for components, none of which exist here.
@@ -23,7 +23,7 @@ pub(crate) fn has_no_effect(name: &str) -> bool {
 }
 
 /// Warns of each field that is set and has no effect.
-pub(crate) fn warn(rt: &HostRuntime, asked: &Asked<'_, '_>) -> Result<(), Failure> {
+pub(crate) fn warn(rt: &HostRuntime, asked: &Request<'_, '_>) -> Result<(), Failure> {
     for name in WITHOUT_EFFECT {
         if is_given(asked, name) {
             eprintln!(rt; "smith_wasm: the field {name} has no effect here")?;
@@ -33,7 +33,7 @@ pub(crate) fn warn(rt: &HostRuntime, asked: &Asked<'_, '_>) -> Result<(), Failur
 }
 
 /// Returns whether a word, or a text in the configuration file, names the field `name`.
-fn is_given(asked: &Asked<'_, '_>, name: &str) -> bool {
+fn is_given(asked: &Request<'_, '_>, name: &str) -> bool {
     let is_mentioned = match &asked.config {
         Some(text) => mentions(text.as_str(), name),
         None => false,

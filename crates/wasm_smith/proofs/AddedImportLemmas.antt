@@ -19,7 +19,7 @@ use Rattle.smith_draw_imports.specs.ImportedEntities.{import_scope}
 use Rattle.smith_draw_types.specs.HeldFields.{HoldsUngroundedField}
 use Rattle.smith_draw_types.proofs.FilledLemmas.{fields_imported}
 use Rattle.smith_draw_imports.proofs.ImportsGrownLemmas.{ungrounded_imported}
-use Rattle.smith_draw_imports.specs.declared.imported.Imported.{Imported}
+use Rattle.smith_draw_imports.specs.declared.imports_so_far.Imported.{Imported}
 use Rattle.wasm_smith.specs.FirstParts.{module_so_far}
 use Rattle.smith_module_rules.specs.Bounds.{items_of_shapes}
 use Rattle.wasm_smith.specs.DrawnSteps.{AreImportsDrawn, AreTypesDrawn, HoldsGrounded, IsBeyond, drawn_next}

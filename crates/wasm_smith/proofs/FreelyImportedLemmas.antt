@@ -8,7 +8,7 @@ use Rattle.smith_config.specs.declared.config.Config.{Config}
 use Rattle.smith_config.specs.Sanitized.{IsSanitized}
 use Rattle.smith_config.specs.EntityBounds.{IsTableWithin, IsMemoryWithin}
 use Rattle.smith_draw_imports.specs.Imported.{AreNumbersWithin, AreSpacesWithin, IsImported, spaces_of}
-use Rattle.smith_draw_imports.specs.declared.imported.Imported.{Imported}
+use Rattle.smith_draw_imports.specs.declared.imports_so_far.Imported.{Imported}
 use Rattle.wasm_smith.specs.FirstParts.{IsMemoryKept, IsTableKept, StandsSoFar}
 use Rattle.smith_draw_definitions.specs.Defined.{nothing_defined}
 use Rattle.wasm_smith.specs.declared.build.parts_so_far.PartsSoFar.{PartsSoFar}

@@ -28,7 +28,7 @@ use Rattle.smith_config.specs.Granted.{HasGranted, HasGroundedElements, HasGroun
 use Rattle.smith_draw_types.proofs.FilledLemmas.{ungrounded_before}
 use Rattle.smith_module_rules.specs.ShapeImports.{count_in}
 use Rattle.smith_module_rules.specs.ExportedItems.{Export, exported_size}
-use Rattle.smith_draw_contents.specs.declared.exported.Exports.{Exports}
+use Rattle.smith_draw_contents.specs.declared.exports_so_far.Exports.{Exports}
 use Rattle.smith_draw_contents.proofs.SizedLemmas.{few_sized}
 use Rattle.wasm_smith.specs.FirstParts.{ModuleSoFar, IsOfEntities, StandsSoFar, module_so_far, size_of_imports}
 use Rattle.smith_module_rules.specs.Bounds.{items_of_exports}

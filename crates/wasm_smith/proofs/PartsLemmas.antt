@@ -9,8 +9,8 @@ use Rattle.smith_types.specs.EntitySpaces.{spaces_in}
 use Rattle.smith_config.specs.declared.config.Config.{Config}
 use Rattle.smith_config.specs.InUse.{FixesImports, HasNoShapes}
 use Rattle.smith_bytes.specs.Steps.{section_flag_at, Returns, is_lack}
-use Rattle.smith_draw_imports.specs.declared.imported.Imported.{Imported}
-use Rattle.smith_draw_contents.specs.declared.exported.Exports.{Exports}
+use Rattle.smith_draw_imports.specs.declared.imports_so_far.Imported.{Imported}
+use Rattle.smith_draw_contents.specs.declared.exports_so_far.Exports.{Exports}
 use Rattle.wasm_smith.specs.FirstParts.{ModuleSoFar, StandsWhole}
 use Rattle.wasm_smith.specs.Build.{first_parts_typed_at, defined_at, exported_at, exports_of, imported_at, in_full, module_at, module_of}
 use Rattle.wasm_smith.specs.DrawnContents.{AreContents, HasGrantedContents, HasNoFloatContents, after_exports_at, imported_in}

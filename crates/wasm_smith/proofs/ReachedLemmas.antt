@@ -43,7 +43,7 @@ use Rattle.smith_module_rules.specs.Refusals.{AsksNothingImpossible}
 use Rattle.smith_draw_definitions.specs.RequiredExports.{then_with}
 use Rattle.smith_draw_contents.specs.AllExports.{exports_at}
 use Rattle.smith_module_rules.specs.ExportedItems.{Export}
-use Rattle.smith_draw_contents.specs.declared.exported.Exports.{Exports}
+use Rattle.smith_draw_contents.specs.declared.exports_so_far.Exports.{Exports}
 use Rattle.smith_draw_imports.specs.Importing.{imports_at}
 use Rattle.wasm_smith.specs.declared.build.contents.Contents.{Contents}
 use Rattle.smith_draw_definitions.specs.declared.definitions.Definitions.{Definitions}

@@ -15,7 +15,7 @@ use Rattle.smith_draw_imports.specs.Importing.{imports_at}
 use Rattle.smith_bytes.specs.Steps.{◌>>=◌, section_flag_at, Returns, is_lack}
 use Rattle.smith_draw_contents.specs.AllExports.{exports_at}
 use Rattle.smith_module_rules.specs.ExportedItems.{exported_size}
-use Rattle.smith_draw_contents.specs.declared.exported.Exports.{Exports}
+use Rattle.smith_draw_contents.specs.declared.exports_so_far.Exports.{Exports}
 use Rattle.wasm_smith.specs.FirstParts.{ModuleSoFar, first_parts_at, module_so_far, size_of_imports}
 use Rattle.smith_draw_definitions.specs.Definitions.{definitions_at}
 use Rattle.wasm_smith.specs.DrawnContents.{after_exports_at}

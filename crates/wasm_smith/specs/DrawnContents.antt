@@ -26,11 +26,11 @@ use Rattle.smith_draw_definitions.specs.Definitions.{global_scope}
 use Rattle.smith_draw_contents.specs.DrawnBodies.{bodies_at}
 use Rattle.smith_draw_contents.specs.ElementSegments.{all_element_segments_at, items_in}
 use Rattle.smith_draw_contents.specs.Start.{start_at}
-use Rattle.smith_draw_contents.specs.declared.exported.Exports.{Exports}
+use Rattle.smith_draw_contents.specs.declared.exports_so_far.Exports.{Exports}
 use Rattle.smith_bytes.specs.Steps.{◌>>=◌, section_flag_at}
 use Rattle.wasm_smith.specs.declared.build.contents.Contents.{Contents}
 use Rattle.smith_draw_definitions.specs.declared.definitions.Definitions.{Definitions}
-use Rattle.smith_draw_imports.specs.declared.imported.Imported.{Imported}
+use Rattle.smith_draw_imports.specs.declared.imports_so_far.Imported.{Imported}
 use Rattle.wasm_smith.specs.declared.build.segments.Segments.{Segments}
 
 -- the index spaces of imports

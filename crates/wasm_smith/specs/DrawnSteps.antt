@@ -19,7 +19,7 @@ use Rattle.smith_draw_types.specs.FuncSizes.{HasFewValues, IsSmall}
 use Rattle.smith_config.specs.Granted.{AreTypesGranted, HasGroundedElements, HasGroundedValue}
 use Rattle.smith_draw_imports.specs.Imported.{HasNoImports}
 use Rattle.smith_module_rules.specs.ShapeImports.{kept_groups, taken_from, count_in}
-use Rattle.smith_draw_imports.specs.declared.imported.Imported.{Imported}
+use Rattle.smith_draw_imports.specs.declared.imports_so_far.Imported.{Imported}
 use Rattle.wasm_smith.specs.FirstParts.{ModuleSoFar, StandsSoFar, StandsWhole, IsOfEntities}
 use Rattle.smith_draw_definitions.specs.Defined.{HaveNoFloats, drawn_beside, nothing_defined}
 use Rattle.smith_module_rules.specs.Refusals.{HoldsNonNullable}

@@ -11,6 +11,6 @@ mod exports;
 mod first_faulty;
 mod first_parts;
 mod imports;
-mod reached;
+mod reach;
 mod start;
 mod termination;

@@ -1,6 +1,6 @@
 use crate::fault::Fault;
 use crate::shapes::checked_shapes::CHECKED_SHAPES;
-use crate::shapes::parts::{known, with_parts};
+use crate::shapes::parts::{or_unknown, with_parts};
 use smith_config::Shape;
 use smith_types::Items;
 use std::alloc::Global;
@@ -117,7 +117,7 @@ fn parts_of(name: &str) -> Option<&'static str> {
 ///
 /// Returns `UnknownShape` if there is none, or `Memory`.
 pub fn shape_named(alloc: Global, name: &str) -> Result<Shape, Fault> {
-    with_parts(alloc, known(parts_of(name))?, '|', nothing(alloc))
+    with_parts(alloc, or_unknown(parts_of(name))?, '|', nothing(alloc))
 }
 
 fn nothing(alloc: Global) -> Shape {

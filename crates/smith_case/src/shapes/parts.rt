@@ -33,13 +33,13 @@ impl Parts for Items<ImportItem> {
 
 impl Parts for Items<FieldType> {
     fn add(&mut self, _alloc: Global, part: &str) -> Result<(), Fault> {
-        push(self, known(field_type_of(part)))
+        push(self, or_unknown(field_type_of(part)))
     }
 }
 
 impl Parts for Items<ValType> {
     fn add(&mut self, _alloc: Global, part: &str) -> Result<(), Fault> {
-        push(self, known(val_type_of(part)))
+        push(self, or_unknown(val_type_of(part)))
     }
 }
 
@@ -85,7 +85,7 @@ pub(crate) fn push<T: Drop>(items: &mut Items<T>, item: Result<T, Fault>) -> Res
 }
 
 /// Returns the value that was read, or the fault if there is none.
-pub(crate) fn known<T: Drop>(value: Option<T>) -> Result<T, Fault> {
+pub(crate) fn or_unknown<T: Drop>(value: Option<T>) -> Result<T, Fault> {
     value.ok_or(Fault::UnknownShape)
 }
 

@@ -1,6 +1,6 @@
 use crate::fault::Fault;
 use crate::shapes::large_parts::{add_chain, add_cycle, add_fan, add_wide, export_many};
-use crate::shapes::parts::{both, known, name_of, push, with_parts};
+use crate::shapes::parts::{both, name_of, or_unknown, push, with_parts};
 use crate::shapes::type_names::{field_type_of, ref_type_of, take_word, val_type_of};
 use smith_config::Shape;
 use smith_types::{
@@ -44,7 +44,7 @@ fn group_of(alloc: Global, word: &str, rest: &str) -> Result<Items<SubType>, Fau
     if word == "group" {
         return with_parts(alloc, rest, ';', Items::new(alloc));
     }
-    let count = known(number(rest))?;
+    let count = or_unknown(number(rest))?;
     let mut types = Items::new(alloc);
     add_counted(alloc, word, count, &mut types).and(Ok(types))
 }
@@ -83,7 +83,7 @@ fn long(text: &str) -> Option<u64> {
 /// Reads the type that `text` denotes, as `group` lists it.
 pub(crate) fn sub_type_of(alloc: Global, text: &str) -> Result<SubType, Fault> {
     let (is_open, text) = take_word(text, "open ");
-    let (supertype, text) = known(number_after("below ", text))?;
+    let (supertype, text) = or_unknown(number_after("below ", text))?;
     Ok(SubType {
         is_final: !is_open,
         supertype,
@@ -109,7 +109,7 @@ fn inner_of(alloc: Global, text: &str) -> Result<CompositeInnerType, Fault> {
         "struct" => Ok(CompositeInnerType::Struct(StructType {
             fields: with_parts(alloc, rest, ',', Items::new(alloc))?,
         })),
-        "array" => Ok(CompositeInnerType::Array(ArrayType(known(field_type_of(rest))?))),
+        "array" => Ok(CompositeInnerType::Array(ArrayType(or_unknown(field_type_of(rest))?))),
         "func" => Ok(CompositeInnerType::Func(function_of(alloc, rest)?)),
         _ => Err(Fault::UnknownShape),
     }
@@ -145,7 +145,7 @@ fn import_of(alloc: Global, text: &str) -> Result<Imports, Fault> {
 /// Reads the import that `text` denotes: `NAME ENTITY`.
 pub(crate) fn item_of(alloc: Global, text: &str) -> Result<ImportItem, Fault> {
     let (name, entity) = split_word(text);
-    let entity_type = known(entity_of(entity))?;
+    let entity_type = or_unknown(entity_of(entity))?;
     Ok(ImportItem {
         name: name_of(alloc, name)?,
         entity_type,
@@ -164,7 +164,7 @@ fn items_of(alloc: Global, text: &str) -> Result<Imports, Fault> {
 fn names_of(alloc: Global, text: &str) -> Result<Imports, Fault> {
     let (module, rest) = split_word(text);
     let (names, entity) = split_word(rest);
-    let entity_type = known(entity_of(entity))?;
+    let entity_type = or_unknown(entity_of(entity))?;
     let (module, names) = both(
         name_of(alloc, module),
         with_parts(alloc, names, ',', Items::new(alloc)),
@@ -250,7 +250,7 @@ fn add_definition(alloc: Global, part: &str, shape: &mut Shape) -> Result<(), Fa
 fn add_many(alloc: Global, part: &str, shape: &mut Shape) -> Result<(), Fault> {
     let (word, rest) = split_word(part);
     if word == "exports" {
-        return export_many(alloc, known(number(rest))?, &mut shape.exports);
+        return export_many(alloc, or_unknown(number(rest))?, &mut shape.exports);
     }
     push(&mut shape.groups, group_of(alloc, word, rest))
 }
@@ -258,7 +258,7 @@ fn add_many(alloc: Global, part: &str, shape: &mut Shape) -> Result<(), Fault> {
 fn export_of(alloc: Global, text: &str) -> Result<(Name, ExportKind, u32), Fault> {
     let (name, item) = split_word(text);
     let (kind, index) = split_word(item);
-    let (kind, index) = known(export_kind_of(kind).zip(number(index)))?;
+    let (kind, index) = or_unknown(export_kind_of(kind).zip(number(index)))?;
     Ok((name_of(alloc, name)?, kind, index))
 }
 

@@ -36,7 +36,7 @@ fn abstract_among(types: &[(&str, AbstractHeapType)], text: &str) -> Option<Abst
 }
 
 // Returns the text in parentheses after `keyword` in `text`. `keyword` includes the opening one.
-fn inside<'a>(text: &'a str, keyword: &str) -> Option<&'a str> {
+fn text_inside<'a>(text: &'a str, keyword: &str) -> Option<&'a str> {
     text.strip_prefix(keyword)?.strip_suffix(")")
 }
 
@@ -50,10 +50,10 @@ pub(crate) fn take_word<'a>(text: &'a str, word: &str) -> (bool, &'a str) {
 
 /// Reads the heap type that `text` denotes: `any`, `(shared any)`, `0`, `(exact 0)`.
 pub fn heap_type_of(text: &str) -> Option<HeapType> {
-    if let Some(name) = inside(text, "(shared ") {
+    if let Some(name) = text_inside(text, "(shared ") {
         return abstract_of(true, name);
     }
-    if let Some(index) = inside(text, "(exact ") {
+    if let Some(index) = text_inside(text, "(exact ") {
         return Some(HeapType::Exact(index.parse::<u32>().ok()?));
     }
     match text.parse::<u32>() {
@@ -64,7 +64,7 @@ pub fn heap_type_of(text: &str) -> Option<HeapType> {
 
 /// Reads the reference type that `text` denotes: `(ref any)`, `(ref null 0)`.
 pub fn ref_type_of(text: &str) -> Option<RefType> {
-    let (nullable, heap_type) = take_word(inside(text, "(ref ")?, "null ");
+    let (nullable, heap_type) = take_word(text_inside(text, "(ref ")?, "null ");
     Some(RefType {
         nullable,
         heap_type: heap_type_of(heap_type)?,
@@ -94,7 +94,7 @@ pub fn storage_type_of(text: &str) -> Option<StorageType> {
 
 /// Reads the field type that `text` denotes: a storage type, or `(mut TYPE)`.
 pub fn field_type_of(text: &str) -> Option<FieldType> {
-    let (mutable, element_type) = match inside(text, "(mut ") {
+    let (mutable, element_type) = match text_inside(text, "(mut ") {
         Some(element_type) => (true, element_type),
         None => (false, text),
     };

@@ -1,4 +1,4 @@
-use crate::told::{equality, or_memory, tell_check, tell_line, tell_refusal};
+use crate::answer_lines::{equality, or_memory, write_check, write_line, write_refusal};
 use smith_bytes::{Error, Unstructured};
 use smith_case::Fault;
 use smith_case::call::ConfigCall;
@@ -15,11 +15,11 @@ pub(crate) fn answer_config(
 ) -> Result<(), Fault> {
     match call {
         ConfigCall::Clone => answer_copy(alloc, config, answer),
-        ConfigCall::Check => tell_check(checked(config), answer),
-        ConfigCall::Features => tell_features(config.features(), answer),
+        ConfigCall::Check => write_check(check_config(config), answer),
+        ConfigCall::Features => write_features(config.features(), answer),
         _ => {
             config.sanitize();
-            tell_config(config, answer)
+            write_config(config, answer)
         }
     }
 }
@@ -28,18 +28,18 @@ pub(crate) fn answer_config(
 pub(crate) fn answer_drawn_config(input: &[u8], answer: &mut String) -> Result<(), Fault> {
     match Config::arbitrary(&mut Unstructured::new(input)) {
         Ok(config) => {
-            let told = tell_all(&config, answer);
+            let told = write_all(&config, answer);
             drop(config);
             told
         }
-        Err(refusal) => tell_refusal(refusal, answer),
+        Err(refusal) => write_refusal(refusal, answer),
     }
 }
 
 // Appends `config` and its features.
-fn tell_all(config: &Config, answer: &mut String) -> Result<(), Fault> {
-    tell_config(config, answer)?;
-    tell_features(config.features(), answer)
+fn write_all(config: &Config, answer: &mut String) -> Result<(), Fault> {
+    write_config(config, answer)?;
+    write_features(config.features(), answer)
 }
 
 // Appends whether a copy of `config` is equal: whether the shapes are, and whether both print the
@@ -47,31 +47,31 @@ fn tell_all(config: &Config, answer: &mut String) -> Result<(), Fault> {
 fn answer_copy(alloc: Global, config: &Config, answer: &mut String) -> Result<(), Fault> {
     match config.clone(alloc) {
         Ok(copy) => {
-            let told = tell_equality(alloc, &copy, config, answer);
+            let told = write_equality(alloc, &copy, config, answer);
             drop(copy);
             told
         }
-        Err(refusal) => tell_refusal(refusal, answer),
+        Err(refusal) => write_refusal(refusal, answer),
     }
 }
 
-fn tell_equality(
+fn write_equality(
     alloc: Global,
     copy: &Config,
     config: &Config,
     answer: &mut String,
 ) -> Result<(), Fault> {
     match prints_the_same(alloc, copy, config) {
-        Ok(is_same) => tell_line(equality(is_same && has_same_shapes(copy, config)), answer),
+        Ok(is_same) => write_line(equality(is_same && has_same_shapes(copy, config)), answer),
         Err(_) => Err(Fault::Memory),
     }
 }
 
 fn prints_the_same(alloc: Global, copy: &Config, config: &Config) -> Result<bool, AllocError> {
-    Ok(printed(alloc, copy)? == printed(alloc, config)?)
+    Ok(debug_text(alloc, copy)? == debug_text(alloc, config)?)
 }
 
-fn printed(alloc: Global, config: &Config) -> Result<String, AllocError> {
+fn debug_text(alloc: Global, config: &Config) -> Result<String, AllocError> {
     format!(in alloc; "{config:?}")
 }
 
@@ -82,22 +82,22 @@ fn has_same_shapes(copy: &Config, config: &Config) -> bool {
 }
 
 // Appends a line `FIELD: VALUE,` for each field.
-fn tell_config(config: &Config, answer: &mut String) -> Result<(), Fault> {
+fn write_config(config: &Config, answer: &mut String) -> Result<(), Fault> {
     or_memory(writeln!(answer, "{config:#?}"))
 }
 
 // Appends a line for each feature that is on.
-fn tell_features(features: WasmFeatures, answer: &mut String) -> Result<(), Fault> {
+fn write_features(features: WasmFeatures, answer: &mut String) -> Result<(), Fault> {
     for flag in WasmFeatures::FLAGS {
         if features.contains(*flag.value()) {
-            tell_line(flag.name(), answer)?;
+            write_line(flag.name(), answer)?;
         }
     }
     Ok(())
 }
 
 // Checks `config`.
-fn checked(config: &Config) -> Result<(), Error> {
+fn check_config(config: &Config) -> Result<(), Error> {
     match config.check() {
         Ok(()) => Ok(()),
         Err(fault) => Err(Error::Config(fault)),

@@ -2,8 +2,10 @@ ghost use Rattle.std.specs.Prelude.{◌≡◌, false, length, IsTrue, IfOk};
 ghost use Rattle.smith_config.specs.Features.{features_of};
 ghost use Rattle.smith_types.specs.ValidTypes.{AreTypesValid, IsRefTypeValid, IsValTypeValid};
 
+use crate::answer_lines::{
+    write_drawn_values, write_line, write_pair, write_refusal, write_values,
+};
 use crate::answers::spaces::{Over, number_global, spaces_of, with_globals};
-use crate::told::{tell_drawn_values, tell_line, tell_pair, tell_refusal, tell_values};
 use smith_bytes::{Error, Unstructured};
 use smith_case::arguments::{value, word};
 use smith_case::call::ConstantCall;
@@ -44,13 +46,13 @@ fn answer_value(
     let allow_defined = value(over.case, 1)?;
     let wanted = wanted_of(over)?;
     if matches!(call, ConstantCall::Globals) {
-        return tell_drawn_values(readable_globals(over, wanted, allow_defined), answer);
+        return write_drawn_values(readable_globals(over, wanted, allow_defined), answer);
     }
     let drawn = drawn_expression(over, wanted, allow_defined, u);
     if is_counted {
-        return tell_count(drawn, answer);
+        return write_count(drawn, answer);
     }
-    tell_drawn_values(drawn, answer)
+    write_drawn_values(drawn, answer)
 }
 
 // Returns whether the third argument is `count`.
@@ -95,10 +97,10 @@ fn drawn_expression(
 }
 
 // Appends the number of instructions of the expression that is drawn, or the refusal.
-fn tell_count(drawn: Result<Items<ConstInstr>, Error>, answer: &mut String) -> Result<(), Fault> {
+fn write_count(drawn: Result<Items<ConstInstr>, Error>, answer: &mut String) -> Result<(), Fault> {
     match drawn {
-        Ok(drawn) => tell_pair(drawn.as_slice().len(), "instructions", answer),
-        Err(refusal) => tell_refusal(refusal, answer),
+        Ok(drawn) => write_pair(drawn.as_slice().len(), "instructions", answer),
+        Err(refusal) => write_refusal(refusal, answer),
     }
 }
 
@@ -160,8 +162,8 @@ fn answer_initialiser(
     }
     let spaces = spaces_of(over.spaces.types);
     match arbitrary_table_init(over.alloc, over.config, &spaces, element, u) {
-        Ok(Some(drawn)) => tell_values(drawn.as_slice(), answer),
-        Ok(None) => tell_line("none", answer),
-        Err(refusal) => tell_refusal(refusal, answer),
+        Ok(Some(drawn)) => write_values(drawn.as_slice(), answer),
+        Ok(None) => write_line("none", answer),
+        Err(refusal) => write_refusal(refusal, answer),
     }
 }

@@ -1,4 +1,4 @@
-use crate::told::{equality, tell_debug, tell_pair};
+use crate::answer_lines::{equality, write_debug, write_pair};
 use smith_bytes::Error;
 use smith_case::Fault;
 use smith_config::Shape;
@@ -17,14 +17,14 @@ pub(crate) fn answer_copies(
 }
 
 // Appends whether `copy` is equal to `value`, which has the type `name`.
-fn tell_copy<T: PartialEq + Drop>(
+fn write_copy<T: PartialEq + Drop>(
     name: &str,
     copy: Result<T, Error>,
     value: &T,
     answer: &mut String,
 ) -> Result<(), Fault> {
     match copy {
-        Ok(copy) => tell_pair(name, equality(copy == *value), answer),
+        Ok(copy) => write_pair(name, equality(copy == *value), answer),
         Err(_) => Err(Fault::Memory),
     }
 }
@@ -35,7 +35,7 @@ fn answer_groups(
     answer: &mut String,
 ) -> Result<(), Fault> {
     for group in groups {
-        tell_copy("Items<SubType>", group.clone(alloc), group, answer)?;
+        write_copy("Items<SubType>", group.clone(alloc), group, answer)?;
         answer_types(alloc, group.as_slice(), answer)?;
     }
     Ok(())
@@ -43,15 +43,15 @@ fn answer_groups(
 
 fn answer_types(alloc: Global, types: &[SubType], answer: &mut String) -> Result<(), Fault> {
     for ty in types {
-        tell_copy("SubType", ty.clone(alloc), ty, answer)?;
+        write_copy("SubType", ty.clone(alloc), ty, answer)?;
         answer_composite(alloc, &ty.composite_type, answer)?;
     }
     Ok(())
 }
 
 fn answer_composite(alloc: Global, ty: &CompositeType, answer: &mut String) -> Result<(), Fault> {
-    tell_copy("CompositeType", ty.clone(alloc), ty, answer)?;
-    tell_copy(
+    write_copy("CompositeType", ty.clone(alloc), ty, answer)?;
+    write_copy(
         "CompositeInnerType",
         ty.inner.clone(alloc),
         &ty.inner,
@@ -59,17 +59,17 @@ fn answer_composite(alloc: Global, ty: &CompositeType, answer: &mut String) -> R
     )?;
     match &ty.inner {
         CompositeInnerType::Array(_) => Ok(()),
-        CompositeInnerType::Func(func) => tell_copy("FuncType", func.clone(alloc), func, answer),
+        CompositeInnerType::Func(func) => write_copy("FuncType", func.clone(alloc), func, answer),
         CompositeInnerType::Struct(structure) => {
-            tell_copy("StructType", structure.clone(alloc), structure, answer)
+            write_copy("StructType", structure.clone(alloc), structure, answer)
         }
     }
 }
 
 fn answer_imports(alloc: Global, imports: &[Imports], answer: &mut String) -> Result<(), Fault> {
     for group in imports {
-        tell_debug(group, answer)?;
-        tell_copy("Imports", group.clone(alloc), group, answer)?;
+        write_debug(group, answer)?;
+        write_copy("Imports", group.clone(alloc), group, answer)?;
         answer_parts(alloc, group, answer)?;
     }
     Ok(())
@@ -77,17 +77,17 @@ fn answer_imports(alloc: Global, imports: &[Imports], answer: &mut String) -> Re
 
 fn answer_parts(alloc: Global, group: &Imports, answer: &mut String) -> Result<(), Fault> {
     match group {
-        Imports::Single(import) => tell_copy("Import", import.clone(alloc), import, answer),
+        Imports::Single(import) => write_copy("Import", import.clone(alloc), import, answer),
         Imports::Compact1 { items, .. } => answer_items(alloc, items.as_slice(), answer),
         Imports::Compact2 { names, .. } => {
-            tell_copy("Items<Name>", names.clone(alloc), names, answer)
+            write_copy("Items<Name>", names.clone(alloc), names, answer)
         }
     }
 }
 
 fn answer_items(alloc: Global, items: &[ImportItem], answer: &mut String) -> Result<(), Fault> {
     for item in items {
-        tell_copy("ImportItem", item.clone(alloc), item, answer)?;
+        write_copy("ImportItem", item.clone(alloc), item, answer)?;
     }
     Ok(())
 }

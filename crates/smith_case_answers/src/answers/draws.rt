@@ -1,6 +1,7 @@
 ghost use Rattle.smith_config.specs.Sanitized.{IsSanitized};
 ghost use Rattle.smith_draw_types.specs.Callers.{PassesButImports};
 
+use crate::answer_lines::write_rest;
 use crate::answers::constants::answer_constant;
 use crate::answers::entities::answer_entity;
 use crate::answers::free_types::answer_free_type;
@@ -8,7 +9,6 @@ use crate::answers::matching::answer_matching;
 use crate::answers::numbers::answer_number;
 use crate::answers::spaces::{Over, spaces_of, types_of};
 use crate::answers::types::answer_types;
-use crate::told::tell_rest;
 use smith_bytes::Unstructured;
 use smith_case::call::DrawCall;
 use smith_case::{Case, Fault, Obstacle};
@@ -36,7 +36,7 @@ pub(crate) fn answer_draw(
     let told = answer_call(alloc, &mut types, case, call, config, &mut u, answer);
     drop(types);
     told?;
-    tell_rest(&u, answer)
+    write_rest(&u, answer)
 }
 
 // Appends the result of the draw `call` over `types`.

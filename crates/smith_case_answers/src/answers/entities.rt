@@ -1,7 +1,7 @@
 ghost use Rattle.smith_config.specs.Sanitized.{IsSanitized};
 
+use crate::answer_lines::{write_drawn, write_drawn_values};
 use crate::answers::spaces::Over;
-use crate::told::{tell_drawn, tell_drawn_values};
 use smith_bytes::Unstructured;
 use smith_case::call::EntityCall;
 use smith_case::{Fault, Obstacle};
@@ -20,16 +20,16 @@ pub(crate) fn answer_entity(
     requires { IsSanitized over.now.config.now }
 {
     match call {
-        EntityCall::Global => tell_drawn(
+        EntityCall::Global => write_drawn(
             arbitrary_global_type(over.alloc, over.config, over.spaces, u),
             answer,
         ),
-        EntityCall::Table => tell_drawn(
+        EntityCall::Table => write_drawn(
             arbitrary_table_type(over.alloc, over.config, over.spaces, u),
             answer,
         ),
-        EntityCall::Mem => tell_drawn(arbitrary_memtype(over.config, u), answer),
-        EntityCall::Locals => tell_drawn_values(
+        EntityCall::Mem => write_drawn(arbitrary_memtype(over.config, u), answer),
+        EntityCall::Locals => write_drawn_values(
             arbitrary_locals(over.alloc, over.config, over.spaces, u),
             answer,
         ),
@@ -37,7 +37,7 @@ pub(crate) fn answer_entity(
             if count_types(TypeUse::Tag, over.spaces.types.types()) == 0 {
                 return Err(Fault::NotCallable(Obstacle::NoTagType));
             }
-            tell_drawn(
+            write_drawn(
                 arbitrary_tag_type(over.alloc, over.config, over.spaces, u),
                 answer,
             )

@@ -1,8 +1,8 @@
 ghost use Rattle.std.specs.Prelude.{IsTrue, IfOk};
 ghost use Rattle.smith_config.specs.Sanitized.{IsSanitized};
 
+use crate::answer_lines::write_drawn;
 use crate::answers::spaces::Over;
-use crate::told::tell_drawn;
 use smith_bytes::Unstructured;
 use smith_case::arguments::value;
 use smith_case::call::FreeCall;
@@ -75,16 +75,16 @@ fn answer_subtype_of_one(
     {
         return Err(Fault::NotCallable(Obstacle::FinalType));
     }
-    tell_drawn(
+    write_drawn(
         arbitrary_sub_type_of_super_type(over.alloc, over.config, over.spaces, limit, u),
         answer,
     )
 }
 
 // Appends the type, or the part of a type, that `$draw` draws within `$bounds`.
-macro_rules! tell_part {
+macro_rules! write_part {
     ($draw:ident, $over:expr, $bounds:expr, $u:expr, $answer:expr) => {
-        tell_drawn(
+        write_drawn(
             $draw(
                 $over.alloc,
                 $over.config,
@@ -111,20 +111,20 @@ fn answer_type(
         → IsTrue over.now.config.now.shared_everything_threads_enabled }
 {
     match call {
-        FreeCall::Sub => tell_drawn(
+        FreeCall::Sub => write_drawn(
             arbitrary_sub_type(over.alloc, over.config, over.spaces, bounds.limit, u),
             answer,
         ),
-        FreeCall::Composite => tell_drawn(
+        FreeCall::Composite => write_drawn(
             arbitrary_composite_type(over.alloc, over.config, over.spaces, bounds.limit, u),
             answer,
         ),
-        FreeCall::Struct => tell_part!(arbitrary_struct_type, over, bounds, u, answer),
-        FreeCall::Func => tell_part!(arbitrary_func_type, over, bounds, u, answer),
-        FreeCall::Field => tell_part!(arbitrary_field_type, over, bounds, u, answer),
-        FreeCall::Storage => tell_part!(arbitrary_storage_type, over, bounds, u, answer),
-        FreeCall::Val => tell_part!(arbitrary_valtype, over, bounds, u, answer),
-        FreeCall::Ref => tell_part!(arbitrary_ref_type, over, bounds, u, answer),
-        _ => tell_part!(arbitrary_heap_type, over, bounds, u, answer),
+        FreeCall::Struct => write_part!(arbitrary_struct_type, over, bounds, u, answer),
+        FreeCall::Func => write_part!(arbitrary_func_type, over, bounds, u, answer),
+        FreeCall::Field => write_part!(arbitrary_field_type, over, bounds, u, answer),
+        FreeCall::Storage => write_part!(arbitrary_storage_type, over, bounds, u, answer),
+        FreeCall::Val => write_part!(arbitrary_valtype, over, bounds, u, answer),
+        FreeCall::Ref => write_part!(arbitrary_ref_type, over, bounds, u, answer),
+        _ => write_part!(arbitrary_heap_type, over, bounds, u, answer),
     }
 }

@@ -1,7 +1,7 @@
 ghost use Rattle.smith_config.specs.Sanitized.{IsSanitized};
 
+use crate::answer_lines::write_drawn;
 use crate::answers::spaces::Over;
-use crate::told::tell_drawn;
 use smith_bytes::Unstructured;
 use smith_case::Fault;
 use smith_case::arguments::{value, word};
@@ -18,10 +18,10 @@ use smith_draw::{
 use smith_types::CompositeInnerType;
 
 // Appends the type that `$draw` draws for the type that `$text` denotes, if `$read` can read it.
-macro_rules! tell_wanted {
+macro_rules! write_wanted {
     ($over:expr, $text:expr, $u:expr, $answer:expr; $read:ident => $draw:ident) => {
         match $read($text) {
-            Some(wanted) => tell_drawn(
+            Some(wanted) => write_drawn(
                 $draw($over.alloc, $over.config, $over.spaces, wanted, $u),
                 $answer,
             ),
@@ -57,27 +57,28 @@ fn answer_part(
 ) -> Result<(), Fault> {
     match call {
         MatchingCall::Field => {
-            tell_wanted!(over, text, u, answer; field_type_of => arbitrary_matching_field_type)
+            write_wanted!(over, text, u, answer; field_type_of => arbitrary_matching_field_type)
         }
         MatchingCall::Storage => {
-            tell_wanted!(over, text, u, answer; storage_type_of => arbitrary_matching_storage_type)
+            write_wanted!(over, text, u, answer; storage_type_of => arbitrary_matching_storage_type)
         }
         MatchingCall::Val => {
-            tell_wanted!(over, text, u, answer; val_type_of => arbitrary_matching_val_type)
+            write_wanted!(over, text, u, answer; val_type_of => arbitrary_matching_val_type)
         }
         MatchingCall::Ref => {
-            tell_wanted!(over, text, u, answer; ref_type_of => arbitrary_matching_ref_type)
+            write_wanted!(over, text, u, answer; ref_type_of => arbitrary_matching_ref_type)
         }
         MatchingCall::Heap => {
-            tell_wanted!(over, text, u, answer; heap_type_of => arbitrary_matching_heap_type)
+            write_wanted!(over, text, u, answer; heap_type_of => arbitrary_matching_heap_type)
         }
         MatchingCall::AboveVal => {
-            tell_wanted!(over, text, u, answer; val_type_of => arbitrary_super_type_of_val_type)
+            write_wanted!(over, text, u, answer; val_type_of => arbitrary_super_type_of_val_type)
         }
         MatchingCall::AboveRef => {
-            tell_wanted!(over, text, u, answer; ref_type_of => arbitrary_super_type_of_ref_type)
+            write_wanted!(over, text, u, answer; ref_type_of => arbitrary_super_type_of_ref_type)
         }
-        _ => tell_wanted!(over, text, u, answer; heap_type_of => arbitrary_super_type_of_heap_type),
+        _ =>
+            write_wanted!(over, text, u, answer; heap_type_of => arbitrary_super_type_of_heap_type),
     }
 }
 
@@ -96,7 +97,7 @@ fn answer_structure(
     let CompositeInnerType::Struct(structure) = &ty.composite_type.inner else {
         return Err(Fault::Argument(0));
     };
-    tell_drawn(
+    write_drawn(
         arbitrary_matching_struct_type(
             over.alloc,
             over.config,
@@ -126,7 +127,7 @@ fn answer_function(
         Err(Fault::UnknownShape) => return Err(Fault::Argument(0)),
         Err(fault) => return Err(fault),
     };
-    tell_drawn(
+    write_drawn(
         arbitrary_matching_func_type(over.alloc, over.config, over.spaces, &function, u),
         answer,
     )

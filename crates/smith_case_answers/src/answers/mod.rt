@@ -1,14 +1,14 @@
 //! The answers to calls, each as text.
 
+mod case_config;
 mod configs;
-mod configured;
 mod constants;
 mod copies;
 mod draws;
 mod entities;
 mod free_types;
-mod made;
 mod matching;
+mod module_forms;
 mod modules;
 mod names;
 mod numbers;
@@ -21,8 +21,8 @@ mod subtypes;
 mod type_spaces;
 mod types;
 
+use crate::answers::case_config::{answer_read_config, set_config};
 use crate::answers::configs::{answer_config, answer_drawn_config};
-use crate::answers::configured::{answer_read_config, set_config};
 use crate::answers::draws::answer_draw;
 use crate::answers::modules::answer_module;
 use crate::answers::names::answer_name;

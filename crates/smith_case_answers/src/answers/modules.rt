@@ -1,6 +1,6 @@
-use crate::answers::configured::taken;
-use crate::answers::made::{Fuelled, tell_binary, tell_fuel, tell_text, terminate};
-use crate::told::{tell_refusal, tell_rest};
+use crate::answer_lines::{write_refusal, write_rest};
+use crate::answers::case_config::take_config;
+use crate::answers::module_forms::{Fuelled, terminate, write_binary, write_fuel, write_text};
 use smith_binary_module::encode;
 use smith_bytes::{Error, Unstructured};
 use smith_case::arguments::word;
@@ -28,10 +28,10 @@ pub(crate) fn answer_module(
     let behavior = behavior_of(case, call)?;
     let form = form_of(case, call)?;
     let mut u = Unstructured::new(input);
-    let made = made(alloc, call, behavior, config, &mut u);
-    tell_made(alloc, case, form, made, answer)?;
+    let made = draw_module(alloc, call, behavior, config, &mut u);
+    write_made(alloc, case, form, made, answer)?;
     if form.left {
-        return tell_rest(&u, answer);
+        return write_rest(&u, answer);
     }
     Ok(())
 }
@@ -67,7 +67,7 @@ fn form_of(case: &Case, call: ModuleCall) -> Result<Form, Fault> {
 }
 
 // Makes the module of `call`, before it is made to terminate.
-fn made(
+fn draw_module(
     alloc: Global,
     call: ModuleCall,
     behavior: DuplicateImportsBehavior,
@@ -77,8 +77,8 @@ fn made(
     match call {
         ModuleCall::Arbitrary => Module::arbitrary(alloc, u),
         ModuleCall::NewOfDrawn => of_drawn(alloc, u),
-        ModuleCall::NewInternal => Module::new_internal(alloc, taken(config), u, behavior),
-        _ => Module::new(alloc, taken(config), u),
+        ModuleCall::NewInternal => Module::new_internal(alloc, take_config(config), u, behavior),
+        _ => Module::new(alloc, take_config(config), u),
     }
 }
 
@@ -104,7 +104,7 @@ fn of_drawn(alloc: Global, u: &mut Unstructured<'_>) -> Result<Module, Error> {
 }
 
 // Appends the module that is made in the form `form`, or the refusal.
-fn tell_made(
+fn write_made(
     alloc: Global,
     case: &Case,
     form: Form,
@@ -113,16 +113,16 @@ fn tell_made(
 ) -> Result<(), Fault> {
     match made {
         Ok(mut module) => {
-            let told = tell_module(alloc, case, form, &mut module, answer);
+            let told = write_module(alloc, case, form, &mut module, answer);
             drop(module);
             told
         }
-        Err(refusal) => tell_refusal(refusal, answer),
+        Err(refusal) => write_refusal(refusal, answer),
     }
 }
 
 // Appends the text of `module`, or its binary, after fuel is added and before its details.
-fn tell_module(
+fn write_module(
     alloc: Global,
     case: &Case,
     form: Form,
@@ -133,9 +133,9 @@ fn tell_module(
         terminate(alloc, case, module, answer)?;
     }
     if matches!(form.call, ModuleCall::Encode) {
-        return tell_binary(alloc, encode(alloc, module), answer);
+        return write_binary(alloc, encode(alloc, module), answer);
     }
-    tell_text(text(alloc, module), answer)?;
+    write_text(text(alloc, module), answer)?;
     if form.debug {
         writeln!(answer, "{module:?}")?;
     }
@@ -152,6 +152,6 @@ impl Fuelled for Module {
         if self.globals().len() >= u32::MAX as usize {
             return Err(Fault::NotCallable(Obstacle::TooManyGlobals));
         }
-        tell_fuel(self.ensure_termination(alloc, fuel), answer)
+        write_fuel(self.ensure_termination(alloc, fuel), answer)
     }
 }

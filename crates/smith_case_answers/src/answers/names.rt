@@ -1,4 +1,4 @@
-use crate::told::{or_memory, tell_debug, tell_refusal, tell_rest};
+use crate::answer_lines::{or_memory, write_debug, write_refusal, write_rest};
 use smith_bytes::{
     Error, Unstructured, limited_str, limited_string, unique_kebab_string, unique_string,
     unique_url,
@@ -21,7 +21,7 @@ pub(crate) fn answer_name(
 ) -> Result<(), Fault> {
     let mut u = Unstructured::new(input);
     answer_from(alloc, case, call, &mut u, answer)?;
-    tell_rest(&u, answer)
+    write_rest(&u, answer)
 }
 
 // Appends the name that `call` draws from `u`, and the names that are taken afterwards.
@@ -34,7 +34,7 @@ fn answer_from(
 ) -> Result<(), Fault> {
     let most = value(case, 0)?;
     match call {
-        NameCall::LimitedStr => tell_debug(&limited_str(most, u), answer),
+        NameCall::LimitedStr => write_debug(&limited_str(most, u), answer),
         _ => answer_made_name(alloc, case, call, most, u, answer),
     }
 }
@@ -62,14 +62,14 @@ fn answer_among(
     u: &mut Unstructured<'_>,
     answer: &mut String,
 ) -> Result<(), Fault> {
-    tell_name(drawn(alloc, call, most, names, u), answer)?;
-    tell_names(alloc, names, answer)
+    write_name(draw_name(alloc, call, most, names, u), answer)?;
+    write_names(alloc, names, answer)
 }
 
-fn tell_name(drawn: Result<String, Error>, answer: &mut String) -> Result<(), Fault> {
+fn write_name(drawn: Result<String, Error>, answer: &mut String) -> Result<(), Fault> {
     match drawn {
-        Ok(name) => tell_debug(&name, answer),
-        Err(refusal) => tell_refusal(refusal, answer),
+        Ok(name) => write_debug(&name, answer),
+        Err(refusal) => write_refusal(refusal, answer),
     }
 }
 
@@ -81,7 +81,7 @@ fn add_names(taken: &[String], names: &mut HashSet<String>) -> Result<(), Fault>
     Ok(())
 }
 
-fn drawn(
+fn draw_name(
     alloc: Global,
     call: NameCall,
     most: usize,
@@ -97,7 +97,7 @@ fn drawn(
 }
 
 // Appends a line of the names in order.
-fn tell_names(alloc: Global, names: &HashSet<String>, answer: &mut String) -> Result<(), Fault> {
+fn write_names(alloc: Global, names: &HashSet<String>, answer: &mut String) -> Result<(), Fault> {
     let mut sorted: Vec<&str> = Vec::with_capacity(alloc, names.len())?;
     add_sorted(names, &mut sorted)?;
     or_memory(writeln!(answer, "names {sorted:?}"))

@@ -1,4 +1,4 @@
-use crate::told::{tell_line, tell_pair};
+use crate::answer_lines::{write_line, write_pair};
 use smith_bytes::Unstructured;
 use smith_case::arguments::value;
 use smith_case::call::NumberCall;
@@ -33,7 +33,7 @@ pub(crate) fn answer_number(
         _ => return Err(Fault::NotCallable(Obstacle::Disorder)),
     };
     match drawn {
-        (least, Some(most)) => tell_pair(least, most, answer),
-        (least, None) => tell_line(least, answer),
+        (least, Some(most)) => write_pair(least, most, answer),
+        (least, None) => write_line(least, answer),
     }
 }

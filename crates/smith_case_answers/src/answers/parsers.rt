@@ -1,4 +1,4 @@
-use crate::told::{or_memory, tell_debug, tell_line, tell_pair, tell_refusal};
+use crate::answer_lines::{or_memory, write_debug, write_line, write_pair, write_refusal};
 use smith_case::arguments::{value, word};
 use smith_case::call::ParserCall;
 use smith_case::{Case, Fault};
@@ -14,9 +14,9 @@ pub(crate) fn answer_parser(
 ) -> Result<(), Fault> {
     match call {
         ParserCall::Kind => answer_each_kind(case, answer),
-        ParserCall::NoKinds => tell_kinds(InstructionKinds::none(), answer),
-        ParserCall::AllKinds => tell_kinds(InstructionKinds::all(), answer),
-        ParserCall::DefaultKinds => tell_kinds(InstructionKinds::default(), answer),
+        ParserCall::NoKinds => write_kinds(InstructionKinds::none(), answer),
+        ParserCall::AllKinds => write_kinds(InstructionKinds::all(), answer),
+        ParserCall::DefaultKinds => write_kinds(InstructionKinds::default(), answer),
         ParserCall::Contains => answer_contains(case, answer),
         ParserCall::OffsetChoices => answer_choices(word(case, 0)?, answer),
         _ => answer_kinds(word(case, 0)?, call, answer),
@@ -34,14 +34,14 @@ fn answer_each_kind(case: &Case, answer: &mut String) -> Result<(), Fault> {
 
 fn answer_kind(text: &str, answer: &mut String) -> Result<(), Fault> {
     match InstructionKind::from_str(text) {
-        Ok(kind) => tell_debug(&kind, answer),
-        Err(fault) => tell_unknown(fault, answer),
+        Ok(kind) => write_debug(&kind, answer),
+        Err(fault) => write_unknown(fault, answer),
     }
 }
 
 // Appends the refusal of a text that names no kind.
-fn tell_unknown(fault: UnknownKind, answer: &mut String) -> Result<(), Fault> {
-    tell_pair("refused: part", fault.part, answer)
+fn write_unknown(fault: UnknownKind, answer: &mut String) -> Result<(), Fault> {
+    write_pair("refused: part", fault.part, answer)
 }
 
 fn answer_choices(text: &str, answer: &mut String) -> Result<(), Fault> {
@@ -49,7 +49,7 @@ fn answer_choices(text: &str, answer: &mut String) -> Result<(), Fault> {
         Ok(MemoryOffsetChoices(first, second, third)) => {
             or_memory(writeln!(answer, "{first} {second} {third}"))
         }
-        Err(fault) => tell_refusal(fault, answer),
+        Err(fault) => write_refusal(fault, answer),
     }
 }
 
@@ -57,9 +57,9 @@ fn answer_choices(text: &str, answer: &mut String) -> Result<(), Fault> {
 fn answer_kinds(text: &str, call: ParserCall, answer: &mut String) -> Result<(), Fault> {
     let is_whole = matches!(call, ParserCall::Kinds);
     match InstructionKinds::from_str(text) {
-        Ok(kinds) if is_whole => tell_kinds(kinds, answer),
-        Ok(kinds) => tell_kinds(kinds.without_floats(), answer),
-        Err(fault) if is_whole => tell_unknown(fault, answer),
+        Ok(kinds) if is_whole => write_kinds(kinds, answer),
+        Ok(kinds) => write_kinds(kinds.without_floats(), answer),
+        Err(fault) if is_whole => write_unknown(fault, answer),
         Err(_) => Err(Fault::Argument(0)),
     }
 }
@@ -68,7 +68,7 @@ fn answer_kinds(text: &str, call: ParserCall, answer: &mut String) -> Result<(),
 fn answer_contains(case: &Case, answer: &mut String) -> Result<(), Fault> {
     let kinds: InstructionKinds = value(case, 0)?;
     let kind: InstructionKind = value(case, 1)?;
-    tell_line(kinds.contains(kind), answer)
+    write_line(kinds.contains(kind), answer)
 }
 
 // The kinds in the order of their bits.
@@ -92,13 +92,13 @@ fn every_kind() -> &'static [InstructionKind] {
 }
 
 // Appends a line for each kind that `kinds` contains, or the line `no kinds`.
-fn tell_kinds(kinds: InstructionKinds, answer: &mut String) -> Result<(), Fault> {
+fn write_kinds(kinds: InstructionKinds, answer: &mut String) -> Result<(), Fault> {
     if kinds == InstructionKinds::none() {
-        return tell_line("no kinds", answer);
+        return write_line("no kinds", answer);
     }
     for kind in every_kind() {
         if kinds.contains(*kind) {
-            tell_debug(kind, answer)?;
+            write_debug(kind, answer)?;
         }
     }
     Ok(())

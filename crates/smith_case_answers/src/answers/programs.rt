@@ -1,6 +1,6 @@
-use crate::answers::configured::taken;
-use crate::answers::made::{Fuelled, tell_binary, tell_fuel, tell_text, terminate};
-use crate::told::{tell_refusal, tell_rest};
+use crate::answer_lines::{write_refusal, write_rest};
+use crate::answers::case_config::take_config;
+use crate::answers::module_forms::{Fuelled, terminate, write_binary, write_fuel, write_text};
 use smith_binary_program::encode;
 use smith_bytes::{Error, Unstructured};
 use smith_case::call::ProgramCall;
@@ -22,13 +22,13 @@ pub(crate) fn answer_program(
     answer: &mut String,
 ) -> Result<(), Fault> {
     let mut u = Unstructured::new(input);
-    let made = Program::new(alloc, taken(config), &mut u);
-    tell_made(alloc, case, call, made, answer)?;
-    tell_rest(&u, answer)
+    let made = Program::new(alloc, take_config(config), &mut u);
+    write_made(alloc, case, call, made, answer)?;
+    write_rest(&u, answer)
 }
 
 // Appends the form of the program that `call` names, or the refusal.
-fn tell_made(
+fn write_made(
     alloc: Global,
     case: &Case,
     call: ProgramCall,
@@ -37,16 +37,16 @@ fn tell_made(
 ) -> Result<(), Fault> {
     match made {
         Ok(mut program) => {
-            let told = tell_program(alloc, case, call, &mut program, answer);
+            let told = write_program(alloc, case, call, &mut program, answer);
             drop(program);
             told
         }
-        Err(refusal) => tell_refusal(refusal, answer),
+        Err(refusal) => write_refusal(refusal, answer),
     }
 }
 
 // Appends `program` in the form that `call` names, after fuel is added for each argument.
-fn tell_program(
+fn write_program(
     alloc: Global,
     case: &Case,
     call: ProgramCall,
@@ -55,8 +55,8 @@ fn tell_program(
 ) -> Result<(), Fault> {
     terminate(alloc, case, program, answer)?;
     match call {
-        ProgramCall::New => tell_text(text(alloc, program), answer),
-        ProgramCall::Encode => tell_binary(alloc, encode(alloc, program), answer),
+        ProgramCall::New => write_text(text(alloc, program), answer),
+        ProgramCall::Encode => write_binary(alloc, encode(alloc, program), answer),
     }
 }
 
@@ -65,6 +65,6 @@ impl Fuelled for Program {
         if self.module.globals().len() >= u32::MAX as usize {
             return Err(Fault::NotCallable(Obstacle::TooManyGlobals));
         }
-        tell_fuel(self.ensure_termination(alloc, fuel), answer)
+        write_fuel(self.ensure_termination(alloc, fuel), answer)
     }
 }

@@ -1,5 +1,5 @@
+use crate::answer_lines::{write_bytes, write_check, write_line, write_refusal};
 use crate::answers::copies::answer_copies;
-use crate::told::{tell_bytes, tell_check, tell_line, tell_refusal};
 use smith_bytes::{Error, Which};
 use smith_case::arguments::word;
 use smith_case::call::ShapeCall;
@@ -33,8 +33,8 @@ fn answer_about(
     answer: &mut String,
 ) -> Result<(), Fault> {
     match call {
-        ShapeCall::Check => tell_check(shape.check(alloc, which_of(case)?, config), answer),
-        ShapeCall::Spell => tell_spelling(spelling(alloc, config, shape), answer),
+        ShapeCall::Check => write_check(shape.check(alloc, which_of(case)?, config), answer),
+        ShapeCall::Spell => write_spelling(spelling(alloc, config, shape), answer),
         ShapeCall::Copies => answer_copies(alloc, shape, answer),
     }
 }
@@ -60,13 +60,13 @@ fn spelling(alloc: Global, config: &Config, shape: &Shape) -> Result<Option<Item
 }
 
 // Appends the bytes of a spelling, or `none`.
-fn tell_spelling(
+fn write_spelling(
     spelling: Result<Option<Items<u8>>, Error>,
     answer: &mut String,
 ) -> Result<(), Fault> {
     match spelling {
-        Ok(Some(bytes)) => tell_bytes("spelled", bytes.as_slice(), answer),
-        Ok(None) => tell_line("none", answer),
-        Err(refusal) => tell_refusal(refusal, answer),
+        Ok(Some(bytes)) => write_bytes("spelled", bytes.as_slice(), answer),
+        Ok(None) => write_line("none", answer),
+        Err(refusal) => write_refusal(refusal, answer),
     }
 }

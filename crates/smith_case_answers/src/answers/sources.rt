@@ -1,4 +1,6 @@
-use crate::told::{tell_bytes, tell_debug, tell_line, tell_pair, tell_refusal, tell_rest};
+use crate::answer_lines::{
+    write_bytes, write_debug, write_line, write_pair, write_refusal, write_rest,
+};
 use smith_bytes::{Arbitrary, Error, Int, Unstructured, arbitrary_loop};
 use smith_case::arguments::{value, word};
 use smith_case::call::SourceCall;
@@ -15,7 +17,7 @@ pub(crate) fn answer_source(
 ) -> Result<(), Fault> {
     let mut u = Unstructured::new(input);
     answer_from(case, call, &mut u, answer)?;
-    tell_rest(&u, answer)
+    write_rest(&u, answer)
 }
 
 // Appends the result of the draw `call` from `u`.
@@ -32,36 +34,36 @@ fn answer_from(
         SourceCall::Choose => answer_choice(case, u, answer),
         SourceCall::Bytes => answer_bytes(case, u, answer),
         SourceCall::PeekBytes => answer_peeked(case, u, answer),
-        SourceCall::ArbitraryLen => tell_line(u.arbitrary_len(), answer),
+        SourceCall::ArbitraryLen => write_line(u.arbitrary_len(), answer),
         SourceCall::ArbitraryLoop => answer_loop(case, u, answer),
     }
 }
 
-fn tell<T: Arbitrary + Display + Copy>(
+fn write_draw<T: Arbitrary + Display + Copy>(
     u: &mut Unstructured<'_>,
     answer: &mut String,
 ) -> Result<(), Fault> {
-    tell_line(u.arbitrary::<T>(), answer)
+    write_line(u.arbitrary::<T>(), answer)
 }
 
 // Appends a value of the type that the argument names.
 fn answer_value(case: &Case, u: &mut Unstructured<'_>, answer: &mut String) -> Result<(), Fault> {
     match word(case, 0)? {
-        "bool" => tell::<bool>(u, answer),
-        "u8" => tell::<u8>(u, answer),
-        "u16" => tell::<u16>(u, answer),
-        "u32" => tell::<u32>(u, answer),
-        "u64" => tell::<u64>(u, answer),
-        "u128" => tell::<u128>(u, answer),
-        "i32" => tell::<i32>(u, answer),
-        "i64" => tell::<i64>(u, answer),
-        "i128" => tell::<i128>(u, answer),
+        "bool" => write_draw::<bool>(u, answer),
+        "u8" => write_draw::<u8>(u, answer),
+        "u16" => write_draw::<u16>(u, answer),
+        "u32" => write_draw::<u32>(u, answer),
+        "u64" => write_draw::<u64>(u, answer),
+        "u128" => write_draw::<u128>(u, answer),
+        "i32" => write_draw::<i32>(u, answer),
+        "i64" => write_draw::<i64>(u, answer),
+        "i128" => write_draw::<i128>(u, answer),
         _ => Err(Fault::Argument(0)),
     }
 }
 
 // Appends the number of the type `T` that is drawn between the second and the third argument.
-fn tell_in_range<T: Int + FromStr + Display>(
+fn write_in_range<T: Int + FromStr + Display>(
     case: &Case,
     u: &mut Unstructured<'_>,
     answer: &mut String,
@@ -74,7 +76,7 @@ where
     if most.widen() < least.widen() {
         return Err(Fault::Argument(2));
     }
-    tell_line(u.int_in_range(least..=most), answer)
+    write_line(u.int_in_range(least..=most), answer)
 }
 
 // Appends a number of the type that the first argument names.
@@ -84,12 +86,12 @@ fn answer_in_range(
     answer: &mut String,
 ) -> Result<(), Fault> {
     match word(case, 0)? {
-        "u8" => tell_in_range::<u8>(case, u, answer),
-        "u16" => tell_in_range::<u16>(case, u, answer),
-        "u32" => tell_in_range::<u32>(case, u, answer),
-        "u64" => tell_in_range::<u64>(case, u, answer),
-        "u128" => tell_in_range::<u128>(case, u, answer),
-        "usize" => tell_in_range::<usize>(case, u, answer),
+        "u8" => write_in_range::<u8>(case, u, answer),
+        "u16" => write_in_range::<u16>(case, u, answer),
+        "u32" => write_in_range::<u32>(case, u, answer),
+        "u64" => write_in_range::<u64>(case, u, answer),
+        "u128" => write_in_range::<u128>(case, u, answer),
+        "usize" => write_in_range::<usize>(case, u, answer),
         _ => Err(Fault::Argument(0)),
     }
 }
@@ -100,30 +102,30 @@ fn answer_ratio(case: &Case, u: &mut Unstructured<'_>, answer: &mut String) -> R
     if n == 0 || m < n {
         return Err(Fault::Argument(1));
     }
-    tell_line(u.ratio(n, m), answer)
+    write_line(u.ratio(n, m), answer)
 }
 
 // Appends one of the arguments.
 fn answer_choice(case: &Case, u: &mut Unstructured<'_>, answer: &mut String) -> Result<(), Fault> {
     match u.choose(case.args()) {
-        Ok(chosen) => tell_debug(chosen, answer),
-        Err(refusal) => tell_refusal(refusal, answer),
+        Ok(chosen) => write_debug(chosen, answer),
+        Err(refusal) => write_refusal(refusal, answer),
     }
 }
 
 // Takes as many bytes as the argument says, and appends them.
 fn answer_bytes(case: &Case, u: &mut Unstructured<'_>, answer: &mut String) -> Result<(), Fault> {
     match u.bytes(value(case, 0)?) {
-        Ok(bytes) => tell_bytes("bytes", bytes, answer),
-        Err(refusal) => tell_refusal(refusal, answer),
+        Ok(bytes) => write_bytes("bytes", bytes, answer),
+        Err(refusal) => write_refusal(refusal, answer),
     }
 }
 
 // Appends as many bytes as the argument says, and leaves them in the source.
 fn answer_peeked(case: &Case, u: &Unstructured<'_>, answer: &mut String) -> Result<(), Fault> {
     match u.peek_bytes(value(case, 0)?) {
-        Some(bytes) => tell_bytes("bytes", bytes, answer),
-        None => tell_line("none", answer),
+        Some(bytes) => write_bytes("bytes", bytes, answer),
+        None => write_line("none", answer),
     }
 }
 
@@ -151,7 +153,7 @@ fn answer_loop(case: &Case, u: &mut Unstructured<'_>, answer: &mut String) -> Re
         turn
     });
     if let Err(refusal) = ended {
-        tell_refusal(refusal, answer)?;
+        write_refusal(refusal, answer)?;
     }
-    tell_pair("calls", calls, answer)
+    write_pair("calls", calls, answer)
 }

@@ -1,7 +1,7 @@
 ghost use Rattle.std.specs.Prelude.{◌≡◌, [], false};
 ghost use Rattle.smith_syntax.specs.declared.value_type.ValType.TheVariants.{I32};
 
-use crate::told::or_memory;
+use crate::answer_lines::or_memory;
 use smith_case::shapes::shape_named;
 use smith_case::{Case, Fault, Obstacle, text_or};
 use smith_config::{Config, Shape};

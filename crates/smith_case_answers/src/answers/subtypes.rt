@@ -1,8 +1,8 @@
 ghost use Rattle.std.specs.Prelude.{◌↔◌, IsTrue};
 ghost use Rattle.smith_types.specs.Subtyping.{IsInRange, IsValInRange};
 
+use crate::answer_lines::write_line;
 use crate::answers::spaces::MISSING;
-use crate::told::tell_line;
 use smith_case::arguments::word;
 use smith_case::call::SubtypeCall;
 use smith_case::shapes::{heap_type_of, ref_type_of, val_type_of};
@@ -22,7 +22,7 @@ pub(crate) fn answer_subtype(
         SubtypeCall::RefType => is_ref_below(types, a, b),
         SubtypeCall::ValType => is_val_below(types, a, b),
     };
-    tell_line(if is_below? { "yes" } else { "no" }, answer)
+    write_line(if is_below? { "yes" } else { "no" }, answer)
 }
 
 // Returns whether the type that `heap_type` names exists.

@@ -3,9 +3,9 @@ ghost use Rattle.smith_types.specs.Matching.{IsInnerInRange};
 ghost use Rattle.smith_types.specs.Sizes.{IsTyped, size_in};
 ghost use Rattle.smith_types.specs.GroupedTypes.{MayFollow};
 
+use crate::answer_lines::{or_memory, write_drawn_values, write_line, write_pair, write_types};
 use crate::answers::spaces::{MISSING, shape_of_types, types_of};
 use crate::answers::subtypes::answer_subtype;
-use crate::told::{or_memory, tell_drawn_values, tell_line, tell_pair, tell_types};
 use smith_bytes::Error;
 use smith_case::arguments::{value, word};
 use smith_case::call::SpaceCall;
@@ -71,14 +71,14 @@ fn answer_depth(types: &TypeSpace, case: &Case, answer: &mut String) -> Result<(
     if index as usize >= types.types().len() {
         return Err(MISSING);
     }
-    tell_line(types.depth(index), answer)
+    write_line(types.depth(index), answer)
 }
 
 // Appends the size of the entity of the argument, which is written as in shapes.
 fn answer_size(types: &TypeSpace, case: &Case, answer: &mut String) -> Result<(), Fault> {
     match entity_of(word(case, 0)?) {
         None => Err(Fault::Argument(0)),
-        Some(entity) if is_small(types, &entity) => tell_line(types.size_of(&entity), answer),
+        Some(entity) if is_small(types, &entity) => write_line(types.size_of(&entity), answer),
         Some(_) => Err(MISSING),
     }
 }
@@ -113,7 +113,7 @@ fn answer_match(types: &TypeSpace, case: &Case, answer: &mut String) -> Result<(
     } else {
         "no"
     };
-    tell_line(told, answer)
+    write_line(told, answer)
 }
 
 // Returns the composite type at the index of the argument at `place`. It refers only to types that
@@ -148,7 +148,7 @@ fn push_groups(
     for group in groups {
         push_group(alloc, group.as_slice(), call, types, answer)?;
     }
-    tell_types(types, answer)
+    write_types(types, answer)
 }
 
 // Adds the type `added`, which may follow, by `call`.
@@ -172,7 +172,7 @@ fn push_group(
         if !types.may_follow(ty) {
             return Err(Fault::NotCallable(Obstacle::MisplacedType));
         }
-        tell_pair("index", push(call, types, ty.clone(alloc)?)?, answer)?;
+        write_pair("index", push(call, types, ty.clone(alloc)?)?, answer)?;
     }
     or_memory(types.push_group())
 }
@@ -190,5 +190,5 @@ fn answer_listed(
         "DefinedFunc" => TypeUse::DefinedFunc,
         _ => return Err(Fault::Argument(0)),
     };
-    tell_drawn_values(list_types(alloc, for_use, types.types()), answer)
+    write_drawn_values(list_types(alloc, for_use, types.types()), answer)
 }

@@ -1,7 +1,7 @@
 ghost use Rattle.smith_config.specs.Sanitized.{IsSanitized};
 ghost use Rattle.smith_draw_types.specs.Callers.{PassesButImports};
 
-use crate::told::{tell_line, tell_refusal, tell_types};
+use crate::answer_lines::{write_line, write_refusal, write_types};
 use smith_bytes::Unstructured;
 use smith_case::arguments::value;
 use smith_case::call::TypesCall;
@@ -27,13 +27,13 @@ pub(crate) fn answer_types(
     match call {
         TypesCall::Arbitrary => {
             if let Err(refusal) = arbitrary_types(alloc, config, types, &Entities::none(), u) {
-                return tell_refusal(refusal, answer);
+                return write_refusal(refusal, answer);
             }
         }
         TypesCall::RecGroup => draw_groups(alloc, case, config, types, u)?,
         TypesCall::CloneRecGroup => draw_clone(alloc, config, types, u, answer)?,
     }
-    tell_types(types, answer)
+    write_types(types, answer)
 }
 
 // Adds a group to `types` for each argument, which says whether the group may be empty. Without
@@ -87,7 +87,7 @@ fn draw_clone(
     if types.types().len() >= config.max_types || types.rec_groups().is_empty() {
         return Err(Fault::NotCallable(Obstacle::NothingToClone));
     }
-    tell_line(
+    write_line(
         clone_rec_group(alloc, config, types, &Entities::none(), true, u)?,
         answer,
     )

@@ -88,7 +88,7 @@ fn feed_input(
 }
 
 // Draws a module from `u` for a copy of `config`.
-fn drawn(alloc: Global, config: &Config, u: &mut Unstructured<'_>) -> Result<Module, Error> {
+fn draw_module(alloc: Global, config: &Config, u: &mut Unstructured<'_>) -> Result<Module, Error> {
     Module::new(alloc, config.clone(alloc)?, u)
 }
 
@@ -102,7 +102,7 @@ fn feed(
     hasher: &mut Sha256,
 ) -> Result<String, Error> {
     let mut u = Unstructured::new(input);
-    let kind = feed_drawn(alloc, drawn(alloc, config, &mut u), hasher)?;
+    let kind = feed_drawn(alloc, draw_module(alloc, config, &mut u), hasher)?;
     feed_left(alloc, &u, hasher)?;
     Ok(kind)
 }

@@ -10,11 +10,11 @@ ghost use Rattle.smith_module_rules.specs.CollectedValues.{AreExactly, Wide, IsN
 
 mod constants;
 mod limits;
-mod merged;
+mod merges;
 
 use constants::{narrow_constants, wide_constants};
 use limits::near_limits;
-use merged::{merged32, merged64};
+use merges::{merge32, merge64};
 use smith_bytes::Error;
 use smith_types::{Items, MemoryType, TableType};
 use std::alloc::Global;
@@ -46,7 +46,7 @@ fn wide_values(alloc: Global, near: &[u64]) -> Result<Items<u64>, Error>
     ensures memory { IfErr result (λ e. e ≡ Error.Memory) }
 {
     let numbers = in_order64(Vec::from_slice(alloc, near)?)?;
-    merged64(alloc, wide_constants(), &numbers)
+    merge64(alloc, wide_constants(), &numbers)
 }
 
 // Lists the values of 32 bits of a module: the low halves of its values of 64 bits. `near` holds
@@ -62,7 +62,7 @@ fn narrow_values(alloc: Global, near: &[u64]) -> Result<Items<u32>, Error>
         halves.push((*number % (1 << 32)) as u32)?;
     }
     let numbers = in_order32(halves)?;
-    merged32(alloc, narrow_constants(), &numbers)
+    merge32(alloc, narrow_constants(), &numbers)
 }
 
 /// Collects the interesting values of a module with `tables` and `memories`: first the values of 32

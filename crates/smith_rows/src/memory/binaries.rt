@@ -1,7 +1,7 @@
 use crate::memory::parts::module_of_parts;
 use crate::memory::tries::is_refused_first;
 use smith_binary_module::{EncodeError, encode};
-use smith_rows_memory::{Ended, Tried};
+use smith_rows_memory::{Attempt, Ended};
 use std::alloc::Global;
 use std::test::Fail;
 use wasm_smith::Module;
@@ -12,14 +12,14 @@ struct Encoding<'a> {
     module: &'a Module,
 }
 
-impl Tried for Encoding<'_> {
-    fn ended(&mut self, alloc: Global) -> Ended {
-        encoded(encode(alloc, self.module))
+impl Attempt for Encoding<'_> {
+    fn run(&mut self, alloc: Global) -> Ended {
+        outcome_of(encode(alloc, self.module))
     }
 }
 
 // Returns the outcome of the call that answered `answer`.
-fn encoded(answer: Result<Vec<u8>, EncodeError>) -> Ended {
+fn outcome_of(answer: Result<Vec<u8>, EncodeError>) -> Ended {
     match answer {
         Ok(bytes) if bytes.as_slice().starts_with(b"\0asm") => Ended::Given,
         Err(EncodeError::Memory) => Ended::Refused,

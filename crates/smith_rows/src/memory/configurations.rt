@@ -1,9 +1,9 @@
 use crate::memory::shapes::{USES, config_of_memories, set_shape, shape_for};
-use crate::memory::tries::{is_refused_first, refused};
+use crate::memory::tries::{is_refused_first, outcome_of_refusal};
 use smith_bytes::{Error, Which};
 use smith_case::Fault;
 use smith_config::{Config, Shape};
-use smith_rows_memory::{Ended, Tried};
+use smith_rows_memory::{Attempt, Ended};
 use std::alloc::Global;
 use std::test::Fail;
 
@@ -13,25 +13,25 @@ struct Copying<'a> {
     config: &'a Config,
 }
 
-impl Tried for Copying<'_> {
-    fn ended(&mut self, alloc: Global) -> Ended {
-        copied(self.config.clone(alloc), self.config)
+impl Attempt for Copying<'_> {
+    fn run(&mut self, alloc: Global) -> Ended {
+        outcome_of_copy(self.config.clone(alloc), self.config)
     }
 }
 
 // Returns the outcome of a copy of `config`.
-fn copied(copy: Result<Config, Error>, config: &Config) -> Ended {
+fn outcome_of_copy(copy: Result<Config, Error>, config: &Config) -> Ended {
     match copy {
         Ok(copy) => {
-            let ended = compared(&copy, config);
+            let ended = compare(&copy, config);
             drop(copy);
             ended
         }
-        Err(refusal) => refused(refusal),
+        Err(refusal) => outcome_of_refusal(refusal),
     }
 }
 
-fn compared(copy: &Config, config: &Config) -> Ended {
+fn compare(copy: &Config, config: &Config) -> Ended {
     if copy.exports == config.exports
         && copy.available_imports == config.available_imports
         && copy.module_shape == config.module_shape
@@ -71,11 +71,11 @@ struct Checking<'a> {
     which: Which,
 }
 
-impl Tried for Checking<'_> {
-    fn ended(&mut self, alloc: Global) -> Ended {
+impl Attempt for Checking<'_> {
+    fn run(&mut self, alloc: Global) -> Ended {
         match self.shape.check(alloc, self.which, self.config) {
             Ok(()) => Ended::Given,
-            Err(refusal) => refused(refusal),
+            Err(refusal) => outcome_of_refusal(refusal),
         }
     }
 }

@@ -1,9 +1,9 @@
 use crate::memory::parts::module_of_parts;
-use crate::memory::tries::{is_refused_first, refused};
+use crate::memory::tries::{is_refused_first, outcome_of_refusal};
 use crate::memory::whole::{is_whole, whole};
 use smith_bytes::{Error, Unstructured};
 use smith_config::Config;
-use smith_rows_memory::{Ended, Tried};
+use smith_rows_memory::{Attempt, Ended};
 use std::alloc::Global;
 use std::test::Fail;
 use wasm_smith::Module;
@@ -15,9 +15,9 @@ struct Counting<'a> {
     text: &'a str,
 }
 
-impl Tried for Counting<'_> {
-    fn ended(&mut self, alloc: Global) -> Ended {
-        let ended = counted(alloc, self.module);
+impl Attempt for Counting<'_> {
+    fn run(&mut self, alloc: Global) -> Ended {
+        let ended = add_fuel(alloc, self.module);
         match (ended, is_whole(self.module, self.text)) {
             (Ended::Refused, false) => Ended::Wrong("the module is another"),
             (Ended::Given, true) => Ended::Wrong("the module is the same"),
@@ -26,7 +26,7 @@ impl Tried for Counting<'_> {
     }
 }
 
-fn counted(alloc: Global, module: &mut Module) -> Ended {
+fn add_fuel(alloc: Global, module: &mut Module) -> Ended {
     let count = module.globals().len();
     if count >= u32::MAX as usize {
         return Ended::Wrong("there are too many globals");
@@ -34,7 +34,7 @@ fn counted(alloc: Global, module: &mut Module) -> Ended {
     match module.ensure_termination(alloc, 5) {
         Ok(index) if index as usize == count => Ended::Given,
         Ok(_) => Ended::Wrong("the counter is another"),
-        Err(refusal) => refused(refusal),
+        Err(refusal) => outcome_of_refusal(refusal),
     }
 }
 

@@ -8,7 +8,7 @@ mod modules;
 mod names;
 mod parts;
 mod shapes;
-mod spelled;
+mod spellings;
 mod tries;
 mod types;
 mod whole;

@@ -1,10 +1,10 @@
 use crate::memory::parts::set_minimums;
 use crate::memory::shapes::set_shape;
-use crate::memory::tries::{is_left, is_refused_first, refused};
+use crate::memory::tries::{is_left, is_refused_first, outcome_of_refusal};
 use smith_bytes::{Error, Unstructured, Which};
 use smith_case::Fault;
 use smith_config::Config;
-use smith_rows_memory::{Ended, Tried};
+use smith_rows_memory::{Attempt, Ended};
 use std::alloc::Global;
 use std::test::Fail;
 use wasm_smith::Module;
@@ -16,22 +16,22 @@ struct Drawing<'a> {
     input: &'static [u8],
 }
 
-impl Tried for Drawing<'_> {
-    fn ended(&mut self, alloc: Global) -> Ended {
-        copied(alloc, self.config.clone(alloc), self.input)
+impl Attempt for Drawing<'_> {
+    fn run(&mut self, alloc: Global) -> Ended {
+        draw_for_copy(alloc, self.config.clone(alloc), self.input)
     }
 }
 
-fn copied(alloc: Global, copy: Result<Config, Error>, input: &[u8]) -> Ended {
+fn draw_for_copy(alloc: Global, copy: Result<Config, Error>, input: &[u8]) -> Ended {
     match copy {
-        Ok(config) => drawn(alloc, config, input),
-        Err(refusal) => refused(refusal),
+        Ok(config) => draw_module(alloc, config, input),
+        Err(refusal) => outcome_of_refusal(refusal),
     }
 }
 
-fn drawn(alloc: Global, config: Config, input: &[u8]) -> Ended {
+fn draw_module(alloc: Global, config: Config, input: &[u8]) -> Ended {
     let mut u = Unstructured::new(input);
-    let ended = made(Module::new(alloc, config, &mut u));
+    let ended = outcome_of(Module::new(alloc, config, &mut u));
     if is_left(&u, input) {
         ended
     } else {
@@ -40,13 +40,13 @@ fn drawn(alloc: Global, config: Config, input: &[u8]) -> Ended {
 }
 
 // Returns the outcome of the call that answered `answer`.
-fn made(answer: Result<Module, Error>) -> Ended {
+fn outcome_of(answer: Result<Module, Error>) -> Ended {
     match answer {
         Ok(module) => {
             drop(module);
             Ended::Given
         }
-        Err(refusal) => refused(refusal),
+        Err(refusal) => outcome_of_refusal(refusal),
     }
 }
 

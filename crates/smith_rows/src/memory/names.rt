@@ -1,6 +1,6 @@
 use crate::memory::tries::{is_left, is_refused_first};
 use smith_bytes::{Error, Unstructured, unique_kebab_string, unique_string, unique_url};
-use smith_rows_memory::{Ended, Tried};
+use smith_rows_memory::{Attempt, Ended};
 use std::alloc::{AllocError, Global};
 use std::collections::HashSet;
 use std::test::Fail;
@@ -28,11 +28,11 @@ struct Naming {
     copy: HashSet<String>,
 }
 
-impl Tried for Naming {
-    fn ended(&mut self, alloc: Global) -> Ended {
+impl Attempt for Naming {
+    fn run(&mut self, alloc: Global) -> Ended {
         let mut u = Unstructured::new(INPUT);
-        let answer = named(alloc, self.kind, &mut self.names, &mut u);
-        let ended = drawn(answer, &self.names, &self.copy);
+        let answer = draw_name(alloc, self.kind, &mut self.names, &mut u);
+        let ended = outcome_of(answer, &self.names, &self.copy);
         if is_left(&u, INPUT) {
             ended
         } else {
@@ -42,7 +42,7 @@ impl Tried for Naming {
 }
 
 // Returns the outcome of the draw that answered `answer` and left `names`, which were `before`.
-fn drawn(
+fn outcome_of(
     answer: Result<String, Error>,
     names: &HashSet<String>,
     before: &HashSet<String>,
@@ -59,7 +59,7 @@ fn has_one_more(names: &HashSet<String>, before: &HashSet<String>) -> bool {
     names.len() == before.len().saturating_add(1) && before.is_subset(names)
 }
 
-fn named(
+fn draw_name(
     alloc: Global,
     kind: Kind,
     names: &mut HashSet<String>,

@@ -2,7 +2,7 @@ use crate::memory::tries::is_refused_first;
 use smith_bytes::Error;
 use smith_case::shapes::shape_named;
 use smith_config::Shape;
-use smith_rows_memory::{Ended, Tried};
+use smith_rows_memory::{Attempt, Ended};
 use smith_types::{CompositeInnerType, CompositeType, Items, StructType, SubType, TypeSpace};
 use std::alloc::Global;
 use std::ops::Range;
@@ -28,8 +28,8 @@ static PUSHES: [(bool, u32, usize); 7] = [
 // The types of each group.
 const GROUPS: [Range<usize>; 2] = [0..2, 2..5];
 
-impl Tried for Pushes<'_> {
-    fn ended(&mut self, alloc: Global) -> Ended {
+impl Attempt for Pushes<'_> {
+    fn run(&mut self, alloc: Global) -> Ended {
         let mut types = TypeSpace::new(alloc);
         let ended = push_all(alloc, self.chain, &mut types);
         drop(types);

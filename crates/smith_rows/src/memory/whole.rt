@@ -1,6 +1,6 @@
 //! Whole modules, compared without memory.
 
-use crate::expecting::Expecting;
+use crate::expectation::Expectation;
 use smith_bytes::Error;
 use smith_text::{FromFmt, TextForm, text};
 use std::alloc::Global;
@@ -15,13 +15,13 @@ pub(crate) fn whole(alloc: Global, module: &Module) -> Result<String, Error> {
 }
 
 // Writes what [`whole`] returns for `module`.
-fn write_whole(module: &Module, writer: &mut Expecting<'_>) -> fmt::Result {
+fn write_whole(module: &Module, writer: &mut Expectation<'_>) -> fmt::Result {
     module.write_text(&mut FromFmt::new(&mut *writer))?;
     write!(writer, "{module:?}")
 }
 
 /// Returns whether `text` equals the result of [`whole`] for `module`. Does not allocate.
 pub(crate) fn is_whole(module: &Module, text: &str) -> bool {
-    let mut expecting = Expecting::new(text);
+    let mut expecting = Expectation::new(text);
     write_whole(module, &mut expecting).is_ok() && expecting.is_complete()
 }

@@ -6,4 +6,4 @@ pub returns-clause-offer : goal.returns-clause-offer
 returns-clause-offer c =
     rw c.in_ok-node.ensures.exact
     (array_elem_gives (where_stands c.args.scope.now c.args.draft.now) c.args.draft.now.set.items c.args.wanted c.args.array.0 c.in-Some.segment c.args.array.1 c.requires.scope.orderly c.requires.wanted c.requires.there c.requires.references c.requires.created
-    (rw c.unpacked.ensures at c.in-Some.ensures.offered))
+    (rw c.unpack.ensures at c.in-Some.ensures.offered))

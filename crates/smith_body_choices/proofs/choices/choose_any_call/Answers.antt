@@ -15,14 +15,14 @@ returns-clause-node c =
     ok_like _ c.plain-2.result (any_call_node context c.args.draft.now.set.items c.int_in_range-index.result c.in-Some.function.now c.requires.scope.params_valid results there) (rw (c.as_slice.ensures, c.len.ensures) at c.plain-2.ensures.exact)
 
 pub returns-then-count-eq0-clause-exact : goal.returns-then-count-eq0-clause-exact
-returns-then-count-eq0-clause-exact c = ok_like _ c.plain.result (as_nop _ _ (any_call_none (where_stands c.args.scope.now c.args.draft.now) c.args.u.now (omega (arith, c.if-count-eq0.true, c.indexed-count.ensures)))) c.plain.ensures.exact
+returns-then-count-eq0-clause-exact c = ok_like _ c.plain.result (as_nop _ _ (any_call_none (where_stands c.args.scope.now c.args.draft.now) c.args.u.now (omega (arith, c.if-count-eq0.true, c.indexed_count-count.ensures)))) c.plain.ensures.exact
 
 pub returns-in_default-clause-exact : goal.returns-in_default-clause-exact
 returns-in_default-clause-exact c =
-    let drawn = rw (c.new.ensures.start, c.new.ensures.end, c.indexed-count.ensures) at c.int_in_range-index.ensures.exact in
+    let drawn = rw (c.new.ensures.start, c.new.ensures.end, c.indexed_count-count.ensures) at c.int_in_range-index.ensures.exact in
     ok_like _ c.plain-in_default.result (as_nop _ _ (any_call_unknown (where_stands c.args.scope.now c.args.draft.now) c.args.u.now _ c.int_in_range-index.result drawn c.in_default.ensures)) c.plain-in_default.ensures.exact
 
 pub returns-clause-exact : goal.returns-clause-exact
 returns-clause-exact c =
-    let drawn = rw (c.new.ensures.start, c.new.ensures.end, c.indexed-count.ensures) at c.int_in_range-index.ensures.exact in
+    let drawn = rw (c.new.ensures.start, c.new.ensures.end, c.indexed_count-count.ensures) at c.int_in_range-index.ensures.exact in
     ok_like _ c.plain-2.result (as_node _ _ _ (any_call_there (where_stands c.args.scope.now c.args.draft.now) c.args.u.now _ c.int_in_range-index.result c.in-Some.function.now drawn c.in-Some.ensures)) (rw (c.as_slice.ensures, c.len.ensures) at c.plain-2.ensures.exact)

@@ -17,11 +17,11 @@ returns-in-None-clause-node c = ok_like _ c.block-in-None.result (empty_block (w
 
 pub returns-in-Some-clause-exact : goal.returns-in-Some-clause-exact
 returns-in-Some-clause-exact c =
-    let drawn = rw (c.new.ensures.start, c.new.ensures.end, c.indexed.ensures, c.types.ensures.value) at c.int_in_range-index.ensures.exact in
+    let drawn = rw (c.new.ensures.start, c.new.ensures.end, c.indexed_count.ensures, c.types.ensures.value) at c.int_in_range-index.ensures.exact in
     ok_like _ c.block.result (as_node _ _ _ (any_block_by (where_stands c.args.scope.now c.args.draft.now) c.args.u.now _ _ c.draw_opening-opening.result c.int_in_range-index.result _ c.draw_opening-opening.ensures.exact drawn c.in-Some.ensures))
     (rw (c.as_slice.ensures, c.as_slice-in-Some.ensures, c.len.ensures) at c.block.ensures.exact)
 
 pub returns-in-None-clause-exact : goal.returns-in-None-clause-exact
 returns-in-None-clause-exact c =
-    let drawn = rw (c.new.ensures.start, c.new.ensures.end, c.indexed.ensures, c.types.ensures.value) at c.int_in_range-index.ensures.exact in
+    let drawn = rw (c.new.ensures.start, c.new.ensures.end, c.indexed_count.ensures, c.types.ensures.value) at c.int_in_range-index.ensures.exact in
     ok_like _ c.block-in-None.result (as_node _ _ _ (any_block_by (where_stands c.args.scope.now c.args.draft.now) c.args.u.now _ _ c.draw_opening-opening.result c.int_in_range-index.result _ c.draw_opening-opening.ensures.exact drawn c.in-None.ensures)) c.block-in-None.ensures.exact

@@ -17,11 +17,11 @@ returns-in-None-clause-node c =
 
 pub returns-in-Some-clause-exact : goal.returns-in-Some-clause-exact
 returns-in-Some-clause-exact c =
-    let drawn = rw (c.new.ensures.start, c.new.ensures.end, c.indexed.ensures, c.types.ensures.value) at c.int_in_range-index.ensures.exact in
+    let drawn = rw (c.new.ensures.start, c.new.ensures.end, c.indexed_count.ensures, c.types.ensures.value) at c.int_in_range-index.ensures.exact in
     ok_like _ c.try_table.result (as_node _ _ _ (any_try_by (where_stands c.args.scope.now c.args.draft.now) c.args.u.now _ _ c.in_ok-clauses.clauses c.int_in_range-index.result _ (rw c.as_slice.ensures.value at c.in_ok-clauses.ensures.exact) drawn c.in-Some.ensures))
     (rw (c.as_slice-in-Some.ensures, c.as_slice-in-Some-2.ensures, c.len.ensures) at c.try_table.ensures.exact)
 
 pub returns-in-None-clause-exact : goal.returns-in-None-clause-exact
 returns-in-None-clause-exact c =
-    let drawn = rw (c.new.ensures.start, c.new.ensures.end, c.indexed.ensures, c.types.ensures.value) at c.int_in_range-index.ensures.exact in
+    let drawn = rw (c.new.ensures.start, c.new.ensures.end, c.indexed_count.ensures, c.types.ensures.value) at c.int_in_range-index.ensures.exact in
     ok_like _ c.try_table-in-None.result (as_node _ _ _ (any_try_by (where_stands c.args.scope.now c.args.draft.now) c.args.u.now _ _ c.in_ok-clauses.clauses c.int_in_range-index.result _ (rw c.as_slice.ensures.value at c.in_ok-clauses.ensures.exact) drawn c.in-None.ensures)) c.try_table-in-None.ensures.exact

@@ -23,16 +23,16 @@ returns-then-not-goes_on-clause-runs g c = record {
   ends = at_bool c.goes_on.new.u c.loop-calls-test.true c.if-not-goes_on.ensures.exact;
 }
 
-pub returns-in_err-called-clause-runs : goal.returns-in_err-called-clause-runs
-returns-in_err-called-clause-runs g c =
+pub returns-in_err-call_once-clause-runs : goal.returns-in_err-call_once-clause-runs
+returns-in_err-call_once-clause-runs g c =
     let handed = err_from_is_err_and c.from_residual.result c.from_residual.ensures.1 in
     rw (handed.1, handed.2) (record {
       calls = c.loop-calls.calls;
       last = c.loop-calls.f;
       left = c.loop-calls.u;
       run = c.loop-calls.invariant.run;
-      ends = at_error c.in_err-called.field-0.0 c.called.new.f c.called.new.u
-          (record { more = c.loop-calls-test.true; mid = c.goes_on.new.u; goes = c.if-not-goes_on.ensures.exact; called = c.in_err-called.ensures.called });
+      ends = at_error c.in_err-call_once.field-0.0 c.call_once.new.f c.call_once.new.u
+          (record { more = c.loop-calls-test.true; mid = c.goes_on.new.u; goes = c.if-not-goes_on.ensures.exact; called = c.in_err-call_once.ensures.called });
     })
 
 pub returns-then-not-branch-clause-runs : goal.returns-then-not-branch-clause-runs
@@ -42,7 +42,7 @@ returns-then-not-branch-clause-runs g c = record {
   left = c.loop-calls.u;
   run = c.loop-calls.invariant.run;
   ends = ends_at_false _ _ _ _ _ _ _ _ _ (ltb c.loop-calls.calls c.args.min) refl c.at_false.ensures.few c.at_false.ensures.enough
-      (record { more = c.loop-calls-test.true; mid = c.goes_on.new.u; goes = c.if-not-goes_on.ensures.exact; called = rw c.if-not-branch.true at c.in_ok-called.ensures.called });
+      (record { more = c.loop-calls-test.true; mid = c.goes_on.new.u; goes = c.if-not-goes_on.ensures.exact; called = rw c.if-not-branch.true at c.in_ok-call_once.ensures.called });
 }
 
 pub returns-clause-runs : goal.returns-clause-runs

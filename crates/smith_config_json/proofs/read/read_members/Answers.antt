@@ -19,7 +19,7 @@ pub returns-then-is_given-clause-refused : goal.returns-then-is_given-clause-ref
 returns-then-is_given-clause-refused c = λ h.
     let after : read_key c.loop-key.reader ≡ Some (Some c.in-Some.name.now, c.next_key.new.self) = rw c.in-Some.is at c.in-Ok.ensures.value in
     let given = given_name _ c.loop-key.given.items c.in-Some.name.now _ c.as_slice.ensures.value c.is_given.ensures ∙ c.if-is_given.true in
-    let said = c.refused.ensures h in rw (said.0, said.1) (c.loop-key.invariant _ (repeats after given))
+    let said = c.refusal_of.ensures h in rw (said.0, said.1) (c.loop-key.invariant _ (repeats after given))
 
 pub returns-in_err-read_member-clause-refused : goal.returns-in_err-read_member-clause-refused
 returns-in_err-read_member-clause-refused c =

@@ -20,33 +20,33 @@ returns-in_err-define_funcs-clause-exact c =
     refused_by {X = Unit {0}} (λ _. (c.define_funcs.new.funcs, c.define_funcs.new.u)) _ c.in_err-define_funcs.field-0.0 _ _ c.from_residual-in_err-define_funcs.result c.in_err-define_funcs.ensures.exact
     (funcs_refused c.args.config.now c.args.types.now.types (spaces_in c.args.spaces.now) c.args.definitions.now c.args.u.now c.in_ok-define_tags.ensures.exact) c.from_residual-in_err-define_funcs.ensures.1
 
-pub standing-drawn-requires : goal.standing-drawn-requires
-standing-drawn-requires c =
-    let scope = c.standing-scope.ensures in
+pub scope-drawn-requires : goal.scope-drawn-requires
+scope-drawn-requires c =
+    let scope = c.scope-scope.ensures in
     rw (scope.types, scope.funcs, scope.imported_funcs, c.as_slice-func_types.ensures, c.len-funcs_before.ensures)
     (functions_noted c.args.config.now c.args.types.now.types (spaces_in c.args.spaces.now) c.args.definitions.now c.define_funcs.new.funcs _ _ c.in_ok-define_funcs.ensures.filled.extends c.requires.may.within.funcs
     (rw (c.as_slice-func_types.ensures, c.len-funcs_before.ensures) at c.note_defined.ensures) c.requires.kept)
 
 pub define_tables-requires-clause-may : goal.define_tables-requires-clause-may
 define_tables-requires-clause-may c =
-    let over = c.standing_imported-imported.ensures in
+    let over = c.reference_scope_of_imports-imported.ensures in
     rw (over.types, over.funcs, over.imported_funcs, over.globals, c.as_slice-func_types.ensures, c.as_slice-globals.ensures, c.len-funcs_before.ensures, c.len-globals_before.ensures, c.len-globals_defined.ensures)
     (may_initialise _ _ _ _ _ c.requires.may (c.in_ok-define_funcs.ensures.valid c.requires.may.entities.funcs) c.in_ok-define_funcs.ensures.filled.within)
 
 pub define_tables-requires-clause-standing : goal.define_tables-requires-clause-standing
 define_tables-requires-clause-standing c =
-    let over = c.standing_imported-imported.ensures in
-    let scope = c.standing-scope.ensures in
-    rw (over.types, over.funcs, over.imported_funcs) (rw (scope.types, scope.funcs, scope.imported_funcs) at c.standing-drawn.ensures)
+    let over = c.reference_scope_of_imports-imported.ensures in
+    let scope = c.scope-scope.ensures in
+    rw (over.types, over.funcs, over.imported_funcs) (rw (scope.types, scope.funcs, scope.imported_funcs) at c.scope-drawn.ensures)
 
 pub define_globals-requires-clause-standing : goal.define_globals-requires-clause-standing
 define_globals-requires-clause-standing c =
-    let scope = c.standing-scope.ensures in
-    rw (scope.types, scope.funcs, scope.imported_funcs) at c.standing-drawn.ensures
+    let scope = c.scope-scope.ensures in
+    rw (scope.types, scope.funcs, scope.imported_funcs) at c.scope-drawn.ensures
 
 pub returns-in_err-define_tables-clause-refusal : goal.returns-in_err-define_tables-clause-refusal
 returns-in_err-define_tables-clause-refusal c =
-    let over = c.standing_imported-imported.ensures in
+    let over = c.reference_scope_of_imports-imported.ensures in
     passed_on _ c.from_residual-in_err-define_tables.result c.in_err-define_tables.field-0.0 c.from_residual-in_err-define_tables.ensures.1
     (refused_before c.args.config.now c.args.types.now.types (spaces_in c.args.spaces.now) c.args.definitions.now _ _ c.in_ok-define_funcs.ensures.filled.extends
     (rw (over.types, over.funcs, over.imported_funcs, c.as_slice-func_types.ensures, c.len-funcs_before.ensures) at c.in_err-define_tables.ensures.refusal))
@@ -70,7 +70,7 @@ returns-in_err-define_globals-clause-left c = λ whole h. c.define_globals.ensur
 
 pub returns-clause-defined : goal.returns-clause-defined
 returns-clause-defined c =
-    let over = c.standing_imported-imported.ensures in
+    let over = c.reference_scope_of_imports-imported.ensures in
     let entities = c.requires.may.entities in
     let counts = c.requires.may.counts in
     defined_more _ _ _ _ _ _ (record {
@@ -117,7 +117,7 @@ returns-clause-kept c =
 pub returns-clause-floats : goal.returns-clause-floats
 returns-clause-floats c = λ off types before. record {
   globals = c.in_ok-define_globals.ensures.floats off before.globals;
-  tables = c.in_ok-define_tables.ensures.floats (rw c.standing_imported-imported.ensures.types types) before.tables;
+  tables = c.in_ok-define_tables.ensures.floats (rw c.reference_scope_of_imports-imported.ensures.types types) before.tables;
   initials = c.in_ok-define_globals.ensures.constants off types before.initials;
 }
 
@@ -126,7 +126,7 @@ returns-clause-left c = λ whole h. c.define_globals.ensures.left whole (c.defin
 
 pub returns-clause-exact : goal.returns-clause-exact
 returns-clause-exact c =
-    let over = c.standing_imported-imported.ensures in
+    let over = c.reference_scope_of_imports-imported.ensures in
     let tables = rw (over.types, over.funcs, over.imported_funcs, over.globals, c.as_slice-func_types.ensures, c.as_slice-globals.ensures, c.len-funcs_before.ensures, c.len-globals_before.ensures, c.len-globals_defined.ensures) at c.in_ok-define_tables.ensures.exact in
     let globals = rw (c.as_slice-func_types.ensures, c.len-funcs_before.ensures, c.len-globals_before.ensures, c.len-globals_defined.ensures) at c.in_ok-define_globals.ensures.exact in
     rw (c.len.ensures, c.len-tags_before.ensures, c.len-2.ensures, c.len-funcs_before.ensures, c.len-3.ensures, c.len-memories_before.ensures)

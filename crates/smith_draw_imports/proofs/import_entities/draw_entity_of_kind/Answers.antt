@@ -30,7 +30,7 @@ returns-in-Func-clause-fit c =
 
 pub returns-in-Global-clause-fit : goal.returns-in-Global-clause-fit
 returns-in-Global-clause-fit c =
-    let standing = rw c.space.ensures at c.standing_after-standing.ensures in
+    let standing = rw c.space.ensures at c.reference_scope_after-standing.ensures in
     let valid = c.draw_global_type.ensures.valid c.args.types.now (sym (ap (λ (context : Context). context.types) standing)) c.requires.may.valid in
     let Elements = HasGroundedElements c.args.config.now (import_scope c.args.config.now c.args.types.now.types (spaces_of c.args.imported.now)) in
     let Values = HasGroundedValue c.args.config.now (import_scope c.args.config.now c.args.types.now.types (spaces_of c.args.imported.now)) in
@@ -48,7 +48,7 @@ pub returns-in-Table-clause-fit : goal.returns-in-Table-clause-fit
 returns-in-Table-clause-fit c =
     let Elements = HasGroundedElements c.args.config.now (import_scope c.args.config.now c.args.types.now.types (spaces_of c.args.imported.now)) in
     let Values = HasGroundedValue c.args.config.now (import_scope c.args.config.now c.args.types.now.types (spaces_of c.args.imported.now)) in
-    let standing = rw c.space.ensures at c.standing_after-standing.ensures in
+    let standing = rw c.space.ensures at c.reference_scope_after-standing.ensures in
     record {
       entity = table_fit c.args.config.now c.args.types.now c.requires.may _ (c.draw_table_type.ensures.valid c.args.types.now (sym (ap (λ (context : Context). context.types) standing)) c.requires.may.valid) c.draw_table_type.ensures.within;
       grounded_tables = All-cons Elements _ [] (rw standing at c.draw_table_type.ensures.grounded) (All-nil Elements);

@@ -10,7 +10,7 @@ use Rattle.smith_draw_types.proofs.composite_type.arbitrary_func_type.Goals as g
 
 pub returns : goal.returns
 returns c =
-    let draws = rw (c.standing-standing.ensures, c.in_ok-call.ensures.exact) at c.draw_func_type-drawn.ensures in
+    let draws = rw (c.scope-standing.ensures, c.in_ok-call.ensures.exact) at c.draw_func_type-drawn.ensures in
     let drawn = func_type_drawn c.args.config.now (standing_in c.args.config.now c.args.spaces.now) c.args.must_share c.args.limit c.args.u.now c.requires.sanitized c.requires.may_share in
     let inner = func_drawn _ _ _ _ _ drawn in
     record {

@@ -15,7 +15,7 @@ pub returns : goal.returns
 returns c =
     let types = c.args.spaces.now.types.now.types in
     let config = c.args.config.now in
-    let draws = rw (c.standing-standing.ensures, c.in_ok-call.ensures.exact) at c.draw_struct_type-drawn.ensures in
+    let draws = rw (c.scope-standing.ensures, c.in_ok-call.ensures.exact) at c.draw_struct_type-drawn.ensures in
     let drawn = struct_type_drawn config (standing_in c.args.config.now c.args.spaces.now) c.args.must_share c.args.limit c.args.u.now c.requires.sanitized c.requires.may_share in
     let values = field_values_drawn config types c.args.must_share c.args.limit _ drawn.fields in
     record {

@@ -14,7 +14,7 @@ pub returns : goal.returns
 returns c =
     let types = c.args.spaces.now.types.now.types in
     let config = c.args.config.now in
-    let exact = rw (c.standing-standing.ensures, c.unread-call.ensures) at c.draw_storage_type-drawn.ensures.exact in
+    let exact = rw (c.scope-standing.ensures, c.without_record-call.ensures) at c.draw_storage_type-drawn.ensures.exact in
     let drawn = drawn_is (λ (ty : StorageType). IsStorageDrawn config types c.args.must_share c.args.limit ty) _ (storage_type_drawn _ _ _ _ _ c.requires.sanitized c.requires.may_share) exact in
     let values = values_of_storage c.draw_storage_type-drawn.result in
     record {

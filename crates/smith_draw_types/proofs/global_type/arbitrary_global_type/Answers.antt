@@ -3,7 +3,7 @@ use Rattle.smith_draw_types.proofs.global_type.arbitrary_global_type.Goals as go
 
 pub returns : goal.returns
 returns c =
-    let drawn = rw (c.standing-standing.ensures, c.unread-call.ensures) at c.draw_global_type-drawn.ensures in
+    let drawn = rw (c.scope-standing.ensures, c.without_record-call.ensures) at c.draw_global_type-drawn.ensures in
     record {
       ok = refl;
       draws = record { exact = drawn.draws.exact; memory = tt; left = drawn.draws.left };

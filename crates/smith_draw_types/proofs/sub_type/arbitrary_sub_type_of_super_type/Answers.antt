@@ -13,7 +13,7 @@ pub returns : goal.returns
 returns c =
     let types = c.args.spaces.now.types.now.types in
     let some = some_listed types c.orderly.ensures c.requires.some in
-    let draws = rw (c.standing-standing.ensures, c.in_ok-call.ensures.exact, c.supertypes-indices.ensures) at c.draw_sub_type_of-drawn.ensures in
+    let draws = rw (c.scope-standing.ensures, c.in_ok-call.ensures.exact, c.supertypes-indices.ensures) at c.draw_sub_type_of-drawn.ensures in
     record {
       draws = draws;
       below = of_drawn _ draws (sub_type_of_some _ _ _ _ some);

@@ -3,7 +3,7 @@ use Rattle.smith_draw_types.proofs.table_type.arbitrary_table_type.Goals as goal
 
 pub returns : goal.returns
 returns c =
-    let drawn = rw (c.standing-standing.ensures, c.unread-call.ensures) at c.draw_table_type-drawn.ensures in
+    let drawn = rw (c.scope-standing.ensures, c.without_record-call.ensures) at c.draw_table_type-drawn.ensures in
     record {
       ok = refl;
       draws = record { exact = drawn.draws.exact; memory = tt; left = drawn.draws.left };

@@ -1,0 +1,188 @@
+use Rattle.std.proofs.Common.{refl, sym, arith, ◌-◌, [], length, ◌∙◌}
+use Rattle.smith_body_nodes.proofs.ResultLemmas.{ok_both}
+use Rattle.std.proofs.lemmas.Result.{on_ok_weaker}
+use Rattle.std.proofs.lemmas.List.{take_all}
+use Rattle.smith_body.proofs.DrawnLemmas.{paid_for, drawn_none, drawn_then, drawn_within, drawn_turn, dropped_drawn, plain_drawn, node_drawn, enclosed_drawn, if_drawn, labels_kept, try_drawn}
+use Rattle.smith_body.specs.Bodies.{drawing_at, statement_at}
+use Rattle.smith_syntax.specs.FeatureBits.{features_in}
+use Rattle.smith_body.specs.DraftSteps.{state_of}
+use Rattle.smith_body_nodes.proofs.StopLemmas.{node_goes_on}
+use Rattle.smith_body_nodes.specs.Nodes.{label_of, opened}
+use Rattle.smith_body_nodes.specs.Scopes.{bare}
+use Rattle.smith_body.proofs.ExactLemmas.{all_left, chosen_statement, chosen_value, deep_statements, drops_written, enclosed_exact, forbidden_statement, head_enclosed, head_if, head_try, if_exact, inside_exact, last_statements, last_value, next_value, no_values, node_exact, none_left, one_less, other_value, plain_exact, stopped, unpaid_value}
+use Rattle.smith_instr.specs.declared.instr.Instr.TheVariants as instr
+use Rattle.smith_body_nodes.proofs.NodeLemmas.{no_valid}
+use Rattle.smith_body.proofs.draws.+body.Goals.{draw_value-then-depth-eq0-via-then-depth-eq0, draw_value-then-depth-eq0-via-else-depth-eq0+then-draft-eq0}
+use Rattle.smith_body.proofs.draws.+body.Goals as goal
+
+pub draw_value-returns-then-depth-eq0-clause-exact : goal.draw_value-returns-then-depth-eq0-clause-exact
+draw_value-returns-then-depth-eq0-clause-exact t c = elim c.then-depth-eq0.branch [
+  | draw_value-then-depth-eq0-via-then-depth-eq0 w ↦
+      on_ok_weaker c.write_leaf.result (λ is. last_value c.args.scope.now.config.now c.args.depth c.args.wanted (state_of c.args.scope.now c.args.draft.now c.args.u.now) (omega (arith, w.if-depth-eq0.true)) ∙ is) c.write_leaf.ensures.exact
+  | draw_value-then-depth-eq0-via-else-depth-eq0+then-draft-eq0 w ↦
+      on_ok_weaker c.write_leaf.result (λ is. unpaid_value c.args.scope.now.config.now c.args.depth c.args.wanted (state_of c.args.scope.now c.args.draft.now c.args.u.now) (omega (arith, w.if-draft-eq0.true)) ∙ is) c.write_leaf.ensures.exact
+]
+
+pub draw_value-returns-in-Some-clause-exact : goal.draw_value-returns-in-Some-clause-exact
+draw_value-returns-in-Some-clause-exact t c =
+    on_ok_weaker c.draw_node.result (λ is. chosen_value c.args.scope.now.config.now c.args.depth c.args.wanted (state_of c.args.scope.now c.args.draft.now c.args.u.now) c.in-Some.node _ (omega arith) (omega arith) (rw c.in-Some.is at c.in_ok-chosen.ensures.exact) ∙ is) c.draw_node.ensures.exact
+
+pub draw_value-returns-in-None-clause-exact : goal.draw_value-returns-in-None-clause-exact
+draw_value-returns-in-None-clause-exact t c =
+    on_ok_weaker c.write_leaf-in-None.result (λ is. other_value c.args.scope.now.config.now c.args.depth c.args.wanted (state_of c.args.scope.now c.args.draft.now c.args.u.now) _ (omega arith) (omega arith) (rw c.in-None.is at c.in_ok-chosen.ensures.exact) ∙ is) c.write_leaf-in-None.ensures.exact
+
+pub draw_values-loop-value-init : goal.draw_values-loop-value-init
+draw_values-loop-value-init t c = record { drawn = drawn_none c.args.scope.now c.args.draft.now; exact = refl; labels = c.requires.labels; kept = λ whole h. h }
+
+pub draw_values-loop-value-preserved : goal.draw_values-loop-value-preserved
+draw_values-loop-value-preserved t c = record {
+  drawn = drawn_turn c.args.wanted.now c.loop-value.value-index _ c.requires.valid c.loop-value-test.true c.loop-value.invariant.drawn c.in_ok-draw_value.ensures.drawn;
+  exact = c.loop-value.invariant.exact ∙ next_value (drawing_at c.args.scope.now.config.now c.args.depth) c.args.wanted.now c.loop-value.value-index _ _ _ c.loop-value-test.true c.in_ok-draw_value.ensures.exact;
+  labels = labels_kept c.in_ok-draw_value.ensures.drawn c.loop-value.invariant.labels;
+  kept = λ whole h. c.draw_value.ensures.left whole (c.loop-value.invariant.kept whole h);
+}
+
+pub draw_values-returns-clause-drawn : goal.draw_values-returns-clause-drawn
+draw_values-returns-clause-drawn t c = rw (take_all c.loop-value.value-index c.args.wanted.now (omega arith)) at c.loop-value.invariant.drawn
+
+pub draw_statements-loop-draft-init : goal.draw_statements-loop-draft-init
+draw_statements-loop-draft-init t c = record { drawn = drawn_none c.args.scope.now c.args.draft.now; rest = all_left (statement_at c.args.scope.now.config.now (drawing_at c.args.scope.now.config.now (c.args.depth - 1))) (state_of c.args.scope.now c.args.draft.now c.args.u.now); labels = c.requires.labels; kept = λ whole h. h }
+
+pub draw_statements-loop-draft-preserved : goal.draw_statements-loop-draft-preserved
+draw_statements-loop-draft-preserved t c = record {
+  drawn = drawn_then c.loop-draft.invariant.drawn c.in_ok-draw_statement.ensures.drawn;
+  rest = one_less (statement_at c.args.scope.now.config.now (drawing_at c.args.scope.now.config.now (c.args.depth - 1))) _ _ _ c.int_in_range.result _ (omega arith) (rw (c.new.ensures.start, c.new.ensures.end) at c.int_in_range.ensures.exact) (omega arith) c.in_ok-draw_statement.ensures.exact c.in_ok-draw_statement.ensures.less c.loop-draft.invariant.rest;
+  labels = labels_kept c.in_ok-draw_statement.ensures.drawn c.loop-draft.invariant.labels;
+  kept = λ whole h. c.draw_statement.ensures.left whole (c.int_in_range.ensures.left whole (c.loop-draft.invariant.kept whole h));
+}
+
+pub draw_statements-returns-then-depth-eq0-clause-drawn : goal.draw_statements-returns-then-depth-eq0-clause-drawn
+draw_statements-returns-then-depth-eq0-clause-drawn t c = drawn_none c.args.scope.now c.args.draft.now
+
+pub draw_head-returns-in-Plain-clause-drawn : goal.draw_head-returns-in-Plain-clause-drawn
+draw_head-returns-in-Plain-clause-drawn t c = λ operands given values typed below valid goes_on local.
+    on_ok_weaker c.write_plain.result (plain_drawn c.args.head c.in-Plain.instruction operands given values c.args.sets c.in-Plain.is typed below valid c.requires.allowed.instruction goes_on local) c.write_plain.ensures.written
+
+pub draw_enclosed-returns-clause-drawn : goal.draw_enclosed-returns-clause-drawn
+draw_enclosed-returns-clause-drawn t c = λ values fits may below valid.
+    let sides = c.args.sides.now in
+    let start = rw (c.opening_instr.ensures, c.label_of-label.ensures) at c.in_ok-write_opening.ensures.opened in
+    let drawn = c.in_ok-draw_inside.ensures.drawn in
+    ok_both c.write_end.result (enclosed_drawn c.args.opening c.args.ty sides.params sides.results values fits may c.requires.sides.results below valid c.requires.allowed c.requires.sides.few start drawn c.len-height.result c.len-height.ensures)
+    c.write_end.ensures.ended (c.write_end.ensures.left_label _ _ (drawn.same ∙ start.labels))
+
+pub draw_if-returns-clause-drawn : goal.draw_if-returns-clause-drawn
+draw_if-returns-clause-drawn t c = λ values fits below valid.
+    let sides = c.args.sides.now in
+    let start = rw c.as_slice.ensures at c.in_ok-write_opening.ensures.opened in
+    let first = c.in_ok-draw_inside.ensures.drawn in
+    let last = c.in_ok-draw_inside-2.ensures.drawn in
+    ok_both c.write_end.result (if_drawn c.args.ty sides.params sides.results values fits below valid c.requires.allowed c.requires.sides.few start first c.len-height.result c.len-height.ensures c.in_ok-write_else.ensures.ended c.in_ok-write_else.ensures.same last)
+    c.write_end.ensures.ended (c.write_end.ensures.left_label _ _ (last.same ∙ (c.in_ok-write_else.ensures.same ∙ (first.same ∙ start.labels))))
+
+pub draw_if-returns-clause-left : goal.draw_if-returns-clause-left
+draw_if-returns-clause-left t c = λ whole h. c.draw_inside-2.ensures.left whole (c.draw_inside.ensures.left whole h)
+
+pub draw_inside-returns-clause-drawn : goal.draw_inside-returns-clause-drawn
+draw_inside-returns-clause-drawn t c =
+    let out = rw c.len.ensures at c.in_ok-drop_values.ensures.out in
+    let dropped = dropped_drawn {scope = c.args.scope.now} [] c.args.sides.now.params (no_valid (bare c.args.scope.now)) c.requires.params c.requires.drops out c.drop_values.ensures.set c.drop_values.ensures.same c.drop_values.ensures.budget in
+    on_ok_weaker c.draw_values.result (λ values. drawn_within (omega arith) (drawn_then (drawn_then dropped c.in_ok-draw_statements.ensures.drawn) values)) (rw c.as_slice.ensures at c.draw_values.ensures.drawn)
+
+pub draw_node-returns-clause-drawn : goal.draw_node-returns-clause-drawn
+draw_node-returns-clause-drawn t c = λ values fits goes_on.
+    on_ok_weaker c.drop_values.result (λ out. node_drawn fits c.requires.allowed.drops goes_on c.requires.paid (rw c.as_slice.ensures at c.in_ok-draw_values.ensures.drawn) c.in_ok-draw_head.ensures.drawn out c.drop_values.ensures.set c.drop_values.ensures.same c.drop_values.ensures.budget) c.drop_values.ensures.out
+
+pub draw_statement-returns-then-not-is_node_allowed-clause-drawn : goal.draw_statement-returns-then-not-is_node_allowed-clause-drawn
+draw_statement-returns-then-not-is_node_allowed-clause-drawn t c =
+    rw c.saturating_sub-draft.ensures
+    (paid_for {n = 0} (omega arith) c.requires.paid (drawn_none c.args.scope.now (record c.args.draft.now { budget = c.args.draft.now.budget - 1 })))
+
+pub draw_statement-returns-clause-drawn : goal.draw_statement-returns-clause-drawn
+draw_statement-returns-clause-drawn t c =
+    c.draw_node.ensures.drawn [] c.in_ok-node.ensures.node
+    (node_goes_on (features_in c.args.scope.now.features) c.args.scope.now.config.now c.in_ok-node.node (sym c.is_node_allowed.ensures.exact ∙ c.if-not-is_node_allowed.false))
+
+pub draw_values-returns-clause-exact : goal.draw_values-returns-clause-exact
+draw_values-returns-clause-exact t c = c.loop-value.invariant.exact ∙ no_values (drawing_at c.args.scope.now.config.now c.args.depth) c.args.wanted.now c.loop-value.value-index _ (omega arith)
+
+pub draw_statements-returns-then-depth-eq0-clause-exact : goal.draw_statements-returns-then-depth-eq0-clause-exact
+draw_statements-returns-then-depth-eq0-clause-exact t c = last_statements c.args.scope.now.config.now c.args.depth (state_of c.args.scope.now c.args.draft.now c.args.u.now) (omega arith)
+
+pub draw_statements-returns-then-int_in_range-eq0-clause-exact : goal.draw_statements-returns-then-int_in_range-eq0-clause-exact
+draw_statements-returns-then-int_in_range-eq0-clause-exact t c =
+    deep_statements c.args.scope.now.config.now c.args.depth (state_of c.args.scope.now c.args.draft.now c.args.u.now) (omega arith)
+    ∙ stopped (statement_at c.args.scope.now.config.now (drawing_at c.args.scope.now.config.now (c.args.depth - 1))) _ _ c.int_in_range.result _ (omega arith) (rw (c.new.ensures.start, c.new.ensures.end) at c.int_in_range.ensures.exact) (omega arith) c.loop-draft.invariant.rest
+
+pub draw_statements-returns-clause-exact : goal.draw_statements-returns-clause-exact
+draw_statements-returns-clause-exact t c = deep_statements c.args.scope.now.config.now c.args.depth (state_of c.args.scope.now c.args.draft.now c.args.u.now) (omega arith) ∙ none_left (statement_at c.args.scope.now.config.now (drawing_at c.args.scope.now.config.now (c.args.depth - 1))) _ _ (omega arith) c.loop-draft.invariant.rest
+
+pub draw_statement-returns-then-not-is_node_allowed-clause-exact : goal.draw_statement-returns-then-not-is_node_allowed-clause-exact
+draw_statement-returns-then-not-is_node_allowed-clause-exact t c =
+    rw c.saturating_sub-draft.ensures (forbidden_statement c.args.scope.now.config.now (drawing_at c.args.scope.now.config.now (c.args.depth - 1)) (state_of c.args.scope.now c.args.draft.now c.args.u.now) _ _ c.in_ok-node.ensures.exact (sym c.is_node_allowed.ensures.exact ∙ c.if-not-is_node_allowed.true))
+
+pub draw_statement-returns-clause-exact : goal.draw_statement-returns-clause-exact
+draw_statement-returns-clause-exact t c =
+    on_ok_weaker c.draw_node.result (λ is. chosen_statement c.args.scope.now.config.now (drawing_at c.args.scope.now.config.now (c.args.depth - 1)) (state_of c.args.scope.now c.args.draft.now c.args.u.now) _ _ c.in_ok-node.ensures.exact (sym c.is_node_allowed.ensures.exact ∙ c.if-not-is_node_allowed.false) ∙ is) c.draw_node.ensures.exact
+
+pub draw_node-returns-clause-exact : goal.draw_node-returns-clause-exact
+draw_node-returns-clause-exact t c =
+    on_ok_weaker c.drop_values.result
+    (λ out. node_exact (drawing_at c.args.scope.now.config.now c.args.depth) c.args.node (state_of c.args.scope.now c.args.draft.now c.args.u.now) _ _ (rw c.as_slice.ensures at c.in_ok-draw_values.ensures.exact) c.in_ok-draw_head.ensures.exact
+    ∙ drops_written c.args.scope.now c.args.node.drops c.draw_head.new.draft c.drop_values.new.draft c.draw_head.new.u out c.drop_values.ensures.set c.drop_values.ensures.same c.drop_values.ensures.budget) c.drop_values.ensures.out
+
+pub draw_head-returns-in-Plain-clause-exact : goal.draw_head-returns-in-Plain-clause-exact
+draw_head-returns-in-Plain-clause-exact t c =
+    on_ok_weaker c.write_plain.result (λ done. plain_exact c.args.scope.now (drawing_at c.args.scope.now.config.now c.args.depth) c.args.head c.in-Plain.instruction c.args.sets c.args.draft.now _ c.args.u.now c.in-Plain.is done) c.write_plain.ensures.written
+
+pub draw_head-returns-in-Enclosed-clause-exact : goal.draw_head-returns-in-Enclosed-clause-exact
+draw_head-returns-in-Enclosed-clause-exact t c =
+    on_ok_weaker c.draw_enclosed.result (λ is. head_enclosed (drawing_at c.args.scope.now.config.now c.args.depth) c.args.head c.in-Enclosed.opening c.in-Enclosed.ty c.in-Enclosed.sides c.args.sets (state_of c.args.scope.now c.args.draft.now c.args.u.now) c.in-Enclosed.is ∙ is) c.draw_enclosed.ensures.exact
+
+pub draw_head-returns-in-If-clause-exact : goal.draw_head-returns-in-If-clause-exact
+draw_head-returns-in-If-clause-exact t c =
+    on_ok_weaker c.draw_if.result (λ is. head_if (drawing_at c.args.scope.now.config.now c.args.depth) c.args.head c.in-If.ty c.in-If.sides c.args.sets (state_of c.args.scope.now c.args.draft.now c.args.u.now) c.in-If.is ∙ is) c.draw_if.ensures.exact
+
+pub draw_enclosed-returns-clause-exact : goal.draw_enclosed-returns-clause-exact
+draw_enclosed-returns-clause-exact t c =
+    let sides = c.args.sides.now in
+    let start = rw (c.opening_instr.ensures, c.label_of-label.ensures) at c.in_ok-write_opening.ensures.opened in
+    let drawn = c.in_ok-draw_inside.ensures.drawn in
+    ok_both c.write_end.result (enclosed_exact c.args.scope.now (drawing_at c.args.scope.now.config.now c.args.depth) (opened c.args.opening c.args.ty) (label_of c.args.opening sides.params sides.results) sides c.args.draft.now _ _ _ _ _ c.len-height.result start c.in_ok-draw_inside.ensures.exact drawn c.len-height.ensures)
+    c.write_end.ensures.ended (c.write_end.ensures.left_label _ _ (drawn.same ∙ start.labels))
+
+pub draw_if-returns-clause-exact : goal.draw_if-returns-clause-exact
+draw_if-returns-clause-exact t c =
+    let sides = c.args.sides.now in
+    let start = rw c.as_slice.ensures at c.in_ok-write_opening.ensures.opened in
+    let first = c.in_ok-draw_inside.ensures.drawn in
+    let last = c.in_ok-draw_inside-2.ensures.drawn in
+    ok_both c.write_end.result (if_exact c.args.scope.now (drawing_at c.args.scope.now.config.now c.args.depth) c.args.ty sides c.args.draft.now _ _ _ _ _ _ _ _ c.len-height.result start c.in_ok-draw_inside.ensures.exact first c.len-height.ensures
+    c.in_ok-write_else.ensures.ended c.in_ok-write_else.ensures.same c.in_ok-draw_inside-2.ensures.exact last)
+    c.write_end.ensures.ended (c.write_end.ensures.left_label _ _ (last.same ∙ (c.in_ok-write_else.ensures.same ∙ (first.same ∙ start.labels))))
+
+pub draw_inside-returns-clause-exact : goal.draw_inside-returns-clause-exact
+draw_inside-returns-clause-exact t c =
+    let out = rw c.len.ensures at c.in_ok-drop_values.ensures.out in
+    let dropping = drops_written c.args.scope.now (length c.args.sides.now.params) c.args.draft.now c.drop_values.new.draft c.args.u.now out c.drop_values.ensures.set c.drop_values.ensures.same c.drop_values.ensures.budget in
+    on_ok_weaker c.draw_values.result (λ is. inside_exact (drawing_at c.args.scope.now.config.now c.args.depth) c.args.sides.now (state_of c.args.scope.now c.args.draft.now c.args.u.now) _ _ dropping c.in_ok-draw_statements.ensures.exact ∙ is) (rw c.as_slice.ensures at c.draw_values.ensures.exact)
+
+pub draw_head-returns-in-Try-clause-exact : goal.draw_head-returns-in-Try-clause-exact
+draw_head-returns-in-Try-clause-exact t c =
+    on_ok_weaker c.draw_try.result (λ is. head_try (drawing_at c.args.scope.now.config.now c.args.depth) c.args.head c.in-Try.ty c.in-Try.clauses c.in-Try.sides c.args.sets (state_of c.args.scope.now c.args.draft.now c.args.u.now) c.in-Try.is ∙ is) c.draw_try.ensures.exact
+
+pub draw_try-returns-clause-drawn : goal.draw_try-returns-clause-drawn
+draw_try-returns-clause-drawn t c = λ values fits caught below valid.
+    let sides = c.args.sides.now in
+    let start = rw c.as_slice.ensures at c.in_ok-write_opening.ensures.opened in
+    let drawn = c.in_ok-draw_inside.ensures.drawn in
+    ok_both c.write_end.result (try_drawn c.args.ty c.args.clauses sides.params sides.results values fits caught below valid c.requires.allowed c.requires.sides.few start drawn c.len-height.result c.len-height.ensures)
+    c.write_end.ensures.ended (c.write_end.ensures.left_label _ _ (drawn.same ∙ start.labels))
+
+pub draw_try-returns-clause-exact : goal.draw_try-returns-clause-exact
+draw_try-returns-clause-exact t c =
+    let sides = c.args.sides.now in
+    let start = rw c.as_slice.ensures at c.in_ok-write_opening.ensures.opened in
+    let drawn = c.in_ok-draw_inside.ensures.drawn in
+    ok_both c.write_end.result (enclosed_exact c.args.scope.now (drawing_at c.args.scope.now.config.now c.args.depth) (instr.TryTable c.args.ty c.args.clauses) sides.results sides c.args.draft.now _ _ _ _ _ c.len-height.result start c.in_ok-draw_inside.ensures.exact drawn c.len-height.ensures)
+    c.write_end.ensures.ended (c.write_end.ensures.left_label _ _ (drawn.same ∙ start.labels))

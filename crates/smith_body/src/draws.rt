@@ -1,0 +1,406 @@
+ghost use Rattle.std.specs.Prelude.{◌≡◌, ◌++◌, ◌+◌, ◌-◌, ◌<◌, ◌≤◌, [], ◌∷◌, All, List, length};
+ghost use Rattle.std.specs.Prelude.{IfErr, OnOk, option_to_list};
+ghost use Rattle.smith_bytes.specs.Source.{KeepsPieces};
+ghost use Rattle.smith_syntax.specs.declared.value_type.ValType.{ValType as Val};
+ghost use Rattle.smith_syntax.specs.declared.value_type.ValType.TheVariants.{I32};
+ghost use Rattle.smith_instr.specs.Contexts.{AreBelow, AreValid, IsBlockType, IsValid};
+ghost use Rattle.smith_instr.specs.InstrTypes.{IsCatch};
+ghost use Rattle.smith_instr.specs.declared.instr.Instr.TheVariants as instr;
+ghost use Rattle.smith_body.specs.Bodies.{drawing_at, enclosed_at, head_at, inside_at, node_at};
+ghost use Rattle.smith_body.specs.Bodies.{statement_at, values_at, whole_at, written};
+ghost use Rattle.smith_body.specs.DraftSteps.{IsDrawn, state_of};
+ghost use Rattle.smith_body_nodes.specs.Nodes.{AreSidesValid, HasHeadType, IsHeadAllowed};
+ghost use Rattle.smith_body_nodes.specs.Nodes.{IsHeadValid, IsNode, IsNodeAllowed, MayOpen};
+ghost use Rattle.smith_body_nodes.specs.Nodes.{block_cost, head_instruction, head_sets, label_of};
+ghost use Rattle.smith_body_nodes.specs.Nodes.{opened, taken_by};
+ghost use Rattle.smith_body_nodes.specs.Scopes.{AreLabels, IsAllowedIn, IsScope, bare};
+ghost use Rattle.smith_body_nodes.specs.Scopes.{where_stands};
+ghost use Rattle.smith_body_nodes.specs.Traps.{IsNoStop};
+
+use crate::leaf::write_leaf;
+use crate::writes::{drop_values, write_else, write_end, write_opening, write_plain};
+use smith_body_choices::{choose_allowed, choose_statement};
+use smith_body_nodes::{Draft, Head, Node, Opening, Scope, Sides, is_node_allowed};
+use smith_bytes::{Error, Unstructured};
+use smith_instr::{BlockType, Catch, Instr};
+use smith_types::{Items, ValType};
+use std::alloc::Global;
+
+/// Draws a value of the type `wanted` after the instructions of `draft`, at most `depth`
+/// instructions deep.
+#[cycle(body)]
+fn draw_value(
+    alloc: Global,
+    scope: &Scope<'_>,
+    wanted: ValType,
+    depth: u32,
+    draft: &mut Draft,
+    u: &mut Unstructured<'_>,
+) -> Result<(), Error>
+    requires scope { IsScope (bare scope.now) }
+    requires labels { AreLabels scope.now draft.old.labels.items }
+    requires wanted { IsValid (bare scope.now) wanted }
+    ensures exact { OnOk result
+        ((drawing_at scope.now.config.now depth).value wanted (state_of scope.now draft.old u.old)
+        ≡ state_of scope.now draft.new u.new) }
+    ensures drawn { OnOk result (IsDrawn scope.now [] (wanted ∷ []) 1 draft.old draft.new) }
+    ensures memory { IfErr result (λ e. e ≡ Error.Memory) }
+    ensures left { KeepsPieces u.old u.new }
+{
+    if depth == 0 || draft.budget == 0 {
+        return write_leaf(scope, wanted, draft, u);
+    }
+    let chosen = choose_allowed(alloc, scope, wanted, draft, u)?;
+    match chosen {
+        Some(node) => draw_node(alloc, scope, node, depth - 1, draft, u),
+        None => write_leaf(scope, wanted, draft, u),
+    }
+}
+
+/// Draws the operands of `node`, then its other instructions. Takes one unit of the budget.
+#[cycle(body)]
+fn draw_node(
+    alloc: Global,
+    scope: &Scope<'_>,
+    node: Node,
+    depth: u32,
+    draft: &mut Draft,
+    u: &mut Unstructured<'_>,
+) -> Result<(), Error>
+    requires scope { IsScope (bare scope.now) }
+    requires labels { AreLabels scope.now draft.old.labels.items }
+    requires valid { AreValid (bare scope.now) node.operands }
+    requires inside { IsHeadValid (bare scope.now).features (bare scope.now).types node.head }
+    requires allowed { IsNodeAllowed scope.now node }
+    requires paid { 0 < draft.old.budget }
+    ensures exact { OnOk result
+        (node_at (drawing_at scope.now.config.now depth) node (state_of scope.now draft.old u.old)
+        ≡ state_of scope.now draft.new u.new) }
+    ensures drawn { (values : List Val)
+        → IsNode (where_stands scope.now draft.old) draft.old.set.items values node
+        → IsNoStop scope.now.config.now (head_instruction node.head)
+        → OnOk result (IsDrawn scope.now [] values 0 draft.old draft.new) }
+    ensures less { OnOk result (draft.new.budget < draft.old.budget) }
+    ensures memory { IfErr result (λ e. e ≡ Error.Memory) }
+    ensures left { KeepsPieces u.old u.new }
+{
+    let Node {
+        operands,
+        head,
+        sets,
+        drops,
+    } = node;
+    draft.budget -= 1;
+    draw_values(alloc, scope, operands.as_slice(), depth, draft, u)?;
+    draw_head(alloc, scope, head, sets, depth, draft, u)?;
+    drop_values(drops, draft)
+}
+
+/// Draws the instructions after operands, and marks the local `sets` as set.
+#[cycle(body)]
+fn draw_head(
+    alloc: Global,
+    scope: &Scope<'_>,
+    head: Head,
+    sets: Option<u32>,
+    depth: u32,
+    draft: &mut Draft,
+    u: &mut Unstructured<'_>,
+) -> Result<(), Error>
+    requires scope { IsScope (bare scope.now) }
+    requires labels { AreLabels scope.now draft.old.labels.items }
+    requires inside { IsHeadValid (bare scope.now).features (bare scope.now).types head }
+    requires allowed { IsHeadAllowed scope.now head }
+    ensures exact { OnOk result (head_at (drawing_at scope.now.config.now depth) head sets
+        (state_of scope.now draft.old u.old) ≡ state_of scope.now draft.new u.new) }
+    ensures drawn { (operands given values : List Val)
+        → HasHeadType (where_stands scope.now draft.old) draft.old.set.items head operands given
+        → AreBelow (bare scope.now) given values → AreValid (bare scope.now) values
+        → IsNoStop scope.now.config.now (head_instruction head)
+        → head_sets head ≡ option_to_list sets → OnOk result (IsDrawn scope.now operands values
+        (block_cost scope.now.types.now.types) draft.old draft.new) }
+    ensures less { OnOk result (draft.new.budget ≤ draft.old.budget) }
+    ensures memory { IfErr result (λ e. e ≡ Error.Memory) }
+    ensures left { KeepsPieces u.old u.new }
+{
+    match head {
+        Head::Plain(instruction) => write_plain(instruction, sets, draft),
+        Head::Enclosed(opening, ty, sides) => {
+            draw_enclosed(alloc, scope, opening, ty, &sides, depth, draft, u)
+        }
+        Head::If(ty, sides) => draw_if(alloc, scope, ty, &sides, depth, draft, u),
+        Head::Try(ty, clauses, sides) => {
+            draw_try(alloc, scope, ty, clauses, &sides, depth, draft, u)
+        }
+    }
+}
+
+/// Draws a block, a loop or an `if` without `else`, whose type has `sides`.
+#[cycle(body)]
+fn draw_enclosed(
+    alloc: Global,
+    scope: &Scope<'_>,
+    opening: Opening,
+    ty: BlockType,
+    sides: &Sides,
+    depth: u32,
+    draft: &mut Draft,
+    u: &mut Unstructured<'_>,
+) -> Result<(), Error>
+    requires scope { IsScope (bare scope.now) }
+    requires labels { AreLabels scope.now draft.old.labels.items }
+    requires sides { AreSidesValid (bare scope.now).features (bare scope.now).types sides.now }
+    requires allowed { IsAllowedIn scope.now (opened opening ty) }
+    requires drops { 0 < length sides.now.params → IsAllowedIn scope.now instr.Drop }
+    ensures exact { OnOk result
+        (written instr.End (enclosed_at (drawing_at scope.now.config.now depth)
+        (label_of opening sides.now.params sides.now.results) sides.now
+        (written (opened opening ty) (state_of scope.now draft.old u.old)))
+        ≡ state_of scope.now draft.new u.new) }
+    ensures drawn { (values : List Val)
+        → IsBlockType (bare scope.now) ty sides.now.params sides.now.results
+        → MayOpen opening sides.now.params sides.now.results
+        → AreBelow (bare scope.now) sides.now.results values → AreValid (bare scope.now) values
+        → OnOk result (IsDrawn scope.now (taken_by opening sides.now.params) values
+        (block_cost scope.now.types.now.types) draft.old draft.new) }
+    ensures less { OnOk result (draft.new.budget ≤ draft.old.budget) }
+    ensures memory { IfErr result (λ e. e ≡ Error.Memory) }
+    ensures left { KeepsPieces u.old u.new }
+{
+    let height = draft.set.len();
+    let label = label_of(opening, sides);
+    write_opening(alloc, opening_instr(opening, ty), label, draft)?;
+    draw_inside(alloc, scope, sides, depth, draft, u)?;
+    write_end(height, draft)
+}
+
+fn opening_instr(opening: Opening, ty: BlockType) -> Instr
+    ensures { result ≡ opened opening ty }
+{
+    match opening {
+        Opening::Block => Instr::Block(ty),
+        Opening::Loop => Instr::Loop(ty),
+        Opening::IfAlone => Instr::If(ty),
+    }
+}
+
+fn label_of<'a>(opening: Opening, sides: &'a Sides) -> &'a [ValType]
+    ensures { result.now ≡ label_of opening sides.now.params sides.now.results }
+{
+    match opening {
+        Opening::Block | Opening::IfAlone => sides.results.as_slice(),
+        Opening::Loop => sides.params.as_slice(),
+    }
+}
+
+/// Draws an `if` with its `else`, whose type has `sides`.
+#[cycle(body)]
+fn draw_if(
+    alloc: Global,
+    scope: &Scope<'_>,
+    ty: BlockType,
+    sides: &Sides,
+    depth: u32,
+    draft: &mut Draft,
+    u: &mut Unstructured<'_>,
+) -> Result<(), Error>
+    requires scope { IsScope (bare scope.now) }
+    requires labels { AreLabels scope.now draft.old.labels.items }
+    requires sides { AreSidesValid (bare scope.now).features (bare scope.now).types sides.now }
+    requires allowed { IsAllowedIn scope.now (instr.If ty) }
+    requires drops { 0 < length sides.now.params → IsAllowedIn scope.now instr.Drop }
+    ensures exact { OnOk result
+        (written instr.End (enclosed_at (drawing_at scope.now.config.now depth) sides.now.results
+        sides.now (written instr.Else (enclosed_at (drawing_at scope.now.config.now depth)
+        sides.now.results sides.now (written (instr.If ty) (state_of scope.now draft.old u.old)))))
+        ≡ state_of scope.now draft.new u.new) }
+    ensures drawn { (values : List Val)
+        → IsBlockType (bare scope.now) ty sides.now.params sides.now.results
+        → AreBelow (bare scope.now) sides.now.results values → AreValid (bare scope.now) values
+        → OnOk result (IsDrawn scope.now (sides.now.params ++ I32 ∷ []) values
+        (block_cost scope.now.types.now.types) draft.old draft.new) }
+    ensures less { OnOk result (draft.new.budget ≤ draft.old.budget) }
+    ensures memory { IfErr result (λ e. e ≡ Error.Memory) }
+    ensures left { KeepsPieces u.old u.new }
+{
+    let height = draft.set.len();
+    write_opening(alloc, Instr::If(ty), sides.results.as_slice(), draft)?;
+    draw_inside(alloc, scope, sides, depth, draft, u)?;
+    write_else(height, draft)?;
+    draw_inside(alloc, scope, sides, depth, draft, u)?;
+    write_end(height, draft)
+}
+
+/// Draws a `try_table` with `clauses`, whose type has `sides`.
+#[cycle(body)]
+fn draw_try(
+    alloc: Global,
+    scope: &Scope<'_>,
+    ty: BlockType,
+    clauses: Items<Catch>,
+    sides: &Sides,
+    depth: u32,
+    draft: &mut Draft,
+    u: &mut Unstructured<'_>,
+) -> Result<(), Error>
+    requires scope { IsScope (bare scope.now) }
+    requires labels { AreLabels scope.now draft.old.labels.items }
+    requires sides { AreSidesValid (bare scope.now).features (bare scope.now).types sides.now }
+    requires allowed { IsAllowedIn scope.now (instr.TryTable ty clauses) }
+    requires drops { 0 < length sides.now.params → IsAllowedIn scope.now instr.Drop }
+    ensures exact { OnOk result
+        (written instr.End (enclosed_at (drawing_at scope.now.config.now depth) sides.now.results
+        sides.now (written (instr.TryTable ty clauses) (state_of scope.now draft.old u.old)))
+        ≡ state_of scope.now draft.new u.new) }
+    ensures drawn { (values : List Val)
+        → IsBlockType (bare scope.now) ty sides.now.params sides.now.results
+        → All (IsCatch (where_stands scope.now draft.old)) clauses
+        → AreBelow (bare scope.now) sides.now.results values → AreValid (bare scope.now) values
+        → OnOk result (IsDrawn scope.now sides.now.params values
+        (block_cost scope.now.types.now.types) draft.old draft.new) }
+    ensures less { OnOk result (draft.new.budget ≤ draft.old.budget) }
+    ensures memory { IfErr result (λ e. e ≡ Error.Memory) }
+    ensures left { KeepsPieces u.old u.new }
+{
+    let height = draft.set.len();
+    let opening = Instr::TryTable(ty, clauses);
+    write_opening(alloc, opening, sides.results.as_slice(), draft)?;
+    draw_inside(alloc, scope, sides, depth, draft, u)?;
+    write_end(height, draft)
+}
+
+/// Draws the instructions inside a block, from its parameters to its results.
+#[cycle(body)]
+fn draw_inside(
+    alloc: Global,
+    scope: &Scope<'_>,
+    sides: &Sides,
+    depth: u32,
+    draft: &mut Draft,
+    u: &mut Unstructured<'_>,
+) -> Result<(), Error>
+    requires scope { IsScope (bare scope.now) }
+    requires labels { AreLabels scope.now draft.old.labels.items }
+    requires params { AreValid (bare scope.now) sides.now.params }
+    requires results { AreValid (bare scope.now) sides.now.results }
+    requires drops { 0 < length sides.now.params → IsAllowedIn scope.now instr.Drop }
+    ensures exact { OnOk result (inside_at (drawing_at scope.now.config.now depth) sides.now
+        (state_of scope.now draft.old u.old) ≡ state_of scope.now draft.new u.new) }
+    ensures drawn { OnOk result (IsDrawn scope.now sides.now.params sides.now.results
+        (length sides.now.params + length sides.now.results) draft.old draft.new) }
+    ensures memory { IfErr result (λ e. e ≡ Error.Memory) }
+    ensures left { KeepsPieces u.old u.new }
+{
+    drop_values(sides.params.len(), draft)?;
+    draw_statements(alloc, scope, depth, draft, u)?;
+    draw_values(alloc, scope, sides.results.as_slice(), depth, draft, u)
+}
+
+/// Draws values of the types `wanted`, in order.
+#[cycle(body)]
+fn draw_values(
+    alloc: Global,
+    scope: &Scope<'_>,
+    wanted: &[ValType],
+    depth: u32,
+    draft: &mut Draft,
+    u: &mut Unstructured<'_>,
+) -> Result<(), Error>
+    requires scope { IsScope (bare scope.now) }
+    requires labels { AreLabels scope.now draft.old.labels.items }
+    requires valid { AreValid (bare scope.now) wanted.now }
+    ensures exact { OnOk result (values_at (drawing_at scope.now.config.now depth) wanted.now
+        (state_of scope.now draft.old u.old) ≡ state_of scope.now draft.new u.new) }
+    ensures drawn { OnOk result
+        (IsDrawn scope.now [] wanted.now (length wanted.now) draft.old draft.new) }
+    ensures memory { IfErr result (λ e. e ≡ Error.Memory) }
+    ensures left { KeepsPieces u.old u.new }
+{
+    for value in wanted {
+        draw_value(alloc, scope, *value, depth, draft, u)?;
+    }
+    Ok(())
+}
+
+/// Draws instructions that leave the stack unchanged, at most `depth` instructions deep. A choice
+/// that is not allowed takes one unit of the budget and adds no instruction.
+#[cycle(body)]
+fn draw_statement(
+    alloc: Global,
+    scope: &Scope<'_>,
+    depth: u32,
+    draft: &mut Draft,
+    u: &mut Unstructured<'_>,
+) -> Result<(), Error>
+    requires scope { IsScope (bare scope.now) }
+    requires labels { AreLabels scope.now draft.old.labels.items }
+    requires deep { 0 < depth }
+    requires paid { 0 < draft.old.budget }
+    ensures exact { OnOk result (statement_at scope.now.config.now
+        (drawing_at scope.now.config.now (depth - 1)) (state_of scope.now draft.old u.old)
+        ≡ state_of scope.now draft.new u.new) }
+    ensures drawn { OnOk result (IsDrawn scope.now [] [] 0 draft.old draft.new) }
+    ensures less { OnOk result (draft.new.budget < draft.old.budget) }
+    ensures memory { IfErr result (λ e. e ≡ Error.Memory) }
+    ensures left { KeepsPieces u.old u.new }
+{
+    let node = choose_statement(alloc, scope, draft, u)?;
+    if !is_node_allowed(scope, &node) {
+        draft.budget = draft.budget.saturating_sub(1);
+        return Ok(());
+    }
+    draw_node(alloc, scope, node, depth - 1, draft, u)
+}
+
+/// Draws instructions that leave the stack unchanged, until the budget is spent or a number drawn
+/// from 0 to 3 is 0.
+#[cycle(body)]
+fn draw_statements(
+    alloc: Global,
+    scope: &Scope<'_>,
+    depth: u32,
+    draft: &mut Draft,
+    u: &mut Unstructured<'_>,
+) -> Result<(), Error>
+    requires scope { IsScope (bare scope.now) }
+    requires labels { AreLabels scope.now draft.old.labels.items }
+    ensures exact { OnOk result
+        ((drawing_at scope.now.config.now depth).statements (state_of scope.now draft.old u.old)
+        ≡ state_of scope.now draft.new u.new) }
+    ensures drawn { OnOk result (IsDrawn scope.now [] [] 0 draft.old draft.new) }
+    ensures memory { IfErr result (λ e. e ≡ Error.Memory) }
+    ensures left { KeepsPieces u.old u.new }
+{
+    if depth == 0 {
+        return Ok(());
+    }
+    while draft.budget > 0 {
+        if u.int_in_range(0..=3u8) == 0 {
+            return Ok(());
+        }
+        draw_statement(alloc, scope, depth, draft, u)?;
+    }
+    Ok(())
+}
+
+/// Draws the instructions inside a body, which leave the results of `scope`.
+pub(crate) fn draw_whole(
+    alloc: Global,
+    scope: &Scope<'_>,
+    depth: u32,
+    draft: &mut Draft,
+    u: &mut Unstructured<'_>,
+) -> Result<(), Error>
+    requires scope { IsScope (bare scope.now) }
+    requires labels { AreLabels scope.now draft.old.labels.items }
+    ensures exact { OnOk result (whole_at (drawing_at scope.now.config.now depth)
+        scope.now.results.now (state_of scope.now draft.old u.old)
+        ≡ state_of scope.now draft.new u.new) }
+    ensures drawn { OnOk result (IsDrawn scope.now [] scope.now.results.now
+        (length scope.now.results.now) draft.old draft.new) }
+    ensures memory { IfErr result (λ e. e ≡ Error.Memory) }
+    ensures left { KeepsPieces u.old u.new }
+{
+    draw_statements(alloc, scope, depth, draft, u)?;
+    draw_values(alloc, scope, scope.results, depth, draft, u)
+}

@@ -1,7 +1,0 @@
-use Rattle.std.proofs.Common.{◌≡◌, None}
-use Rattle.smith_body_leaves.specs.Leaves.{created_at, first_below}
-use Rattle.smith_body_nodes.specs.Scopes.{where_stands}
-use Rattle.smith_body_leaves.proofs.created.created_type.Given as goal
-
-abbrev pub invariant-loop-ty : goal.invariant-loop-ty
-invariant-loop-ty l = None ≡ first_below (created_at l.scope.config.now (where_stands l.scope l.draft) l.draft.set.items l.wanted) l.ty

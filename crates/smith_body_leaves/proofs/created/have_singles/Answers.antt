@@ -1,6 +1,0 @@
-use Rattle.smith_body_aggregates.proofs.AggregateLemmas.{field_valid}
-use Rattle.smith_body_nodes.specs.Scopes.{bare}
-use Rattle.smith_body_leaves.proofs.created.have_singles.Goals as goal
-
-pub has_single-requires-clause-wanted : goal.has_single-requires-clause-wanted
-has_single-requires-clause-wanted c = rw c.unpacked.ensures (field_valid (bare c.args.scope.now) c.args.fields.now c.loop-index.index _ c.requires.fields c.loop-index-test.true)

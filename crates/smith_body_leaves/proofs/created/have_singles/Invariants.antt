@@ -1,9 +1,0 @@
-use Rattle.std.proofs.Common.{◌≡◌, drop}
-use Rattle.smith_types.specs.Expressions.{field_values}
-use Rattle.smith_body_leaves.specs.Leaves.{have_singles}
-use Rattle.smith_body_nodes.specs.Scopes.{where_stands}
-use Rattle.smith_body_leaves.proofs.created.have_singles.Given as goal
-
-abbrev pub invariant-loop-index : goal.invariant-loop-index
-invariant-loop-index l =
-    have_singles l.scope.config.now (where_stands l.scope l.draft) l.draft.set.items (field_values l.fields) ≡ have_singles l.scope.config.now (where_stands l.scope l.draft) l.draft.set.items (field_values (drop l.index l.fields))

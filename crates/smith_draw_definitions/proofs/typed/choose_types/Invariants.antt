@@ -1,6 +1,0 @@
-use Rattle.smith_draw_types.specs.Choices.{chosen_at}
-use Rattle.smith_draw_definitions.proofs.DefinedLoop.{IsAfter}
-use Rattle.smith_draw_definitions.proofs.typed.choose_types.Given as goal
-
-abbrev pub invariant-loop-made : goal.invariant-loop-made
-invariant-loop-made l = IsAfter (λ _. chosen_at 0 l.choices) l.least l.most l.fn.items l.items l.made l.fn.u l.u

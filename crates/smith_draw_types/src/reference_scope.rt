@@ -1,0 +1,187 @@
+ghost use Rattle.std.specs.Prelude.{◌≡◌, ◌<◌, length, IsTrue, IfSome, ◌↔◌};
+ghost use Rattle.smith_types.specs.Types.{IsOrderly};
+ghost use Rattle.smith_types.specs.Subtyping.{IsInRange};
+ghost use Rattle.smith_types.specs.Expressions.{reference_to, function_reference};
+ghost use Rattle.smith_types.specs.FuncGrounds.{AreFuncGrounds};
+ghost use Rattle.smith_draw_types.specs.Grounding.{standing_in, functions_of, over, any_from};
+ghost use Rattle.smith_draw_types.specs.Grounding.{function_grounds, is_grounded};
+ghost use Rattle.smith_draw_types.specs.KeptGrounds.{AreEarlyGrounds, IsRecordOver};
+
+use crate::early_grounds::EarlyGrounds;
+use crate::spaces::Spaces;
+use smith_config::Config;
+use smith_types::{FuncGrounds, HeapType, SubType, TypeSpace};
+use std::marker::Model;
+
+/// The types over which references are drawn, and the functions that may ground them.
+#[derive(Drop)]
+pub struct ReferenceScope<'a> {
+    config: &'a Config,
+    types: &'a TypeSpace,
+    funcs: &'a [u32],
+    imported_funcs: usize,
+    // A record of the heap types that the functions ground, if there is one. It may have been made
+    // when there were fewer types.
+    kept: &'a Option<FuncGrounds>,
+}
+
+impl<'a> Model for ReferenceScope<'a> {
+    ghost use Rattle.std.specs.Prelude.{IfSome};
+    ghost use Rattle.smith_types.specs.Expressions.{Context};
+    ghost use Rattle.smith_types.specs.FuncGrounds.{AreFuncGrounds};
+    ghost use Rattle.smith_config.specs.Features.{features_of};
+    ghost use Rattle.smith_draw_types.specs.Grounding.{function_context};
+    ghost use Rattle.smith_draw_types.specs.KeptGrounds.{IsRecordOver};
+
+    ghost Value = { Context };
+
+    ghost view = { λ a.
+        function_context (features_of a.config.now) a.types.now.types a.funcs.now a.imported_funcs };
+
+    ghost invariant = { λ a. IfSome a.kept.now (IsRecordOver
+        (function_context (features_of a.config.now) a.types.now.types a.funcs.now a.imported_funcs)) };
+}
+
+impl<'a> ReferenceScope<'a> {
+    /// Returns the types of `types` and the functions of `grounds`. Checks of whether a function
+    /// grounds a heap type use the record of `grounds`, if there is one. Types may have been added
+    /// since it was made.
+    pub(crate) fn beside(
+        config: &'a Config,
+        types: &'a TypeSpace,
+        grounds: &'a EarlyGrounds<'a>,
+    ) -> ReferenceScope<'a>
+        requires { AreEarlyGrounds (over (functions_of config.now grounds.now) types.now.types)
+            grounds.now }
+        ensures { result ≡ over (functions_of config.now grounds.now) types.now.types }
+    {
+        ReferenceScope {
+            config,
+            types,
+            funcs: grounds.funcs,
+            imported_funcs: grounds.imported_funcs,
+            kept: &grounds.kept,
+        }
+    }
+
+    /// Returns the types and functions of `spaces`. Checks of whether a function grounds a heap
+    /// type use the record `grounds`, if given.
+    pub(crate) fn with_record(
+        config: &'a Config,
+        spaces: &Spaces<'a>,
+        grounds: &'a Option<FuncGrounds>,
+    ) -> ReferenceScope<'a>
+        requires { IfSome grounds.now (AreFuncGrounds (standing_in config.now spaces.now)) }
+        ensures { result ≡ standing_in config.now spaces.now }
+    {
+        ReferenceScope {
+            config,
+            types: spaces.types,
+            funcs: spaces.entities.funcs,
+            imported_funcs: spaces.entities.imported_funcs,
+            kept: grounds,
+        }
+    }
+
+    /// Returns the types.
+    pub fn types(&self) -> &'a TypeSpace
+        ensures { result.now.types ≡ self.now.types }
+    {
+        self.types
+    }
+
+    /// Proves that the types are orderly, as those of every type space are.
+    pub(crate) fn orderly(&self)
+        ensures { IsOrderly self.now.types }
+    {
+        let _types = self.types.types();
+    }
+
+    /// Returns whether a type or a function grounds the heap type `ty`.
+    pub(crate) fn is_grounded(&self, ty: HeapType) -> bool
+        ensures { result ≡ is_grounded self.now ty }
+    {
+        if !is_in_range(self.types.types(), ty) {
+            return false;
+        }
+        let descriptors = self.config.custom_descriptors_enabled;
+        if self.types.is_grounded_by_structs(ty, descriptors) {
+            return true;
+        }
+        self.is_grounded_by_functions(ty)
+    }
+
+    /// Returns whether a function grounds the heap type `ty`. Requires the type named by `ty`, if
+    /// any, to exist.
+    fn is_grounded_by_functions(&self, ty: HeapType) -> bool
+        requires orderly { IsOrderly self.now.types }
+        requires stands { IsInRange self.now.types ty }
+        ensures { result ≡ any_from (function_grounds self.now ty) 0 self.now.funcs }
+    {
+        if let Some(kept) = self.kept {
+            return self.is_recorded(kept, ty);
+        }
+        self.is_above_a_function(ty)
+    }
+
+    /// Returns the same as [`ReferenceScope::is_grounded_by_functions`], from the record `kept`. No
+    /// function grounds a type that was added after it was made.
+    fn is_recorded(&self, kept: &FuncGrounds, ty: HeapType) -> bool
+        requires orderly { IsOrderly self.now.types }
+        requires stands { IsInRange self.now.types ty }
+        requires kept { IsRecordOver self.now kept.now }
+        ensures { result ≡ any_from (function_grounds self.now ty) 0 self.now.funcs }
+    {
+        kept.are_grounding(ty)
+    }
+
+    /// Returns the same as [`ReferenceScope::is_grounded_by_functions`], by reading each function.
+    fn is_above_a_function(&self, ty: HeapType) -> bool
+        requires { IsInRange self.now.types ty }
+        ensures { result ≡ any_from (function_grounds self.now ty) 0 self.now.funcs }
+    {
+        let funcs = self.funcs;
+        for function in 0..funcs.len() {
+            if self.is_function_below(function, funcs[function], ty) {
+                return true;
+            }
+        }
+        false
+    }
+
+    /// Returns whether a reference to the function `function` with the type `index` is a subtype of
+    /// the heap type `ty`. Requires the type named by `ty`, if any, to exist.
+    fn is_function_below(&self, function: usize, index: u32, ty: HeapType) -> bool
+        requires { IsInRange self.now.types ty }
+        ensures { result ≡ function_grounds self.now ty function index }
+    {
+        if index as usize >= self.types.types().len() {
+            return false;
+        }
+        let reference = self.reference_to(function, index);
+        self.types.heap_type_is_sub_type(reference, ty)
+    }
+
+    /// Returns the heap type of a reference to the function `function` with the type `index`.
+    fn reference_to(&self, function: usize, index: u32) -> HeapType
+        ensures value { reference_to result ≡ function_reference self.now function index }
+        ensures stands { index < length self.now.types → IsInRange self.now.types result }
+    {
+        if self.config.custom_descriptors_enabled && function >= self.imported_funcs {
+            HeapType::Exact(index)
+        } else {
+            HeapType::Concrete(index)
+        }
+    }
+}
+
+/// Returns whether the type that `ty` refers to is one of `types`.
+fn is_in_range(types: &[SubType], ty: HeapType) -> bool
+    ensures { IsTrue result ↔ IsInRange types.now ty }
+{
+    match ty {
+        HeapType::Abstract { .. } => true,
+        HeapType::Concrete(index) => (index as usize) < types.len(),
+        HeapType::Exact(index) => (index as usize) < types.len(),
+    }
+}

@@ -1,0 +1,167 @@
+use crate::failure::Failure;
+use crate::fields::fields;
+use crate::request::Request;
+use crate::words::{ARBITRARY, CONFIG};
+use smith_bytes::{Error, Unstructured};
+use smith_config::{Config, MemoryOffsetChoices};
+use smith_config_json::{Fault, FieldKind, kind_of, read_text};
+use smith_types::InstructionKinds;
+use std::alloc::Global;
+use std::str::FromStr;
+
+/// Returns the configuration that `asked` requests: the default, or one drawn from the first bytes
+/// of `u` if a word selects it, with the fields of the configuration file, and then those that are
+/// words.
+pub(crate) fn config_of(
+    alloc: Global,
+    asked: &Request<'_, '_>,
+    u: &mut Unstructured<'_>,
+) -> Result<Config, Failure> {
+    let mut config = first_config(asked, u)?;
+    set_fields(alloc, asked, &mut config).and(Ok(config))
+}
+
+/// Returns the configuration before its fields are set.
+fn first_config(asked: &Request<'_, '_>, u: &mut Unstructured<'_>) -> Result<Config, Failure> {
+    if !asked.matches.get_flag(ARBITRARY) {
+        return Ok(Config::default());
+    }
+    match Config::arbitrary(u) {
+        Ok(config) => Ok(config),
+        Err(refusal) => Err(Failure::from(refusal)),
+    }
+}
+
+/// Checks the configuration that `asked` requests. Of a drawn configuration, which depends on the
+/// input, only the fields are checked that replace drawn ones.
+pub(crate) fn check_config(alloc: Global, asked: &Request<'_, '_>) -> Result<(), Failure> {
+    let mut config = Config::default();
+    let checked = set_and_check(alloc, asked, &mut config);
+    drop(config);
+    checked
+}
+
+fn set_and_check(
+    alloc: Global,
+    asked: &Request<'_, '_>,
+    config: &mut Config,
+) -> Result<(), Failure> {
+    set_fields(alloc, asked, config)?;
+    if asked.matches.get_flag(ARBITRARY) {
+        return Ok(());
+    }
+    config.sanitize();
+    match config.check() {
+        Ok(()) => Ok(()),
+        Err(fault) => Err(Failure::from(Error::Config(fault))),
+    }
+}
+
+/// Sets the fields of the configuration file, and then those that are words.
+fn set_fields(alloc: Global, asked: &Request<'_, '_>, config: &mut Config) -> Result<(), Failure> {
+    set_from_file(alloc, asked, config)?;
+    set_from_words(alloc, asked, config)
+}
+
+/// Sets the fields that the configuration file names.
+fn set_from_file(
+    alloc: Global,
+    asked: &Request<'_, '_>,
+    config: &mut Config,
+) -> Result<(), Failure> {
+    let Some(text) = &asked.config else {
+        return Ok(());
+    };
+    match read_text(alloc, text.as_str(), config) {
+        Ok(()) => Ok(()),
+        Err(refusal) => {
+            if refusal.fault == Fault::OutOfMemory {
+                return Err(Failure::from(Error::Memory));
+            }
+            let path = String::from_str(alloc, asked.matches.get_str(CONFIG).unwrap_or(""))?;
+            Err(Failure::Config(path, refusal.in_text(text.as_str())))
+        }
+    }
+}
+
+/// Sets the fields that are words.
+fn set_from_words(
+    alloc: Global,
+    asked: &Request<'_, '_>,
+    config: &mut Config,
+) -> Result<(), Failure> {
+    for field in fields() {
+        if let Some(value) = asked.matches.get_str(field.name) {
+            set_from_word(alloc, field.name, value, config)?;
+        }
+    }
+    Ok(())
+}
+
+/// Sets the field `name` to the value that the word `value` denotes.
+fn set_from_word(
+    alloc: Global,
+    name: &str,
+    value: &str,
+    config: &mut Config,
+) -> Result<(), Failure> {
+    if is_set(alloc, name, value, config)? {
+        return Ok(());
+    }
+    Err(Failure::Word(format!(in alloc; "{value:?} is not a value of --{name}")?))
+}
+
+/// Sets the field `name` to the value that the word `value` denotes. Returns whether it denotes a
+/// value of the field.
+fn is_set(alloc: Global, name: &str, value: &str, config: &mut Config) -> Result<bool, Failure> {
+    match kind_of(name) {
+        Some(FieldKind::InstructionKinds) => Ok(is_kinds_set(value, config)),
+        Some(FieldKind::OffsetChoices) => Ok(is_choices_set(value, config)),
+        _ if is_plain(value) => is_plain_set(alloc, name, value, config),
+        _ => Ok(false),
+    }
+}
+
+/// Sets the field `name` to `value`, a word that JSON may know. Returns whether it is a value of the
+/// field.
+fn is_plain_set(
+    alloc: Global,
+    name: &str,
+    value: &str,
+    config: &mut Config,
+) -> Result<bool, Failure> {
+    let text = format!(in alloc; "{{\"{name}\":{value}}}")?;
+    match read_text(alloc, text.as_str(), config) {
+        Ok(()) => Ok(true),
+        Err(refusal) => match refusal.fault {
+            Fault::OutOfMemory => Err(Failure::from(Error::Memory)),
+            _ => Ok(false),
+        },
+    }
+}
+
+/// Returns whether `value` is a whole number or a truth value as JSON writes them, or a word that
+/// JSON doesn't know.
+fn is_plain(value: &str) -> bool {
+    value != "null" && value.bytes().all(|byte| byte.is_ascii_alphanumeric())
+}
+
+fn is_kinds_set(value: &str, config: &mut Config) -> bool {
+    match InstructionKinds::from_str(value) {
+        Ok(kinds) => {
+            config.allowed_instructions = kinds;
+            true
+        }
+        Err(_) => false,
+    }
+}
+
+fn is_choices_set(value: &str, config: &mut Config) -> bool {
+    match MemoryOffsetChoices::from_str(value) {
+        Ok(choices) => {
+            config.memory_offset_choices = choices;
+            true
+        }
+        Err(_) => false,
+    }
+}
