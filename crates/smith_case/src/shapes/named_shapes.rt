@@ -69,6 +69,9 @@ three globals to import: import env one global i32 | import env two global i32 \
 a reference to import that is never null: import env one global (ref i31)
 three exports of two constants: global f32 | global f32 | export foo global 1 \
     | export bar global 0 | export baz global 0
+tables and globals of null references to functions: table 1 (ref null func) \
+    | table 2 (ref null func) | global (ref null func) | global (ref null func) \
+    | export a table 0 | export b global 0 | export c table 1 | export d global 1
 imports that are exported: group func -> | import env one func 0 | import a two global i64 \
     | export foo func 0 | export bar func 0 | export baz global 0
 a constant reference to a number: global (ref i31) | export a global 0
