@@ -1,4 +1,8 @@
-"""Valid WebAssembly modules from bytes, by bindings/out/libsmith.so (or the library that SMITH_LIBRARY names)."""
+"""Valid WebAssembly modules from bytes, by libsmith.so.
+
+The library is the one that SMITH_LIBRARY names, or else the one next to this file, in `lib` of its installation, or in `dist` of its
+checkout.
+"""
 import ctypes
 import os
 import pathlib
@@ -19,8 +23,25 @@ class Refused(Exception):
 
 
 _MADE, _SHORT = 0, 1
-_BUILT = pathlib.Path(__file__).resolve().parent.parent / "out" / "libsmith.so"
-_LIBRARY = ctypes.CDLL(os.environ.get("SMITH_LIBRARY", str(_BUILT)))
+
+
+def _library() -> str:
+    """Returns the path of the library. Raises `ImportError` with how to get it if it isn't there."""
+    named = os.environ.get("SMITH_LIBRARY")
+    if named:
+        return named
+    here = pathlib.Path(__file__).resolve().parent
+    places = [here, here.parent / "lib", here.parent.parent / "dist"]
+    found = [place / "libsmith.so" for place in places if (place / "libsmith.so").is_file()]
+    if not found:
+        raise ImportError(
+            f"libsmith.so is in none of {', '.join(map(str, places))}. At the top of the checkout, `./build --unproved` makes it "
+            "in minutes, and `./build` proves it first; or let SMITH_LIBRARY name it"
+        )
+    return str(found[0])
+
+
+_LIBRARY = ctypes.CDLL(_library())
 for _name in ("smith_binary", "smith_text", "smith_refusal"):
     getattr(_LIBRARY, _name).restype = Answer
     getattr(_LIBRARY, _name).argtypes = [ctypes.c_char_p, ctypes.c_size_t] * 3
