@@ -1,11 +1,12 @@
-"""Valid WebAssembly modules from bytes, by libsmith.so.
+"""Valid WebAssembly modules from bytes, by libsmith.so: of dist/, or the library that SMITH_LIBRARY names."""
+from __future__ import annotations
 
-The library is the one that SMITH_LIBRARY names, or else the one next to this file, in `lib` of its installation, or in `dist` of its
-checkout.
-"""
 import ctypes
+import json
 import os
 import pathlib
+
+__version__ = "0.1.0"
 
 
 class Answer(ctypes.Structure):
@@ -22,26 +23,21 @@ class Refused(Exception):
         self.status = status
 
 
-_MADE, _SHORT = 0, 1
-
-
-def _library() -> str:
-    """Returns the path of the library. Raises `ImportError` with how to get it if it isn't there."""
-    named = os.environ.get("SMITH_LIBRARY")
-    if named:
-        return named
+def _path() -> str:
+    """Returns the path of the library. Raises `ImportError` with what makes it if there is none."""
+    if "SMITH_LIBRARY" in os.environ:
+        return os.environ["SMITH_LIBRARY"]
     here = pathlib.Path(__file__).resolve().parent
-    places = [here, here.parent / "lib", here.parent.parent / "dist"]
-    found = [place / "libsmith.so" for place in places if (place / "libsmith.so").is_file()]
-    if not found:
-        raise ImportError(
-            f"libsmith.so is in none of {', '.join(map(str, places))}. At the top of the checkout, `./build --unproved` makes it "
-            "in minutes, and `./build` proves it first; or let SMITH_LIBRARY name it"
-        )
-    return str(found[0])
+    top = here.parent.parent
+    folders = [here, here.parent, top / "dist", top / "bindings" / "out"]
+    for folder in folders:
+        if (folder / "libsmith.so").is_file():
+            return str(folder / "libsmith.so")
+    raise ImportError(f"no libsmith.so in {', '.join(map(str, folders))}: `./build` makes it in dist; SMITH_LIBRARY can name another")
 
 
-_LIBRARY = ctypes.CDLL(_library())
+_MADE, _SHORT = 0, 1
+_LIBRARY = ctypes.CDLL(_path())
 for _name in ("smith_binary", "smith_text", "smith_refusal"):
     getattr(_LIBRARY, _name).restype = Answer
     getattr(_LIBRARY, _name).argtypes = [ctypes.c_char_p, ctypes.c_size_t] * 3
@@ -58,18 +54,31 @@ def _output(call, config: bytes, given: bytes) -> tuple:
         room = answer.length
 
 
-def _made(call, config: str, given: bytes) -> bytes:
-    status, output = _output(call, config.encode(), given)
+def _text_of(config: str | dict) -> bytes:
+    """Returns the text of a configuration."""
+    if isinstance(config, dict):
+        return json.dumps(config).encode()
+    if isinstance(config, str):
+        return config.encode()
+    raise TypeError(f"a configuration must be a str or a dict, not {type(config).__name__}")
+
+
+def _made(call, config: str | dict, given: bytes | bytearray | memoryview) -> bytes:
+    words, data = _text_of(config), bytes(memoryview(given))
+    status, output = _output(call, words, data)
     if status != _MADE:
-        raise Refused(status, _output(_LIBRARY.smith_refusal, config.encode(), given)[1].decode())
+        raise Refused(status, _output(_LIBRARY.smith_refusal, words, data)[1].decode())
     return output
 
 
-def module(given: bytes, config: str = "") -> bytes:
-    """Returns the module of `given`, with bodies of instructions, in the binary format. `config` is a JSON object, or empty for the default."""
+def module(given: bytes | bytearray | memoryview, config: str | dict = "") -> bytes:
+    """Returns the module of `given`, with bodies of instructions, in the binary format.
+
+    `config` is a JSON object, as text or as a dictionary, or empty for the default. Raises `Refused` if there is no module.
+    """
     return _made(_LIBRARY.smith_binary, config, given)
 
 
-def text(given: bytes, config: str = "") -> str:
+def text(given: bytes | bytearray | memoryview, config: str | dict = "") -> str:
     """Returns the same module in the text format."""
     return _made(_LIBRARY.smith_text, config, given).decode()
