@@ -9,7 +9,11 @@ PROGRAM, LIBRARY = "smith_wasm", "smith_c"
 # The one place of the version. Versions with the same second number produce the same file of the same configuration and bytes.
 PLACE = "crates/smith_wasm/src/words.rt"
 VERSION = re.compile(r'(const VERSION: &str = ")(\d+\.\d+\.\d+)(";)')
-MANIFEST = "bindings/rust/Cargo.toml"
+# The files that repeat it, since nothing builds them.
+COPIES = {
+    "bindings/rust/Cargo.toml": re.compile(r'^version = "(.*)"$', re.M),
+    "bindings/python/smith.py": re.compile(r'^__version__ = "(.*)"$', re.M),
+}
 
 
 def dependencies() -> dict:
@@ -33,11 +37,12 @@ def below(*names: str) -> list:
 
 
 def version() -> str:
-    """Returns the version. Raises `Failed` if the manifest of the Rust crate has another."""
+    """Returns the version. Raises `Failed` if a file that repeats it has another."""
     found = VERSION.findall((ROOT / PLACE).read_text())
     if len(found) != 1:
         raise Failed(f'{PLACE} has {len(found)} lines `const VERSION: &str = "X.Y.Z";`, and not one')
-    manifest = re.search(r'^version = "(.*)"$', (ROOT / MANIFEST).read_text(), re.M)
-    if not manifest or manifest[1] != found[0][1]:
-        raise Failed(f"{MANIFEST} has version {manifest and manifest[1]}, and {PLACE} has {found[0][1]}")
+    for path, line in COPIES.items():
+        copies = line.findall((ROOT / path).read_text())
+        if copies != [found[0][1]]:
+            raise Failed(f"{path} has the version {' '.join(copies) or 'nowhere'}, and {PLACE} has {found[0][1]}")
     return found[0][1]

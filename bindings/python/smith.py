@@ -1,4 +1,8 @@
-"""Valid WebAssembly modules from bytes, by libsmith.so: of dist/, or the library that SMITH_LIBRARY names."""
+"""Valid WebAssembly modules from bytes, by libsmith.so.
+
+The library is the one that SMITH_LIBRARY names, or else the one next to this file, in `lib` of its installation, or in `dist` of its
+checkout.
+"""
 from __future__ import annotations
 
 import ctypes
@@ -6,7 +10,7 @@ import json
 import os
 import pathlib
 
-__version__ = "0.1.0"
+__version__ = "0.2.0"
 
 
 class Answer(ctypes.Structure):
@@ -28,12 +32,14 @@ def _path() -> str:
     if "SMITH_LIBRARY" in os.environ:
         return os.environ["SMITH_LIBRARY"]
     here = pathlib.Path(__file__).resolve().parent
-    top = here.parent.parent
-    folders = [here, here.parent, top / "dist", top / "bindings" / "out"]
+    folders = [here, here.parent / "lib", here.parent.parent / "dist"]
     for folder in folders:
         if (folder / "libsmith.so").is_file():
             return str(folder / "libsmith.so")
-    raise ImportError(f"no libsmith.so in {', '.join(map(str, folders))}: `./build` makes it in dist; SMITH_LIBRARY can name another")
+    raise ImportError(
+        f"no libsmith.so in {', '.join(map(str, folders))}. At the top of the checkout, `./build --unproved` makes it in minutes, "
+        "and `./build` proves it first; or let SMITH_LIBRARY name it"
+    )
 
 
 _MADE, _SHORT = 0, 1
