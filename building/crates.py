@@ -9,11 +9,9 @@ PROGRAM, LIBRARY = "smith_wasm", "smith_c"
 # The one place of the version. Versions with the same second number produce the same file of the same configuration and bytes.
 PLACE = "crates/smith_wasm/src/words.rt"
 VERSION = re.compile(r'(const VERSION: &str = ")(\d+\.\d+\.\d+)(";)')
-# The files that repeat it, since nothing builds them.
-COPIES = {
-    "bindings/rust/Cargo.toml": re.compile(r'^version = "(.*)"$', re.M),
-    "bindings/python/smith.py": re.compile(r'^__version__ = "(.*)"$', re.M),
-}
+# The files that repeat it, since they are used as they are too.
+PYTHON = "bindings/python/smith.py"
+COPIES = {"bindings/rust/Cargo.toml": re.compile(r'^version = "(.*)"$', re.M), PYTHON: re.compile(r'^__version__ = "(.*)"$', re.M)}
 
 
 def dependencies() -> dict:

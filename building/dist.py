@@ -5,7 +5,7 @@ import pathlib
 import shutil
 
 from building.commands import ROOT, Failed, run
-from building.crates import PROGRAM
+from building.crates import PROGRAM, PYTHON
 from building.manual import page
 
 DIST = ROOT / "dist"
@@ -65,6 +65,12 @@ def header_text(build: Build) -> str:
     return text.replace(begin, begin + macros)
 
 
+def python_text(build: Build) -> str:
+    """Returns the Python module, with a version that says so if nothing is proved."""
+    text = (ROOT / PYTHON).read_text()
+    return text if build.is_proved else text.replace(f'__version__ = "{build.version}"', f'__version__ = "{build.version}+unproved"')
+
+
 def package_text(build: Build) -> str:
     """Returns the file for pkg-config, for a program that is linked with the files of `dist` where they are."""
     folders = "\n".join(INSTALLED)
@@ -88,7 +94,7 @@ def add_files(folder: pathlib.Path, build: Build) -> None:
     (folder / "VERSION").write_text(version_text(build))
     (folder / "smith.h").write_text(header_text(build))
     (folder / "smith.pc").write_text(package_text(build))
-    shutil.copy(ROOT / "bindings/python/smith.py", folder)
+    (folder / "smith.py").write_text(python_text(build))
     shutil.copy(ROOT / "LICENSE", folder)
     (folder / SUMS).write_text(sums_of(folder))
 
@@ -115,7 +121,4 @@ def install(to: pathlib.Path) -> None:
         (to / place).mkdir(parents=True, exist_ok=True)
         shutil.copy(DIST / name, to / place / name)
     package = to / PLACES["smith.pc"] / "smith.pc"
-    lines = package.read_text()
-    for line, installed in INSTALLED.items():
-        lines = lines.replace(f"\n{line}\n", f"\n{installed}\n")
-    package.write_text(lines)
+    package.write_text("".join(f"{INSTALLED.get(line, line)}\n" for line in package.read_text().splitlines()))
