@@ -25,7 +25,7 @@ def say(text: str) -> None:
     print(f"build: {text}", flush=True)
 
 
-def started_process(words: list, how: dict) -> subprocess.Popen:
+def start(words: list, how: dict) -> subprocess.Popen:
     """Starts a command. Raises `Failed` once all were ended."""
     with GUARD:
         if ENDED.is_set():
@@ -41,7 +41,7 @@ def run(*words, folder: pathlib.Path = ROOT, shown: bool = False, status=(0,)) -
     Raises `Failed` with the end of its output if its exit status isn't among those of `status`."""
     words = [str(word) for word in words]
     streams = {} if shown else {"stdout": subprocess.PIPE, "stderr": subprocess.STDOUT}
-    with started_process(words, {"cwd": folder, "stdin": subprocess.DEVNULL, **streams}) as started:
+    with start(words, {"cwd": folder, "stdin": subprocess.DEVNULL, **streams}) as started:
         try:
             output = (started.communicate()[0] or b"").decode(errors="replace")
         finally:

@@ -99,11 +99,11 @@ def add_files(folder: pathlib.Path, build: Build) -> None:
     (folder / SUMS).write_text(sums_of(folder))
 
 
-def replace(made: pathlib.Path, room: pathlib.Path) -> None:
-    """Makes `made` the folder `dist`. The earlier one goes to `room`, which is on the same disk."""
+def replace(new: pathlib.Path, room: pathlib.Path) -> None:
+    """Makes `new` the folder `dist`. The earlier one goes to `room`, which is on the same disk."""
     if DIST.exists():
         DIST.rename(room / "earlier")
-    made.rename(DIST)
+    new.rename(DIST)
 
 
 def check_sums() -> None:

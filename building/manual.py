@@ -9,7 +9,7 @@ ENTRY = re.compile(r" {2,6}(?P<words>(?:-|\[|<|[a-z])\S*(?: \S+)*)(?: {2,}(?P<ab
 DEEPER = " " * 8
 
 
-def escaped(text: str) -> str:
+def escape(text: str) -> str:
     """Returns text for troff: hyphens that stay so, and no line that begins with a command."""
     text = text.replace("\\", "\\e").replace("-", "\\-")
     return f"\\&{text}" if text.startswith((".", "'")) else text
@@ -31,9 +31,9 @@ def entries(lines: list) -> list:
 
 def section(title: str, lines: list) -> str:
     """Returns a section of the page."""
-    parts = [f".TP\n\\fB{escaped(words)}\\fR\n" if words else ".PP\n" for words, _ in entries(lines)]
-    texts = [f"{part}{escaped(about)}\n" for part, (_, about) in zip(parts, entries(lines))]
-    return f".SH {escaped(title.upper())}\n{''.join(texts)}"
+    parts = [f".TP\n\\fB{escape(words)}\\fR\n" if words else ".PP\n" for words, _ in entries(lines)]
+    texts = [f"{part}{escape(about)}\n" for part, (_, about) in zip(parts, entries(lines))]
+    return f".SH {escape(title.upper())}\n{''.join(texts)}"
 
 
 def page(help_text: str, name: str, version: str, about: str) -> str:
@@ -43,6 +43,6 @@ def page(help_text: str, name: str, version: str, about: str) -> str:
     usage = [line.removeprefix("Usage:").strip() for line in lines if line.startswith(("Usage:", "       "))]
     does = " ".join(line.strip() for line in lines if line and not line.startswith(("Usage:", "       ")))
     head = f'.TH {name.upper()} 1 "" "{name} {version}" "User Commands"\n.SH NAME\n{name} \\- {about}\n'
-    calls = "\n.br\n".join(f"\\fB{name}\\fR {escaped(call.removeprefix(name).strip())}" for call in usage)
+    calls = "\n.br\n".join(f"\\fB{name}\\fR {escape(call.removeprefix(name).strip())}" for call in usage)
     sections = "".join(section(title, text.splitlines()) for title, text in zip(rest[::2], rest[1::2]))
-    return f"{head}.SH SYNOPSIS\n{calls}\n.SH DESCRIPTION\n{escaped(does)}\n{sections}"
+    return f"{head}.SH SYNOPSIS\n{calls}\n.SH DESCRIPTION\n{escape(does)}\n{sections}"

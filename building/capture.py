@@ -32,7 +32,7 @@ VALUES = {"Global": "rt.alloc()", "&[u8]": 'b""', "&mut [u8]": "&mut out", "u32"
 
 
 @dataclasses.dataclass
-class Captured:
+class Module:
     """The module, the words of the compiler for it, and the functions that it exports, none for a program."""
 
     bitcode: pathlib.Path
@@ -40,7 +40,7 @@ class Captured:
     exports: list
 
 
-def linked(source: pathlib.Path, to: pathlib.Path, but: set) -> None:
+def link_entries(source: pathlib.Path, to: pathlib.Path, but: set) -> None:
     """Makes a folder of links to the entries of another, except those named in `but`."""
     to.mkdir(parents=True)
     for entry in source.iterdir():
@@ -48,23 +48,23 @@ def linked(source: pathlib.Path, to: pathlib.Path, but: set) -> None:
             (to / entry.name).symlink_to(entry)
 
 
-def script(path: pathlib.Path, text: str) -> None:
+def write_script(path: pathlib.Path, text: str) -> None:
     """Writes a script."""
     path.write_text(text)
     path.chmod(0o755)
 
 
-def stand_in(kit: pathlib.Path, folder: pathlib.Path) -> None:
+def make_stand_in(kit: pathlib.Path, folder: pathlib.Path) -> None:
     """Makes the stand-in for the kit. `rt` finds its kit by its own place, so it is a copy."""
-    linked(kit, folder, {"bin", "toolchain"})
-    linked(kit / "bin", folder / "bin", {"rt", "rtlib.py", "rattle"})
+    link_entries(kit, folder, {"bin", "toolchain"})
+    link_entries(kit / "bin", folder / "bin", {"rt", "rtlib.py", "rattle"})
     for name in ("rt", "rtlib.py"):
         shutil.copy(kit / "bin" / name, folder / "bin" / name)
-    script(folder / "bin/rattle", NO_HINTS)
-    linked(kit / "toolchain", folder / "toolchain", {"bin"})
-    linked(kit / "toolchain/bin", folder / "toolchain/bin", {"clang"})
+    write_script(folder / "bin/rattle", NO_HINTS)
+    link_entries(kit / "toolchain", folder / "toolchain", {"bin"})
+    link_entries(kit / "toolchain/bin", folder / "toolchain/bin", {"clang"})
     (folder / "toolchain/bin/clang.real").symlink_to(kit / "toolchain/bin/clang")
-    script(folder / "toolchain/bin/clang", WRAPPER)
+    write_script(folder / "toolchain/bin/clang", WRAPPER)
 
 
 def copy_sources(folder: pathlib.Path, suffix: str) -> None:
@@ -82,17 +82,17 @@ def call_of(name: str, parameters: str) -> str:
     types = [parameter.partition(":")[2].strip() for parameter in parameters.split(",")]
     lacking = [kind for kind in types if kind not in VALUES]
     if lacking:
-        raise Failed(f"{LIBRARY}: the export {name} takes a {lacking[0]}, of which building/captured.py has no value")
+        raise Failed(f"{LIBRARY}: the export {name} takes a {lacking[0]}, of which building/capture.py has no value")
     return f"    let _ = {name}({', '.join(VALUES[kind] for kind in types)});\n"
 
 
-def as_program(folder: pathlib.Path) -> list:
+def make_program(folder: pathlib.Path) -> list:
     """Makes a program of the copied library for C, since `rt try` compiles what `main` reaches. Returns its exports."""
     source = folder / "crates" / LIBRARY / "src"
     text = (source / "lib.rt").read_text()
     exports = EXPORT.findall(text)
     if not exports or len(exports) != text.count("no_mangle"):
-        raise Failed(f"{LIBRARY}: its exports don't have the form that building/captured.py reads")
+        raise Failed(f"{LIBRARY}: its exports don't have the form that building/capture.py reads")
     calls = "".join(call_of(*export) for export in exports)
     main = f"/// Reaches each export.\nfn main(rt: HostRuntime) {{\n    let mut out = [0u8; 1];\n{calls}}}\n"
     (source / "main.rt").write_text(f"{text}\n{main}")
@@ -102,15 +102,15 @@ def as_program(folder: pathlib.Path) -> list:
     return [name for name, _ in exports]
 
 
-def captured(kit: pathlib.Path, crate: str, folder: pathlib.Path) -> Captured:
+def capture(kit: pathlib.Path, crate: str, folder: pathlib.Path) -> Module:
     """Returns the module of the program or of the library for C, in a new folder."""
     copy, stand = folder / "sources", folder / "kit"
     copy_sources(copy, " (unproved)")
-    exports = [] if crate == PROGRAM else as_program(copy)
-    stand_in(kit, stand)
+    exports = [] if crate == PROGRAM else make_program(copy)
+    make_stand_in(kit, stand)
     # The wrapper ends the try, so its status says nothing.
     said = run(stand / "bin/rt", "try", "--steps", "1", "--seconds", "1", folder=copy / "crates" / crate, status=range(256))
     bitcode, words = stand / "toolchain/kept.bc", stand / "toolchain/kept.words"
     if not words.is_file():
         raise Failed(f"{said[-4000:]}\n`rt try` compiled no module of {crate}")
-    return Captured(bitcode, words.read_text().splitlines(), exports)
+    return Module(bitcode, words.read_text().splitlines(), exports)

@@ -4,7 +4,7 @@ import shutil
 
 from building.commands import ROOT, Failed, run, say
 from building.crates import LIBRARY, PROGRAM, below, dependencies
-from building.linked import link_library
+from building.link import link_library
 
 
 def crate_folder(name: str) -> pathlib.Path:
@@ -23,7 +23,7 @@ def build(kit: pathlib.Path, to: pathlib.Path) -> None:
     link_library(kit, crate_folder(LIBRARY) / f"out/lib{LIBRARY}.a", to)
 
 
-def found(path: pathlib.Path) -> pathlib.Path:
+def require(path: pathlib.Path) -> pathlib.Path:
     """Returns a path that `rt ci` made. Raises `Failed` if there is nothing."""
     if not path.exists():
         raise Failed(f"{path.relative_to(ROOT)} isn't there: `rt ci` makes it")
@@ -36,7 +36,7 @@ def build_words(kit: pathlib.Path) -> list:
     words = ["--extern", f"std={kit}/rlibs/std.rlib", "-L", f"dependency={kit}/rlibs"]
     for name in ours[LIBRARY]:
         is_ours = name in ours
-        library = found(crate_folder(name) / f"out/rlib/{name}.rlib") if is_ours else kit / f"rlibs/{name}.rlib"
+        library = require(crate_folder(name) / f"out/rlib/{name}.rlib") if is_ours else kit / f"rlibs/{name}.rlib"
         words += ["--extern", f"{name}={library}"]
         words += ["-L", f"dependency={library.parent}"] * is_ours
     return words
@@ -46,9 +46,9 @@ def build_from_gate(kit: pathlib.Path, work: pathlib.Path, to: pathlib.Path) -> 
     """Builds both in the folder `to` from what `rt ci` left in this checkout.
 
     Proves the library for C once more, over what an earlier check of it kept, and no crate below it."""
-    shutil.copy(found(crate_folder(PROGRAM) / "out" / PROGRAM), to / PROGRAM)
+    shutil.copy(require(crate_folder(PROGRAM) / "out" / PROGRAM), to / PROGRAM)
     logic = ["--antt-project", kit / "rattle/logic/antt-project.json", "--logic-built", kit / "logic_built"]
-    made, folder = work / f"lib{LIBRARY}.a", crate_folder(LIBRARY)
+    archive, folder = work / f"lib{LIBRARY}.a", crate_folder(LIBRARY)
     kept = ["--incremental", folder / "out/incremental", "--crate-type", "staticlib", "--toolchain", kit / "toolchain"]
-    run(kit / "bin/rattle", "build", "--crate-name", LIBRARY, "src/lib.rt", *build_words(kit), *logic, *kept, "-o", made, folder=folder)
-    link_library(kit, made, to)
+    run(kit / "bin/rattle", "build", "--crate-name", LIBRARY, "src/lib.rt", *build_words(kit), *logic, *kept, "-o", archive, folder=folder)
+    link_library(kit, archive, to)
