@@ -1,6 +1,7 @@
 /* Valid WebAssembly modules from bytes, with bodies of instructions.
  *
- * Link with libsmith.a, or load libsmith.so; `bindings/build` makes both.
+ * Link with libsmith.a, or load libsmith.so; `./build` makes both. In the header next to them SMITH_VERSION is the version, a string, and
+ * SMITH_UNPROVED is defined if nothing of the build is proved. Versions with the same second number produce the same modules.
  *
  * Each call takes a configuration, an input, and a buffer for its output. All three are a pointer and a number of bytes.
  *

@@ -1,7 +1,16 @@
-"""Valid WebAssembly modules from bytes, by bindings/out/libsmith.so (or the library that SMITH_LIBRARY names)."""
+"""Valid WebAssembly modules from bytes, by libsmith.so.
+
+The library is the one that SMITH_LIBRARY names, or else the one next to this file, in `lib` of its installation, or in `dist` of its
+checkout.
+"""
+from __future__ import annotations
+
 import ctypes
+import json
 import os
 import pathlib
+
+__version__ = "0.2.0"
 
 
 class Answer(ctypes.Structure):
@@ -18,9 +27,23 @@ class Refused(Exception):
         self.status = status
 
 
+def _path() -> str:
+    """Returns the path of the library. Raises `ImportError` with what makes it if there is none."""
+    if "SMITH_LIBRARY" in os.environ:
+        return os.environ["SMITH_LIBRARY"]
+    here = pathlib.Path(__file__).resolve().parent
+    folders = [here, here.parent / "lib", here.parent.parent / "dist"]
+    for folder in folders:
+        if (folder / "libsmith.so").is_file():
+            return str(folder / "libsmith.so")
+    raise ImportError(
+        f"no libsmith.so in {', '.join(map(str, folders))}. At the top of the checkout, `./build --unproved` makes it in minutes, "
+        "and `./build` proves it first; or let SMITH_LIBRARY name it"
+    )
+
+
 _MADE, _SHORT = 0, 1
-_BUILT = pathlib.Path(__file__).resolve().parent.parent / "out" / "libsmith.so"
-_LIBRARY = ctypes.CDLL(os.environ.get("SMITH_LIBRARY", str(_BUILT)))
+_LIBRARY = ctypes.CDLL(_path())
 for _name in ("smith_binary", "smith_text", "smith_refusal"):
     getattr(_LIBRARY, _name).restype = Answer
     getattr(_LIBRARY, _name).argtypes = [ctypes.c_char_p, ctypes.c_size_t] * 3
@@ -37,18 +60,31 @@ def _output(call, config: bytes, given: bytes) -> tuple:
         room = answer.length
 
 
-def _made(call, config: str, given: bytes) -> bytes:
-    status, output = _output(call, config.encode(), given)
+def _text_of(config: str | dict) -> bytes:
+    """Returns the text of a configuration."""
+    if isinstance(config, dict):
+        return json.dumps(config).encode()
+    if isinstance(config, str):
+        return config.encode()
+    raise TypeError(f"a configuration must be a str or a dict, not {type(config).__name__}")
+
+
+def _made(call, config: str | dict, given: bytes | bytearray | memoryview) -> bytes:
+    words, data = _text_of(config), bytes(memoryview(given))
+    status, output = _output(call, words, data)
     if status != _MADE:
-        raise Refused(status, _output(_LIBRARY.smith_refusal, config.encode(), given)[1].decode())
+        raise Refused(status, _output(_LIBRARY.smith_refusal, words, data)[1].decode())
     return output
 
 
-def module(given: bytes, config: str = "") -> bytes:
-    """Returns the module of `given`, with bodies of instructions, in the binary format. `config` is a JSON object, or empty for the default."""
+def module(given: bytes | bytearray | memoryview, config: str | dict = "") -> bytes:
+    """Returns the module of `given`, with bodies of instructions, in the binary format.
+
+    `config` is a JSON object, as text or as a dictionary, or empty for the default. Raises `Refused` if there is no module.
+    """
     return _made(_LIBRARY.smith_binary, config, given)
 
 
-def text(given: bytes, config: str = "") -> str:
+def text(given: bytes | bytearray | memoryview, config: str | dict = "") -> str:
     """Returns the same module in the text format."""
     return _made(_LIBRARY.smith_text, config, given).decode()

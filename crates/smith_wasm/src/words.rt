@@ -5,6 +5,10 @@ use clap::{Arg, ArgAction, Command, value_parser};
 use smith_config_json::{FieldKind, kind_of};
 use std::alloc::Global;
 
+/// The version of the program, the library for C and its callers. Versions with the same second
+/// number produce the same file of the same configuration and bytes.
+const VERSION: &str = "0.2.0";
+
 /// The word of the input.
 pub(crate) const INPUT: &str = "input";
 /// The word of the file that is written.
@@ -136,7 +140,7 @@ static WORDS: [Word; 10] = [
 
 /// Creates the command line of the program.
 pub(crate) fn command<'a>(alloc: Global) -> Result<Command<'a>, Failure> {
-    let command = Command::new(alloc, "smith_wasm").version("0.1.0").about(
+    let command = Command::new(alloc, "smith_wasm").version(VERSION).about(
         "Makes a valid WebAssembly module from the bytes of a file or of standard input.",
     );
     let input = Arg::new(alloc, INPUT)
