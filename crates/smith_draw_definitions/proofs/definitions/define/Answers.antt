@@ -22,7 +22,7 @@ returns-in_err-define_funcs-clause-exact c =
 
 pub scope-drawn-requires : goal.scope-drawn-requires
 scope-drawn-requires c =
-    let scope = c.scope-scope.ensures in
+    let scope = c.reference_scope-scope.ensures in
     rw (scope.types, scope.funcs, scope.imported_funcs, c.as_slice-func_types.ensures, c.len-funcs_before.ensures)
     (functions_noted c.args.config.now c.args.types.now.types (spaces_in c.args.spaces.now) c.args.definitions.now c.define_funcs.new.funcs _ _ c.in_ok-define_funcs.ensures.filled.extends c.requires.may.within.funcs
     (rw (c.as_slice-func_types.ensures, c.len-funcs_before.ensures) at c.note_defined.ensures) c.requires.kept)
@@ -36,12 +36,12 @@ define_tables-requires-clause-may c =
 pub define_tables-requires-clause-standing : goal.define_tables-requires-clause-standing
 define_tables-requires-clause-standing c =
     let over = c.reference_scope_of_imports-imported.ensures in
-    let scope = c.scope-scope.ensures in
+    let scope = c.reference_scope-scope.ensures in
     rw (over.types, over.funcs, over.imported_funcs) (rw (scope.types, scope.funcs, scope.imported_funcs) at c.scope-drawn.ensures)
 
 pub define_globals-requires-clause-standing : goal.define_globals-requires-clause-standing
 define_globals-requires-clause-standing c =
-    let scope = c.scope-scope.ensures in
+    let scope = c.reference_scope-scope.ensures in
     rw (scope.types, scope.funcs, scope.imported_funcs) at c.scope-drawn.ensures
 
 pub returns-in_err-define_tables-clause-refusal : goal.returns-in_err-define_tables-clause-refusal

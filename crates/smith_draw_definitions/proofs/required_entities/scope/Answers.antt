@@ -3,7 +3,7 @@ use Rattle.smith_draw_definitions.proofs.required_entities.scope.Goals as goal
 
 pub returns-clause-valid : goal.returns-clause-valid
 returns-clause-valid c = λ config may.
-    let over = c.scope.ensures in
+    let over = c.reference_scope.ensures in
     record {
       types = rw over.types may.valid;
       funcs = rw (over.types, over.funcs, c.as_slice.ensures) may.entities.funcs;
