@@ -29,7 +29,7 @@ ghost use Rattle.std.specs.declared.ops.Range.{Range};
 ghost use Rattle.smith_types.specs.Types.{IsAlike, IsOrderly, next_start, next_group};
 ghost use Rattle.smith_types.specs.GroupedTypes.{AreExtensible, HasDepth, MayFollow};
 ghost use Rattle.smith_types.specs.GroupedTypes.{extensible_from};
-ghost use Rattle.smith_types.specs.Places.{IsPlace, ArePlaces, AreBeside, IsLonger, depths_in};
+ghost use Rattle.smith_types.specs.Places.{IsPlace, ArePlaces, AreBeside, depths_in};
 ghost use Rattle.smith_types.specs.Families.{direct_subtypes, AreFamilies};
 ghost use Rattle.smith_types.specs.Grounded.{IsGroundedBy, IsGroundedByStructs};
 ghost use Rattle.smith_types.specs.KindCounts.{indices_of_kind};
@@ -42,7 +42,7 @@ ghost use Rattle.smith_types.specs.Subtyping.{IsValInRange};
 use crate::family::{Family, extend_families, join_family};
 use crate::ground::{Ground, GroundKinds, is_ground, no_grounds, note_ground};
 use crate::matching::composite_type_is_match;
-use crate::place::{Place, last_counts, push_row};
+use crate::place::{Place, find_ancestor, last_counts, place_of};
 use crate::subtyping::{
     abstract_type_is_below, heap_type_is_below, ref_type_is_below, val_type_is_below,
 };
@@ -69,9 +69,6 @@ const LEAST_ROOM: usize = 4;
 pub struct TypeSpace {
     types: Vec<SubType>,
     places: Vec<Place>,
-    // The table of the rows of all places. Entries left by a type whose addition failed are not
-    // used.
-    rows: Vec<u32>,
     // The families of the first types, at least up to the last type with a supertype.
     families: Vec<Family>,
     extensible: Vec<u32>,
@@ -95,7 +92,7 @@ impl Model for TypeSpace {
     ghost view = { λ a. record { types = a.types.items; groups = a.groups.items } };
 
     ghost invariant = { λ a. IsSound (record { types = a.types.items; groups = a.groups.items })
-        × ArePlaces a.types.items a.rows.items a.places.items
+        × ArePlaces a.types.items a.places.items
         × (a.extensible.items ≡ extensible_from 0 a.types.items (depths_in a.places.items))
         × AreFamilies a.types.items a.families.items
         × (a.keeps_grounds ≡ true → AreGrounds a.types.items a.grounds.items)
@@ -127,7 +124,6 @@ impl TypeSpace {
         TypeSpace {
             types: Vec::new(alloc),
             places: Vec::new(alloc),
-            rows: Vec::new(alloc),
             families: Vec::new(alloc),
             extensible: Vec::new(alloc),
             keeps_grounds: true,
@@ -147,7 +143,6 @@ impl TypeSpace {
         Ok(TypeSpace {
             types: Vec::with_capacity(alloc, types)?,
             places,
-            rows: Vec::new(alloc),
             families: Vec::new(alloc),
             extensible: Vec::new(alloc),
             keeps_grounds: true,
@@ -197,6 +192,8 @@ impl TypeSpace {
     ///
     /// Requires the type `index` to exist, and `depth` to be between 1 and the depth of that type,
     /// as returned by [`TypeSpace::depth`]. A type of depth 1 has no supertype.
+    ///
+    /// Takes a number of steps that is logarithmic in the depth of the type.
     pub fn ancestor(&self, index: u32, depth: u32) -> u32
         requires stands { index < length self.now.types }
         requires some { 0 < depth }
@@ -204,11 +201,9 @@ impl TypeSpace {
         ensures deep { HasDepth self.now.types result depth }
         ensures above { IsBelow self.now.types (Concrete index) (Concrete result) }
     {
-        let place = self.places[index as usize];
-        if depth == place.depth {
-            return index;
-        }
-        self.rows[place.start + (depth as usize - 1)]
+        let types = self.types.as_slice();
+        let places = self.places.as_slice();
+        find_ancestor(types, places, index, depth)
     }
 
     /// Returns the number of types of the kind `kind` with the sharedness `shared`.
@@ -320,19 +315,20 @@ impl TypeSpace {
         self.heap_type_is_sub_type(HeapType::Concrete(index), ty)
     }
 
-    // Returns whether `to` is `from` or a declared supertype of it, direct or indirect: then the
-    // row of `from` has `to` at the depth of `to`.
+    // Returns whether `to` is `from` or a declared supertype of it, direct or indirect: then `to` is
+    // the supertype of `from` of its depth.
     pub(crate) fn reaches(&self, from: u32, to: u32) -> bool
         requires lower { from < length self.now.types }
         requires upper { to < length self.now.types }
         ensures { IsTrue result ↔ IsBelow self.now.types (Concrete from) (Concrete to) }
     {
-        if from == to {
-            return true;
-        }
         let lower = self.places[from as usize];
         let upper = self.places[to as usize];
-        upper.depth < lower.depth && self.rows[lower.start + (upper.depth as usize - 1)] == to
+        if lower.depth < upper.depth {
+            return false;
+        }
+        let found = self.ancestor(from, upper.depth);
+        found == to
     }
 
     /// Returns the indices of the extensible types, in order: the types that may get drawn
@@ -381,7 +377,6 @@ impl TypeSpace {
             &added,
             self.places.as_slice(),
             self.types.capacity(),
-            &mut self.rows,
             &mut self.families,
             &mut self.extensible,
         )?;
@@ -530,30 +525,29 @@ fn make_ground_room(kept: bool, additional: usize, grounds: &mut Vec<Ground>) ->
     Ok(())
 }
 
-// Creates the place of the type `added`, the next one after `types`. Adds its row to `rows`,
-// extends `families` up to it, and adds its index to `extensible` if it may have subtypes. The
-// first allocation of `rows` and `families` is for `room` types.
+// Creates the place of the type `added`, the next one after `types`. Extends `families` up to it,
+// and adds its index to `extensible` if it may have subtypes. The first allocation of `families` is
+// for `room` types.
 //
-// On an error `extensible` is unchanged, and `rows` and `families` may be longer than before.
+// On an error `extensible` is unchanged, and `families` may be longer than before.
 fn make_place(
     types: &[SubType],
     added: &SubType,
     places: &[Place],
     room: usize,
-    rows: &mut Vec<u32>,
     families: &mut Vec<Family>,
     extensible: &mut Vec<u32>,
 ) -> Result<Place, Error>
     requires orderly { IsOrderly types.now }
     requires follows { MayFollow types.now added.now }
-    requires places { ArePlaces types.now rows.old.items places.now }
+    requires places { ArePlaces types.now places.now }
     requires extensible { extensible.old.items
         ≡ extensible_from 0 types.now (depths_in places.now) }
     requires families { AreFamilies types.now families.old.items }
 
     // The place.
-    ensures place { IfOk result (λ place.
-        IsPlace (types.now ++ added.now ∷ []) rows.new.items (length types.now) place) }
+    ensures place { IfOk result
+        (IsPlace (types.now ++ added.now ∷ []) (length types.now)) }
 
     // The lists afterwards.
     ensures extensible { IfOk result (λ place. extensible.new.items
@@ -561,39 +555,26 @@ fn make_place(
     ensures families { AreFamilies types.now families.new.items }
     ensures family_room { OnOk result ((supertype : ℕ) → added.now.supertype ≡ Some supertype
         → length types.now < length families.new.items) }
-    ensures rows { IsLonger rows.old.items rows.new.items }
 
     // Refusals.
     ensures err { OnErr result (extensible.new.items ≡ extensible.old.items) }
     ensures memory { IfErr result (λ e. e ≡ Error.Memory) }
 {
-    reserve_rows(added, room, rows, families)?;
+    reserve_families(added, room, families)?;
     extend_families(types, added, families)?;
-    let place = push_row(types, places, rows, added)?;
+    let place = place_of(types, places, added);
     let is_extensible = may_have_subtypes(added, place.depth);
     push_where(is_extensible, extensible, types.len() as u32)?;
     Ok(place)
 }
 
-// Reserves room for `count` entries in `rows` and `families` if they have none and the type `added`
-// has a supertype. A space without supertypes allocates nothing for them.
-fn reserve_rows(
-    added: &SubType,
-    count: usize,
-    rows: &mut Vec<u32>,
-    families: &mut Vec<Family>,
-) -> Result<(), Error>
-    ensures rows { rows.new.items ≡ rows.old.items }
+// Reserves room for `count` entries in `families` if it has none and the type `added` has a
+// supertype. A space without supertypes allocates nothing for it.
+fn reserve_families(added: &SubType, count: usize, families: &mut Vec<Family>) -> Result<(), Error>
     ensures families { families.new.items ≡ families.old.items }
     ensures memory { IfErr result (λ e. e ≡ Error.Memory) }
 {
-    if added.supertype.is_none() {
-        return Ok(());
-    }
-    if rows.capacity() == 0 {
-        rows.reserve(count)?;
-    }
-    if families.capacity() == 0 {
+    if added.supertype.is_some() && families.capacity() == 0 {
         families.reserve(count)?;
     }
     Ok(())

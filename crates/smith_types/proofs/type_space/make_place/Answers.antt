@@ -11,8 +11,8 @@ pub returns-clause-extensible : goal.returns-clause-extensible
 returns-clause-extensible c =
     let types = c.args.types.now in
     let places = c.args.places.now in
-    let place = c.in_ok-place.place in
-    let depths = depths_known types c.args.rows.now.items places c.requires.places in
+    let place = c.place_of-place.result in
+    let depths = depths_known types places c.requires.places in
     let longer = extensible-push 0 (length types) types c.args.added.now (depths_in places) place.depth depths.long (omega arith) in
     let extended : c.push_where.new.indices.items ≡ extensible_from 0 (types ++ c.args.added.now ∷ []) (depths_in places ++ place.depth ∷ []) =
     c.in_ok-push_where.ensures.ok ∙ rw (c.may_have_subtypes-is_extensible.ensures, c.requires.extensible) (sym longer) in

@@ -15,7 +15,7 @@ loop-low-preserved-then-place-count c =
     let middle : ℕ = c.loop-low.low + (c.loop-low.high - c.loop-low.low) / 2 in
     let last : c.loop-low.high < length c.args.self.now.types = c.loop-low.invariant.inside in
     let inside : middle < length c.args.self.now.types = omega (arith, last, c.loop-low-test.true) in
-    let count = count_read _ _ _ _ middle c.count.result _ _ c.args.shared c.args.kind (ap (λ s. s.types) c.self.view_is) c.self.invariant.1 inside c.index.ensures c.count.ensures in
+    let count = count_read _ _ _ middle c.count.result _ _ c.args.shared c.args.kind (ap (λ s. s.types) c.self.view_is) c.self.invariant.1 inside c.index.ensures c.count.ensures in
     record { ordered = omega arith; inside = inside; least = c.loop-low.invariant.least; most = omega (arith, count, c.if-place-count.true) }
 
 pub loop-low-preserved : goal.loop-low-preserved
@@ -23,7 +23,7 @@ loop-low-preserved c =
     let middle : ℕ = c.loop-low.low + (c.loop-low.high - c.loop-low.low) / 2 in
     let last : c.loop-low.high < length c.args.self.now.types = c.loop-low.invariant.inside in
     let inside : middle < length c.args.self.now.types = omega (arith, last, c.loop-low-test.true) in
-    let count = count_read _ _ _ _ middle c.count.result _ _ c.args.shared c.args.kind (ap (λ s. s.types) c.self.view_is) c.self.invariant.1 inside c.index.ensures c.count.ensures in
+    let count = count_read _ _ _ middle c.count.result _ _ c.args.shared c.args.kind (ap (λ s. s.types) c.self.view_is) c.self.invariant.1 inside c.index.ensures c.count.ensures in
     let next : suc middle ≡ middle + 1 = omega arith in
     record {
       ordered = omega (arith, c.loop-low-test.true);

@@ -4,14 +4,14 @@ use Rattle.smith_types.specs.declared.place.Place.{Place}
 use Rattle.smith_types.specs.GroupedTypes.{MayFollow}
 use Rattle.smith_types.proofs.ListLemmas.{slice_get-last}
 use Rattle.smith_types.proofs.SpaceLemmas.{IsSound-type}
-use Rattle.smith_types.proofs.PlaceLemmas.{ArePlaces-push, ArePlaces-longer}
+use Rattle.smith_types.proofs.PlaceLemmas.{ArePlaces-push}
 use Rattle.smith_types.proofs.type_space.TypeSpace.push_type.Goals as goal
 
 pub invariant_of-self-in_err-place : goal.invariant_of-self-in_err-place
 invariant_of-self-in_err-place c =
     let room = c.make_room.ensures in (
       rw room.types c.self.invariant.0,
-      rw (room.types, room.places) (ArePlaces-longer _ _ _ _ c.make_place.ensures.rows c.self.invariant.1),
+      rw (room.types, room.places) c.self.invariant.1,
       rw (room.types, room.places, c.in_err-place.ensures.err) c.self.invariant.2,
       rw c.as_slice-types.ensures.value at c.make_place.ensures.families,
       λ kept. rw (room.types, c.make_ground_room.ensures.grounds) (c.self.invariant.4 kept),
@@ -30,7 +30,7 @@ invariant_of-self-2 c =
     let placed : c.push_reserved.new.self.items ≡ c.self.inside.places.items ++ c.in_ok-place.place ∷ [] = c.push_reserved.ensures.items ∙ ap (λ (xs : List Place). xs ++ c.in_ok-place.place ∷ []) room.places in
     let beside = room.beside in (
       rw all (IsSound-type _ _ _ c.self.invariant.0 follows),
-      rw (all, placed) (ArePlaces-push types added _ _ _ _ c.self.invariant.1 c.make_place.ensures.rows (rw seen at c.in_ok-place.ensures.place)),
+      rw (all, placed) (ArePlaces-push types added _ _ c.self.invariant.1 (rw seen at c.in_ok-place.ensures.place)),
       rw (all, placed) (rw (seen, c.as_slice.ensures.value, room.places) at c.in_ok-place.ensures.extensible),
       rw all (rw seen at c.join_family.ensures),
       λ kept. rw all (rw seen at c.note_ground.ensures.grounds kept),
