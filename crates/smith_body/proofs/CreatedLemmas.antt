@@ -23,9 +23,8 @@ use Rattle.smith_body.specs.DraftSteps.{IsDrawn}
 use Rattle.smith_body_leaves.specs.Leaves.{IsLeaf, created_at, created_from, created_type, fields_at, fields_in, first_leaf, first_single, have_singles, instructions_of, is_created, is_created_in, leaf_within, longest_leaf, may_create, named_type, singles, spare_leaf, widest_struct}
 use Rattle.smith_body.specs.Stops.{HaveNeededStops}
 use Rattle.smith_body_leaves.specs.declared.leaf.Leaf.{Leaf}
-use Rattle.smith_body_aggregates.specs.Aggregates.{is_created_below}
-use Rattle.smith_body_aggregates.specs.Fields.{struct_in}
-use Rattle.smith_body_aggregates.proofs.AggregateLemmas.{struct_fields, struct_there}
+use Rattle.smith_body_nodes.specs.IndexedTypes.{is_created_below, struct_in}
+use Rattle.smith_body_nodes.proofs.IndexedTypeLemmas.{struct_fields, struct_there}
 use Rattle.smith_body_nodes.specs.Scopes.{IsAllowedIn, IsScope, bare, context_of, is_permitted, where_stands}
 use Rattle.smith_body_nodes.specs.declared.scope.Draft.{Draft}
 use Rattle.smith_body_nodes.specs.declared.scope.Scope.{Scope}

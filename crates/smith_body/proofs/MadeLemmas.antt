@@ -24,9 +24,9 @@ use Rattle.smith_body_leaves.specs.Leaves.{IsLeaf, IsTaking, constant_instr_at, 
 use Rattle.smith_body.specs.Stops.{HaveNeededStops}
 use Rattle.smith_body_leaves.specs.declared.leaf.Leaf.{Leaf}
 use Rattle.smith_body_leaves.specs.declared.unary.Unary.{Unary}
-use Rattle.smith_body_aggregates.specs.Aggregates.{first_created_array, first_created_struct, is_created_below, is_created_empty, is_created_struct}
-use Rattle.smith_body_aggregates.specs.Fields.{struct_in}
-use Rattle.smith_body_aggregates.proofs.AggregateLemmas.{struct_there}
+use Rattle.smith_body_leaves.specs.FirstCreated.{first_created_array, first_created_struct, is_created_empty}
+use Rattle.smith_body_nodes.specs.IndexedTypes.{is_created_below, is_created_struct, struct_in}
+use Rattle.smith_body_nodes.proofs.IndexedTypeLemmas.{struct_there}
 use Rattle.smith_body_nodes.specs.Offered.{IsReferenceTo, is_global_below, is_readable, is_reference, offered}
 use Rattle.smith_body_nodes.specs.Scopes.{indexed, is_permitted}
 use Rattle.smith_body_nodes.specs.declared.offer.Reach.TheVariants as reach

@@ -1,97 +1,39 @@
 -- The struct types, array types and fields that are offered.
-use Rattle.std.proofs.Common.{◌≡◌, ℕ, ◌<◌, Bool, true, false, List, [], ◌∷◌, Option, Some, None, length, get_or, refl, sym, subst, ap, ◌∙◌, arith}
-use Rattle.std.specs.Prelude.{slice_get, option_map, map, All}
-use Rattle.std.proofs.lemmas.List.{get_or-map, length-map}
-use Rattle.std.proofs.lemmas.List.Elements.{All-from_recursion}
-use Rattle.std.proofs.lemmas.Option.{same_Some, slice_get-get_or, slice_get_within}
-use Rattle.smith_types.specs.Expressions.{IsArrayAt, IsDefaultable, IsStructAt, field_values, unpacked}
-use Rattle.smith_types.specs.Grounded.{are_defaultable, is_defaultable}
+use Rattle.std.proofs.Common.{◌≡◌, ℕ, ◌<◌, Bool, true, false, List, [], ◌∷◌, Option, Some, None, length, get_or, refl, sym, subst, ap, ◌∙◌}
+use Rattle.std.specs.Prelude.{slice_get, option_map}
+use Rattle.std.proofs.lemmas.Option.{slice_get-get_or, slice_get_within}
+use Rattle.smith_types.specs.Expressions.{IsDefaultable, unpacked}
+use Rattle.smith_types.specs.Grounded.{is_defaultable}
 use Rattle.smith_types.specs.Matching.{IsStorageMatch}
 use Rattle.smith_types.specs.Types.{IsOrderly}
 use Rattle.smith_syntax.specs.declared.value_type.HeapType.TheVariants.{Concrete}
 use Rattle.smith_syntax.specs.declared.value_type.ValType.{ValType}
 use Rattle.smith_syntax.specs.declared.value_type.ValType.TheVariants.{I32, I64, F32, F64, V128, Ref}
-use Rattle.smith_syntax.specs.declared.composite_type.CompositeInnerType.{CompositeInnerType}
-use Rattle.smith_syntax.specs.declared.composite_type.CompositeInnerType.TheVariants as inner
 use Rattle.smith_syntax.specs.declared.composite_type.FieldType.{FieldType}
 use Rattle.smith_syntax.specs.declared.composite_type.StorageType.{StorageType}
 use Rattle.smith_syntax.specs.declared.composite_type.StorageType.TheVariants as storage
 use Rattle.smith_syntax.specs.declared.composite_type.StructType.{StructType}
 use Rattle.smith_syntax.specs.declared.composite_type.SubType.{SubType}
-use Rattle.smith_types.proofs.GroundedLemmas.{defaults_each, default_for}
-use Rattle.smith_draw_types.specs.HeldFields.{fields_of}
+use Rattle.smith_types.proofs.GroundedLemmas.{default_for}
 use Rattle.smith_bytes.specs.Draws.{choose_at}
 use Rattle.smith_instr.specs.AggregateTypes.{IsFieldAt, IsOfBytes, IsReadBy, IsElemOf, value_of}
-use Rattle.smith_instr.specs.Contexts.{BodyContext, IsValid, AreValid, nullable_to}
-use Rattle.smith_body_aggregates.specs.Aggregates.{array_at, array_there, created_array_at, field_at, field_in, field_there, fields_with, is_array, is_created_array, is_field, is_struct, names_types}
-use Rattle.smith_body_aggregates.specs.Fields.{AreFieldsValid, element_in, element_of, extension_of, is_of_bytes, is_of_references, is_storage_below, is_usable, is_usable_in, struct_in, struct_of}
+use Rattle.smith_instr.specs.Contexts.{BodyContext, IsValid, nullable_to}
+use Rattle.smith_body_aggregates.specs.Aggregates.{array_at, array_there, created_array_at, field_at, field_in, field_there, fields_with, is_array, is_created_array, is_field, is_struct}
+use Rattle.smith_body_nodes.specs.IndexedTypes.{element_in, names_types, struct_in}
+use Rattle.smith_body_aggregates.specs.Fields.{extension_of, is_of_bytes, is_of_references, is_storage_below, is_usable, is_usable_in}
 use Rattle.smith_body_nodes.specs.Items.{continued}
-use Rattle.smith_body_nodes.specs.Offered.{chunk_at}
-use Rattle.smith_body_nodes.specs.Scopes.{IsScope, indexed}
-use Rattle.smith_body_tables.specs.TableChoices.{is_elem_below}
+use Rattle.smith_body_nodes.specs.Offered.{chunk_at, is_elem_below}
+use Rattle.smith_body_nodes.specs.Scopes.{indexed}
 use Rattle.smith_body_aggregates.specs.declared.fields.FieldUse.{FieldUse}
-use Rattle.smith_body_aggregates.specs.declared.fields.FieldUse.TheVariants as field_use
 use Rattle.smith_body_nodes.proofs.ItemLemmas.{given_none, given_some}
-use Rattle.smith_body_nodes.proofs.OfferLemmas.{both, tested}
-use Rattle.smith_body_tables.proofs.TableLemmas.{segment_below_at}
-
--- the struct type, and the array type, of an index
-inner_struct : (x : CompositeInnerType) (structure : StructType) → struct_of x ≡ Some structure → x ≡ inner.Struct structure
-inner_struct (inner.Struct s) structure is = ap inner.Struct (same_Some s structure is)
-inner_struct (inner.Array array) structure is = cc
-inner_struct (inner.Func function) structure is = cc
-
-struct_option : (types : List SubType) (index : ℕ) (structure : StructType) (o : Option SubType) → slice_get types index ≡ o → struct_in o ≡ Some structure → IsStructAt types index structure.fields
-struct_option types index structure (Some t) at is = (t, at, inner_struct t.composite_type.inner structure is)
-struct_option types index structure None at is = cc
-
-pub struct_there : (types : List SubType) (index : ℕ) (structure : StructType) → struct_in (slice_get types index) ≡ Some structure → IsStructAt types index structure.fields
-struct_there types index structure is = struct_option types index structure (slice_get types index) refl is
-
-inner_element : (x : CompositeInnerType) (element : FieldType) → element_of x ≡ Some element → x ≡ inner.Array (record { 0 = element })
-inner_element (inner.Array array) element is = ap (λ (f : FieldType). inner.Array (record { 0 = f })) (same_Some array.0 element is)
-inner_element (inner.Struct structure) element is = cc
-inner_element (inner.Func function) element is = cc
-
-array_option : (types : List SubType) (index : ℕ) (element : FieldType) (o : Option SubType) → slice_get types index ≡ o → element_in o ≡ Some element → IsArrayAt types index element
-array_option types index element (Some t) at is = (t, at, inner_element t.composite_type.inner element is)
-array_option types index element None at is = cc
-
-pub array_is : (types : List SubType) (index : ℕ) (element : FieldType) → element_in (slice_get types index) ≡ Some element → IsArrayAt types index element
-array_is types index element is = array_option types index element (slice_get types index) refl is
-
--- an array type, by the test of its element
-element_option : (types : List SubType) (index : ℕ) (o : Option FieldType) → element_in (slice_get types index) ≡ o → is_usable_in types field_use.New o ≡ true → (element : FieldType) × IsArrayAt types index element
-element_option types index (Some element) at is = (element, array_is types index element at)
-element_option types index None at is = cc
-
-pub array_tested : (types : List SubType) (index : ℕ) → is_usable_in types field_use.New (element_in (slice_get types index)) ≡ true → (element : FieldType) × IsArrayAt types index element
-array_tested types index is = element_option types index (element_in (slice_get types index)) refl is
-
--- the values of fields and elements are valid
-pub struct_fields : (context : BodyContext) (index : ℕ) (fields : List FieldType) → IsScope context → IsStructAt context.types index fields → AreFieldsValid context fields
-struct_fields context index fields scope (t, at, is) = subst (λ (x : CompositeInnerType). AreValid context (field_values (fields_of x))) is (scope.fields_valid index t at)
-
-pub array_element : (context : BodyContext) (index : ℕ) (element : FieldType) → IsScope context → IsArrayAt context.types index element → IsValid context (value_of element)
-array_element context index element scope (t, at, is) =
-    let all : AreValid context (value_of element ∷ []) = subst (λ (x : CompositeInnerType). AreValid context (field_values (fields_of x))) is (scope.fields_valid index t at) in
-    all 0 (value_of element) (omega arith)
-
-pub field_valid : (context : BodyContext) (fields : List FieldType) (index : ℕ) (d : FieldType) → AreFieldsValid context fields → index < length fields → IsValid context (value_of (get_or fields index d))
-field_valid context fields index d valid inside =
-    let value = λ (field : FieldType). unpacked field.element_type in
-    let inside' : index < length (map value fields) = rw (length-map fields value) inside in
-    subst (IsValid context) (get_or-map value fields index d (value d) inside) (valid index (value d) inside')
+use Rattle.smith_body_nodes.proofs.OfferLemmas.{both, segment_below_at, tested}
+use Rattle.smith_body_nodes.proofs.IndexedTypeLemmas.{struct_there}
 
 -- a reference to the type with an index is valid
 pub concrete_valid : (context : BodyContext) (index : ℕ) (t : SubType) → names_types context ≡ true → slice_get context.types index ≡ Some t → IsValid context (nullable_to (Concrete index))
 concrete_valid context index t named at =
     let (on, gc) = both context.features.reference_types context.features.gc named in
     (on, record { heap_type = (gc, slice_get_within context.types index t at); nullable = λ h. cc })
-
--- default values
-pub all_default : (fields : List FieldType) → are_defaultable fields ≡ true → All IsDefaultable (field_values fields)
-all_default fields is = All-from_recursion IsDefaultable (field_values fields) (defaults_each fields is)
 
 pub one_default : (value : ValType) → is_defaultable value ≡ true → IsDefaultable value
 one_default value is = default_for value is

@@ -1,14 +1,13 @@
 -- Creations of structs and arrays.
-use Rattle.std.proofs.Common.{◌≡◌, ℕ, ◌<◌, ◌≤◌, true, false, List, [], ◌∷◌, Option, Some, None, length, replicate, refl, subst, ap, arith}
-use Rattle.std.specs.Prelude.{slice_get, option_map, All}
+use Rattle.std.proofs.Common.{◌≡◌, ℕ, ◌<◌, ◌≤◌, true, false, List, [], ◌∷◌, Option, Some, length, replicate, refl, subst, ap, arith}
+use Rattle.std.specs.Prelude.{slice_get, option_map}
 use Rattle.std.proofs.lemmas.Bool.{leb-true}
 use Rattle.std.proofs.lemmas.List.{length-map, length-replicate}
 use Rattle.std.proofs.lemmas.List.Elements.{All-replicate}
-use Rattle.smith_types.specs.Expressions.{IsArrayAt, IsDefaultable, IsStructAt, field_values, unpacked}
+use Rattle.smith_types.specs.Expressions.{IsArrayAt, field_values, unpacked}
 use Rattle.smith_types.specs.Types.{IsOrderly}
 use Rattle.smith_syntax.specs.declared.composite_type.FieldType.{FieldType}
 use Rattle.smith_syntax.specs.declared.composite_type.StructType.{StructType}
-use Rattle.smith_syntax.specs.declared.composite_type.SubType.{SubType}
 use Rattle.smith_syntax.specs.declared.value_type.ValType.{ValType}
 use Rattle.smith_syntax.specs.declared.value_type.ValType.TheVariants.{I32}
 use Rattle.smith_types.specs.Grounded.{is_defaultable}
@@ -18,14 +17,16 @@ use Rattle.smith_instr.specs.Contexts.{BodyContext, IsValid, AreValid, created_r
 use Rattle.smith_instr.specs.declared.aggregate.AggregateInstr.{AggregateInstr}
 use Rattle.smith_instr.specs.declared.aggregate.AggregateInstr.TheVariants as aggregate
 use Rattle.smith_instr.specs.declared.instr.Instr.TheVariants as instr
-use Rattle.smith_body_aggregates.specs.Aggregates.{created_struct_at, is_creatable_in, is_created_below, is_created_struct}
-use Rattle.smith_body_aggregates.specs.CreationChoices.{aggregate_of, created_at, creation_of, creations, struct_new_at, struct_new_node}
-use Rattle.smith_body_aggregates.specs.Fields.{is_of_bytes, is_of_references, struct_in}
-use Rattle.smith_body_nodes.specs.Nodes.{IsNode}
-use Rattle.smith_body_tables.specs.TableChoices.{is_elem_below}
+use Rattle.smith_body_aggregates.specs.Aggregates.{created_struct_at}
+use Rattle.smith_body_nodes.specs.IndexedTypes.{is_creatable_in, is_created_below, is_created_struct, struct_in}
+use Rattle.smith_body_nodes.specs.Nodes.{IsNode, aggregate_of}
+use Rattle.smith_body_aggregates.specs.CreationChoices.{created_at, creation_of, creations, struct_new_at, struct_new_node}
+use Rattle.smith_body_aggregates.specs.Fields.{is_of_bytes, is_of_references}
+use Rattle.smith_body_nodes.specs.Offered.{is_elem_below}
 use Rattle.smith_body_aggregates.specs.declared.creations.Creation.{Creation}
 use Rattle.smith_body_aggregates.specs.declared.creations.Creation.TheVariants as creation
-use Rattle.smith_body_aggregates.proofs.AggregateLemmas.{all_default, of_bytes, one_default, segment_of, struct_there}
+use Rattle.smith_body_nodes.proofs.IndexedTypeLemmas.{default_there, struct_there}
+use Rattle.smith_body_aggregates.proofs.AggregateLemmas.{of_bytes, one_default, segment_of}
 use Rattle.smith_body_nodes.proofs.ChosenLemmas.{chosen_by}
 use Rattle.smith_body_nodes.proofs.ItemLemmas.{given_some}
 use Rattle.smith_body_nodes.proofs.NodeLemmas.{no_valid, one_valid}
@@ -48,13 +49,6 @@ struct_new_gives context set wanted ty structure orderly held valid is at =
     let same : length (field_values structure.fields) ≡ length structure.fields = length-map structure.fields (λ (field : FieldType). unpacked field.element_type) in
     let there = struct_there context.types ty structure at in
     created_gives context set wanted ty (field_values structure.fields) (aggregate.StructNew ty) orderly valid below (structure.fields, there, (refl, refl)) (omega arith) held
-
-default_option : (types : List SubType) (ty : ℕ) (o : Option StructType) → struct_in (slice_get types ty) ≡ o → is_creatable_in true o ≡ true → (fields : List FieldType) × IsStructAt types ty fields × All IsDefaultable (field_values fields)
-default_option types ty (Some structure) at is = (structure.fields, struct_there types ty structure at, all_default structure.fields is)
-default_option types ty None at is = cc
-
-pub default_there : (types : List SubType) (ty : ℕ) → is_creatable_in true (struct_in (slice_get types ty)) ≡ true → (fields : List FieldType) × IsStructAt types ty fields × All IsDefaultable (field_values fields)
-default_there types ty is = default_option types ty (struct_in (slice_get types ty)) refl is
 
 pub struct_default_gives : (context : BodyContext) (set : List ℕ) (wanted : ValType) (ty : ℕ) → IsOrderly context.types → IsValid context wanted → is_created_struct context wanted true ty ≡ true
     → IsNode context set (wanted ∷ []) (aggregate_of [] (aggregate.StructNewDefault ty))

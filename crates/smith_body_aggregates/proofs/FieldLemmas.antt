@@ -12,14 +12,14 @@ use Rattle.smith_instr.specs.AggregateTypes.{IsFieldAt, value_of}
 use Rattle.smith_instr.specs.Contexts.{BodyContext, IsValid, AreValid, nullable_to}
 use Rattle.smith_instr.specs.declared.aggregate.AggregateInstr.TheVariants as aggregate
 use Rattle.smith_instr.specs.declared.instr.Instr.TheVariants as instr
-use Rattle.smith_body_aggregates.specs.Aggregates.{names_types}
+use Rattle.smith_body_nodes.specs.IndexedTypes.{names_types}
 use Rattle.smith_body_nodes.specs.Chosen.{or_nop}
-use Rattle.smith_body_aggregates.specs.CreationChoices.{aggregate_of, chosen_elem_at}
+use Rattle.smith_body_nodes.specs.Nodes.{IsNode, aggregate_of}
+use Rattle.smith_body_aggregates.specs.CreationChoices.{chosen_elem_at}
 use Rattle.smith_body_aggregates.specs.FieldChoices.{array_get_at, elem_initialized, field_read_at, field_write_at, field_writes, filled, init_elem_node, read_at, struct_get_at, write_at, write_of}
 use Rattle.smith_body_aggregates.specs.Fields.{extension_of, is_of_bytes, is_of_references, is_usable}
-use Rattle.smith_body_nodes.specs.Nodes.{IsNode}
 use Rattle.smith_body_nodes.specs.Scopes.{bare, context_of}
-use Rattle.smith_body_tables.specs.TableChoices.{is_elem_below}
+use Rattle.smith_body_nodes.specs.Offered.{is_elem_below}
 use Rattle.smith_body_aggregates.specs.declared.aggregates.StructField.{StructField}
 use Rattle.smith_body_aggregates.specs.declared.field_writes.FieldWrite.{FieldWrite}
 use Rattle.smith_body_aggregates.specs.declared.field_writes.FieldWrite.TheVariants as write

@@ -1,4 +1,3 @@
 pub mod AggregateLemmas
 pub mod CreationLemmas
 pub mod FieldLemmas
-pub mod FirstLemmas

@@ -1,34 +1,25 @@
 -- The struct types, array types and fields that are offered.
-use Rattle.std.specs.Prelude.{ℕ, Bool, true, false, ◌&&◌, nat_le, nat_lt, Option, Some, None, option_map, List, length, slice_get, if◌then◌else◌}
+use Rattle.std.specs.Prelude.{ℕ, Bool, false, ◌&&◌, nat_lt, Option, Some, None, option_map, List, length, slice_get, if◌then◌else◌}
 use Rattle.smith_bytes.specs.Draws.{choose_at}
-use Rattle.smith_types.specs.Grounded.{are_defaultable}
 use Rattle.smith_syntax.specs.declared.composite_type.FieldType.{FieldType}
 use Rattle.smith_syntax.specs.declared.composite_type.StructType.{StructType}
 use Rattle.smith_syntax.specs.declared.composite_type.SubType.{SubType}
 use Rattle.smith_syntax.specs.declared.value_type.ValType.{ValType}
-use Rattle.smith_draw_types.specs.Below.{is_val_below}
-use Rattle.smith_instr.specs.Contexts.{BodyContext, created_reference}
+use Rattle.smith_instr.specs.Contexts.{BodyContext}
 use Rattle.smith_body_nodes.specs.Chosen.{giving}
-use Rattle.smith_body_aggregates.specs.Fields.{element_in, is_usable_in, struct_in}
+use Rattle.smith_body_nodes.specs.IndexedTypes.{element_in, is_created_below, is_created_struct, struct_in}
+use Rattle.smith_body_aggregates.specs.Fields.{is_usable_in}
 use Rattle.smith_body_nodes.specs.Items.{continued}
 use Rattle.smith_body_nodes.specs.Offered.{chunk_at, offered}
 use Rattle.smith_body_nodes.specs.Scopes.{indexed}
 use Rattle.smith_body_aggregates.specs.declared.aggregates.StructField.{StructField}
 use Rattle.smith_body_aggregates.specs.declared.fields.FieldUse.{FieldUse}
-use Rattle.smith_body_aggregates.specs.declared.fields.FieldUse.TheVariants as field_use
-
--- references may name types by their indices
-abbrev pub names_types : BodyContext → Bool
-names_types context = context.features.reference_types && context.features.gc
 
 -- an array type whose element has a use
 abbrev pub is_array : BodyContext → FieldUse → ℕ → Bool
 is_array context way index = is_usable_in context.types way (element_in (slice_get context.types index))
 
--- the reference to a created value of the type matches the wanted type
-abbrev pub is_created_below : BodyContext → ValType → ℕ → Bool
-is_created_below context wanted index = is_val_below context.types (created_reference context index) wanted
-
+-- the same, if its created values match the wanted type
 abbrev pub is_created_array : BodyContext → ValType → FieldUse → ℕ → Bool
 is_created_array context wanted way index = is_created_below context wanted index && is_array context way index
 
@@ -44,38 +35,9 @@ abbrev pub created_array_at : BodyContext → ValType → FieldUse → List ℕ 
 created_array_at context wanted way bytes =
     giving (array_there context) (chunk_at (is_created_array context wanted way) (indexed (length context.types)) bytes)
 
--- a struct may be created from default values, or from values for its fields if these are at most
--- seven
-abbrev pub is_creatable : Bool → List FieldType → Bool
-is_creatable defaults fields = if defaults then are_defaultable fields else nat_le (length fields) 7
-
-abbrev pub is_creatable_in : Bool → Option StructType → Bool
-is_creatable_in defaults (Some structure) = is_creatable defaults structure.fields
-is_creatable_in defaults None = false
-
--- a struct type whose created values match the wanted type
-abbrev pub is_created_struct : BodyContext → ValType → Bool → ℕ → Bool
-is_created_struct context wanted defaults index = is_created_below context wanted index && is_creatable_in defaults (struct_in (slice_get context.types index))
-
 abbrev pub created_struct_at : BodyContext → ValType → Bool → List ℕ → Option ℕ × List ℕ
 created_struct_at context wanted defaults bytes =
     chunk_at (is_created_struct context wanted defaults) (indexed (length context.types)) bytes
-
--- an array type whose created values match the wanted type
-abbrev pub is_created_empty : BodyContext → ValType → ℕ → Bool
-is_created_empty context wanted index = is_created_array context wanted field_use.New index
-
--- the first of the offered items
-abbrev pub first_offered : (ℕ → Bool) → ℕ → Option ℕ
-first_offered test size = slice_get (offered test size) 0
-
--- the first struct type whose fields all have defaults, and the first array type, whose created
--- values match the wanted type
-abbrev pub first_created_struct : BodyContext → ValType → Option ℕ
-first_created_struct context wanted = first_offered (is_created_struct context wanted true) (indexed (length context.types))
-
-abbrev pub first_created_array : BodyContext → ValType → Option ℕ
-first_created_array context wanted = first_offered (is_created_empty context wanted) (indexed (length context.types))
 
 -- a field that has a use
 abbrev pub is_field : List SubType → FieldUse → List FieldType → ℕ → Bool

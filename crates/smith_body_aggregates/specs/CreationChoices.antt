@@ -10,25 +10,18 @@ use Rattle.smith_syntax.specs.declared.value_type.ValType.TheVariants.{I32, Ref}
 use Rattle.smith_draw_types.specs.Choices.{chosen_at}
 use Rattle.smith_instr.specs.AggregateTypes.{value_of}
 use Rattle.smith_instr.specs.Contexts.{BodyContext}
-use Rattle.smith_instr.specs.declared.aggregate.AggregateInstr.{AggregateInstr}
 use Rattle.smith_instr.specs.declared.aggregate.AggregateInstr.TheVariants as aggregate
-use Rattle.smith_instr.specs.declared.instr.Instr.TheVariants as instr
 use Rattle.smith_body_aggregates.specs.Aggregates.{created_array_at, created_struct_at}
+use Rattle.smith_body_nodes.specs.Nodes.{aggregate_of}
 use Rattle.smith_body_nodes.specs.Chosen.{Chosen, giving}
-use Rattle.smith_body_aggregates.specs.Fields.{struct_in}
+use Rattle.smith_body_nodes.specs.IndexedTypes.{struct_in}
 use Rattle.smith_body_nodes.specs.Items.{continued, index_at}
-use Rattle.smith_body_nodes.specs.Nodes.{node_of}
-use Rattle.smith_body_nodes.specs.Offered.{chunk_at}
+use Rattle.smith_body_nodes.specs.Offered.{chunk_at, is_elem_below}
 use Rattle.smith_body_nodes.specs.Scopes.{indexed}
-use Rattle.smith_body_tables.specs.TableChoices.{is_elem_below}
 use Rattle.smith_body_aggregates.specs.declared.creations.Creation.{Creation}
 use Rattle.smith_body_aggregates.specs.declared.creations.Creation.TheVariants as creation
 use Rattle.smith_body_aggregates.specs.declared.fields.FieldUse.TheVariants as field_use
 use Rattle.smith_body_nodes.specs.declared.node.Node.{Node}
-
--- an aggregate instruction after its operands
-abbrev pub aggregate_of : List ValType → AggregateInstr → Node
-aggregate_of operands op = node_of operands (instr.Aggregate op) 0
 
 -- a struct from values for its fields, or from default values
 abbrev pub struct_new_node : BodyContext → ℕ → Option Node

@@ -10,9 +10,11 @@ use Rattle.smith_draw_types.specs.Choices.{chosen_at}
 use Rattle.smith_instr.specs.AggregateTypes.{value_of}
 use Rattle.smith_instr.specs.Contexts.{BodyContext, nullable_to}
 use Rattle.smith_instr.specs.declared.aggregate.AggregateInstr.TheVariants as aggregate
-use Rattle.smith_body_aggregates.specs.Aggregates.{array_at, field_at, names_types}
+use Rattle.smith_body_aggregates.specs.Aggregates.{array_at, field_at}
+use Rattle.smith_body_nodes.specs.IndexedTypes.{names_types}
 use Rattle.smith_body_nodes.specs.Chosen.{Chosen, giving}
-use Rattle.smith_body_aggregates.specs.CreationChoices.{aggregate_of, chosen_elem_at}
+use Rattle.smith_body_nodes.specs.Nodes.{aggregate_of}
+use Rattle.smith_body_aggregates.specs.CreationChoices.{chosen_elem_at}
 use Rattle.smith_body_aggregates.specs.Fields.{extension_of}
 use Rattle.smith_body_nodes.specs.Items.{continued, index_at}
 use Rattle.smith_body_aggregates.specs.declared.aggregates.StructField.{StructField}

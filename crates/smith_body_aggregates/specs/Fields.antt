@@ -1,46 +1,21 @@
 -- The uses of fields of structs and of elements of arrays.
 use Rattle.std.specs.Prelude.{ℕ, Bool, true, false, ◌&&◌, Option, Some, None, List, length}
-use Rattle.smith_types.specs.Expressions.{field_values, unpacked}
+use Rattle.smith_types.specs.Expressions.{unpacked}
 use Rattle.smith_syntax.specs.Features.{Features}
 use Rattle.smith_types.specs.Grounded.{is_defaultable}
 use Rattle.smith_types.specs.ValidTypes.{IsValTypeValid}
 use Rattle.smith_syntax.specs.declared.value_type.ValType.TheVariants.{Ref}
-use Rattle.smith_syntax.specs.declared.composite_type.CompositeInnerType.{CompositeInnerType}
-use Rattle.smith_syntax.specs.declared.composite_type.CompositeInnerType.TheVariants as inner
 use Rattle.smith_syntax.specs.declared.composite_type.FieldType.{FieldType}
 use Rattle.smith_syntax.specs.declared.composite_type.StorageType.{StorageType}
 use Rattle.smith_syntax.specs.declared.composite_type.StorageType.TheVariants as storage
-use Rattle.smith_syntax.specs.declared.composite_type.StructType.{StructType}
 use Rattle.smith_syntax.specs.declared.composite_type.SubType.{SubType}
 use Rattle.smith_draw_types.specs.Below.{is_val_below}
 use Rattle.smith_instr.specs.AggregateTypes.{value_of}
-use Rattle.smith_instr.specs.Contexts.{BodyContext, AreValid}
+use Rattle.smith_instr.specs.Contexts.{BodyContext}
 use Rattle.smith_instr.specs.declared.aggregate.Extension.{Extension}
 use Rattle.smith_instr.specs.declared.aggregate.Extension.TheVariants as extension
 use Rattle.smith_body_aggregates.specs.declared.fields.FieldUse.{FieldUse}
 use Rattle.smith_body_aggregates.specs.declared.fields.FieldUse.TheVariants as field_use
-
--- the fields of a type, if it is a struct type (Structure, Composite Types)
-abbrev pub struct_of : CompositeInnerType → Option StructType
-struct_of (inner.Struct structure) = Some structure
-struct_of _ = None
-
-abbrev pub struct_in : Option SubType → Option StructType
-struct_in (Some t) = struct_of t.composite_type.inner
-struct_in None = None
-
--- the element of a type, if it is an array type
-abbrev pub element_of : CompositeInnerType → Option FieldType
-element_of (inner.Array array) = Some array.0
-element_of _ = None
-
-abbrev pub element_in : Option SubType → Option FieldType
-element_in (Some t) = element_of t.composite_type.inner
-element_in None = None
-
--- the values of fields are valid
-abbrev pub AreFieldsValid : BodyContext → List FieldType → Type 0
-AreFieldsValid context fields = AreValid context (field_values fields)
 
 -- bytes may fill a field: packed integers, numbers and vectors (Validation, Aggregate Instructions,
 -- array.new_data)

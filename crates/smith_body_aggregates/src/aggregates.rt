@@ -1,26 +1,22 @@
-ghost use Rattle.std.specs.Prelude.{◌≡◌, ◌<◌, ◌&&◌, true, length, slice_get, Some, IfSome};
+ghost use Rattle.std.specs.Prelude.{◌≡◌, ◌<◌, ◌&&◌, true, length, Some, IfSome};
 ghost use Rattle.smith_bytes.specs.Source.{KeepsPieces};
 ghost use Rattle.smith_types.specs.Expressions.{IsArrayAt};
 ghost use Rattle.smith_instr.specs.AggregateTypes.{IsFieldAt, value_of};
-ghost use Rattle.smith_instr.specs.Contexts.{IsValid, created_reference};
+ghost use Rattle.smith_instr.specs.Contexts.{IsValid};
 ghost use Rattle.smith_body_aggregates.specs.Aggregates.{array_at, created_array_at};
-ghost use Rattle.smith_body_aggregates.specs.Aggregates.{created_struct_at, field_at};
-ghost use Rattle.smith_body_aggregates.specs.Aggregates.{first_created_array, first_created_struct};
-ghost use Rattle.smith_body_aggregates.specs.Aggregates.{first_offered, is_array};
-ghost use Rattle.smith_body_aggregates.specs.Aggregates.{is_creatable, is_created_below};
-ghost use Rattle.smith_body_aggregates.specs.Aggregates.{is_created_empty};
-ghost use Rattle.smith_body_aggregates.specs.Aggregates.{is_created_struct, names_types};
-ghost use Rattle.smith_body_aggregates.specs.Fields.{AreFieldsValid, IsUse, is_usable};
+ghost use Rattle.smith_body_aggregates.specs.Aggregates.{created_struct_at, field_at, is_array};
+ghost use Rattle.smith_body_nodes.specs.IndexedTypes.{AreFieldsValid, is_created_below};
+ghost use Rattle.smith_body_nodes.specs.IndexedTypes.{is_created_struct};
+ghost use Rattle.smith_body_aggregates.specs.Fields.{IsUse, is_usable};
 ghost use Rattle.smith_body_nodes.specs.Scopes.{IsScope, bare, indexed};
 
-use crate::fields::{FieldUse, element_at, is_usable, struct_type_at};
+use crate::fields::{FieldUse, is_usable};
 use smith_body_nodes::{
-    Offer, Scope, choose_in_chunk, choose_offered, count_offered, indexed_count, is_sub_type,
+    CreatedStructOffer, Offer, Scope, choose_in_chunk, choose_offered, count_offered, element_at,
+    indexed_count, is_created_below, struct_type_at,
 };
 use smith_bytes::Unstructured;
-use smith_types::{
-    FieldType, HeapType, RefType, StructType, ValType, WasmFeatures, are_defaultable,
-};
+use smith_types::{FieldType, ValType};
 
 /// A field of a struct type.
 #[derive(Clone, Copy)]
@@ -92,44 +88,6 @@ impl<'a> Offer for CreatedArrayOffer<'a> {
     }
 }
 
-/// Struct types that may be created and whose created values match a wanted type. If `defaults` is
-/// set, their fields get default values.
-#[derive(Clone, Copy)]
-struct CreatedStructOffer<'a> {
-    scope: &'a Scope<'a>,
-    wanted: ValType,
-    defaults: bool,
-}
-
-impl<'a> Offer for CreatedStructOffer<'a> {
-    ghost use Rattle.std.specs.Prelude.{length};
-    ghost use Rattle.smith_instr.specs.Contexts.{IsValid};
-    ghost use Rattle.smith_body_aggregates.specs.Aggregates.{is_created_struct};
-    ghost use Rattle.smith_body_nodes.specs.Scopes.{IsScope, bare, indexed};
-
-    ghost ready = { λ self.
-        IsScope (bare self.scope.now) × IsValid (bare self.scope.now) self.wanted };
-
-    ghost size = { λ self. indexed (length self.scope.now.types.now.types) };
-
-    ghost test = { λ self index.
-        is_created_struct (bare self.scope.now) self.wanted self.defaults index };
-
-    fn count(&self) -> usize {
-        indexed_count(self.scope.types.types().len())
-    }
-
-    fn is_offered(&self, index: usize) -> bool {
-        if !is_created_below(self.scope, self.wanted, index) {
-            return false;
-        }
-        match struct_type_at(self.scope, index) {
-            Some(structure) => is_creatable(self.defaults, structure.fields.as_slice()),
-            None => false,
-        }
-    }
-}
-
 /// Fields that have a use.
 #[derive(Clone, Copy)]
 struct FieldOffer<'a> {
@@ -141,7 +99,8 @@ struct FieldOffer<'a> {
 impl<'a> Offer for FieldOffer<'a> {
     ghost use Rattle.std.specs.Prelude.{length};
     ghost use Rattle.smith_body_aggregates.specs.Aggregates.{is_field};
-    ghost use Rattle.smith_body_aggregates.specs.Fields.{AreFieldsValid, IsUse};
+    ghost use Rattle.smith_body_nodes.specs.IndexedTypes.{AreFieldsValid};
+    ghost use Rattle.smith_body_aggregates.specs.Fields.{IsUse};
     ghost use Rattle.smith_body_nodes.specs.Scopes.{bare, indexed};
 
     ghost ready = { λ self. IsUse (bare self.scope.now) self.of
@@ -200,14 +159,6 @@ impl<'a> Offer for StructOffer<'a> {
     }
 }
 
-/// Returns whether a value may be a reference to a type.
-pub fn names_types(scope: &Scope<'_>) -> bool
-    ensures { result ≡ names_types (bare scope.now) }
-{
-    scope.features.contains(WasmFeatures::REFERENCE_TYPES)
-        && scope.features.contains(WasmFeatures::GC)
-}
-
 /// Returns whether the type at `index` is an array type whose element may be used for `of`.
 fn is_array(scope: &Scope<'_>, of: FieldUse, index: usize) -> bool
     requires scope { IsScope (bare scope.now) }
@@ -218,41 +169,6 @@ fn is_array(scope: &Scope<'_>, of: FieldUse, index: usize) -> bool
         Some(element) => is_usable(scope, of, element),
         None => false,
     }
-}
-
-/// Returns whether created values of the type at `index` match `wanted`.
-fn is_created_below(scope: &Scope<'_>, wanted: ValType, index: usize) -> bool
-    requires wanted { IsValid (bare scope.now) wanted }
-    requires below { index < indexed (length scope.now.types.now.types) }
-    ensures { result ≡ is_created_below (bare scope.now) wanted index }
-{
-    is_sub_type(scope, created_reference(scope, index as u32), wanted)
-}
-
-/// Returns the type of references to created values of the type `index`.
-pub fn created_reference(scope: &Scope<'_>, index: u32) -> ValType
-    ensures { result ≡ created_reference (bare scope.now) index }
-{
-    let heap_type = if scope.features.contains(WasmFeatures::CUSTOM_DESCRIPTORS) {
-        HeapType::Exact(index)
-    } else {
-        HeapType::Concrete(index)
-    };
-    ValType::Ref(RefType {
-        nullable: false,
-        heap_type,
-    })
-}
-
-/// Returns whether a struct of `fields` may be created: from default values if `defaults` is set,
-/// else from at most seven operands.
-fn is_creatable(defaults: bool, fields: &[FieldType]) -> bool
-    ensures { result ≡ is_creatable defaults fields.now }
-{
-    if defaults {
-        return are_defaultable(fields);
-    }
-    fields.len() <= 7
 }
 
 /// Chooses an array type whose element may be used for `of`.
@@ -320,52 +236,6 @@ pub(crate) fn choose_created_struct(
     };
     let index = choose_in_chunk(&offer, u)?;
     Some(index as u32)
-}
-
-/// Returns the first struct type whose fields all have defaults and whose created values match
-/// `wanted`, if there is one.
-pub fn first_created_struct(scope: &Scope<'_>, wanted: ValType) -> Option<u32>
-    requires scope { IsScope (bare scope.now) }
-    requires wanted { IsValid (bare scope.now) wanted }
-    ensures exact { result ≡ first_created_struct (bare scope.now) wanted }
-    ensures offered { IfSome result (λ index.
-        is_created_struct (bare scope.now) wanted true index ≡ true) }
-{
-    let offer = CreatedStructOffer {
-        scope,
-        wanted,
-        defaults: true,
-    };
-    let index = first_offered(&offer)?;
-    Some(index as u32)
-}
-
-/// Returns the first array type whose created values match `wanted`, if there is one.
-pub fn first_created_array(scope: &Scope<'_>, wanted: ValType) -> Option<u32>
-    requires scope { IsScope (bare scope.now) }
-    requires wanted { IsValid (bare scope.now) wanted }
-    ensures exact { result ≡ first_created_array (bare scope.now) wanted }
-    ensures offered { IfSome result (λ index.
-        is_created_empty (bare scope.now) wanted index ≡ true) }
-{
-    let offer = CreatedArrayOffer {
-        scope,
-        wanted,
-        of: FieldUse::New,
-    };
-    let index = first_offered(&offer)?;
-    Some(index as u32)
-}
-
-/// Returns the index of the first offered item, if an item is offered.
-fn first_offered<O: Offer>(offer: &O) -> Option<usize>
-    requires { O.ready offer.now }
-    ensures exact { result ≡ first_offered (O.test offer.now) (O.size offer.now) }
-    ensures below { IfSome result (λ index. index < O.size offer.now) }
-    ensures offered { IfSome result (λ index. O.test offer.now index ≡ true) }
-{
-    let mut nothing = Unstructured::new(&[]);
-    choose_offered(offer, &mut nothing)
 }
 
 /// Chooses a field of a struct type that may be used for `of`.

@@ -4,7 +4,8 @@ ghost use Rattle.smith_types.specs.Expressions.{IsArrayAt};
 ghost use Rattle.smith_syntax.specs.declared.value_type.ValType.TheVariants.{Ref};
 ghost use Rattle.smith_instr.specs.AggregateTypes.{value_of};
 ghost use Rattle.smith_instr.specs.Contexts.{IsValid};
-ghost use Rattle.smith_body_aggregates.specs.Aggregates.{created_array_at, is_created_below};
+ghost use Rattle.smith_body_aggregates.specs.Aggregates.{created_array_at};
+ghost use Rattle.smith_body_nodes.specs.IndexedTypes.{is_created_below};
 ghost use Rattle.smith_body_nodes.specs.Chosen.{giving};
 ghost use Rattle.smith_body_aggregates.specs.CreationChoices.{array_data, array_default_node};
 ghost use Rattle.smith_body_aggregates.specs.CreationChoices.{array_elem, array_fixed};
@@ -18,11 +19,11 @@ ghost use Rattle.smith_body_nodes.specs.Scopes.{IsScope, bare, where_stands};
 ghost use Rattle.smith_body_aggregates.specs.declared.fields.FieldUse.TheVariants as field_use;
 
 use crate::aggregates::{choose_created_array, choose_created_struct};
-use crate::fields::{FieldUse, struct_type_at};
+use crate::fields::FieldUse;
 use smith_body_nodes::{
-    Draft, Node, Scope, draw_index, field_values, node_taking, plain, repeat_value,
+    Draft, Node, Scope, choose_segment_below, draw_index, field_values, node_taking, plain,
+    repeat_value, struct_type_at,
 };
-use smith_body_tables::choose_segment_below;
 use smith_bytes::{Error, Unstructured};
 use smith_draw_types::choose;
 use smith_instr::{AggregateInstr, Instr};

@@ -3,9 +3,9 @@ ghost use Rattle.smith_bytes.specs.Source.{KeepsPieces};
 ghost use Rattle.smith_types.specs.Expressions.{IsArrayAt};
 ghost use Rattle.smith_instr.specs.AggregateTypes.{value_of};
 ghost use Rattle.smith_instr.specs.Contexts.{IsValid};
-ghost use Rattle.smith_body_aggregates.specs.Aggregates.{array_at, field_at, names_types};
-ghost use Rattle.smith_body_nodes.specs.Chosen.{or_nop};
-ghost use Rattle.smith_body_nodes.specs.Chosen.{giving};
+ghost use Rattle.smith_body_aggregates.specs.Aggregates.{array_at, field_at};
+ghost use Rattle.smith_body_nodes.specs.IndexedTypes.{names_types};
+ghost use Rattle.smith_body_nodes.specs.Chosen.{giving, or_nop};
 ghost use Rattle.smith_body_aggregates.specs.FieldChoices.{array_copied, array_copy_at};
 ghost use Rattle.smith_body_aggregates.specs.FieldChoices.{array_fill_node, array_set_node};
 ghost use Rattle.smith_body_aggregates.specs.FieldChoices.{data_initialized, elem_initialized};
@@ -17,10 +17,11 @@ ghost use Rattle.smith_body_nodes.specs.Nodes.{IsNode};
 ghost use Rattle.smith_body_nodes.specs.Scopes.{IsScope, bare, where_stands};
 ghost use Rattle.smith_body_aggregates.specs.declared.fields.FieldUse.TheVariants as field_use;
 
-use crate::aggregates::{choose_array, choose_field, names_types};
+use crate::aggregates::{choose_array, choose_field};
 use crate::fields::FieldUse;
-use smith_body_nodes::{Draft, Node, Scope, draw_index, nullable_to, plain};
-use smith_body_tables::choose_segment_below;
+use smith_body_nodes::{
+    Draft, Node, Scope, choose_segment_below, draw_index, names_types, nullable_to, plain,
+};
 use smith_bytes::{Error, Unstructured};
 use smith_draw_types::choose;
 use smith_instr::{AggregateInstr, Instr};

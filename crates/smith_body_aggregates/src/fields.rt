@@ -1,19 +1,14 @@
-ghost use Rattle.std.specs.Prelude.{◌≡◌, slice_get, None, Some, MatchOption};
+ghost use Rattle.std.specs.Prelude.{◌≡◌};
 ghost use Rattle.smith_types.specs.Expressions.{unpacked};
 ghost use Rattle.smith_instr.specs.AggregateTypes.{value_of};
 ghost use Rattle.smith_instr.specs.Contexts.{IsValid};
-ghost use Rattle.smith_body_aggregates.specs.Fields.{IsUse, element_in, element_of, extension_of};
-ghost use Rattle.smith_body_aggregates.specs.Fields.{is_of_bytes, is_of_references};
-ghost use Rattle.smith_body_aggregates.specs.Fields.{is_storage_below, is_usable, struct_in};
-ghost use Rattle.smith_body_aggregates.specs.Fields.{struct_of};
+ghost use Rattle.smith_body_aggregates.specs.Fields.{IsUse, extension_of, is_of_bytes};
+ghost use Rattle.smith_body_aggregates.specs.Fields.{is_of_references, is_storage_below, is_usable};
 ghost use Rattle.smith_body_nodes.specs.Scopes.{bare};
 
 use smith_body_nodes::{Scope, is_below};
 use smith_instr::Extension;
-use smith_types::{
-    CompositeInnerType, FieldType, StorageType, StructType, SubType, ValType, is_defaultable,
-    unpack,
-};
+use smith_types::{FieldType, StorageType, ValType, is_defaultable, unpack};
 
 /// Uses of a field of a struct or of an element of an array.
 #[derive(Clone, Copy)]
@@ -103,47 +98,5 @@ pub(crate) fn extension_of(stored: StorageType, signed: bool) -> Extension
                 Extension::Unsigned
             }
         }
-    }
-}
-
-/// Returns the struct type at `index` of the types of `scope`, if there is one.
-pub fn struct_type_at<'a>(scope: &Scope<'a>, index: usize) -> Option<&'a StructType>
-    ensures { MatchOption result (struct_in (slice_get (bare scope.now).types index) ≡ None)
-        (λ structure. struct_in (slice_get (bare scope.now).types index) ≡ Some structure.now) }
-{
-    let types = scope.types;
-    match types.types().get(index) {
-        Some(ty) => inner_struct(ty),
-        None => None,
-    }
-}
-
-fn inner_struct<'a>(ty: &'a SubType) -> Option<&'a StructType>
-    ensures { MatchOption result (struct_of ty.now.composite_type.inner ≡ None) (λ structure.
-        struct_of ty.now.composite_type.inner ≡ Some structure.now) }
-{
-    match &ty.composite_type.inner {
-        CompositeInnerType::Struct(structure) => Some(structure),
-        _ => None,
-    }
-}
-
-/// Returns the element of the array type at `index`, if there is one.
-pub(crate) fn element_at(scope: &Scope<'_>, index: usize) -> Option<FieldType>
-    ensures { result ≡ element_in (slice_get (bare scope.now).types index) }
-{
-    let types = scope.types;
-    match types.types().get(index) {
-        Some(ty) => inner_element(ty),
-        None => None,
-    }
-}
-
-fn inner_element(ty: &SubType) -> Option<FieldType>
-    ensures { result ≡ element_of ty.now.composite_type.inner }
-{
-    match &ty.composite_type.inner {
-        CompositeInnerType::Array(array) => Some(array.0),
-        _ => None,
     }
 }

@@ -10,8 +10,6 @@ mod field_reads;
 mod field_writes;
 mod fields;
 
-pub use aggregates::{created_reference, first_created_array, first_created_struct, names_types};
 pub use creations::choose_creation;
 pub use field_reads::choose_field_read;
 pub use field_writes::choose_field_write;
-pub use fields::struct_type_at;

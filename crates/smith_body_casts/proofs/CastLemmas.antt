@@ -1,8 +1,6 @@
 -- Casts, tests and conversions of references, and instructions on an i31.
-use Rattle.std.proofs.Common.{◌≡◌, ℕ, ◌<◌, Bool, true, false, List, [], ◌∷◌, Option, Some, None, length, get_or, refl, sym, subst, ap, ◌∙◌, arith}
-use Rattle.std.specs.Prelude.{◌&&◌, not, IsTrue, unwrap_or}
-use Rattle.std.proofs.lemmas.Option.{slice_get-get_or}
-use Rattle.smith_bytes.specs.Draws.{choose_at}
+use Rattle.std.proofs.Common.{◌≡◌, ℕ, ◌<◌, Bool, true, false, List, [], ◌∷◌, Option, Some, None, refl, sym, subst, ap, ◌∙◌, arith}
+use Rattle.std.specs.Prelude.{◌&&◌, not, IsTrue}
 use Rattle.smith_types.specs.Expressions.{reference_to}
 use Rattle.smith_syntax.specs.Features.{Features}
 use Rattle.smith_types.specs.Subtyping.{IsRefBelow, itself}
@@ -13,23 +11,19 @@ use Rattle.smith_syntax.specs.declared.value_type.HeapType.{HeapType}
 use Rattle.smith_syntax.specs.declared.value_type.HeapType.TheVariants.{Abstract}
 use Rattle.smith_syntax.specs.declared.value_type.RefType.{RefType}
 use Rattle.smith_syntax.specs.declared.value_type.ValType.{ValType}
-use Rattle.smith_syntax.specs.declared.value_type.ValType.TheVariants.{I32, I64, F32, F64, V128, Ref}
+use Rattle.smith_syntax.specs.declared.value_type.ValType.TheVariants.{I32, Ref}
 use Rattle.smith_types.proofs.GrowthLemmas.{IsValBelow-refl}
-use Rattle.smith_draw_types.specs.Below.{is_val_below}
 use Rattle.smith_draw_types.specs.Choices.{chosen_at}
 use Rattle.smith_instr.specs.AggregateTypes.{external, internal}
 use Rattle.smith_instr.specs.Contexts.{BodyContext, IsValid, nullable_to}
 use Rattle.smith_instr.specs.declared.aggregate.AggregateInstr.TheVariants as aggregate
 use Rattle.smith_instr.specs.declared.instr.Instr.TheVariants as instr
 use Rattle.smith_instr.specs.declared.reference.ReferenceInstr.TheVariants as reference
-use Rattle.smith_body_aggregates.specs.Aggregates.{names_types}
-use Rattle.smith_body_casts.specs.CastChoices.{above_at, above_in, cast_at, cast_choice_at, cast_for, conversion_at, conversion_of, conversions, i31_node, is_above, is_above_at, is_i31_below, non_null_test_at, reference_local_at, scalar_at, scalar_of, scalars, tested_for, type_test_at, with_null, without_null}
-use Rattle.smith_body_aggregates.specs.CreationChoices.{aggregate_of}
+use Rattle.smith_body_nodes.specs.IndexedTypes.{names_types}
+use Rattle.smith_body_nodes.specs.Above.{above_at}
+use Rattle.smith_body_casts.specs.CastChoices.{cast_at, cast_choice_at, cast_for, conversion_at, conversion_of, conversions, i31_node, is_i31_below, non_null_test_at, reference_local_at, scalar_at, scalar_of, scalars, tested_for, type_test_at, without_null}
+use Rattle.smith_body_nodes.specs.Nodes.{IsNode, aggregate_of, node_of}
 use Rattle.smith_body_nodes.specs.Items.{continued}
-use Rattle.smith_body_nodes.specs.Nodes.{IsNode, node_of}
-use Rattle.smith_body_control.specs.NullChoices.{reference_in}
-use Rattle.smith_body_nodes.specs.Offered.{offered}
-use Rattle.smith_body_nodes.specs.Scopes.{indexed}
 use Rattle.smith_body_casts.specs.declared.casts.Conversion.{Conversion}
 use Rattle.smith_body_casts.specs.declared.casts.Conversion.TheVariants as conversion
 use Rattle.smith_body_casts.specs.declared.casts.Scalar.{Scalar}
@@ -39,44 +33,6 @@ use Rattle.smith_body_nodes.proofs.NodeLemmas.{one_valid}
 use Rattle.smith_body_nodes.proofs.OfferLemmas.{both, tested}
 use Rattle.smith_body_nodes.proofs.PlainLemmas.{gives_one}
 use Rattle.smith_body_nodes.proofs.ReferenceChoiceLemmas.{nullable_valid}
-
--- a reference type matches its nullable form
-pub null_above : (types : List SubType) (to : RefType) → IsRefBelow types to (with_null to)
-null_above types to = record { heap = itself; nullable = λ h. refl }
-
-pub null_valid : (context : BodyContext) (to : RefType) → IsValid context (Ref to) → IsValid context (Ref (with_null to))
-null_valid context to valid = nullable_valid context to.heap_type valid.0 valid.1.heap_type
-
--- the type of a local, or the nullable form
-pub read_valid : (context : BodyContext) (value : ValType) (to : RefType) → IsValid context value → IsValid context (Ref to) → IsValid context (Ref (unwrap_or (reference_in (Some value)) (with_null to)))
-read_valid context (Ref from) to valid valid' = valid
-read_valid context I32 to valid valid' = null_valid context to valid'
-read_valid context I64 to valid valid' = null_valid context to valid'
-read_valid context F32 to valid valid' = null_valid context to valid'
-read_valid context F64 to valid valid' = null_valid context to valid'
-read_valid context V128 to valid valid' = null_valid context to valid'
-
-read_below : (types : List SubType) (value : ValType) (to : RefType) → IsOrderly types → is_val_below types (Ref to) value ≡ true → IsRefBelow types to (unwrap_or (reference_in (Some value)) (with_null to))
-read_below types (Ref from) to orderly is = tested types orderly (Ref to) (Ref from) is
-read_below types I32 to orderly is = null_above types to
-read_below types I64 to orderly is = null_above types to
-read_below types F32 to orderly is = null_above types to
-read_below types F64 to orderly is = null_above types to
-read_below types V128 to orderly is = null_above types to
-
-pub read_above : (context : BodyContext) (to : RefType) (index : ℕ) (d : ValType) → IsOrderly context.types → index < length context.locals → is_above context to index ≡ true
-    → IsRefBelow context.types to (unwrap_or (reference_in (Some (get_or context.locals index d))) (with_null to))
-read_above context to index d orderly inside is =
-    read_below context.types (get_or context.locals index d) to orderly (subst (λ (o : Option ValType). is_above_at context.types to o ≡ true) (slice_get-get_or context.locals index d inside) is)
-
--- the drawn type that a reference type matches
-pub above_none : (context : BodyContext) (to : RefType) (bytes left : List ℕ) → choose_at (offered (is_above context to) (indexed (length context.locals))) bytes ≡ (None, left) → above_at context to bytes ≡ (with_null to, left)
-above_none context to bytes left drawn = ap (λ (d : Option ℕ × List ℕ). (above_in context to d.0, d.1)) drawn
-
-pub above_some : (context : BodyContext) (to : RefType) (bytes left : List ℕ) (index : ℕ) (d : ValType) → choose_at (offered (is_above context to) (indexed (length context.locals))) bytes ≡ (Some index, left) → index < length context.locals
-    → above_at context to bytes ≡ (unwrap_or (reference_in (Some (get_or context.locals index d))) (with_null to), left)
-above_some context to bytes left index d drawn inside =
-    ap (λ (d : Option ℕ × List ℕ). (above_in context to d.0, d.1)) drawn ∙ ap (λ (o : Option ValType). (unwrap_or (reference_in o) (with_null to), left)) (slice_get-get_or context.locals index d inside)
 
 -- the non-nullable form matches a reference type
 pub strict_below : (types : List SubType) (features : Features) (to : RefType) → IsRefBelow types (without_null features to) to

@@ -1,10 +1,9 @@
 -- The cast, test or conversion of a reference that the bytes choose, and the instruction on an i31.
 -- The choices, their order and their weights are rules of this project.
-use Rattle.std.specs.Prelude.{ℕ, Bool, true, false, ◌&&◌, not, Option, Some, None, is_some, unwrap_or, List, [], ◌∷◌, length, slice_get, if◌then◌else◌}
+use Rattle.std.specs.Prelude.{ℕ, Bool, true, false, ◌&&◌, not, Option, Some, None, is_some, List, [], ◌∷◌, length, slice_get, if◌then◌else◌}
 use Rattle.smith_bytes.specs.Draws.{choose_at}
 use Rattle.smith_types.specs.Expressions.{reference_to}
 use Rattle.smith_syntax.specs.Features.{Features}
-use Rattle.smith_syntax.specs.declared.composite_type.SubType.{SubType}
 use Rattle.smith_syntax.specs.declared.value_type.AbstractHeapType.TheVariants as abstract
 use Rattle.smith_syntax.specs.declared.value_type.HeapType.{HeapType}
 use Rattle.smith_syntax.specs.declared.value_type.HeapType.TheVariants.{Abstract}
@@ -18,12 +17,11 @@ use Rattle.smith_instr.specs.Contexts.{BodyContext, nullable_to}
 use Rattle.smith_instr.specs.declared.aggregate.AggregateInstr.TheVariants as aggregate
 use Rattle.smith_instr.specs.declared.instr.Instr.TheVariants as instr
 use Rattle.smith_instr.specs.declared.reference.ReferenceInstr.TheVariants as reference
-use Rattle.smith_body_aggregates.specs.Aggregates.{names_types}
+use Rattle.smith_body_nodes.specs.IndexedTypes.{names_types}
 use Rattle.smith_body_nodes.specs.Chosen.{Chosen, giving}
-use Rattle.smith_body_aggregates.specs.CreationChoices.{aggregate_of}
+use Rattle.smith_body_nodes.specs.Nodes.{aggregate_of, node_of}
 use Rattle.smith_body_nodes.specs.Items.{continued}
-use Rattle.smith_body_nodes.specs.Nodes.{node_of}
-use Rattle.smith_body_control.specs.NullChoices.{reference_in}
+use Rattle.smith_body_nodes.specs.Above.{above_at, reference_in}
 use Rattle.smith_body_nodes.specs.Offered.{offered}
 use Rattle.smith_body_nodes.specs.Scopes.{indexed}
 use Rattle.smith_body_casts.specs.declared.casts.Conversion.{Conversion}
@@ -31,28 +29,6 @@ use Rattle.smith_body_casts.specs.declared.casts.Conversion.TheVariants as conve
 use Rattle.smith_body_casts.specs.declared.casts.Scalar.{Scalar}
 use Rattle.smith_body_casts.specs.declared.casts.Scalar.TheVariants as scalar
 use Rattle.smith_body_nodes.specs.declared.node.Node.{Node}
-
--- a local whose type a reference type matches
-abbrev pub is_above_at : List SubType → RefType → Option ValType → Bool
-is_above_at types to (Some value) = is_val_below types (Ref to) value
-is_above_at types to None = false
-
-abbrev pub is_above : BodyContext → RefType → ℕ → Bool
-is_above context to index = is_above_at context.types to (slice_get context.locals index)
-
--- the nullable form of a reference type
-abbrev pub with_null : RefType → RefType
-with_null to = record { nullable = true; heap_type = to.heap_type }
-
-abbrev pub above_in : BodyContext → RefType → Option ℕ → RefType
-above_in context to (Some index) = unwrap_or (reference_in (slice_get context.locals index)) (with_null to)
-above_in context to None = with_null to
-
--- a type that a reference type matches: that of a local, or its nullable form if there is none
-abbrev pub above_at : BodyContext → RefType → List ℕ → RefType × List ℕ
-above_at context to bytes =
-    let index = choose_at (offered (is_above context to) (indexed (length context.locals))) bytes in
-    (above_in context to index.0, index.1)
 
 -- the non-nullable form of a reference type, if such types are enabled
 abbrev pub without_null : Features → RefType → RefType

@@ -1,25 +1,20 @@
-ghost use Rattle.std.specs.Prelude.{◌≡◌, false, true, Some, unwrap_or, [], ◌∷◌, IfOk, IfErr};
+ghost use Rattle.std.specs.Prelude.{◌≡◌, false, true, Some, [], ◌∷◌, IfOk, IfErr};
 ghost use Rattle.std.specs.Prelude.{IfSome};
 ghost use Rattle.smith_bytes.specs.Source.{KeepsPieces};
-ghost use Rattle.smith_types.specs.Subtyping.{IsRefBelow};
 ghost use Rattle.smith_syntax.specs.declared.value_type.ValType.TheVariants.{I32, Ref};
 ghost use Rattle.smith_instr.specs.Contexts.{IsValid, nullable_to};
-ghost use Rattle.smith_body_aggregates.specs.Aggregates.{names_types};
-ghost use Rattle.smith_body_casts.specs.CastChoices.{above_at, cast_at, cast_choice_at};
-ghost use Rattle.smith_body_casts.specs.CastChoices.{cast_for, conversion_at, conversions};
-ghost use Rattle.smith_body_casts.specs.CastChoices.{converted_to, i31_node, is_i31_below};
-ghost use Rattle.smith_body_casts.specs.CastChoices.{non_null_test_at, reference_local_at};
-ghost use Rattle.smith_body_casts.specs.CastChoices.{scalar_at, scalars, tested_for};
-ghost use Rattle.smith_body_casts.specs.CastChoices.{type_test_at, with_null, without_null};
-ghost use Rattle.smith_body_aggregates.specs.CreationChoices.{aggregate_of};
-ghost use Rattle.smith_body_nodes.specs.Nodes.{IsOffer};
-ghost use Rattle.smith_body_control.specs.NullChoices.{reference_in};
+ghost use Rattle.smith_body_nodes.specs.IndexedTypes.{names_types};
+ghost use Rattle.smith_body_casts.specs.CastChoices.{cast_at, cast_choice_at, cast_for};
+ghost use Rattle.smith_body_casts.specs.CastChoices.{conversion_at, conversions, converted_to};
+ghost use Rattle.smith_body_casts.specs.CastChoices.{i31_node, is_i31_below, non_null_test_at};
+ghost use Rattle.smith_body_casts.specs.CastChoices.{reference_local_at, scalar_at, scalars};
+ghost use Rattle.smith_body_casts.specs.CastChoices.{tested_for, type_test_at, without_null};
+ghost use Rattle.smith_body_nodes.specs.Nodes.{IsOffer, aggregate_of};
 ghost use Rattle.smith_body_nodes.specs.Scopes.{IsScope, bare, where_stands};
 
-use smith_body_aggregates::names_types;
 use smith_body_nodes::{
-    Draft, Node, Offer, Scope, choose_offered, indexed_count, is_below, is_sub_type, nullable_to,
-    plain,
+    Draft, Node, Offer, Scope, choose_offered, draw_above, indexed_count, is_sub_type, names_types,
+    nullable_to, plain,
 };
 use smith_bytes::{Error, Unstructured};
 use smith_draw_types::choose;
@@ -77,36 +72,6 @@ fn conversions<'a>() -> &'a [Conversion]
         Conversion::Outside,
         Conversion::Outside,
     ]
-}
-
-/// Locals whose type a reference type matches.
-#[derive(Clone, Copy)]
-struct AboveOffer<'a> {
-    scope: &'a Scope<'a>,
-    to: RefType,
-}
-
-impl<'a> Offer for AboveOffer<'a> {
-    ghost use Rattle.std.specs.Prelude.{length};
-    ghost use Rattle.smith_syntax.specs.declared.value_type.ValType.TheVariants.{Ref};
-    ghost use Rattle.smith_instr.specs.Contexts.{IsValid};
-    ghost use Rattle.smith_body_casts.specs.CastChoices.{is_above};
-    ghost use Rattle.smith_body_nodes.specs.Scopes.{IsScope, bare, indexed};
-
-    ghost ready = { λ self.
-        IsScope (bare self.scope.now) × IsValid (bare self.scope.now) (Ref self.to) };
-
-    ghost size = { λ self. indexed (length self.scope.now.locals.now) };
-
-    ghost test = { λ self index. is_above (bare self.scope.now) self.to index };
-
-    fn count(&self) -> usize {
-        indexed_count(self.scope.locals.len())
-    }
-
-    fn is_offered(&self, index: usize) -> bool {
-        is_below(self.scope, ValType::Ref(self.to), self.scope.locals[index])
-    }
 }
 
 /// Locals of reference types.
@@ -302,31 +267,6 @@ fn test_for(
     Ok(Some(node))
 }
 
-/// Draws the type of a local that `to` matches. Returns the nullable type of `to` if there is none.
-pub fn draw_above(scope: &Scope<'_>, to: RefType, u: &mut Unstructured<'_>) -> RefType
-    requires scope { IsScope (bare scope.now) }
-    requires to { IsValid (bare scope.now) (Ref to) }
-    ensures exact { above_at (bare scope.now) to u.old ≡ (result, u.new) }
-    ensures valid { IsValid (bare scope.now) (Ref result) }
-    ensures above { IsRefBelow (bare scope.now).types to result }
-    ensures left { KeepsPieces u.old u.new }
-{
-    let Some(index) = choose_offered(&AboveOffer { scope, to }, u) else {
-        return with_null(to);
-    };
-    reference_or(scope.locals[index], with_null(to))
-}
-
-/// Returns the reference type `value`, or `other` if `value` is not a reference type.
-pub fn reference_or(value: ValType, other: RefType) -> RefType
-    ensures { result ≡ unwrap_or (reference_in (Some value)) other }
-{
-    match value {
-        ValType::Ref(reference) => reference,
-        _ => other,
-    }
-}
-
 /// Returns the non-nullable form of `to` if such types are enabled, else `to`.
 fn without_null(scope: &Scope<'_>, to: RefType) -> RefType
     requires to { IsValid (bare scope.now) (Ref to) }
@@ -336,15 +276,6 @@ fn without_null(scope: &Scope<'_>, to: RefType) -> RefType
     let has_null = !scope.features.contains(WasmFeatures::FUNCTION_REFERENCES);
     RefType {
         nullable: to.nullable && has_null,
-        heap_type: to.heap_type,
-    }
-}
-
-fn with_null(to: RefType) -> RefType
-    ensures { result ≡ with_null to }
-{
-    RefType {
-        nullable: true,
         heap_type: to.heap_type,
     }
 }

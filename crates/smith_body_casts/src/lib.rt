@@ -6,4 +6,4 @@
 
 mod casts;
 
-pub use casts::{choose_cast, draw_above, reference_or};
+pub use casts::choose_cast;

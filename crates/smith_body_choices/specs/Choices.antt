@@ -23,7 +23,7 @@ use Rattle.smith_body_tables.specs.TableChoices.{table_change_at, table_value_at
 use Rattle.smith_body_memory.specs.VectorChoices.{store_lane_at, vector_at, vector_store_at}
 use Rattle.smith_body_memory.specs.MemoryChoices.{load_at, memory_at, store_at}
 use Rattle.smith_body_control.specs.CallChoices.{by_reference_at, indirect_at, tail_call_at}
-use Rattle.smith_body_control.specs.NullChoices.{br_on_null_value_at, null_branch_at}
+use Rattle.smith_body_reference_branches.specs.NullChoices.{br_on_null_value_at, null_branch_at}
 use Rattle.smith_body_control.specs.ThrowChoices.{any_throw_at}
 use Rattle.smith_body_control.specs.TryChoices.{any_try_at, try_at}
 use Rattle.smith_body_control.specs.declared.outcomes.Outcome.TheVariants as outcome

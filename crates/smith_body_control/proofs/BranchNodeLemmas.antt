@@ -1,9 +1,8 @@
 -- Unconditional branches leave any values.
-use Rattle.std.specs.Prelude.{slice_get, All}
-use Rattle.std.proofs.Common.{◌≡◌, ℕ, ◌<◌, ◌≤◌, List, [], ◌∷◌, ◌++◌, Some, length, length-append, get_or, refl, sym, subst, arith}
+use Rattle.std.specs.Prelude.{All}
+use Rattle.std.proofs.Common.{◌≡◌, ℕ, ◌<◌, ◌≤◌, List, [], ◌∷◌, ◌++◌, length, length-append, get_or, refl, arith}
 use Rattle.std.proofs.lemmas.List.{append-nil}
 use Rattle.std.proofs.lemmas.List.Elements.{All-push}
-use Rattle.std.proofs.lemmas.Option.{slice_get_read}
 use Rattle.smith_syntax.specs.declared.value_type.ValType.{ValType}
 use Rattle.smith_syntax.specs.declared.value_type.ValType.TheVariants.{I32}
 use Rattle.smith_instr.specs.Contexts.{BodyContext, IsValid, AreValid}
@@ -14,13 +13,8 @@ use Rattle.smith_body_nodes.specs.Scopes.{context_of, bare, widest, AreLabels}
 use Rattle.smith_body_nodes.specs.Nodes.{IsNode, node_of}
 use Rattle.smith_body_nodes.specs.declared.scope.Scope.{Scope}
 use Rattle.smith_body_nodes.proofs.NodeLemmas.{no_valid}
+use Rattle.smith_body_nodes.proofs.LabelLemmas.{label_at}
 use Rattle.smith_body_control.proofs.BlockNodeLemmas.{taken_valid}
-
--- the operands of a branch to a label
-pub label_at : (scope : Scope) (labels : List (List ValType)) → AreLabels scope labels → (index : ℕ) (taken : List ValType) → index < length labels → taken ≡ get_or labels index taken
-    → (slice_get labels index ≡ Some taken) × AreValid (bare scope) taken × (length taken ≤ widest scope.types.now.types)
-label_at scope labels are index taken inside is =
-    (slice_get_read labels (length labels) index taken refl inside is, subst (AreValid (bare scope)) (sym is) (are.valid index taken inside), subst (λ (values : List ValType). length values ≤ widest scope.types.now.types) (sym is) (are.few index taken inside))
 
 pub br_node : (scope : Scope) (labels : List (List ValType)) (set : List ℕ) (index : ℕ) (taken values : List ValType) → AreLabels scope labels → index < length labels → taken ≡ get_or labels index taken → AreValid (bare scope) values
     → IsNode (context_of scope labels) set values (node_of taken (instr.Br index) 0)

@@ -5,9 +5,8 @@ ghost use Rattle.smith_body_control.specs.CallChoices.{IsOutcome, dropped_of, fi
 ghost use Rattle.smith_body_control.specs.CallChoices.{is_fit_type};
 ghost use Rattle.smith_body_nodes.specs.Scopes.{IsScope, bare, indexed};
 
-use crate::branches::are_below;
 use smith_body_nodes::{
-    Offer, Scope, choose_in_chunk, func_type_at, indexed_count, is_first_below,
+    Offer, Scope, are_below, choose_in_chunk, func_type_at, indexed_count, is_first_below,
 };
 use smith_bytes::Unstructured;
 use smith_types::{FuncType, ValType};

@@ -6,15 +6,13 @@ ghost use Rattle.smith_instr.specs.InstrTypes.{IsCatch};
 ghost use Rattle.smith_body_nodes.specs.Chosen.{or_nop};
 ghost use Rattle.smith_body_nodes.specs.Nodes.{IsNode, IsOffer};
 ghost use Rattle.smith_body_nodes.specs.Scopes.{AreLabels, IsScope, bare, context_of, where_stands};
-ghost use Rattle.smith_body_control.specs.TryChoices.{IsCaught, any_try_at};
-ghost use Rattle.smith_body_control.specs.TryChoices.{passed_values, clause_at};
-ghost use Rattle.smith_body_control.specs.TryChoices.{clause_of, clause_to, referenced_at};
+ghost use Rattle.smith_body_control.specs.TryChoices.{IsCaught, any_try_at, clause_at, clause_of};
+ghost use Rattle.smith_body_control.specs.TryChoices.{clause_to, passed_values, referenced_at};
 ghost use Rattle.smith_body_control.specs.TryChoices.{refers_to_caught, some_clauses_at};
 ghost use Rattle.smith_body_control.specs.TryChoices.{tagged_clause_at, try_at};
 
-use crate::branches::choose_target;
 use crate::throws::{draw_tag, exn, refers_to_exceptions, tag_type_of};
-use smith_body_nodes::{Draft, Node, Scope, func_type_at, indexed_count, try_table};
+use smith_body_nodes::{Draft, Node, Scope, choose_target, func_type_at, indexed_count, try_table};
 use smith_bytes::{Error, Unstructured};
 use smith_instr::{BlockType, Catch};
 use smith_types::{Items, RefType, ValType, WasmFeatures};

@@ -6,7 +6,8 @@ ghost use Rattle.smith_syntax.specs.declared.value_type.AbstractHeapType.TheVari
 ghost use Rattle.smith_syntax.specs.declared.value_type.ValType.TheVariants.{I32, I64, Ref};
 ghost use Rattle.smith_instr.specs.declared.aggregate.AggregateInstr.TheVariants as aggregate;
 ghost use Rattle.smith_instr_examples.specs.ExampleBodies.{some_func};
-ghost use Rattle.smith_body_aggregates.specs.CreationChoices.{aggregate_of, creation_at};
+ghost use Rattle.smith_body_nodes.specs.Nodes.{aggregate_of};
+ghost use Rattle.smith_body_aggregates.specs.CreationChoices.{creation_at};
 ghost use Rattle.smith_body_examples.specs.ExampleAggregates.{aggregates, any, some, some_of};
 
 fn structs()

@@ -1,4 +1,4 @@
-#![tactic(auto, unfolding(smith_body_control::specs::NullChoices::br_on_non_null_at, smith_body_control::specs::NullChoices::br_on_null_at, smith_body_control::specs::NullChoices::br_on_null_value_at, smith_body_control::specs::NullChoices::null_branch_at, smith_body_nodes::specs::ReferenceChoices::referent_at, smith_body_nodes::specs::Offered::chunk_at, smith_body_nodes::specs::Offered::offered, smith_draw_types::specs::Choices::chosen_at, smith_bytes::specs::Draws::bool_at, smith_bytes::specs::Draws::choose_at, smith_bytes::specs::Draws::digit_count, smith_bytes::specs::Draws::range_at))]
+#![tactic(auto, unfolding(smith_body_reference_branches::specs::NullChoices::br_on_non_null_at, smith_body_reference_branches::specs::NullChoices::br_on_null_at, smith_body_reference_branches::specs::NullChoices::br_on_null_value_at, smith_body_reference_branches::specs::NullChoices::null_branch_at, smith_body_nodes::specs::ReferenceChoices::referent_at, smith_body_nodes::specs::Offered::chunk_at, smith_body_nodes::specs::Offered::offered, smith_draw_types::specs::Choices::chosen_at, smith_bytes::specs::Draws::bool_at, smith_bytes::specs::Draws::choose_at, smith_bytes::specs::Draws::digit_count, smith_bytes::specs::Draws::range_at))]
 
 ghost use Rattle.std.specs.Prelude.{◌≡◌, Some, None, [], ◌∷◌};
 ghost use Rattle.smith_types.specs.Flags.{funcref};
@@ -6,7 +6,7 @@ ghost use Rattle.smith_syntax.specs.declared.value_type.ValType.TheVariants.{I32
 ghost use Rattle.smith_instr.specs.declared.instr.Instr.TheVariants as instr;
 ghost use Rattle.smith_instr_examples.specs.ExampleBodies.{some_func};
 ghost use Rattle.smith_body_nodes.specs.Nodes.{node_of};
-ghost use Rattle.smith_body_control.specs.NullChoices.{br_on_null_value_at, null_branch_at};
+ghost use Rattle.smith_body_reference_branches.specs.NullChoices.{br_on_null_value_at, null_branch_at};
 ghost use Rattle.smith_body_examples.specs.ExampleContexts.{among, external, labelled_four};
 ghost use Rattle.smith_body_examples.specs.ExampleContexts.{without_references};
 

@@ -31,9 +31,9 @@ use Rattle.smith_body_leaves.specs.Leaves.{any_leaf_at, constant_instr_at, conve
 use Rattle.smith_body_leaves.specs.declared.leaf.Leaf.{Leaf}
 use Rattle.smith_body_leaves.specs.declared.unary.Unary.{Unary}
 use Rattle.smith_body_leaves.specs.declared.families.LeafFamily.TheVariants as leaf
-use Rattle.smith_body_aggregates.specs.Aggregates.{first_created_array, first_created_struct, is_created_below, is_created_empty, is_created_struct}
-use Rattle.smith_body_aggregates.specs.Fields.{struct_in, struct_of}
-use Rattle.smith_body_aggregates.proofs.FirstLemmas.{chosen_first, none_offered}
+use Rattle.smith_body_leaves.specs.FirstCreated.{first_created_array, first_created_struct, is_created_empty}
+use Rattle.smith_body_nodes.specs.IndexedTypes.{is_created_below, is_created_struct, struct_in, struct_of}
+use Rattle.smith_body_leaves.proofs.FirstLemmas.{chosen_first, none_offered}
 use Rattle.smith_body_nodes.specs.Offered.{is_global_below, is_named, is_readable, is_reference, offered}
 use Rattle.smith_body_nodes.specs.Scopes.{indexed, is_permitted}
 use Rattle.smith_body_nodes.specs.declared.offer.Reach.TheVariants as reach

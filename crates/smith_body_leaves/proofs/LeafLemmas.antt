@@ -16,10 +16,10 @@ use Rattle.smith_instr.specs.declared.aggregate.AggregateInstr.TheVariants as ag
 use Rattle.smith_instr.specs.declared.instr.Instr.TheVariants as instr
 use Rattle.smith_instr.specs.declared.reference.ReferenceInstr.TheVariants as reference
 use Rattle.smith_body_leaves.specs.Leaves.{IsConstant, IsLeaf, IsTaking, i31_of, i31_type}
-use Rattle.smith_body_aggregates.specs.Aggregates.{is_creatable_in, is_created_below, is_created_empty, is_created_struct}
-use Rattle.smith_body_aggregates.specs.Fields.{struct_in}
-use Rattle.smith_body_aggregates.proofs.CreationLemmas.{default_there}
-use Rattle.smith_body_aggregates.proofs.FirstLemmas.{array_created}
+use Rattle.smith_body_nodes.specs.IndexedTypes.{is_creatable_in, is_created_below, is_created_struct, struct_in}
+use Rattle.smith_body_leaves.specs.FirstCreated.{is_created_empty}
+use Rattle.smith_body_nodes.proofs.IndexedTypeLemmas.{default_there}
+use Rattle.smith_body_leaves.proofs.FirstLemmas.{array_created}
 use Rattle.smith_body_nodes.specs.Scopes.{IsAllowedIn, is_permitted, kinds_of_bodies}
 use Rattle.smith_body_nodes.specs.Traps.{may_trap}
 use Rattle.smith_body_nodes.specs.Offered.{is_readable, is_global_below, IsReferenceTo}

@@ -1,3 +1,4 @@
+pub mod FirstLemmas
 pub mod ReferenceLemmas
 pub mod LeafLemmas
 pub mod LeafChoiceLemmas

@@ -24,15 +24,11 @@ use Rattle.smith_syntax.specs.declared.value_type.ValType.TheVariants.{I32, I64,
 use Rattle.smith_draw_types.specs.Below.{is_val_below}
 use Rattle.smith_draw_types.proofs.BelowLemmas.{val_decides}
 use Rattle.smith_instr.specs.Contexts.{BodyContext, IsLocalSet, created_reference, reference_to_function}
-use Rattle.smith_body_aggregates.specs.Aggregates.{is_creatable_in, is_created_empty, is_created_struct}
-use Rattle.smith_body_aggregates.specs.Fields.{struct_in, struct_of}
-use Rattle.smith_body_aggregates.proofs.FirstLemmas.{array_offered}
+use Rattle.smith_body_nodes.specs.IndexedTypes.{is_creatable_in, is_created_struct, struct_in, struct_of}
+use Rattle.smith_body_leaves.specs.FirstCreated.{is_created_empty}
+use Rattle.smith_body_leaves.proofs.FirstLemmas.{array_offered, both_are}
 use Rattle.smith_body_nodes.proofs.AmongLemmas.{among_is}
 use Rattle.smith_body_nodes.specs.Offered.{has_default, is_among, is_global_below, is_global_below_at, is_named, is_readable, is_readable_at, is_reference, is_reference_at, offered}
-
-both_are : (a b : Bool) → a ≡ true → b ≡ true → (a && b) ≡ true
-both_are true b p q = q
-both_are false b p q = p
 
 first_is : (a b : Bool) → a ≡ true → (a || b) ≡ true
 first_is true b p = refl

@@ -10,8 +10,8 @@ use Rattle.smith_syntax.specs.declared.value_type.ValType.{ValType}
 use Rattle.smith_instr.specs.Contexts.{BodyContext, AreValid}
 use Rattle.smith_instr.specs.declared.instr.Instr.{Instr}
 use Rattle.smith_body_leaves.specs.Leaves.{fields_at, fields_in, first_single, singles}
-use Rattle.smith_body_aggregates.specs.Fields.{struct_in}
-use Rattle.smith_body_aggregates.proofs.AggregateLemmas.{struct_fields, struct_there}
+use Rattle.smith_body_nodes.specs.IndexedTypes.{struct_in}
+use Rattle.smith_body_nodes.proofs.IndexedTypeLemmas.{struct_fields, struct_there}
 use Rattle.smith_body_nodes.specs.Scopes.{IsScope, where_stands}
 use Rattle.smith_body_nodes.specs.declared.scope.Draft.{Draft}
 use Rattle.smith_body_nodes.specs.declared.scope.Scope.{Scope}

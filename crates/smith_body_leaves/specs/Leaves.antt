@@ -26,8 +26,8 @@ use Rattle.smith_instr.specs.declared.aggregate.AggregateInstr.TheVariants as ag
 use Rattle.smith_instr.specs.declared.instr.Instr.{Instr}
 use Rattle.smith_instr.specs.declared.instr.Instr.TheVariants as instr
 use Rattle.smith_instr.specs.declared.reference.ReferenceInstr.TheVariants as reference
-use Rattle.smith_body_aggregates.specs.Aggregates.{first_created_array, first_created_struct, is_created_below}
-use Rattle.smith_body_aggregates.specs.Fields.{struct_in}
+use Rattle.smith_body_leaves.specs.FirstCreated.{first_created_array, first_created_struct}
+use Rattle.smith_body_nodes.specs.IndexedTypes.{is_created_below, struct_in}
 use Rattle.smith_body_nodes.specs.Chosen.{giving}
 use Rattle.smith_body_nodes.specs.Offered.{is_global_below, is_readable, is_reference, offered, within_at}
 use Rattle.smith_body_nodes.specs.Scopes.{indexed, is_permitted}

@@ -1,2 +1,3 @@
+pub mod FirstCreated
 pub mod Laws
 pub mod Leaves

@@ -6,6 +6,7 @@
 
 mod creations;
 mod families;
+mod first_created;
 mod leaf;
 mod references;
 mod search;

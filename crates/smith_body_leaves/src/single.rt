@@ -8,8 +8,8 @@ ghost use Rattle.smith_body_leaves.specs.Leaves.{leaf_choice_at, leaf_of};
 ghost use Rattle.smith_body_nodes.specs.Scopes.{IsScope, bare, where_stands};
 
 use crate::families::{LeafFamily, leaf_families};
+use crate::first_created::{first_created_array, first_created_struct};
 use crate::references::choose_reference;
-use smith_body_aggregates::{first_created_array, first_created_struct};
 use smith_body_nodes::{Draft, Reach, Scope, choose_global, choose_set_local, is_allowed};
 use smith_bytes::Unstructured;
 use smith_draw_types::choose;

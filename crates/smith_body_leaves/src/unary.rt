@@ -6,8 +6,7 @@ ghost use Rattle.smith_body_leaves.specs.Leaves.{fields_at, i31_by, i31_creation
 ghost use Rattle.smith_body_leaves.specs.Leaves.{may_create, named_type};
 ghost use Rattle.smith_body_nodes.specs.Scopes.{IsScope, bare};
 
-use smith_body_aggregates::{created_reference, struct_type_at};
-use smith_body_nodes::{Scope, is_allowed, is_sub_type};
+use smith_body_nodes::{Scope, created_reference, is_allowed, is_sub_type, struct_type_at};
 use smith_instr::{AggregateInstr, Instr};
 use smith_types::{AbstractHeapType, FieldType, HeapType, RefType, ValType, unpack};
 

@@ -1,5 +1,8 @@
 pub mod OfferedLemmas
 pub mod OfferLemmas
+pub mod IndexedTypeLemmas
+pub mod AboveLemmas
+pub mod LabelLemmas
 pub mod SetLocalLemmas
 pub mod AmongLemmas
 pub mod AllowedLemmas

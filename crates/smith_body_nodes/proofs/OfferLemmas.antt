@@ -1,6 +1,6 @@
 -- Offered items have the wanted property.
 use Rattle.std.proofs.Common.{◌≡◌, inl, inr, ℕ, suc, ◌<◌, ◌⊎◌, Bool, true, false, List, [], ◌∷◌, Option, Some, None, refl, ap, arith}
-use Rattle.std.specs.Prelude.{slice_get, nat_lt, ◌&&◌, ◌||◌, ◌==◌}
+use Rattle.std.specs.Prelude.{slice_get, option_map, nat_lt, ◌&&◌, ◌||◌, ◌==◌}
 use Rattle.std.specs.List.{AllZip, Contains}
 use Rattle.std.specs.Cmp.{unsigned_Decides}
 use Rattle.std.proofs.lemmas.Bool.{ltb-true}
@@ -9,6 +9,7 @@ use Rattle.smith_types.specs.Subtyping.{IsValBelow}
 use Rattle.smith_types.specs.Types.{IsOrderly}
 use Rattle.smith_types.specs.Entities.{IsFuncAt}
 use Rattle.smith_types.specs.Expressions.{IsDefaultable}
+use Rattle.smith_syntax.specs.declared.value_type.RefType.{RefType}
 use Rattle.smith_syntax.specs.declared.value_type.ValType.{ValType}
 use Rattle.smith_syntax.specs.declared.value_type.ValType.TheVariants.{I32, I64, F32, F64, V128, Ref}
 use Rattle.smith_syntax.specs.declared.composite_type.CompositeInnerType.{CompositeInnerType}
@@ -43,6 +44,12 @@ local_below_at context wanted index None orderly at is = cc
 
 pub local_below : (context : BodyContext) (wanted : ValType) (index : ℕ) → IsOrderly context.types → is_local_below context wanted index ≡ true → IsLocalBelow context wanted index
 local_below context wanted index orderly is = local_below_at context wanted index (slice_get context.locals index) orderly refl is
+
+-- an element segment whose type matches the wanted type
+pub segment_below_at : (context : BodyContext) (wanted : ValType) (segment : ℕ) (o : Option RefType) → IsOrderly context.types → slice_get context.elems segment ≡ o → is_below_at context.types wanted (option_map Ref o) ≡ true
+    → (element : RefType) × (slice_get context.elems segment ≡ Some element) × IsValBelow context.types (Ref element) wanted
+segment_below_at context wanted segment (Some element) orderly at is = (element, at, tested context.types orderly (Ref element) wanted is)
+segment_below_at context wanted segment None orderly at is = cc
 
 defaultable : (value : ValType) → has_default value ≡ true → IsDefaultable value
 defaultable I32 is = tt

@@ -2,6 +2,8 @@ pub mod Traps
 pub mod Scopes
 pub mod Nodes
 pub mod Offered
+pub mod IndexedTypes
+pub mod Above
 pub mod SetLocals
 pub mod NumericRows
 pub mod Chosen

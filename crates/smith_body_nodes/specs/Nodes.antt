@@ -11,6 +11,7 @@ use Rattle.smith_syntax.specs.declared.value_type.ValType.TheVariants.{I32}
 use Rattle.smith_syntax.specs.declared.composite_type.SubType.{SubType}
 use Rattle.smith_instr.specs.Contexts.{BodyContext, AreValid, AreBelow, IsBlockType}
 use Rattle.smith_instr.specs.InstrTypes.{sets, HasInstrType, IsCatch}
+use Rattle.smith_instr.specs.declared.aggregate.AggregateInstr.{AggregateInstr}
 use Rattle.smith_instr.specs.declared.control.BlockType.{BlockType}
 use Rattle.smith_instr.specs.declared.control.Catch.{Catch}
 use Rattle.smith_instr.specs.declared.instr.Instr.{Instr}
@@ -145,6 +146,10 @@ IsOffer context set values result = IfOk result (λ chosen. IfSome chosen (IsNod
 -- an instruction after its operands, of whose results some are dropped
 abbrev pub node_of : List ValType → Instr → ℕ → Node
 node_of operands instruction drops = record { operands = operands; head = head.Plain instruction; sets = None; drops = drops }
+
+-- an aggregate instruction after its operands
+abbrev pub aggregate_of : List ValType → AggregateInstr → Node
+aggregate_of operands op = node_of operands (instr.Aggregate op) 0
 
 -- a node that sets a local
 abbrev pub setting : ℕ → ValType → Instr → Node

@@ -47,6 +47,10 @@ is_below_at types wanted None = false
 abbrev pub is_local_below : BodyContext → ValType → ℕ → Bool
 is_local_below context wanted index = is_below_at context.types wanted (slice_get context.locals index)
 
+-- an element segment whose type matches the wanted type
+abbrev pub is_elem_below : BodyContext → ValType → ℕ → Bool
+is_elem_below context wanted index = is_below_at context.types wanted (option_map Ref (slice_get context.elems index))
+
 -- a value type that has a default
 abbrev pub has_default : ValType → Bool
 has_default (Ref reference) = reference.nullable

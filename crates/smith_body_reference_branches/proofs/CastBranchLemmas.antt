@@ -19,16 +19,16 @@ use Rattle.smith_instr.specs.InstrTypes.{HasInstrType, difference, sets}
 use Rattle.smith_instr.specs.declared.instr.Instr.{Instr}
 use Rattle.smith_instr.specs.declared.instr.Instr.TheVariants as instr
 use Rattle.smith_body_reference_branches.specs.CastBranchChoices.{below_at, below_in, br_on_cast_at, br_on_cast_fail_at, cast_branch_for, cast_down_of, cast_fail_of, cast_label, cast_label_at, cast_label_there, cast_node, cast_value_at, kept_cast, kept_cast_node, last_of}
-use Rattle.smith_body_casts.specs.CastChoices.{above_at}
+use Rattle.smith_body_nodes.specs.Above.{above_at, reference_in}
 use Rattle.smith_body_nodes.specs.Chosen.{giving}
 use Rattle.smith_body_nodes.specs.Nodes.{IsNode}
-use Rattle.smith_body_control.specs.NullChoices.{is_of_reference, last_reference, reference_in}
+use Rattle.smith_body_reference_branches.specs.NullChoices.{is_of_reference, last_reference}
 use Rattle.smith_body_nodes.specs.Offered.{is_below_at, is_local_below, is_target, offered}
 use Rattle.smith_body_nodes.specs.Scopes.{AreLabels, bare, context_of, indexed, widest}
 use Rattle.smith_body_reference_branches.specs.declared.cast_branches.CastLabel.{CastLabel}
 use Rattle.smith_body_nodes.specs.declared.scope.Scope.{Scope}
 use Rattle.smith_body_nodes.proofs.ItemLemmas.{given_none, given_some}
-use Rattle.smith_body_control.proofs.BranchNodeLemmas.{label_at}
+use Rattle.smith_body_nodes.proofs.LabelLemmas.{label_at}
 use Rattle.smith_body_nodes.proofs.NodeLemmas.{no_valid, one_valid}
 use Rattle.smith_body_reference_branches.proofs.NullLemmas.{last_is, last_there, one_longer}
 use Rattle.smith_body_nodes.proofs.OfferLemmas.{target_there, tested}

@@ -21,12 +21,13 @@ use Rattle.smith_instr.specs.declared.instr.Instr.TheVariants as instr
 use Rattle.smith_instr.proofs.SequenceLemmas.{below_themselves}
 use Rattle.smith_body_nodes.specs.Chosen.{giving}
 use Rattle.smith_body_nodes.specs.Nodes.{IsNode, node_of}
-use Rattle.smith_body_control.specs.NullChoices.{br_on_non_null_at, br_on_non_null_by, br_on_non_null_node, br_on_null_at, br_on_null_by, br_on_null_node, br_on_null_value_at, is_of_reference, is_short, is_short_at, kept_node, last_reference, null_branch_at, reference_in, short_label_at}
+use Rattle.smith_body_reference_branches.specs.NullChoices.{br_on_non_null_at, br_on_non_null_by, br_on_non_null_node, br_on_null_at, br_on_null_by, br_on_null_node, br_on_null_value_at, is_of_reference, is_short, is_short_at, kept_node, last_reference, null_branch_at, short_label_at}
+use Rattle.smith_body_nodes.specs.Above.{reference_in}
 use Rattle.smith_body_nodes.specs.Offered.{label_count, offered}
 use Rattle.smith_body_nodes.specs.ReferenceChoices.{referent_at}
 use Rattle.smith_body_nodes.specs.Scopes.{AreLabels, bare, context_of}
 use Rattle.smith_body_nodes.specs.declared.scope.Scope.{Scope}
-use Rattle.smith_body_control.proofs.BranchNodeLemmas.{label_at}
+use Rattle.smith_body_nodes.proofs.LabelLemmas.{label_at}
 use Rattle.smith_body_nodes.proofs.NodeLemmas.{no_valid, one_valid, three_wide}
 use Rattle.smith_body_nodes.proofs.PlainLemmas.{gives_one}
 use Rattle.smith_body_nodes.proofs.ReferenceChoiceLemmas.{nullable_valid}

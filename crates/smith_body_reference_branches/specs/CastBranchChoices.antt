@@ -9,11 +9,11 @@ use Rattle.smith_instr.specs.Contexts.{BodyContext}
 use Rattle.smith_instr.specs.declared.control.BranchCast.{BranchCast}
 use Rattle.smith_instr.specs.declared.instr.Instr.{Instr}
 use Rattle.smith_instr.specs.declared.instr.Instr.TheVariants as instr
-use Rattle.smith_body_casts.specs.CastChoices.{above_at}
+use Rattle.smith_body_nodes.specs.Above.{above_at, reference_in}
 use Rattle.smith_body_nodes.specs.Chosen.{Chosen, giving}
 use Rattle.smith_body_nodes.specs.Items.{continued}
 use Rattle.smith_body_nodes.specs.Nodes.{node_of}
-use Rattle.smith_body_control.specs.NullChoices.{is_of_reference, last_reference, reference_in}
+use Rattle.smith_body_reference_branches.specs.NullChoices.{is_of_reference, last_reference}
 use Rattle.smith_body_nodes.specs.Offered.{is_local_below, is_target, offered}
 use Rattle.smith_body_nodes.specs.Scopes.{indexed}
 use Rattle.smith_body_reference_branches.specs.declared.cast_branches.CastLabel.{CastLabel}

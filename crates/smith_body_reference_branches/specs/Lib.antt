@@ -1,1 +1,2 @@
+pub mod NullChoices
 pub mod CastBranchChoices

@@ -1,4 +1,4 @@
-ghost use Rattle.std.specs.Prelude.{◌≡◌, ◌<◌, true, [], ◌∷◌, Some, length, IfOk, IfErr, IfSome};
+ghost use Rattle.std.specs.Prelude.{◌≡◌, ◌<◌, [], ◌∷◌, Some, length, IfOk, IfErr, IfSome};
 ghost use Rattle.smith_bytes.specs.Source.{KeepsPieces};
 ghost use Rattle.smith_types.specs.Subtyping.{IsRefBelow};
 ghost use Rattle.smith_syntax.specs.declared.value_type.ValType.TheVariants.{Ref};
@@ -12,9 +12,10 @@ ghost use Rattle.smith_body_nodes.specs.Nodes.{IsNode, IsOffer};
 ghost use Rattle.smith_body_nodes.specs.Scopes.{AreLabels, IsScope, bare, where_stands};
 
 use crate::null_branches::{choose_of_reference, last_reference};
-use smith_body_casts::{draw_above, reference_or};
-use smith_body_control::choose_target;
-use smith_body_nodes::{Draft, Node, Scope, choose_local, node_with_top, or_nop, plain};
+use smith_body_nodes::{
+    Draft, Node, Scope, choose_local, choose_target, draw_above, node_with_top, or_nop, plain,
+    reference_or,
+};
 use smith_bytes::{Error, Unstructured};
 use smith_instr::{BranchCast, Instr};
 use smith_types::{RefType, ValType};

@@ -1,13 +1,13 @@
-ghost use Rattle.std.specs.Prelude.{◌≡◌, ◌<◌, true, List, Some, [], ◌∷◌, length, min, slice_get};
-ghost use Rattle.std.specs.Prelude.{IfOk, IfErr, IfSome, IsTrue};
+ghost use Rattle.std.specs.Prelude.{◌≡◌, ◌<◌, true, Some, [], ◌∷◌, length, min};
+ghost use Rattle.std.specs.Prelude.{IfOk, IfErr, IfSome};
 ghost use Rattle.smith_bytes.specs.Draws.{choose_at};
 ghost use Rattle.smith_bytes.specs.Source.{KeepsPieces};
 ghost use Rattle.smith_instr.specs.Contexts.{IsValid};
 ghost use Rattle.smith_body_nodes.specs.Chosen.{or_nop};
 ghost use Rattle.smith_body_nodes.specs.Nodes.{IsNode, IsOffer};
-ghost use Rattle.smith_body_control.specs.NullChoices.{br_on_non_null_at, br_on_null_at};
-ghost use Rattle.smith_body_control.specs.NullChoices.{br_on_null_value_at, is_of_reference};
-ghost use Rattle.smith_body_control.specs.NullChoices.{is_short, last_reference, null_branch_at};
+ghost use Rattle.smith_body_reference_branches.specs.NullChoices.{br_on_non_null_at, br_on_null_at};
+ghost use Rattle.smith_body_reference_branches.specs.NullChoices.{br_on_null_value_at, is_of_reference};
+ghost use Rattle.smith_body_reference_branches.specs.NullChoices.{is_short, last_reference, null_branch_at};
 ghost use Rattle.smith_body_nodes.specs.Offered.{offered};
 ghost use Rattle.smith_body_nodes.specs.Scopes.{AreLabels, IsScope, bare, where_stands};
 
@@ -29,7 +29,7 @@ struct ShortOffer<'a> {
 
 impl<'a> Offer for ShortOffer<'a> {
     ghost use Rattle.std.specs.Prelude.{length, min};
-    ghost use Rattle.smith_body_control.specs.NullChoices.{is_short};
+    ghost use Rattle.smith_body_reference_branches.specs.NullChoices.{is_short};
 
     ghost ready = { λ self. Unit {0} };
 
@@ -54,7 +54,7 @@ struct ReferenceLabelOffer<'a> {
 
 impl<'a> Offer for ReferenceLabelOffer<'a> {
     ghost use Rattle.std.specs.Prelude.{length, min};
-    ghost use Rattle.smith_body_control.specs.NullChoices.{is_of_reference};
+    ghost use Rattle.smith_body_reference_branches.specs.NullChoices.{is_of_reference};
 
     ghost ready = { λ self. Unit {0} };
 
@@ -113,7 +113,7 @@ pub(crate) fn choose_of_reference(draft: &Draft, u: &mut Unstructured<'_>) -> Op
 }
 
 /// Chooses a branch on null that leaves a reference of the type `wanted` if it is not taken.
-#[tactic(auto, unfolding(smith_body_control::specs::NullChoices::br_on_null_value_at))]
+#[tactic(auto, unfolding(smith_body_reference_branches::specs::NullChoices::br_on_null_value_at))]
 pub fn choose_kept(
     alloc: Global,
     scope: &Scope<'_>,

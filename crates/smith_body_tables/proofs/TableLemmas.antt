@@ -17,15 +17,15 @@ use Rattle.smith_instr.specs.declared.instr.Instr.TheVariants as instr
 use Rattle.smith_instr.specs.declared.table.TableInstr.TheVariants as table_instr
 use Rattle.smith_body_nodes.specs.Chosen.{or_nop}
 use Rattle.smith_body_nodes.specs.Nodes.{IsNode, node_of}
-use Rattle.smith_body_nodes.specs.Offered.{chunk_at, is_below_at}
+use Rattle.smith_body_nodes.specs.Offered.{chunk_at, is_below_at, is_elem_below}
 use Rattle.smith_body_nodes.specs.Scopes.{indexed}
 use Rattle.smith_body_nodes.specs.declared.node.Node.{Node}
-use Rattle.smith_body_tables.specs.TableChoices.{is_elem_below, is_table_addressed, is_table_addressed_at, is_table_below, table_change_at, table_change_of, table_changes, table_get_at, table_growth_at, table_growth_node, table_value_at}
+use Rattle.smith_body_tables.specs.TableChoices.{is_table_addressed, is_table_addressed_at, is_table_below, table_change_at, table_change_of, table_changes, table_get_at, table_growth_at, table_growth_node, table_value_at}
 use Rattle.smith_body_tables.specs.declared.tables.TableChange.{TableChange}
 use Rattle.smith_body_tables.specs.declared.tables.TableChange.TheVariants as change
 use Rattle.smith_body_nodes.proofs.ChosenLemmas.{chosen_by}
 use Rattle.smith_body_nodes.proofs.NodeLemmas.{address_valid, no_valid, one_valid}
-use Rattle.smith_body_nodes.proofs.OfferLemmas.{both, is_this_address, tested}
+use Rattle.smith_body_nodes.proofs.OfferLemmas.{both, is_this_address, segment_below_at, tested}
 use Rattle.smith_body_nodes.proofs.PlainLemmas.{gives_none, gives_one, narrower_valid, three_valid, two_valid}
 
 -- a table whose element type matches the wanted type
@@ -34,11 +34,6 @@ table_below : (context : BodyContext) (wanted : ValType) (index : ℕ) (d : Tabl
 table_below context wanted index d orderly inside is =
     tested context.types orderly (Ref (get_or context.tables index d).element_type) wanted
     (subst (λ (o : Option TableType). is_below_at context.types wanted (option_map (λ (table : TableType). Ref table.element_type) o) ≡ true) (slice_get-get_or context.tables index d inside) is)
-
-pub segment_below_at : (context : BodyContext) (wanted : ValType) (segment : ℕ) (o : Option RefType) → IsOrderly context.types → slice_get context.elems segment ≡ o → is_below_at context.types wanted (option_map Ref o) ≡ true
-    → (element : RefType) × (slice_get context.elems segment ≡ Some element) × IsValBelow context.types (Ref element) wanted
-segment_below_at context wanted segment (Some element) orderly at is = (element, at, tested context.types orderly (Ref element) wanted is)
-segment_below_at context wanted segment None orderly at is = cc
 
 -- a table whose addresses have the wanted type
 addressed_at : (context : BodyContext) (wanted : ValType) (index : ℕ) (o : Option TableType) → slice_get context.tables index ≡ o → is_table_addressed_at wanted o ≡ true

@@ -13,7 +13,7 @@ use Rattle.smith_instr.specs.declared.table.TableInstr.TheVariants as table_inst
 use Rattle.smith_body_nodes.specs.Chosen.{Chosen, giving}
 use Rattle.smith_body_nodes.specs.Items.{continued, index_at, item_at}
 use Rattle.smith_body_nodes.specs.Nodes.{node_of}
-use Rattle.smith_body_nodes.specs.Offered.{chunk_at, is_address, is_below_at}
+use Rattle.smith_body_nodes.specs.Offered.{chunk_at, is_address, is_below_at, is_elem_below}
 use Rattle.smith_body_nodes.specs.Scopes.{indexed}
 use Rattle.smith_body_nodes.specs.declared.node.Node.{Node}
 use Rattle.smith_body_tables.specs.declared.tables.TableChange.{TableChange}
@@ -23,10 +23,6 @@ use Rattle.smith_body_tables.specs.declared.tables.TableChange.TheVariants as ch
 abbrev pub is_table_below : BodyContext → ValType → ℕ → Bool
 is_table_below context wanted index =
     is_below_at context.types wanted (option_map (λ (table : TableType). Ref table.element_type) (slice_get context.tables index))
-
--- an element segment whose type matches the wanted type
-abbrev pub is_elem_below : BodyContext → ValType → ℕ → Bool
-is_elem_below context wanted index = is_below_at context.types wanted (option_map Ref (slice_get context.elems index))
 
 -- a table whose addresses have the wanted type, with reference types on
 abbrev pub is_table_addressed_at : ValType → Option TableType → Bool

@@ -8,4 +8,4 @@ mod bulk;
 mod tables;
 
 pub use bulk::choose_bulk;
-pub use tables::{choose_segment_below, choose_table_change, choose_table_value};
+pub use tables::{choose_table_change, choose_table_value};

@@ -1,17 +1,16 @@
-ghost use Rattle.std.specs.Prelude.{◌≡◌, ◌<◌, true, IsTrue, [], ◌∷◌, length, slice_get, Some, IfOk};
+ghost use Rattle.std.specs.Prelude.{◌≡◌, ◌<◌, true, [], ◌∷◌, length, slice_get, Some, IfOk};
 ghost use Rattle.std.specs.Prelude.{IfErr, IfSome};
 ghost use Rattle.smith_bytes.specs.Source.{KeepsPieces};
 ghost use Rattle.smith_types.specs.Subtyping.{IsValInRange};
 ghost use Rattle.smith_syntax.specs.declared.entity_type.TableType.{TableType as Table};
 ghost use Rattle.smith_syntax.specs.declared.value_type.ValType.TheVariants.{Ref};
 ghost use Rattle.smith_instr.specs.Contexts.{IsValid};
-ghost use Rattle.smith_body_nodes.specs.Chosen.{or_nop};
-ghost use Rattle.smith_body_nodes.specs.Chosen.{giving};
+ghost use Rattle.smith_body_nodes.specs.Chosen.{giving, or_nop};
 ghost use Rattle.smith_body_nodes.specs.Nodes.{IsNode, IsOffer};
 ghost use Rattle.smith_body_nodes.specs.Offered.{chunk_at};
 ghost use Rattle.smith_body_nodes.specs.Scopes.{IsScope, bare, indexed, where_stands};
 ghost use Rattle.smith_body_tables.specs.TableChoices.{elem_drop_at, held_table_at};
-ghost use Rattle.smith_body_tables.specs.TableChoices.{is_elem_below, is_table_addressed};
+ghost use Rattle.smith_body_tables.specs.TableChoices.{is_table_addressed};
 ghost use Rattle.smith_body_tables.specs.TableChoices.{is_table_below, table_change_at};
 ghost use Rattle.smith_body_tables.specs.TableChoices.{table_changes, table_copied, table_copy_at};
 ghost use Rattle.smith_body_tables.specs.TableChoices.{table_fill_node, table_get_at};
@@ -20,8 +19,8 @@ ghost use Rattle.smith_body_tables.specs.TableChoices.{table_init_at, table_init
 ghost use Rattle.smith_body_tables.specs.TableChoices.{table_set_node, table_value_at};
 
 use smith_body_nodes::{
-    Draft, Node, Offer, Scope, address, choose_in_chunk, draw_index, draw_item, indexed_count,
-    is_address, is_sub_type, narrower, plain,
+    Draft, Node, Offer, Scope, address, choose_in_chunk, choose_segment_below, draw_index,
+    draw_item, indexed_count, is_address, is_sub_type, narrower, plain,
 };
 use smith_bytes::{Error, Unstructured};
 use smith_draw_types::choose;
@@ -77,36 +76,6 @@ impl<'a> Offer for TableOffer<'a> {
 
     fn is_offered(&self, index: usize) -> bool {
         let held = ValType::Ref(self.scope.tables[index].element_type);
-        is_sub_type(self.scope, held, self.wanted)
-    }
-}
-
-/// Element segments whose type matches a wanted type.
-#[derive(Clone, Copy)]
-struct SegmentOffer<'a> {
-    scope: &'a Scope<'a>,
-    wanted: ValType,
-}
-
-impl<'a> Offer for SegmentOffer<'a> {
-    ghost use Rattle.std.specs.Prelude.{length};
-    ghost use Rattle.smith_types.specs.Subtyping.{IsValInRange};
-    ghost use Rattle.smith_body_nodes.specs.Scopes.{IsScope, bare, indexed};
-    ghost use Rattle.smith_body_tables.specs.TableChoices.{is_elem_below};
-
-    ghost ready = { λ self.
-        IsScope (bare self.scope.now) × IsValInRange (bare self.scope.now).types self.wanted };
-
-    ghost size = { λ self. indexed (length self.scope.now.elems.now) };
-
-    ghost test = { λ self index. is_elem_below (bare self.scope.now) self.wanted index };
-
-    fn count(&self) -> usize {
-        indexed_count(self.scope.elems.len())
-    }
-
-    fn is_offered(&self, index: usize) -> bool {
-        let held = ValType::Ref(self.scope.elems[index]);
         is_sub_type(self.scope, held, self.wanted)
     }
 }
@@ -468,25 +437,6 @@ fn init_of(
         segment,
     });
     plain(alloc, &operands, instruction, 0)
-}
-
-/// Chooses an element segment of a drawn chunk whose type matches `wanted`, if there is one.
-pub fn choose_segment_below(
-    scope: &Scope<'_>,
-    wanted: ValType,
-    u: &mut Unstructured<'_>,
-) -> Option<u32>
-    requires scope { IsScope (bare scope.now) }
-    requires wanted { IsValInRange (bare scope.now).types wanted }
-    ensures exact { chunk_at (is_elem_below (bare scope.now) wanted)
-        (indexed (length scope.now.elems.now)) u.old
-        ≡ (result, u.new) }
-    ensures offered { IfSome result (λ segment.
-        is_elem_below (bare scope.now) wanted segment ≡ true) }
-    ensures left { KeepsPieces u.old u.new }
-{
-    let segment = choose_in_chunk(&SegmentOffer { scope, wanted }, u)?;
-    Some(segment as u32)
 }
 
 fn choose_elem_drop(

@@ -1,6 +1,7 @@
 use Rattle.std.proofs.Common.{sym}
 use Rattle.smith_body_nodes.specs.Scopes.{bare}
-use Rattle.smith_body_aggregates.proofs.AggregateLemmas.{array_element, array_is, created_array_none, created_array_some}
+use Rattle.smith_body_nodes.proofs.IndexedTypeLemmas.{array_element, array_is}
+use Rattle.smith_body_aggregates.proofs.AggregateLemmas.{created_array_none, created_array_some}
 use Rattle.smith_body_aggregates.proofs.aggregates.choose_created_array.Goals as goal
 
 pub returns-in_err-index-clause-exact : goal.returns-in_err-index-clause-exact

@@ -1,4 +1,4 @@
-use Rattle.smith_body_aggregates.proofs.AggregateLemmas.{struct_fields, struct_there}
+use Rattle.smith_body_nodes.proofs.IndexedTypeLemmas.{struct_fields, struct_there}
 use Rattle.smith_body_nodes.specs.Scopes.{bare}
 use Rattle.smith_body_leaves.proofs.creations.created_at.Goals as goal
 

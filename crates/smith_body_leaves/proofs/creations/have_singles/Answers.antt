@@ -1,4 +1,4 @@
-use Rattle.smith_body_aggregates.proofs.AggregateLemmas.{field_valid}
+use Rattle.smith_body_nodes.proofs.IndexedTypeLemmas.{field_valid}
 use Rattle.smith_body_nodes.specs.Scopes.{bare}
 use Rattle.smith_body_leaves.proofs.creations.have_singles.Goals as goal
 

@@ -1,7 +1,7 @@
 use Rattle.std.proofs.Common.{arith}
 use Rattle.smith_types.specs.Expressions.{field_values}
 use Rattle.smith_instr.specs.Contexts.{AreValid}
-use Rattle.smith_body_aggregates.proofs.AggregateLemmas.{field_valid}
+use Rattle.smith_body_nodes.proofs.IndexedTypeLemmas.{field_valid}
 use Rattle.smith_body_nodes.specs.Scopes.{bare}
 use Rattle.smith_body_leaves.proofs.SingleLemmas.{fields_valid}
 use Rattle.smith_body_leaves.proofs.unary.creation_of.Goals as goal

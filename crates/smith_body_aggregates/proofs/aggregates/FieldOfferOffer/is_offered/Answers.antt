@@ -1,6 +1,7 @@
 use Rattle.std.proofs.Common.{◌<◌, length, arith}
 use Rattle.smith_body_nodes.specs.Scopes.{bare}
-use Rattle.smith_body_aggregates.proofs.AggregateLemmas.{field_tested, field_valid}
+use Rattle.smith_body_aggregates.proofs.AggregateLemmas.{field_tested}
+use Rattle.smith_body_nodes.proofs.IndexedTypeLemmas.{field_valid}
 use Rattle.smith_body_aggregates.proofs.aggregates.FieldOfferOffer.is_offered.Goals as goal
 
 pub is_usable-requires-clause-field : goal.is_usable-requires-clause-field

@@ -1,6 +1,6 @@
 -- The first of the offered items.
 use Rattle.std.proofs.Common.{◌≡◌, ℕ, ◌-◌, ◌<◌, Bool, true, false, List, [], ◌∷◌, Option, Some, None, length, refl, sym, subst, ap, ◌∙◌}
-use Rattle.std.specs.Prelude.{◌&&◌, slice_get}
+use Rattle.std.specs.Prelude.{◌&&◌, is_some, slice_get}
 use Rattle.std.proofs.Math.Nat.{zero-mod}
 use Rattle.std.proofs.Math.Seq.{take-nil}
 use Rattle.smith_bytes.specs.Draws.{choose_at, range_at}
@@ -10,10 +10,9 @@ use Rattle.smith_syntax.specs.declared.composite_type.FieldType.{FieldType}
 use Rattle.smith_syntax.specs.declared.composite_type.SubType.{SubType}
 use Rattle.smith_syntax.specs.declared.value_type.ValType.{ValType}
 use Rattle.smith_instr.specs.Contexts.{BodyContext}
-use Rattle.smith_body_aggregates.specs.Aggregates.{first_offered, is_array, is_created_below, is_created_empty}
-use Rattle.smith_body_aggregates.specs.Fields.{element_in, element_of, is_usable_in}
-use Rattle.smith_body_aggregates.specs.declared.fields.FieldUse.TheVariants as field_use
-use Rattle.smith_body_aggregates.proofs.AggregateLemmas.{array_tested}
+use Rattle.smith_body_leaves.specs.FirstCreated.{first_offered, is_created_empty}
+use Rattle.smith_body_nodes.specs.IndexedTypes.{element_in, element_of, is_created_below}
+use Rattle.smith_body_nodes.proofs.IndexedTypeLemmas.{array_is}
 use Rattle.smith_body_nodes.specs.Offered.{offered}
 use Rattle.smith_body_nodes.proofs.OfferLemmas.{both}
 use Rattle.smith_body_nodes.proofs.OfferedLemmas.{offered_place}
@@ -38,19 +37,22 @@ nothing_first (item ∷ items) place index none at = cc
 pub none_offered : (test : ℕ → Bool) (size index : ℕ) → first_offered test size ≡ None → index < size → test index ≡ true → ⊥
 none_offered test size index none inside is = nothing_first (offered test size) (length (offered test index)) index none (offered_place test size index inside is)
 
--- an array type that is offered
-pub array_created : (context : BodyContext) (wanted : ValType) (ty : ℕ) → is_created_empty context wanted ty ≡ true → (is_created_below context wanted ty ≡ true) × ((element : FieldType) × IsArrayAt context.types ty element)
-array_created context wanted ty is =
-    let (below, may) = both (is_created_below context wanted ty) (is_array context field_use.New ty) is in
-    (below, array_tested context.types ty may)
-
-both_are : (a b : Bool) → a ≡ true → b ≡ true → (a && b) ≡ true
+pub both_are : (a b : Bool) → a ≡ true → b ≡ true → (a && b) ≡ true
 both_are true b p q = q
 both_are false b p q = p
 
+-- an array type that is offered
+element_held : (types : List SubType) (ty : ℕ) (o : Option FieldType) → element_in (slice_get types ty) ≡ o → is_some o ≡ true → (element : FieldType) × IsArrayAt types ty element
+element_held types ty (Some element) at is = (element, array_is types ty element at)
+element_held types ty None at is = cc
+
+pub array_created : (context : BodyContext) (wanted : ValType) (ty : ℕ) → is_created_empty context wanted ty ≡ true → (is_created_below context wanted ty ≡ true) × ((element : FieldType) × IsArrayAt context.types ty element)
+array_created context wanted ty is =
+    let (below, held) = both (is_created_below context wanted ty) (is_some (element_in (slice_get context.types ty))) is in
+    (below, element_held context.types ty (element_in (slice_get context.types ty)) refl held)
+
 pub array_offered : (context : BodyContext) (wanted : ValType) (ty : ℕ) (element : FieldType) → IsArrayAt context.types ty element → is_created_below context wanted ty ≡ true → is_created_empty context wanted ty ≡ true
 array_offered context wanted ty element (t, at, is) below =
-    let there : is_usable_in context.types field_use.New (element_of t.composite_type.inner) ≡ true =
-    subst (λ (x : CompositeInnerType). is_usable_in context.types field_use.New (element_of x) ≡ true) (sym is) refl in
-    both_are (is_created_below context wanted ty) (is_array context field_use.New ty) below
-    (subst (λ (o : Option SubType). is_usable_in context.types field_use.New (element_in o) ≡ true) (sym at) there)
+    let there : is_some (element_of t.composite_type.inner) ≡ true = subst (λ (x : CompositeInnerType). is_some (element_of x) ≡ true) (sym is) refl in
+    both_are (is_created_below context wanted ty) (is_some (element_in (slice_get context.types ty))) below
+    (subst (λ (o : Option SubType). is_some (element_in o) ≡ true) (sym at) there)

@@ -1,7 +1,7 @@
 use Rattle.std.proofs.Common.{◌<◌, length, arith}
 use Rattle.smith_body_nodes.specs.Scopes.{bare}
-use Rattle.smith_body_casts.proofs.CastLemmas.{above_none, above_some, null_above, null_valid, read_above, read_valid}
-use Rattle.smith_body_casts.proofs.casts.draw_above.Goals as goal
+use Rattle.smith_body_nodes.proofs.AboveLemmas.{above_none, above_some, null_above, null_valid, read_above, read_valid}
+use Rattle.smith_body_nodes.proofs.above.draw_above.Goals as goal
 
 pub returns-in_default-clause-exact : goal.returns-in_default-clause-exact
 returns-in_default-clause-exact c = rw c.with_null.ensures (above_none (bare c.args.scope.now) c.args.to c.args.u.now _ c.in_default.ensures.exact)

@@ -8,6 +8,7 @@ use Rattle.smith_syntax.specs.declared.value_type.ValType.{ValType}
 use Rattle.smith_syntax.specs.declared.value_type.ValType.TheVariants.{Ref}
 use Rattle.smith_instr.specs.Contexts.{BodyContext, nullable_to}
 use Rattle.smith_instr.specs.declared.instr.Instr.TheVariants as instr
+use Rattle.smith_body_nodes.specs.Above.{reference_in}
 use Rattle.smith_body_nodes.specs.Chosen.{Chosen, giving}
 use Rattle.smith_body_nodes.specs.Nodes.{node_of}
 use Rattle.smith_body_nodes.specs.Offered.{label_count, offered}
@@ -52,10 +53,6 @@ br_on_null_at context bytes =
     if context.features.reference_types then br_on_null_by context label.0 label.1 else (None, bytes)
 
 -- the type of the last of some values, if it is a reference type
-abbrev pub reference_in : Option ValType → Option RefType
-reference_in (Some (Ref to)) = Some to
-reference_in _ = None
-
 abbrev pub last_reference : List ValType → Option RefType
 last_reference taken = reference_in (slice_get taken (length taken - 1))
 
