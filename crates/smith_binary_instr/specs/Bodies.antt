@@ -5,7 +5,7 @@ use Rattle.smith_binary.specs.Pieces.{Joined, IsSized}
 use Rattle.smith_syntax.specs.declared.value_type.ValType.{ValType}
 use Rattle.smith_binary_sections.specs.Codes.{IsLocals, IsLocalsWritten}
 use Rattle.smith_instr.specs.declared.instr.Instr.{Instr}
-use Rattle.smith_binary_instr.specs.Instructions.{IsExpr}
+use Rattle.smith_binary_instr.specs.Instructions.{IsExpr, IsExprWritten}
 
 -- the content of a body: its locals, in runs of one type, then its expression (Code Section)
 abbrev pub IsFunc : List ValType → List Instr → List ℕ → Type 0
@@ -15,9 +15,10 @@ IsFunc locals instructions = Joined (IsLocals locals) (IsExpr instructions)
 abbrev pub IsFuncBody : List ValType → List Instr → List ℕ → Type 0
 IsFuncBody locals instructions = IsSized (IsFunc locals instructions)
 
--- the content of a body as it is written: each local is a run of its own (own rule)
+-- the content of a body as it is written: each local is a run of its own, and no access names the
+-- first memory (own rule)
 abbrev pub IsFuncWritten : List ValType → List Instr → List ℕ → Type 0
-IsFuncWritten locals instructions = Joined (IsLocalsWritten locals) (IsExpr instructions)
+IsFuncWritten locals instructions = Joined (IsLocalsWritten locals) (IsExprWritten instructions)
 
 -- a body as it is written (own rule)
 abbrev pub IsFuncBodyWritten : List ValType → List Instr → List ℕ → Type 0

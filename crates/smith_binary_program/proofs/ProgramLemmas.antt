@@ -14,13 +14,21 @@ use Rattle.smith_binary_module.specs.Around.{IsModuleAround}
 use Rattle.smith_binary_module.specs.Contents.{contents_of}
 use Rattle.smith_binary_module.specs.Layout.{is_filled}
 use Rattle.smith_binary_module.proofs.LayoutLemmas.{not_filled}
+use Rattle.smith_binary_instr.proofs.FormLemmas.{expr_is}
+use Rattle.smith_program.specs.Counted.{counted}
 use Rattle.smith_program.specs.declared.program.Body.{Body}
-use Rattle.smith_binary_program.specs.Bodies.{AreBodiesOf, IsBodyOf}
+use Rattle.smith_program.specs.declared.program.Body.TheVariants as body
+use Rattle.smith_binary_program.specs.Bodies.{AreBodiesOf, IsBodyOf, IsExpressionOf, IsExpressionWritten}
 use Rattle.smith_binary_program.specs.Programs.{AreExpressionsOf, IsProgramBinary, with_expressions}
 
 -- expressions of functions with their bodies
 abbrev Expressions : List ℕ → List Code → List Body → Type 0
 Expressions counters codes bodies = (expressions : List (List ℕ)) × AreExpressionsOf counters (zip codes bodies) expressions
+
+-- an expression as it is written is one of the grammar
+expression_is : (counters : List ℕ) (code : Code) (given : Body) (piece : List ℕ) → IsExpressionWritten counters code given piece → IsExpressionOf counters code given piece
+expression_is counters code (body.Drawn instructions) piece h = expr_is (counted counters instructions) piece h
+expression_is counters code body.Raw piece h = h
 
 -- bodies of which the expressions are these, one for each function with a body
 pub record AreRead (counters : List ℕ) (codes : List Code) (bodies : List Body) (piece : List ℕ) : Type 0 where
@@ -36,7 +44,7 @@ each_read counters (code ∷ codes) (given ∷ bodies) piece h =
     let rest = each_read counters codes bodies h.second h.is_second in
     let content = h.is_first.is_content in
     record {
-      expressions = (content.second ∷ rest.expressions.0, (content.is_second, rest.expressions.1));
+      expressions = (content.second ∷ rest.expressions.0, (expression_is counters code given content.second content.is_second, rest.expressions.1));
       many = ap suc rest.many;
       spelled = record {
         first = h.first;

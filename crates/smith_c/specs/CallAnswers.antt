@@ -1,6 +1,7 @@
 -- The bytes that a call writes to the caller's buffer, and its answer.
 use Rattle.std.specs.Prelude.{◌≡◌, ℕ, List, ◌++◌, ◌≤◌, ◌<◌, length, drop}
 use Rattle.smith_c.specs.declared.answer.Answer.{Answer}
+use Rattle.smith_request.specs.Output.{IsText}
 use Rattle.smith_request.specs.declared.refusal.Refusal.{Refusal}
 use Rattle.smith_request.specs.Refusals.{status_of}
 
@@ -14,7 +15,7 @@ pub data IsPut (status : ℕ) (bytes before after : List ℕ) (answer : Answer) 
 
 -- some text was written to a buffer
 abbrev pub PutsText : ℕ → List ℕ → List ℕ → Answer → Type 0
-PutsText status before after answer = (text : List ℕ) × IsPut status text before after answer
+PutsText status before after answer = (text : List ℕ) × IsText text × IsPut status text before after answer
 
 -- such an output was written to the buffer, with status 0; or there is a refusal, and nothing was
 -- written

@@ -3,7 +3,7 @@
 #![tactic(auto)]
 
 ghost use Rattle.smith_c.specs.CallAnswers.{IsAnswered, IsExplained};
-ghost use Rattle.smith_request.specs.Requests.{IsBinary, HasBinary, HasProgram};
+ghost use Rattle.smith_request.specs.Requests.{IsBinary, HasBinary, IsTextOf};
 ghost use Rattle.smith_request.specs.Refusals.{IsRefusal, IsTextRefusal};
 
 mod answer;
@@ -29,15 +29,15 @@ pub extern "C" fn smith_binary(alloc: Global, config: &[u8], input: &[u8], out: 
     }
 }
 
-/// Writes that module in the text format, for which no module is too long. No clause states the
-/// text.
+/// Writes that module in the text format, in UTF-8, for which no module is too long. No clause states
+/// what the text says.
 #[unsafe(no_mangle)]
 pub extern "C" fn smith_text(alloc: Global, config: &[u8], input: &[u8], out: &mut [u8]) -> Answer
-    ensures { IsAnswered (λ text. HasProgram config.now input.now)
+    ensures { IsAnswered (IsTextOf config.now input.now)
         (IsTextRefusal config.now input.now) out.old out.new result }
 {
     match smith_request::text(alloc, config, input) {
-        Ok(text) => put(answer::MADE, text.as_str().as_bytes(), out),
+        Ok(text) => put(answer::MADE, text.as_slice(), out),
         Err(refusal) => Answer::without_output(refusal.status()),
     }
 }

@@ -1,20 +1,34 @@
--- The bytes that are written for a configuration and an input.
-use Rattle.std.specs.Prelude.{ℕ, List, Ok, Err}
+-- The bytes that are written for a configuration, a fuel and an input.
+use Rattle.std.specs.Prelude.{◌≡◌, ◌≤◌, ◌-◌, ◌^◌, ℕ, Option, Some, None, List, Ok, Err, length}
+use Rattle.std.specs.Str.{IsUtf8}
 use Rattle.smith_binary.specs.Faults.{IsFault}
+use Rattle.smith_binary.specs.declared.error.EncodeError.TheVariants.{TooLong}
+use Rattle.smith_bytes.specs.declared.error.Error.{Error}
 use Rattle.smith_config.specs.declared.config.Config.{Config}
+use Rattle.wasm_smith.specs.Termination.{AnswersCounter, MayAddNone}
 use Rattle.smith_program.specs.Generated.{IsProgram}
 use Rattle.smith_program.specs.declared.program.Program.{Program}
 use Rattle.smith_binary_program.specs.Long.{IsLongProgram}
-use Rattle.smith_binary_program.specs.Programs.{IsProgramBinary}
+use Rattle.smith_binary_program.specs.Programs.{IsEncoded}
 use Rattle.smith_request.specs.declared.refusal.Refusal.{Refusal}
 use Rattle.smith_request.specs.declared.refusal.Refusal.TheVariants.{NotUtf8, Config as of_config, Module, Encoding}
 
--- the bytes are the binary format of a program that the generator draws from the configuration and
--- the input, with these bytes of the input left
-pub record IsBinaryOf (config : Config) (input bytes left : List ℕ) : Type 0 where
-  pub program : Program
-  pub generated : IsProgram config input (Ok program) left
-  pub spelled : IsProgramBinary program.«module» program.bodies bytes
+-- a program with a counter of this fuel, and the same bodies
+pub record IsCounted (fuel : ℕ) (program counted : Program) : Type 0 where
+  pub index : ℕ
+  pub added : AnswersCounter fuel program.«module» counted.«module» (Ok index)
+  pub bodies : counted.bodies ≡ program.bodies
+
+-- the bytes are written for such a program
+pub record IsCountedBinary (fuel : ℕ) (program : Program) (bytes : List ℕ) : Type 0 where
+  pub counted : Program
+  pub has_counter : IsCounted fuel program counted
+  pub encoded : IsEncoded counted.«module» counted.bodies bytes
+
+-- the bytes are written for a program, with a counter if there is a fuel
+abbrev pub IsBinaryWith : Option ℕ → Program → List ℕ → Type 0
+IsBinaryWith None program bytes = IsEncoded program.«module» program.bodies bytes
+IsBinaryWith (Some fuel) program bytes = IsCountedBinary fuel program bytes
 
 -- a program is not written for lack of memory, or because it is too long
 abbrev pub IsUnwritten : Program → Refusal → Type 0
@@ -23,10 +37,33 @@ IsUnwritten program NotUtf8 = ⊥
 IsUnwritten program (of_config _) = ⊥
 IsUnwritten program (Module _) = ⊥
 
+-- a program is not written with a counter: none is added, because a body is raw bytes or for lack
+-- of memory; or no index is left for it; or the program with its counter is not written
+pub data IsUncounted (fuel : ℕ) (program : Program) (refusal : Refusal) : Type 0 where
+  not_added : {e : Error} → MayAddNone program.«module» e → refusal ≡ Module e → IsUncounted fuel program refusal
+  no_index : 2 ^ 32 - 1 ≤ length program.«module».globals → refusal ≡ Encoding TooLong → IsUncounted fuel program refusal
+  not_written : {counted : Program} → IsCounted fuel program counted → IsUnwritten counted refusal → IsUncounted fuel program refusal
+
+-- a program is not written, with a counter if there is a fuel
+abbrev pub IsUnwrittenWith : Option ℕ → Program → Refusal → Type 0
+IsUnwrittenWith None program refusal = IsUnwritten program refusal
+IsUnwrittenWith (Some fuel) program refusal = IsUncounted fuel program refusal
+
+-- the bytes are written for a program that the generator draws from the configuration and the
+-- input, with these bytes of the input left
+pub record IsBinaryOf (config : Config) (fuel : Option ℕ) (input bytes left : List ℕ) : Type 0 where
+  pub program : Program
+  pub drawn : IsProgram config input (Ok program) left
+  pub encoded : IsBinaryWith fuel program bytes
+
 -- a refusal is the generator's for the configuration and the input; or the drawn program is not
 -- written
-abbrev pub IsRefusedFor : Config → List ℕ → List ℕ → Refusal → Type 0
-IsRefusedFor config input left (Module e) = IsProgram config input (Err e) left
-IsRefusedFor config input left (Encoding e) = (program : Program) × IsProgram config input (Ok program) left × IsUnwritten program (Encoding e)
-IsRefusedFor config input left NotUtf8 = ⊥
-IsRefusedFor config input left (of_config _) = ⊥
+pub data IsRefusedFor (config : Config) (fuel : Option ℕ) (input left : List ℕ) (refusal : Refusal) : Type 0 where
+  not_drawn : {e : Error} → IsProgram config input (Err e) left → refusal ≡ Module e → IsRefusedFor config fuel input left refusal
+  not_written : {program : Program} → IsProgram config input (Ok program) left → IsUnwrittenWith fuel program refusal →
+      IsRefusedFor config fuel input left refusal
+
+-- the bytes are a text
+pub record IsText (bytes : List ℕ) : Type 0 where
+  pub utf8 : IsUtf8 bytes
+  pub some : 1 ≤ length bytes

@@ -1,5 +1,5 @@
 -- The reasons why there is no program, and their numbers.
-use Rattle.std.specs.Prelude.{◌≢◌, ℕ, List, Ok, Err}
+use Rattle.std.specs.Prelude.{◌≢◌, ℕ, List, [], Ok, Err}
 use Rattle.std.specs.Str.{IsUtf8}
 use Rattle.std.specs.String.{string_bytes}
 use Rattle.smith_binary.specs.Faults.{IsFault}
@@ -18,7 +18,7 @@ use Rattle.smith_request.specs.declared.refusal.Refusal.TheVariants.{NotUtf8, Co
 -- a possible refusal of a configuration's text and an input
 abbrev pub IsRefusal : List ℕ → List ℕ → Refusal → Type 0
 IsRefusal text input NotUtf8 = IsUtf8 text → ⊥
-IsRefusal text input (Config refusal) = refusal.fault ≢ OutOfMemory → ReadsText text (Err (refusal.fault, string_bytes refusal.field))
+IsRefusal text input (Config refusal) = IsUtf8 text × text ≢ [] × (refusal.fault ≢ OutOfMemory → ReadsText text (Err (refusal.fault, string_bytes refusal.field)))
 IsRefusal text input (Module e) = AnswersText text input (Err e)
 IsRefusal text input (Encoding e) = (program : Program) × AnswersText text input (Ok program) × IsFault (IsLongProgram program.«module» program.bodies) e
 

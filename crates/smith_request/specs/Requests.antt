@@ -3,11 +3,11 @@ use Rattle.std.specs.Prelude.{◌≡◌, ℕ, List, [], Result, Ok}
 use Rattle.smith_bytes.specs.declared.error.Error.{Error}
 use Rattle.smith_config.specs.Config.{default_config}
 use Rattle.smith_config.specs.declared.config.Config.{Config}
-use Rattle.smith_binary_module.specs.Layout.{section_ids, HasSections}
 use Rattle.smith_config_json.specs.Objects.{ReadsText}
 use Rattle.smith_program.specs.Generated.{IsProgram}
 use Rattle.smith_program.specs.declared.program.Program.{Program}
-use Rattle.smith_binary_program.specs.Programs.{IsProgramBinary}
+use Rattle.smith_binary_program.specs.Programs.{IsEncoded}
+use Rattle.smith_request.specs.Output.{IsText}
 
 -- the configuration of a text: the default one if the text is empty, else that of the JSON object
 pub data IsConfigured (text : List ℕ) (config : Config) : Type 0 where
@@ -26,17 +26,18 @@ pub record AnswersText (text input : List ℕ) (answer : Result Program Error) :
   pub configured : IsConfigured text config
   pub answers : IsProgramAnswer config input answer
 
--- the bytes are that program in the binary format, with the sections that its module requires
+-- the bytes are written for that program
 pub record IsBinary (text input bytes : List ℕ) : Type 0 where
   pub program : Program
-  pub made : AnswersText text input (Ok program)
-  pub spelled : IsProgramBinary program.«module» program.bodies bytes
-  pub sections : HasSections (section_ids program.«module») bytes
+  pub drawn : AnswersText text input (Ok program)
+  pub encoded : IsEncoded program.«module» program.bodies bytes
 
 -- there is such a program, and it has a binary format
 abbrev pub HasBinary : List ℕ → List ℕ → Type 0
 HasBinary text input = (bytes : List ℕ) × IsBinary text input bytes
 
--- there is such a program
-abbrev pub HasProgram : List ℕ → List ℕ → Type 0
-HasProgram text input = (program : Program) × AnswersText text input (Ok program)
+-- there is such a program, and the bytes are a text
+pub record IsTextOf (text input bytes : List ℕ) : Type 0 where
+  pub program : Program
+  pub drawn : AnswersText text input (Ok program)
+  pub is_text : IsText bytes

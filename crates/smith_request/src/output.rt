@@ -1,6 +1,9 @@
-ghost use Rattle.std.specs.Prelude.{◌≡◌, ◌<◌, ◌-◌, ◌^◌, None, IfOk, IfErr, length};
-ghost use Rattle.smith_request.specs.Output.{IsBinaryOf, IsRefusedFor};
-ghost use Rattle.smith_request.specs.declared.output.Form.TheVariants.{Binary};
+ghost use Rattle.std.specs.Prelude.{◌≡◌, ◌<◌, ◌-◌, ◌^◌, IfOk, IfErr, length};
+ghost use Rattle.smith_binary_program.specs.Programs.{IsEncoded};
+ghost use Rattle.smith_request.specs.Output.{IsBinaryOf, IsBinaryWith, IsRefusedFor};
+ghost use Rattle.smith_request.specs.Output.{IsCountedBinary, IsText};
+ghost use Rattle.smith_request.specs.Output.{IsUncounted, IsUnwritten, IsUnwrittenWith};
+ghost use Rattle.smith_request.specs.declared.output.Form.TheVariants.{Binary, Text};
 
 use crate::refusal::Refusal;
 use crate::writers::{write_binary, write_text};
@@ -46,28 +49,54 @@ pub fn output(
     manner: Manner,
     u: &mut Unstructured<'_>,
 ) -> Result<Vec<u8>, Refusal>
-    ensures binary { manner.form ≡ Binary → manner.fuel ≡ None
-        → IfOk result (λ bytes. IsBinaryOf config u.old bytes.items u.new) }
-    ensures refused { manner.form ≡ Binary → manner.fuel ≡ None
-        → IfErr result (IsRefusedFor config u.old u.new) }
+    ensures binary { manner.form ≡ Binary
+        → IfOk result (λ bytes. IsBinaryOf config manner.fuel u.old bytes.items u.new) }
+    ensures text { manner.form ≡ Text → IfOk result (λ bytes. IsText bytes.items) }
+    ensures refused { IfErr result (IsRefusedFor config manner.fuel u.old u.new) }
 {
-    match manner {
-        Manner {
-            form: Form::Binary,
-            fuel: None,
-        } => draw_binary(alloc, config, u),
-        _ => write_counted(alloc, Program::new(alloc, config, u)?, manner),
+    match Program::new(alloc, config, u) {
+        Ok(program) => write_program(alloc, program, manner),
+        Err(refusal) => Err(Refusal::Module(refusal)),
     }
 }
 
-/// Draws a program from the bytes of `u` under `config`, and writes it in the binary format.
-fn draw_binary(alloc: Global, config: Config, u: &mut Unstructured<'_>) -> Result<Vec<u8>, Refusal>
-    ensures bytes { IfOk result (λ bytes. IsBinaryOf config u.old bytes.items u.new) }
-    ensures refused { IfErr result (IsRefusedFor config u.old u.new) }
+/// Writes `program` in the form of `manner`, with a count of its calls and of its iterations of
+/// loops if `manner` has one.
+fn write_program(alloc: Global, program: Program, manner: Manner) -> Result<Vec<u8>, Refusal>
+    ensures binary { manner.form ≡ Binary
+        → IfOk result (λ bytes. IsBinaryWith manner.fuel program bytes.items) }
+    ensures text { manner.form ≡ Text → IfOk result (λ bytes. IsText bytes.items) }
+    ensures refused { IfErr result (IsUnwrittenWith manner.fuel program) }
 {
-    match Program::new(alloc, config, u) {
-        Ok(program) => {
-            let bytes = write_binary(alloc, &program);
+    match manner.fuel {
+        Some(fuel) => write_counted(alloc, program, fuel, manner.form),
+        None => {
+            let bytes = write_in(alloc, &program, manner.form);
+            drop(program);
+            bytes
+        }
+    }
+}
+
+/// Writes `program` in the form `form`, with a global that counts its calls and its iterations of
+/// loops down from `fuel`.
+fn write_counted(
+    alloc: Global,
+    mut program: Program,
+    fuel: u32,
+    form: Form,
+) -> Result<Vec<u8>, Refusal>
+    ensures binary { form ≡ Binary
+        → IfOk result (λ bytes. IsCountedBinary fuel program bytes.items) }
+    ensures text { form ≡ Text → IfOk result (λ bytes. IsText bytes.items) }
+    ensures refused { IfErr result (IsUncounted fuel program) }
+{
+    if program.module.globals().len() >= u32::MAX as usize {
+        return Err(Refusal::Encoding(EncodeError::TooLong));
+    }
+    match program.ensure_termination(alloc, fuel) {
+        Ok(_index) => {
+            let bytes = write_in(alloc, &program, form);
             drop(program);
             bytes
         }
@@ -75,31 +104,15 @@ fn draw_binary(alloc: Global, config: Config, u: &mut Unstructured<'_>) -> Resul
     }
 }
 
-/// Writes `program` in the form of `manner`, with a count of its calls and of its iterations of
-/// loops if `manner` has one.
-fn write_counted(alloc: Global, mut program: Program, manner: Manner) -> Result<Vec<u8>, Refusal> {
-    let bytes = write_in(alloc, &mut program, manner);
-    drop(program);
-    bytes
-}
-
-/// Adds the count of `manner` to `program`, if there is one, and writes it in the form of `manner`.
-fn write_in(alloc: Global, program: &mut Program, manner: Manner) -> Result<Vec<u8>, Refusal> {
-    if let Some(fuel) = manner.fuel {
-        add_count(alloc, program, fuel)?;
-    }
-    match manner.form {
+/// Writes `program` in the form `form`.
+fn write_in(alloc: Global, program: &Program, form: Form) -> Result<Vec<u8>, Refusal>
+    ensures binary { form ≡ Binary → IfOk result (λ bytes.
+        IsEncoded program.now.«module» program.now.bodies bytes.items) }
+    ensures text { form ≡ Text → IfOk result (λ bytes. IsText bytes.items) }
+    ensures refused { IfErr result (IsUnwritten program.now) }
+{
+    match form {
         Form::Binary => write_binary(alloc, program),
-        Form::Text => Ok(write_text(alloc, program)?.into_bytes()),
+        Form::Text => write_text(alloc, program),
     }
-}
-
-/// Adds a global to the module of `program` that counts calls and iterations of loops down from
-/// `fuel`.
-fn add_count(alloc: Global, program: &mut Program, fuel: u32) -> Result<(), Refusal> {
-    if program.module.globals().len() >= u32::MAX as usize {
-        return Err(Refusal::Encoding(EncodeError::TooLong));
-    }
-    let _index = program.ensure_termination(alloc, fuel)?;
-    Ok(())
 }

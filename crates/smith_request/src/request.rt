@@ -1,7 +1,7 @@
-ghost use Rattle.std.specs.Prelude.{◌≡◌, ℕ, List, Ok, Err, IfOk, IfErr};
+ghost use Rattle.std.specs.Prelude.{◌≡◌, ◌≢◌, ℕ, List, [], Ok, Err, IfOk, IfErr};
 ghost use Rattle.smith_config_json.specs.Objects.{ReadsText};
 ghost use Rattle.smith_request.specs.Requests.{IsConfigured, IsProgramAnswer, AnswersText, IsBinary};
-ghost use Rattle.smith_request.specs.Requests.{HasProgram};
+ghost use Rattle.smith_request.specs.Requests.{IsTextOf};
 ghost use Rattle.smith_request.specs.Refusals.{IsRefusal, IsNotTooLong};
 
 use crate::refusal::Refusal;
@@ -12,7 +12,9 @@ use smith_program::Program;
 use std::alloc::Global;
 use std::str;
 
+/// Reads a configuration from `text`, which is not empty.
 fn parse_config(alloc: Global, text: &str) -> Result<Config, Refusal>
+    requires some { text.now ≢ [] }
     ensures ok { IfOk result (λ config. ReadsText text.now (Ok config)) }
     ensures refused { IfErr result (λ refusal.
         (input : List ℕ) → IsRefusal text.now input refusal) }
@@ -83,14 +85,14 @@ pub fn binary(alloc: Global, text: &[u8], input: &[u8]) -> Result<Vec<u8>, Refus
     }
 }
 
-/// Draws the program of [`program`], and writes it in the text format. Never refuses it as too
-/// long. No clause states the text; it is tested.
+/// Draws the program of [`program`], and writes it in the text format, in UTF-8. Never refuses it
+/// as too long. No clause states what the text says; it is tested.
 ///
 /// # Errors
 ///
 /// Those of [`program`].
-pub fn text(alloc: Global, text: &[u8], input: &[u8]) -> Result<String, Refusal>
-    ensures ok { IfOk result (λ written. HasProgram text.now input.now) }
+pub fn text(alloc: Global, text: &[u8], input: &[u8]) -> Result<Vec<u8>, Refusal>
+    ensures ok { IfOk result (λ written. IsTextOf text.now input.now written.items) }
     ensures refused { IfErr result (λ refusal. IsRefusal text.now input.now refusal) }
     ensures short { IfErr result IsNotTooLong }
 {

@@ -1,8 +1,7 @@
 ghost use Rattle.std.specs.Prelude.{◌≡◌, IfOk, IfErr};
 ghost use Rattle.smith_binary.specs.declared.error.EncodeError.TheVariants.{Memory};
-ghost use Rattle.smith_binary_module.specs.Layout.{section_ids, HasSections};
-ghost use Rattle.smith_binary_program.specs.Programs.{IsProgramBinary};
-ghost use Rattle.smith_request.specs.Output.{IsUnwritten};
+ghost use Rattle.smith_binary_program.specs.Programs.{IsEncoded};
+ghost use Rattle.smith_request.specs.Output.{IsText, IsUnwritten};
 ghost use Rattle.smith_request.specs.declared.refusal.Refusal.TheVariants.{Encoding};
 
 use crate::refusal::Refusal;
@@ -12,10 +11,8 @@ use std::alloc::Global;
 
 /// Writes `program` in the binary format.
 pub fn write_binary(alloc: Global, program: &Program) -> Result<Vec<u8>, Refusal>
-    ensures spelled { IfOk result (λ bytes.
-        IsProgramBinary program.now.«module» program.now.bodies bytes.items) }
-    ensures sections { IfOk result (λ bytes.
-        HasSections (section_ids program.now.«module») bytes.items) }
+    ensures encoded { IfOk result (λ bytes.
+        IsEncoded program.now.«module» program.now.bodies bytes.items) }
     ensures refused { IfErr result (IsUnwritten program.now) }
 {
     match smith_binary_program::encode(alloc, program) {
@@ -25,11 +22,12 @@ pub fn write_binary(alloc: Global, program: &Program) -> Result<Vec<u8>, Refusal
 }
 
 /// Writes `program` in the text format. Refuses it for lack of memory alone.
-pub fn write_text(alloc: Global, program: &Program) -> Result<String, Refusal>
+pub fn write_text(alloc: Global, program: &Program) -> Result<Vec<u8>, Refusal>
+    ensures text { IfOk result (λ text. IsText text.items) }
     ensures memory { IfErr result (λ refusal. refusal ≡ Encoding Memory) }
 {
     match smith_text_program::text(alloc, program) {
-        Ok(text) => Ok(text),
+        Ok(text) => Ok(text.into_bytes()),
         Err(_) => Err(Refusal::Encoding(EncodeError::Memory)),
     }
 }

@@ -4,7 +4,7 @@ use Rattle.smith_binary_sections.specs.Codes.{IsRun}
 use Rattle.smith_syntax.specs.declared.value_type.ValType.{ValType}
 use Rattle.smith_syntax.specs.declared.value_type.ValType.TheVariants.{I32}
 use Rattle.smith_instr.specs.declared.instr.Instr.TheVariants as instr
-use Rattle.smith_binary_instr.specs.Instructions.{IsInstr, IsExpr}
+use Rattle.smith_binary_instr.specs.Instructions.{IsInstr, IsInstrWritten, IsExpr, IsExprWritten}
 use Rattle.smith_binary_law.proofs.SpelledExamples.{index, no_item, more_items}
 use Rattle.smith_binary_law.proofs.examples.bodies.bodies.Goals as goal
 
@@ -18,6 +18,9 @@ alone local = IsRun (1, local)
 
 nop_spelled : IsExpr (instr.Nop ∷ []) (0x01 ∷ 0x0B ∷ [])
 nop_spelled = both (0x01 ∷ []) (0x0B ∷ []) (more_items IsInstr instr.Nop [] (0x01 ∷ []) [] refl (no_item IsInstr)) refl
+
+nop_written : IsExprWritten (instr.Nop ∷ []) (0x01 ∷ 0x0B ∷ [])
+nop_written = both (0x01 ∷ []) (0x0B ∷ []) (more_items IsInstrWritten instr.Nop [] (0x01 ∷ []) [] refl (no_item IsInstrWritten)) refl
 
 pub returns-clause-one_local : goal.returns-clause-one_local
 returns-clause-one_local c = record {
@@ -51,6 +54,6 @@ returns-clause-two_locals_as_written c = record {
   is_content = both (0x02 ∷ 0x01 ∷ 0x7F ∷ 0x01 ∷ 0x7F ∷ []) (0x01 ∷ 0x0B ∷ [])
       (both (0x02 ∷ []) (0x01 ∷ 0x7F ∷ 0x01 ∷ 0x7F ∷ []) (index 2 (omega arith))
       (more_items alone I32 (I32 ∷ []) (0x01 ∷ 0x7F ∷ []) (0x01 ∷ 0x7F ∷ []) (run_spelled 1 (omega arith)) (more_items alone I32 [] (0x01 ∷ 0x7F ∷ []) [] (run_spelled 1 (omega arith)) (no_item alone))))
-      nop_spelled;
+      nop_written;
   form = both (0x07 ∷ []) (0x02 ∷ 0x01 ∷ 0x7F ∷ 0x01 ∷ 0x7F ∷ 0x01 ∷ 0x0B ∷ []) (index 7 (omega arith)) refl;
 }

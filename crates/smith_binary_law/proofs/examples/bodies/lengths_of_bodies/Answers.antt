@@ -7,12 +7,12 @@ use Rattle.smith_binary_sections.specs.Codes.{IsRun}
 use Rattle.smith_binary_sections.specs.Long.{IsNeverLong}
 use Rattle.smith_binary_sections.proofs.SizeLemmas.{AtMost, bytes_within, joined_within, none_within, not_long, no_long_items, number_within, one_long_item, one_within}
 use Rattle.smith_instr.specs.declared.instr.Instr.TheVariants as instr
-use Rattle.smith_binary_instr.specs.Instructions.{IsExpr}
+use Rattle.smith_binary_instr.specs.Instructions.{IsExprWritten}
 use Rattle.smith_binary_instr.specs.Long.{IsLongFunc, IsLongInstr}
 use Rattle.smith_binary_law.specs.ExampleInstructions.{load_word}
 use Rattle.smith_binary_law.proofs.examples.bodies.lengths_of_bodies.Goals as goal
 
-nop_within : AtMost 2 (IsExpr (instr.Nop ∷ []))
+nop_within : AtMost 2 (IsExprWritten (instr.Nop ∷ []))
 unfolding Each
 nop_within = joined_within 1 1 (joined_within 1 0 (bytes_within (0x01 ∷ [])) (bytes_within [])) (bytes_within (0x0B ∷ []))
 
