@@ -9,13 +9,16 @@
  *   With length 0 it is the default configuration.
  * - `input` is any bytes. The same configuration and input produce the same module.
  * - No pointer may be null, even where its length is 0, and `out` may overlap neither `config` nor `input`.
- *   No length may be above PTRDIFF_MAX.
+ *   No length may be above PTRDIFF_MAX. Neither `config` nor `input` may change during a call. `out` may be uninitialised.
  * - A call writes all of its output to the front of `out` and leaves the other bytes as they are, or it leaves all of `out` as it is.
  *   It keeps no pointer.
  *
  * Any number of threads may call at the same time, each with a buffer of its own. A call allocates with malloc, which must be
- * thread-safe then, and frees all that it allocated. It uses the stack, more of it for deeper modules, so give a thread the usual
- * 8 MiB. Do not call from a signal handler.
+ * thread-safe then and align as for max_align_t, and frees all that it allocated with free of the same allocator. Do not call from a
+ * signal handler, nor in the child of a process that had several threads when it forked. The stack grows with the depth of blocks in
+ * bodies, which is bounded: 64 KiB were enough for all that was tried. The usual 8 MiB are more than enough.
+ *
+ * The processor must have the instructions of x86-64-v2, as SSE4.2 and POPCNT. Neither library checks that.
  *
  * The module is determined by the definitions of this project. Apart from raw bodies it is valid by the WebAssembly Core
  * Specification 3.0 and, for proposals beyond it that the configuration turns on (by default shared memories, compact imports and,
@@ -65,7 +68,7 @@ struct smith_answer smith_text(const uint8_t *config, size_t config_length,
                                uint8_t *out, size_t out_length);
 
 /* Writes in words, as UTF-8, why smith_binary writes no module, and returns the status of that refusal, or SMITH_SHORT if `out` is
- * too short for the words. The words are missing if there is no memory for them. If there is a module, it writes nothing, and
+ * too short for the words. If there is no memory for them, other words say so. If there is a module, it writes nothing, and
  * returns SMITH_MADE with length 0. */
 struct smith_answer smith_refusal(const uint8_t *config, size_t config_length,
                                   const uint8_t *input, size_t input_length,
