@@ -155,7 +155,7 @@ fn each_write_fails_in_turn(rt: HostRuntime) {
             assert_eq!(rt; ended, Err(RunFault::Write), "after {written}");
             assert_eq!(rt; page.length, written);
             assert!(rt;
-                whole.written().starts_with(page.written_bytes()),
+                whole.written_bytes().starts_with(page.written_bytes()),
                 "after {written}"
             );
         }
