@@ -1,5 +1,7 @@
 pub mod BlockCountLemmas
 pub mod KeptOfferLemmas
+pub mod CreatedOfferLemmas
+pub mod CreatedSpanLemmas
 pub mod ClassLemmas
 pub mod KnownLemmas
 pub mod WiderOfferLemmas
