@@ -1,6 +1,6 @@
 ghost use Rattle.std.specs.Prelude.{◌≡◌, ◌<◌, ◌-◌, ◌^◌, None, IfOk, IfErr, length};
 ghost use Rattle.smith_request.specs.Output.{IsBinaryOf, IsRefusedFor};
-ghost use Rattle.smith_request.specs.declared.output.Form.TheVariants.{Binary};
+ghost use Rattle.smith_request.specs.declared.manner.Form.TheVariants.{Binary};
 
 use crate::refusal::Refusal;
 use crate::writers::{write_binary, write_text};
