@@ -5,11 +5,11 @@
 //! The text of a configuration is a JSON object in UTF-8, or empty for the default configuration.
 #![tactic(auto)]
 
-mod output;
+mod manner;
 mod refusal;
 mod request;
 mod writers;
 
-pub use output::{Form, Manner, output};
+pub use manner::{Form, Manner, output};
 pub use refusal::Refusal;
 pub use request::{binary, program, text};

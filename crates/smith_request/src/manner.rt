@@ -3,7 +3,7 @@ ghost use Rattle.smith_binary_program.specs.Programs.{IsEncoded};
 ghost use Rattle.smith_request.specs.Output.{IsBinaryOf, IsBinaryWith, IsRefusedFor};
 ghost use Rattle.smith_request.specs.Output.{IsCountedBinary, IsText};
 ghost use Rattle.smith_request.specs.Output.{IsUncounted, IsUnwritten, IsUnwrittenWith};
-ghost use Rattle.smith_request.specs.declared.output.Form.TheVariants.{Binary, Text};
+ghost use Rattle.smith_request.specs.declared.manner.Form.TheVariants.{Binary, Text};
 
 use crate::refusal::Refusal;
 use crate::writers::{write_binary, write_text};
