@@ -28,6 +28,7 @@ pub data Field : Type 0 where
   kinds : Setter InstructionKinds → Field
   choices : Setter MemoryOffsetChoices → Field
   file : Field
+  preset : Field
 
 -- numbers within the bounds of their type: `u8`
 abbrev pub byte : Setter ℕ → Field
@@ -49,7 +50,8 @@ size set = whole (2 ^ 64 - 1) set
 abbrev pub wide : Setter ℕ → Field
 wide set = whole (2 ^ 128 - 1) set
 
--- every field, in the order of `Config`
+-- every field, in the order of `Config`, and two members that set none: a preset changes the
+-- configuration before any field is set, and the fuel is no part of it
 unfoldable pub fields : Table Field
 fields =
     (codes "min-types", size (λ config n. record config { min_types = n }))
@@ -123,6 +125,8 @@ fields =
     ∷ (codes "available-imports", file)
     ∷ (codes "exports", file)
     ∷ (codes "module-shape", file)
+    ∷ (codes "preset", preset)
+    ∷ (codes "fuel", word (λ config n. config))
     ∷ []
 
 -- the field with a name
@@ -136,6 +140,7 @@ HasKind (truth set) kind.Flag = Unit {0}
 HasKind (kinds set) kind.InstructionKinds = Unit {0}
 HasKind (choices set) kind.OffsetChoices = Unit {0}
 HasKind file kind.File = Unit {0}
+HasKind preset kind.Preset = Unit {0}
 HasKind f k = ⊥
 
 -- whether a field and a kind are both none, or the kind is the field's

@@ -10,6 +10,8 @@ use Rattle.smith_config.specs.declared.config.Config.{Config}
 use Rattle.smith_config_json.specs.declared.fault.Fault.{Fault}
 use Rattle.smith_config_json.specs.declared.fault.Fault.TheVariants.{NotAnObject, RepeatedField, TextAfter}
 use Rattle.smith_config_json.specs.Fields.{field_named}
+use Rattle.smith_config_json.specs.Members.{preset_in}
+use Rattle.smith_config_json.specs.Presets.{changed_by}
 use Rattle.smith_config_json.specs.Sets.{Sets}
 
 -- whether an earlier member has the name
@@ -49,9 +51,9 @@ alone (Ok (config, [])) = Ok (config, [])
 alone (Ok (config, t ∷ ts)) = Err (TextAfter, [], config)
 alone (Err e) = Err e
 
--- the result of a whole text for a configuration
+-- the result of a whole text for a configuration, which its preset changes before any member is read
 abbrev pub ReadsAlone : Config → List ℕ → Reading → Type 0
-ReadsAlone config text r = (s : Reading) × ReadsObject config (tokens text) s × (r ≡ alone s)
+ReadsAlone config text r = (s : Reading) × ReadsObject (changed_by (preset_in (tokens text)) config) (tokens text) s × (r ≡ alone s)
 
 -- the configuration of a whole text, or the first fault and the name of its member
 abbrev pub ReadsText : List ℕ → Result Config (Fault × List ℕ) → Type 0

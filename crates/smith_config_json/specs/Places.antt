@@ -15,7 +15,7 @@ use Rattle.smith_config_json.specs.declared.place.Size.TheVariants.{MinTypes, Ma
 use Rattle.smith_config_json.specs.declared.place.Word.TheVariants.{MinMemories, MinTables, MaxTypeSize, ConstExprFuel}
 use Rattle.smith_config_json.specs.declared.place.Long.TheVariants.{MaxMemory32Bytes, MaxTableElements}
 use Rattle.smith_config_json.specs.declared.place.Flag.TheVariants.{MemoryMaxSizeRequired, TableMaxSizeRequired, LimitArraysInConstExprs, AllowStartExport, ExportEverything, AllowFloats, DisallowTraps, AllowInvalidFuncs, ReferenceTypesEnabled, GcEnabled, CustomDescriptorsEnabled, MultiValueEnabled, BulkMemoryEnabled, SimdEnabled, ExceptionsEnabled, ThreadsEnabled, SharedEverythingThreadsEnabled, Memory64Enabled, CustomPageSizesEnabled, ExtendedConstEnabled, CompactImportsEnabled, RelaxedSimdEnabled, SaturatingFloatToIntEnabled, SignExtensionOpsEnabled, TailCallEnabled, WideArithmeticEnabled, AcquireReleaseAtomicsEnabled, MultibyteArrayAccessEnabled, NonNullableEnabled, CanonicalizeNans, GenerateCustomSections}
-use Rattle.smith_config_json.specs.Fields.{Setter, Table, Field, whole, truth, kinds, choices, file}
+use Rattle.smith_config_json.specs.Fields.{Setter, Table, Field, whole, truth, kinds, choices, file, preset}
 
 -- a configuration with a number of type `usize` set
 abbrev pub with_size : Size → Setter ℕ
@@ -116,6 +116,7 @@ with_number (number.Word w) = with_word w
 with_number (number.Long l) = with_long l
 with_number number.MinUlebSize = λ config n. record config { min_uleb_size = n }
 with_number number.MaxMemory64Bytes = λ config n. record config { max_memory64_bytes = n }
+with_number number.Fuel = λ config n. config
 
 -- the greatest number that a field takes
 abbrev pub most_of : Number → ℕ
@@ -124,6 +125,7 @@ most_of (number.Word w) = 2 ^ 32 - 1
 most_of (number.Long l) = 2 ^ 64 - 1
 most_of number.MinUlebSize = 2 ^ 8 - 1
 most_of number.MaxMemory64Bytes = 2 ^ 128 - 1
+most_of number.Fuel = 2 ^ 32 - 1
 
 -- the field at a place
 abbrev pub field_of : Place → Field
@@ -132,6 +134,7 @@ field_of (place.Flag f) = truth (with_flag f)
 field_of place.AllowedInstructions = kinds (λ config k. record config { allowed_instructions = k })
 field_of place.MemoryOffsetChoices = choices (λ config c. record config { memory_offset_choices = c })
 field_of place.File = file
+field_of place.Preset = preset
 
 -- the fields of a table in the code
 abbrev pub fields_in : List (Bor (List ℕ) × Place) → Table Field

@@ -6,8 +6,8 @@ use Rattle.smith_config.specs.declared.config.Config.{Config}
 use Rattle.smith_config.specs.declared.offset_choices.MemoryOffsetChoices.{MemoryOffsetChoices}
 use Rattle.smith_config_json.specs.declared.fault.Fault.{Fault}
 use Rattle.smith_config_json.specs.declared.fault.Fault.TheVariants.{UnknownField}
-use Rattle.smith_config_json.specs.Fields.{Setter, Field, whole, truth, kinds, choices, file}
-use Rattle.smith_config_json.specs.Values.{map_ok, first, unwanted, whole_value, truth_value, file_value, AreKinds, weights}
+use Rattle.smith_config_json.specs.Fields.{Setter, Field, whole, truth, kinds, choices, file, preset}
+use Rattle.smith_config_json.specs.Values.{map_ok, first, unwanted, whole_value, truth_value, file_value, preset_value, AreKinds, weights}
 
 -- the configuration and the tokens after a value, or the fault
 abbrev pub Outcome : Type 0
@@ -39,3 +39,4 @@ Sets (Some (truth set)) config ts r = r ≡ set_to set config (drop 1 ts) (truth
 Sets (Some (kinds set)) config ts r = (v : Result (Option InstructionKinds) Fault) × AreKinds (first ts) v × (r ≡ set_to set config (drop 1 ts) v)
 Sets (Some (choices set)) config ts r = r ≡ set_choices set config (first ts) (drop 1 ts)
 Sets (Some file) config ts r = r ≡ outcome (file_value (first ts)) config (drop 1 ts)
+Sets (Some preset) config ts r = r ≡ outcome (preset_value (first ts)) config (drop 1 ts)

@@ -1,5 +1,5 @@
 -- The values that tokens denote, for the fields that take them. Rules of this project.
-use Rattle.std.specs.Prelude.{◌≡◌, ℕ, ◌-◌, ◌^◌, nat_lt, List, [], ◌∷◌, drop, Bool, false, ◌==◌, if◌then◌else◌, Option, Some, None, option_map, Result, Ok, Err, length}
+use Rattle.std.specs.Prelude.{◌≡◌, ℕ, ◌-◌, ◌^◌, nat_lt, List, [], ◌∷◌, drop, Bool, false, ◌==◌, ◌&&◌, if◌then◌else◌, Option, Some, None, option_map, Result, Ok, Err, length}
 use Rattle.std.specs.List.{list_all}
 use Rattle.std.specs.Char.{is_ascii_digit}
 use Rattle.std.specs.Str.Parse.{digits_value}
@@ -10,6 +10,8 @@ use Rattle.smith_syntax.specs.declared.instruction_kind.UnknownKind.{UnknownKind
 use Rattle.smith_config.specs.declared.offset_choices.MemoryOffsetChoices.{MemoryOffsetChoices}
 use Rattle.smith_config_json.specs.declared.fault.Fault.{Fault}
 use Rattle.smith_config_json.specs.declared.fault.Fault.TheVariants.{NotAnObject, WrongType, OutOfRange}
+use Rattle.smith_config_json.specs.declared.preset.Preset.{Preset}
+use Rattle.smith_config_json.specs.Presets.{preset_named}
 
 abbrev pub map_ok : {A B E : Type 0} → (A → B) → Result A E → Result B E
 map_ok f (Ok x) = Ok (f x)
@@ -62,6 +64,17 @@ abbrev pub file_value : Token → Result (Unit {0}) Fault
 file_value null = Ok tt
 file_value t = Err (unwanted t)
 
+-- a preset is there
+abbrev pub of_preset : Option Preset → Result (Unit {0}) Fault
+of_preset None = Err OutOfRange
+of_preset (Some preset) = Ok tt
+
+-- the name of a preset, or null
+abbrev pub preset_value : Token → Result (Unit {0}) Fault
+preset_value null = Ok tt
+preset_value (string name) = of_preset (preset_named name)
+preset_value t = Err (unwanted t)
+
 -- a text that names no kinds is out of range
 abbrev pub of_names : Result InstructionKinds UnknownKind → Result (Option InstructionKinds) Fault
 of_names (Ok all) = Ok (Some all)
@@ -85,6 +98,11 @@ abbrev pub list_end : Token → Result (Unit {0}) Fault
 list_end end_array = Ok tt
 list_end t = Err (unwanted t)
 
+-- three weights, of which one is above zero
+abbrev pub some_weight : ℕ → ℕ → ℕ → Result MemoryOffsetChoices Fault
+some_weight inside between past =
+    if inside == 0 && between == 0 && past == 0 then Err OutOfRange else Ok (record { 0 = inside; 1 = between; 2 = past })
+
 -- three weights and the end of their list
 abbrev pub weights : List Token → Result MemoryOffsetChoices Fault
 weights ts =
@@ -92,4 +110,4 @@ weights ts =
     and_then (weight (first (drop 1 ts))) (λ between.
     and_then (weight (first (drop 2 ts))) (λ past.
     and_then (list_end (first (drop 3 ts))) (λ _.
-    Ok (record { 0 = inside; 1 = between; 2 = past })))))
+    some_weight inside between past))))

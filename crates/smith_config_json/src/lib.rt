@@ -3,19 +3,27 @@
 //! A name has hyphens in place of the field's underscores, as in `max-types`. The macro [`fields`]
 //! lists the names, with a sentence on each field. A field that no member names keeps its default,
 //! and so does a field whose member is `null`.
+//!
+//! Two members are no fields. `preset` names a [`Preset`], which changes the configuration before the
+//! other members do, wherever it is. `fuel` is the number of calls and iterations of loops after which
+//! a program traps; [`fuel`] finds it.
 #![tactic(auto)]
 
 mod examples;
 mod fault;
 mod field;
 mod lend;
+mod member;
 mod place;
+mod preset;
 mod read;
 mod refusal;
 mod value;
 
 pub use fault::Fault;
 pub use field::{FieldKind, kind_of};
+pub use member::fuel;
+pub use preset::{Preset, preset_named};
 pub use read::{config, read_config, read_text};
 pub use refusal::{ConfigRefusal, Refusal};
 pub use value::set_field;

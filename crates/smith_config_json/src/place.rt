@@ -82,7 +82,7 @@ pub(crate) enum Flag {
     GenerateCustomSections,
 }
 
-/// A field that is a whole number.
+/// A field that is a whole number, or the fuel, which no field holds.
 #[derive(Clone, Copy)]
 pub(crate) enum Number {
     Size(Size),
@@ -90,6 +90,7 @@ pub(crate) enum Number {
     Long(Long),
     MinUlebSize,
     MaxMemory64Bytes,
+    Fuel,
 }
 
 /// A field of a configuration.
@@ -100,4 +101,5 @@ pub(crate) enum Place {
     AllowedInstructions,
     MemoryOffsetChoices,
     File,
+    Preset,
 }

@@ -7,6 +7,8 @@ ghost use Rattle.smith_config_json.specs.Sets.{Sets};
 ghost use Rattle.smith_config_json.specs.Objects.{ReadsMembers, ReadsObject, ReadsAlone, ReadsText};
 
 use crate::fault::Fault;
+use crate::member::preset_in;
+use crate::preset::change_by;
 use crate::refusal::{ConfigRefusal, Refusal};
 use crate::value::set_field;
 use json::{Reader, Scratch, Token};
@@ -37,7 +39,7 @@ pub fn config(alloc: Global, text: &str) -> Result<Config, ConfigRefusal>
 }
 
 /// Reads an object from `text`, which holds nothing else, and sets the fields of `config` that its
-/// members name.
+/// members name. The preset of a member `preset`, wherever it is, changes `config` before that.
 ///
 /// # Errors
 ///
@@ -52,6 +54,10 @@ pub fn read_text(alloc: Global, text: &str, config: &mut Config) -> Result<(), R
         (Err (refusal.fault, string_bytes refusal.field, config.new))) }
 {
     let mut scratch = Scratch::new(alloc);
+    let Ok(preset) = preset_in(text, &mut scratch) else {
+        return Err(nameless(alloc, Fault::OutOfMemory, 0));
+    };
+    change_by(preset, config);
     let Ok(mut reader) = Reader::new(text, &mut scratch) else {
         return Err(nameless(alloc, Fault::OutOfMemory, 0));
     };
@@ -64,7 +70,8 @@ pub fn read_text(alloc: Global, text: &str, config: &mut Config) -> Result<(), R
 }
 
 /// Reads an object from the place of `reader`, and sets the fields of `config` that its members
-/// name. The reader is then past the object.
+/// name. The reader is then past the object. A preset is looked up and not applied: [`read_text`]
+/// does that.
 ///
 /// # Errors
 ///

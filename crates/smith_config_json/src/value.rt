@@ -12,8 +12,10 @@ ghost use Rattle.smith_config_json.specs.Values.{
   whole_value,
   truth_value,
   file_value,
+  preset_value,
   AreKinds,
   weight,
+  some_weight,
   weights,
   list_end,
 };
@@ -23,6 +25,7 @@ use crate::fault::Fault;
 use crate::field::place_named;
 use crate::lend::{flag_at, long_at, size_at, word_at};
 use crate::place::{Flag, Number, Place};
+use crate::preset::preset_named;
 use bitflags::Flags;
 use json::{Reader, Token};
 use smith_config::{Config, MemoryOffsetChoices};
@@ -30,7 +33,7 @@ use smith_types::InstructionKinds;
 use std::str::FromStr;
 
 /// Takes the next token. The end of the text counts as a bad one.
-fn next<'a>(reader: &mut Reader<'a>) -> Token<'a>
+pub(crate) fn next<'a>(reader: &mut Reader<'a>) -> Token<'a>
     ensures token { token_of result ≡ first reader.old }
     ensures rest { reader.new ≡ drop 1 reader.old }
 {
@@ -72,7 +75,7 @@ fn all_digits(text: &[u8]) -> bool
 }
 
 /// Returns the number, at most `most`, that the text of a JSON number writes in digits only.
-fn number(text: &str, most: u128) -> Result<u128, Fault>
+pub(crate) fn number(text: &str, most: u128) -> Result<u128, Fault>
     ensures exact { result ≡ number_of most text.now }
     ensures bounded { IfOk result (λ n. n ≤ most) }
 {
@@ -117,6 +120,21 @@ fn no_file(reader: &mut Reader<'_>) -> Result<(), Fault>
 {
     match next(reader) {
         Token::Null => Ok(()),
+        token => Err(fault_of_token(token)),
+    }
+}
+
+/// Reads the name of a preset, or `null`.
+fn known_preset(reader: &mut Reader<'_>) -> Result<(), Fault>
+    ensures value { result ≡ preset_value (first reader.old) }
+    ensures rest { reader.new ≡ drop 1 reader.old }
+{
+    match next(reader) {
+        Token::Null => Ok(()),
+        Token::String(name) => match preset_named(name) {
+            Some(_) => Ok(()),
+            None => Err(Fault::OutOfRange),
+        },
         token => Err(fault_of_token(token)),
     }
 }
@@ -173,6 +191,16 @@ fn weights(reader: &mut Reader<'_>) -> Result<MemoryOffsetChoices, Fault>
     let between = weight(reader)?;
     let past = weight(reader)?;
     list_end(reader)?;
+    choices_of(inside, between, past)
+}
+
+/// Returns the three weights, unless all are zero.
+fn choices_of(inside: u32, between: u32, past: u32) -> Result<MemoryOffsetChoices, Fault>
+    ensures { result ≡ some_weight inside between past }
+{
+    if inside == 0 && between == 0 && past == 0 {
+        return Err(Fault::OutOfRange);
+    }
     Ok(MemoryOffsetChoices(inside, between, past))
 }
 
@@ -195,6 +223,7 @@ pub fn set_field(config: &mut Config, name: &str, reader: &mut Reader<'_>) -> Re
         Some(Place::AllowedInstructions) => read_instructions(config, reader),
         Some(Place::MemoryOffsetChoices) => read_choices(config, reader),
         Some(Place::File) => no_file(reader),
+        Some(Place::Preset) => known_preset(reader),
         None => Err(Fault::UnknownField),
     }
 }
@@ -209,6 +238,7 @@ fn most_of(number: Number) -> u128
         Number::Long(_) => u64::MAX as u128,
         Number::MinUlebSize => u8::MAX as u128,
         Number::MaxMemory64Bytes => u128::MAX,
+        Number::Fuel => u32::MAX as u128,
     }
 }
 
@@ -223,6 +253,7 @@ fn set_number(config: &mut Config, number: Number, value: u128)
         Number::Long(long) => *long_at(config, long) = value as u64,
         Number::MinUlebSize => config.min_uleb_size = value as u8,
         Number::MaxMemory64Bytes => config.max_memory64_bytes = value,
+        Number::Fuel => {}
     }
 }
 

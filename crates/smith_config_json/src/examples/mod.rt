@@ -1,5 +1,6 @@
-// The kinds of the values of fields, and objects of members. The clauses are proved, and nothing
+// The kinds of the values of fields, objects of members, and presets. The clauses are proved, and nothing
 // calls these functions.
 
 mod fields;
 mod objects;
+mod presets;

@@ -2,7 +2,7 @@
 // are proved, and nothing calls these functions.
 
 ghost use Rattle.std.specs.Prelude.{◌≡◌, [], ◌∷◌, Ok, Err, true, codes};
-ghost use Rattle.json.specs.Token.{begin_object, end_object, key, number, string, boolean, null};
+ghost use Rattle.json.specs.Token.{begin_object, end_object, begin_array, end_array, key, number, string, boolean, null};
 ghost use Rattle.smith_config.specs.Config.{default_config};
 ghost use Rattle.smith_config_json.specs.declared.fault.Fault.TheVariants.{UnknownField, RepeatedField};
 ghost use Rattle.smith_config_json.specs.declared.fault.Fault.TheVariants.{WrongType, OutOfRange};
@@ -34,6 +34,10 @@ fn refusals()
     ensures out_of_range { ReadsObject default_config
         (begin_object ∷ key (codes "min-uleb-size") ∷ number (codes "256") ∷ end_object ∷ [])
         (Err (OutOfRange, codes "min-uleb-size", default_config)) }
+    ensures zeros { ReadsObject default_config
+        (begin_object ∷ key (codes "memory-offset-choices") ∷ begin_array ∷ number (codes "0")
+        ∷ number (codes "0") ∷ number (codes "0") ∷ end_array ∷ end_object ∷ [])
+        (Err (OutOfRange, codes "memory-offset-choices", default_config)) }
     ensures no_object { ReadsObject default_config (string (codes "max-types") ∷ [])
         (Err (NotAnObject, [], default_config)) }
 {}

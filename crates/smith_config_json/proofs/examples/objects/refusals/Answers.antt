@@ -18,3 +18,7 @@ returns-clause-wrong_type c = refuses refl refl refl
 pub returns-clause-out_of_range : goal.returns-clause-out_of_range
 unfolding fields
 returns-clause-out_of_range c = refuses refl refl refl
+
+pub returns-clause-zeros : goal.returns-clause-zeros
+unfolding fields
+returns-clause-zeros c = refuses refl refl refl

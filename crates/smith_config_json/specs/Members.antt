@@ -1,0 +1,36 @@
+-- The members of an object that no field of a configuration has. Rules of this project.
+use Rattle.std.specs.Prelude.{ℕ, ◌-◌, ◌^◌, List, [], ◌∷◌, Bool, false, Option, Some, None, Result, Ok, Err, cond, codes}
+use Rattle.std.specs.Str.{bytes_eq}
+use Rattle.json.specs.Token.{Token, key, string, null}
+use Rattle.smith_config_json.specs.declared.fault.Fault.{Fault}
+use Rattle.smith_config_json.specs.declared.preset.Preset.{Preset}
+use Rattle.smith_config_json.specs.Presets.{preset_named}
+use Rattle.smith_config_json.specs.Values.{first, whole_value}
+
+-- whether a token is the key with a name
+abbrev pub is_key : List ℕ → Token → Bool
+is_key name (key other) = bytes_eq other name
+is_key name t = false
+
+-- the first token of the value of the first member with a name; null if there is none
+abbrev pub value_of : List ℕ → List Token → Token
+value_of name [] = null
+value_of name (t ∷ ts) = cond (is_key name t) (first ts) (value_of name ts)
+
+-- the preset that a value names, if it names one
+abbrev pub named_preset : Token → Option Preset
+named_preset (string name) = preset_named name
+named_preset t = None
+
+-- the preset of an object: the one that its member `preset` names, wherever the member is
+abbrev pub preset_in : List Token → Option Preset
+preset_in ts = named_preset (value_of (codes "preset") ts)
+
+-- a number that was read, if there is one
+abbrev pub or_none : Result (Option ℕ) Fault → Option ℕ
+or_none (Ok n) = n
+or_none (Err fault) = None
+
+-- the fuel of an object: the number of its member `fuel`, wherever the member is
+abbrev pub fuel_in : List Token → Option ℕ
+fuel_in ts = or_none (whole_value (2 ^ 32 - 1) (value_of (codes "fuel") ts))

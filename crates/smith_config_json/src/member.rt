@@ -1,0 +1,72 @@
+ghost use Rattle.std.specs.Prelude.{◌≡◌, ◌-◌, ◌^◌, Some, IfOk};
+ghost use Rattle.json.specs.Lex.{tokens};
+ghost use Rattle.json.specs.Reads.{token_of};
+ghost use Rattle.smith_config_json.specs.Values.{map_ok, number_of};
+ghost use Rattle.smith_config_json.specs.Members.{is_key, value_of, or_none, preset_in, fuel_in};
+
+use crate::preset::{Preset, preset_named};
+use crate::value::{next, number};
+use json::{Reader, Scratch, Token};
+use std::alloc::{AllocError, Global};
+
+/// Returns whether `token` is the key `name`.
+fn is_key(token: &Token<'_>, name: &str) -> bool
+    ensures { result ≡ is_key name.now (token_of token.now) }
+{
+    match token {
+        Token::Key(other) => *other == name,
+        _ => false,
+    }
+}
+
+/// Finds the first member with the name `name`, and returns the first token of its value, or `null`
+/// if there is no such member.
+fn value_of<'a>(reader: &mut Reader<'a>, name: &str) -> Token<'a>
+    ensures { token_of result ≡ value_of name.now reader.old }
+{
+    while let Some(token) = reader.next() {
+        if is_key(&token, name) {
+            return next(reader);
+        }
+    }
+    Token::Null
+}
+
+/// Finds the preset of the object in `text`. A value of the member `preset` that names none is
+/// refused when the members are read.
+pub(crate) fn preset_in<'a>(
+    text: &'a str,
+    scratch: &'a mut Scratch,
+) -> Result<Option<Preset>, AllocError>
+    ensures { IfOk result (λ preset. preset ≡ preset_in (tokens text.now)) }
+{
+    let mut reader = Reader::new(text, scratch)?;
+    match value_of(&mut reader, "preset") {
+        Token::String(name) => Ok(preset_named(name)),
+        _ => Ok(None),
+    }
+}
+
+/// Finds the fuel of the object in `text`, which [`config`](crate::config) has read: the number of
+/// its member `fuel`, of calls and iterations of loops after which a program traps. Returns `None`
+/// if nothing is to be counted.
+pub fn fuel(alloc: Global, text: &str) -> Result<Option<u32>, AllocError>
+    ensures { IfOk result (λ fuel. fuel ≡ fuel_in (tokens text.now)) }
+{
+    let mut scratch = Scratch::new(alloc);
+    let mut reader = Reader::new(text, &mut scratch)?;
+    match value_of(&mut reader, "fuel") {
+        Token::Number(digits) => Ok(fuel_of(digits)),
+        _ => Ok(None),
+    }
+}
+
+/// Returns the fuel that digits write, if they write one.
+fn fuel_of(digits: &str) -> Option<u32>
+    ensures { result ≡ or_none (map_ok Some (number_of (2 ^ 32 - 1) digits.now)) }
+{
+    match number(digits, u32::MAX as u128) {
+        Ok(fuel) => Some(fuel as u32),
+        Err(_) => None,
+    }
+}
