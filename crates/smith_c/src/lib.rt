@@ -4,7 +4,8 @@
 
 ghost use Rattle.smith_c.specs.CallAnswers.{IsAnswered, IsExplained};
 ghost use Rattle.smith_request.specs.Requests.{IsBinary, HasBinary, IsTextOf};
-ghost use Rattle.smith_request.specs.Refusals.{IsRefusal, IsTextRefusal};
+ghost use Rattle.smith_request.specs.Refusals.{IsRefusal};
+ghost use Rattle.smith_request.specs.declared.manner.Form.TheVariants.{Binary, Text};
 
 mod answer;
 mod explanation;
@@ -21,7 +22,7 @@ use std::alloc::Global;
 #[unsafe(no_mangle)]
 pub extern "C" fn smith_binary(alloc: Global, config: &[u8], input: &[u8], out: &mut [u8]) -> Answer
     ensures { IsAnswered (IsBinary config.now input.now)
-        (IsRefusal config.now input.now) out.old out.new result }
+        (IsRefusal Binary config.now input.now) out.old out.new result }
 {
     match smith_request::binary(alloc, config, input) {
         Ok(bytes) => put(answer::MADE, bytes.as_slice(), out),
@@ -34,7 +35,7 @@ pub extern "C" fn smith_binary(alloc: Global, config: &[u8], input: &[u8], out: 
 #[unsafe(no_mangle)]
 pub extern "C" fn smith_text(alloc: Global, config: &[u8], input: &[u8], out: &mut [u8]) -> Answer
     ensures { IsAnswered (IsTextOf config.now input.now)
-        (IsTextRefusal config.now input.now) out.old out.new result }
+        (IsRefusal Text config.now input.now) out.old out.new result }
 {
     match smith_request::text(alloc, config, input) {
         Ok(text) => put(answer::MADE, text.as_slice(), out),
@@ -53,7 +54,7 @@ pub extern "C" fn smith_refusal(
     out: &mut [u8],
 ) -> Answer
     ensures { IsExplained (HasBinary config.now input.now)
-        (IsRefusal config.now input.now) out.old out.new result }
+        (IsRefusal Binary config.now input.now) out.old out.new result }
 {
     match smith_request::binary(alloc, config, input) {
         Ok(_) => Answer::without_output(answer::MADE),

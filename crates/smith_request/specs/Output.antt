@@ -2,7 +2,7 @@
 use Rattle.std.specs.Prelude.{◌≡◌, ◌≤◌, ◌-◌, ◌^◌, ℕ, Option, Some, None, List, Ok, Err, length}
 use Rattle.std.specs.Str.{IsUtf8}
 use Rattle.smith_binary.specs.Faults.{IsFault}
-use Rattle.smith_binary.specs.declared.error.EncodeError.TheVariants.{TooLong}
+use Rattle.smith_binary.specs.declared.error.EncodeError.TheVariants.{Memory, TooLong}
 use Rattle.smith_bytes.specs.declared.error.Error.{Error}
 use Rattle.smith_config.specs.declared.config.Config.{Config}
 use Rattle.wasm_smith.specs.Termination.{AnswersCounter, MayAddNone}
@@ -10,6 +10,8 @@ use Rattle.smith_program.specs.Generated.{IsProgram}
 use Rattle.smith_program.specs.declared.program.Program.{Program}
 use Rattle.smith_binary_program.specs.Long.{IsLongProgram}
 use Rattle.smith_binary_program.specs.Programs.{IsEncoded}
+use Rattle.smith_request.specs.declared.manner.Form.{Form}
+use Rattle.smith_request.specs.declared.manner.Form.TheVariants.{Binary, Text}
 use Rattle.smith_request.specs.declared.refusal.Refusal.{Refusal}
 use Rattle.smith_request.specs.declared.refusal.Refusal.TheVariants.{NotUtf8, Config as of_config, Module, Encoding}
 
@@ -30,24 +32,25 @@ abbrev pub IsBinaryWith : Option ℕ → Program → List ℕ → Type 0
 IsBinaryWith None program bytes = IsEncoded program.«module» program.bodies bytes
 IsBinaryWith (Some fuel) program bytes = IsCountedBinary fuel program bytes
 
--- a program is not written for lack of memory, or because it is too long
-abbrev pub IsUnwritten : Program → Refusal → Type 0
-IsUnwritten program (Encoding e) = IsFault (IsLongProgram program.«module» program.bodies) e
-IsUnwritten program NotUtf8 = ⊥
-IsUnwritten program (of_config _) = ⊥
-IsUnwritten program (Module _) = ⊥
+-- a program is not written for lack of memory, or because it is too long for the binary format
+abbrev pub IsUnwritten : Form → Program → Refusal → Type 0
+IsUnwritten Binary program (Encoding e) = IsFault (IsLongProgram program.«module» program.bodies) e
+IsUnwritten Text program (Encoding e) = e ≡ Memory
+IsUnwritten form program NotUtf8 = ⊥
+IsUnwritten form program (of_config _) = ⊥
+IsUnwritten form program (Module _) = ⊥
 
 -- a program is not written with a counter: none is added, because a body is raw bytes or for lack
 -- of memory; or no index is left for it; or the program with its counter is not written
-pub data IsUncounted (fuel : ℕ) (program : Program) (refusal : Refusal) : Type 0 where
-  not_added : {e : Error} → MayAddNone program.«module» e → refusal ≡ Module e → IsUncounted fuel program refusal
-  no_index : 2 ^ 32 - 1 ≤ length program.«module».globals → refusal ≡ Encoding TooLong → IsUncounted fuel program refusal
-  not_written : {counted : Program} → IsCounted fuel program counted → IsUnwritten counted refusal → IsUncounted fuel program refusal
+pub data IsUncounted (form : Form) (fuel : ℕ) (program : Program) (refusal : Refusal) : Type 0 where
+  not_added : {e : Error} → MayAddNone program.«module» e → refusal ≡ Module e → IsUncounted form fuel program refusal
+  no_index : 2 ^ 32 - 1 ≤ length program.«module».globals → refusal ≡ Encoding TooLong → IsUncounted form fuel program refusal
+  not_written : {counted : Program} → IsCounted fuel program counted → IsUnwritten form counted refusal → IsUncounted form fuel program refusal
 
 -- a program is not written, with a counter if there is a fuel
-abbrev pub IsUnwrittenWith : Option ℕ → Program → Refusal → Type 0
-IsUnwrittenWith None program refusal = IsUnwritten program refusal
-IsUnwrittenWith (Some fuel) program refusal = IsUncounted fuel program refusal
+abbrev pub IsUnwrittenWith : Form → Option ℕ → Program → Refusal → Type 0
+IsUnwrittenWith form None program refusal = IsUnwritten form program refusal
+IsUnwrittenWith form (Some fuel) program refusal = IsUncounted form fuel program refusal
 
 -- the bytes are written for a program that the generator draws from the configuration and the
 -- input, with these bytes of the input left
@@ -58,12 +61,19 @@ pub record IsBinaryOf (config : Config) (fuel : Option ℕ) (input bytes left : 
 
 -- a refusal is the generator's for the configuration and the input; or the drawn program is not
 -- written
-pub data IsRefusedFor (config : Config) (fuel : Option ℕ) (input left : List ℕ) (refusal : Refusal) : Type 0 where
-  not_drawn : {e : Error} → IsProgram config input (Err e) left → refusal ≡ Module e → IsRefusedFor config fuel input left refusal
-  not_written : {program : Program} → IsProgram config input (Ok program) left → IsUnwrittenWith fuel program refusal →
-      IsRefusedFor config fuel input left refusal
+pub data IsRefusedFor (form : Form) (config : Config) (fuel : Option ℕ) (input left : List ℕ) (refusal : Refusal) : Type 0 where
+  not_drawn : {e : Error} → IsProgram config input (Err e) left → refusal ≡ Module e → IsRefusedFor form config fuel input left refusal
+  not_written : {program : Program} → IsProgram config input (Ok program) left → IsUnwrittenWith form fuel program refusal →
+      IsRefusedFor form config fuel input left refusal
 
 -- the bytes are a text
 pub record IsText (bytes : List ℕ) : Type 0 where
   pub utf8 : IsUtf8 bytes
   pub some : 1 ≤ length bytes
+
+-- the generator draws a program from the configuration and the input, with these bytes of the input
+-- left, and the bytes are a text
+pub record IsWrittenText (config : Config) (input bytes left : List ℕ) : Type 0 where
+  pub program : Program
+  pub drawn : IsProgram config input (Ok program) left
+  pub is_text : IsText bytes

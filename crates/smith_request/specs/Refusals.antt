@@ -1,38 +1,39 @@
 -- The reasons why there is no program, and their numbers.
-use Rattle.std.specs.Prelude.{◌≢◌, ℕ, List, [], Ok, Err}
+use Rattle.std.specs.Prelude.{◌≢◌, ℕ, List, [], Err}
 use Rattle.std.specs.Str.{IsUtf8}
 use Rattle.std.specs.String.{string_bytes}
-use Rattle.smith_binary.specs.Faults.{IsFault}
 use Rattle.smith_binary.specs.declared.error.EncodeError.TheVariants as encoding
 use Rattle.smith_bytes.specs.declared.error.Error.{Error}
 use Rattle.smith_bytes.specs.declared.error.Error.TheVariants as errors
+use Rattle.smith_config.specs.declared.config.Config.{Config as Configuration}
 use Rattle.smith_config_json.specs.Objects.{ReadsText}
 use Rattle.smith_config_json.specs.declared.fault.Fault.{Fault}
 use Rattle.smith_config_json.specs.declared.fault.Fault.TheVariants.{OutOfMemory, NotAnObject, UnknownField, RepeatedField, WrongType, OutOfRange, TextAfter}
-use Rattle.smith_program.specs.declared.program.Program.{Program}
-use Rattle.smith_binary_program.specs.Long.{IsLongProgram}
-use Rattle.smith_request.specs.Requests.{AnswersText}
+use Rattle.smith_config_json.specs.declared.refusal.ConfigRefusal.{ConfigRefusal}
+use Rattle.smith_request.specs.Output.{IsRefusedFor}
+use Rattle.smith_request.specs.Requests.{IsConfigured, fuel_of}
+use Rattle.smith_request.specs.declared.manner.Form.{Form}
 use Rattle.smith_request.specs.declared.refusal.Refusal.{Refusal}
 use Rattle.smith_request.specs.declared.refusal.Refusal.TheVariants.{NotUtf8, Config, Module, Encoding}
 
--- a possible refusal of a configuration's text and an input
-abbrev pub IsRefusal : List ℕ → List ℕ → Refusal → Type 0
-IsRefusal text input NotUtf8 = IsUtf8 text → ⊥
-IsRefusal text input (Config refusal) = IsUtf8 text × text ≢ [] × (refusal.fault ≢ OutOfMemory → ReadsText text (Err (refusal.fault, string_bytes refusal.field)))
-IsRefusal text input (Module e) = AnswersText text input (Err e)
-IsRefusal text input (Encoding e) = (program : Program) × AnswersText text input (Ok program) × IsFault (IsLongProgram program.«module» program.bodies) e
+-- a text of UTF-8 that is not empty is refused for its first fault, or for lack of memory
+pub record IsUnparsed (text : List ℕ) (refusal : ConfigRefusal) : Type 0 where
+  pub utf8 : IsUtf8 text
+  pub some : text ≢ []
+  pub first : refusal.fault ≢ OutOfMemory → ReadsText text (Err (refusal.fault, string_bytes refusal.field))
 
--- any refusal except that a program is too long
-abbrev pub IsNotTooLong : Refusal → Type 0
-IsNotTooLong NotUtf8 = Unit {0}
-IsNotTooLong (Config refusal) = Unit {0}
-IsNotTooLong (Module e) = Unit {0}
-IsNotTooLong (Encoding encoding.Memory) = Unit {0}
-IsNotTooLong (Encoding encoding.TooLong) = ⊥
+-- a text is not read
+abbrev pub IsUnread : List ℕ → Refusal → Type 0
+IsUnread text NotUtf8 = IsUtf8 text → ⊥
+IsUnread text (Config refusal) = IsUnparsed text refusal
+IsUnread text (Module e) = ⊥
+IsUnread text (Encoding e) = ⊥
 
--- a possible refusal of a program's text: one of its binary, except that it is too long
-abbrev pub IsTextRefusal : List ℕ → List ℕ → Refusal → Type 0
-IsTextRefusal text input refusal = IsRefusal text input refusal × IsNotTooLong refusal
+-- a possible refusal of a configuration's text and an input, for a form
+pub data IsRefusal (form : Form) (text input : List ℕ) (refusal : Refusal) : Type 0 where
+  not_read : IsUnread text refusal → IsRefusal form text input refusal
+  not_made : {config : Configuration} {left : List ℕ} → IsConfigured text config → IsRefusedFor form config (fuel_of text) input left refusal →
+      IsRefusal form text input refusal
 
 -- the number of a fault of a configuration's text
 abbrev pub fault_status : Fault → ℕ

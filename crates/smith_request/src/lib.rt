@@ -12,4 +12,4 @@ mod writers;
 
 pub use manner::{Form, Manner, output};
 pub use refusal::Refusal;
-pub use request::{binary, program, text};
+pub use request::{Request, binary, text};

@@ -1,7 +1,7 @@
 ghost use Rattle.std.specs.Prelude.{◌≡◌, ◌<◌, ◌-◌, ◌^◌, IfOk, IfErr, length};
 ghost use Rattle.smith_binary_program.specs.Programs.{IsEncoded};
 ghost use Rattle.smith_request.specs.Output.{IsBinaryOf, IsBinaryWith, IsRefusedFor};
-ghost use Rattle.smith_request.specs.Output.{IsCountedBinary, IsText};
+ghost use Rattle.smith_request.specs.Output.{IsCountedBinary, IsText, IsWrittenText};
 ghost use Rattle.smith_request.specs.Output.{IsUncounted, IsUnwritten, IsUnwrittenWith};
 ghost use Rattle.smith_request.specs.declared.manner.Form.TheVariants.{Binary, Text};
 
@@ -51,8 +51,9 @@ pub fn output(
 ) -> Result<Vec<u8>, Refusal>
     ensures binary { manner.form ≡ Binary
         → IfOk result (λ bytes. IsBinaryOf config manner.fuel u.old bytes.items u.new) }
-    ensures text { manner.form ≡ Text → IfOk result (λ bytes. IsText bytes.items) }
-    ensures refused { IfErr result (IsRefusedFor config manner.fuel u.old u.new) }
+    ensures text { manner.form ≡ Text
+        → IfOk result (λ bytes. IsWrittenText config u.old bytes.items u.new) }
+    ensures refused { IfErr result (IsRefusedFor manner.form config manner.fuel u.old u.new) }
 {
     match Program::new(alloc, config, u) {
         Ok(program) => write_program(alloc, program, manner),
@@ -66,7 +67,7 @@ fn write_program(alloc: Global, program: Program, manner: Manner) -> Result<Vec<
     ensures binary { manner.form ≡ Binary
         → IfOk result (λ bytes. IsBinaryWith manner.fuel program bytes.items) }
     ensures text { manner.form ≡ Text → IfOk result (λ bytes. IsText bytes.items) }
-    ensures refused { IfErr result (IsUnwrittenWith manner.fuel program) }
+    ensures refused { IfErr result (IsUnwrittenWith manner.form manner.fuel program) }
 {
     match manner.fuel {
         Some(fuel) => write_counted(alloc, program, fuel, manner.form),
@@ -89,7 +90,7 @@ fn write_counted(
     ensures binary { form ≡ Binary
         → IfOk result (λ bytes. IsCountedBinary fuel program bytes.items) }
     ensures text { form ≡ Text → IfOk result (λ bytes. IsText bytes.items) }
-    ensures refused { IfErr result (IsUncounted fuel program) }
+    ensures refused { IfErr result (IsUncounted form fuel program) }
 {
     if program.module.globals().len() >= u32::MAX as usize {
         return Err(Refusal::Encoding(EncodeError::TooLong));
@@ -109,7 +110,7 @@ fn write_in(alloc: Global, program: &Program, form: Form) -> Result<Vec<u8>, Ref
     ensures binary { form ≡ Binary → IfOk result (λ bytes.
         IsEncoded program.now.«module» program.now.bodies bytes.items) }
     ensures text { form ≡ Text → IfOk result (λ bytes. IsText bytes.items) }
-    ensures refused { IfErr result (IsUnwritten program.now) }
+    ensures refused { IfErr result (IsUnwritten form program.now) }
 {
     match form {
         Form::Binary => write_binary(alloc, program),

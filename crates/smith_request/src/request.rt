@@ -1,107 +1,118 @@
-ghost use Rattle.std.specs.Prelude.{◌≡◌, ◌≢◌, ℕ, List, [], Ok, Err, IfOk, IfErr};
-ghost use Rattle.smith_config_json.specs.Objects.{ReadsText};
-ghost use Rattle.smith_request.specs.Requests.{IsConfigured, IsProgramAnswer, AnswersText, IsBinary};
-ghost use Rattle.smith_request.specs.Requests.{IsTextOf};
-ghost use Rattle.smith_request.specs.Refusals.{IsRefusal, IsNotTooLong};
+ghost use Rattle.std.specs.Prelude.{◌≡◌, ◌≢◌, [], IfOk, IfErr};
+ghost use Rattle.smith_config_json.specs.declared.fault.Fault.TheVariants.{OutOfMemory};
+ghost use Rattle.smith_request.specs.Requests.{IsBinary, IsRequest, IsTextOf};
+ghost use Rattle.smith_request.specs.Refusals.{IsRefusal, IsUnread};
+ghost use Rattle.smith_request.specs.declared.manner.Form.TheVariants.{Binary, Text};
 
+use crate::manner::{Form, Manner, output};
 use crate::refusal::Refusal;
-use crate::writers::{write_binary, write_text};
-use smith_bytes::{Error, Unstructured};
+use smith_bytes::Unstructured;
 use smith_config::Config;
-use smith_program::Program;
+use smith_config_json::{ConfigRefusal, Fault};
 use std::alloc::Global;
 use std::str;
 
-/// Reads a configuration from `text`, which is not empty.
-fn parse_config(alloc: Global, text: &str) -> Result<Config, Refusal>
+/// What the text of a configuration requests.
+#[derive(Drop)]
+pub struct Request {
+    /// The configuration.
+    pub config: Config,
+    /// The number of calls and of iterations of loops after which a program traps, if they are
+    /// counted.
+    pub fuel: Option<u32>,
+}
+
+/// Returns the refusal of a configuration for lack of memory.
+fn no_memory(alloc: Global) -> ConfigRefusal
+    ensures { result.fault ≡ OutOfMemory }
+{
+    ConfigRefusal {
+        fault: Fault::OutOfMemory,
+        field: String::new(alloc),
+        line: 1,
+        column: 1,
+    }
+}
+
+/// Reads what `text` requests, which is not empty.
+fn parse(alloc: Global, text: &str) -> Result<Request, Refusal>
     requires some { text.now ≢ [] }
-    ensures ok { IfOk result (λ config. ReadsText text.now (Ok config)) }
-    ensures refused { IfErr result (λ refusal.
-        (input : List ℕ) → IsRefusal text.now input refusal) }
-    ensures short { IfErr result IsNotTooLong }
+    ensures ok { IfOk result (IsRequest text.now) }
+    ensures refused { IfErr result (IsUnread text.now) }
 {
     match smith_config_json::config(alloc, text) {
-        Ok(config) => Ok(config),
+        Ok(config) => match smith_config_json::fuel(alloc, text) {
+            Ok(fuel) => Ok(Request { config, fuel }),
+            Err(_) => Err(Refusal::Config(no_memory(alloc))),
+        },
         Err(refusal) => Err(Refusal::Config(refusal)),
     }
 }
 
-/// Reads a configuration from `text`. Returns the default one if `text` is empty.
-fn read_config(alloc: Global, text: &[u8]) -> Result<Config, Refusal>
-    ensures ok { IfOk result (λ config. IsConfigured text.now config) }
-    ensures refused { IfErr result (λ refusal.
-        (input : List ℕ) → IsRefusal text.now input refusal) }
-    ensures short { IfErr result IsNotTooLong }
+/// Reads what `text` requests. An empty text requests the default configuration.
+fn read(alloc: Global, text: &[u8]) -> Result<Request, Refusal>
+    ensures ok { IfOk result (IsRequest text.now) }
+    ensures refused { IfErr result (IsUnread text.now) }
 {
     if text.is_empty() {
-        return Ok(Config::default());
+        return Ok(Request {
+            config: Config::default(),
+            fuel: None,
+        });
     }
     match str::from_utf8(text) {
-        Ok(text) => parse_config(alloc, text),
+        Ok(text) => parse(alloc, text),
         Err(_) => Err(Refusal::NotUtf8),
     }
 }
 
-fn draw_program(alloc: Global, config: Config, input: &[u8]) -> Result<Program, Error>
-    ensures { IsProgramAnswer config input.now result }
+/// Draws a program from `input` for the configuration in `text`, and writes it in the form `form`.
+fn write(alloc: Global, text: &[u8], input: &[u8], form: Form) -> Result<Vec<u8>, Refusal>
+    ensures binary { form ≡ Binary
+        → IfOk result (λ bytes. IsBinary text.now input.now bytes.items) }
+    ensures text { form ≡ Text
+        → IfOk result (λ bytes. IsTextOf text.now input.now bytes.items) }
+    ensures refused { IfErr result (IsRefusal form text.now input.now) }
 {
-    Program::new(alloc, config, &mut Unstructured::new(input))
+    match read(alloc, text) {
+        Ok(Request { config, fuel }) => {
+            let mut u = Unstructured::new(input);
+            output(alloc, config, Manner { form, fuel }, &mut u)
+        }
+        Err(refusal) => Err(refusal),
+    }
 }
 
-/// Draws a program from `input`, for the configuration in `text`: the module, and then, from the
-/// bytes left, a body for each function that it defines.
+/// Draws a program from `input`, for the configuration in `text`, and writes it in the binary
+/// format: the module, and then, from the bytes left, a body for each function that it defines. If
+/// the configuration has fuel, the module has a global that counts calls and iterations of loops
+/// down from it.
 ///
 /// # Errors
 ///
 /// Refuses a text that is not UTF-8 or no configuration, a module for the reasons of
-/// [`Program::new`], and for lack of memory.
-pub fn program(alloc: Global, text: &[u8], input: &[u8]) -> Result<Program, Refusal>
-    ensures ok { IfOk result (λ program. AnswersText text.now input.now (Ok program)) }
-    ensures refused { IfErr result (λ refusal. IsRefusal text.now input.now refusal) }
-    ensures short { IfErr result IsNotTooLong }
-{
-    match read_config(alloc, text) {
-        Ok(config) => draw_program(alloc, config, input).map_err(Refusal::Module),
-        Err(refusal) => Err(refusal),
-    }
-}
-
-/// Draws the program of [`program`], and encodes it in the binary format.
+/// [`Program::new`] and [`Program::ensure_termination`], a program that is too long for the format,
+/// and for lack of memory.
 ///
-/// # Errors
-///
-/// Those of [`program`], and a program that is too long for the format.
+/// [`Program::new`]: smith_program::Program::new
+/// [`Program::ensure_termination`]: smith_program::Program::ensure_termination
 pub fn binary(alloc: Global, text: &[u8], input: &[u8]) -> Result<Vec<u8>, Refusal>
     ensures ok { IfOk result (λ bytes. IsBinary text.now input.now bytes.items) }
-    ensures refused { IfErr result (λ refusal. IsRefusal text.now input.now refusal) }
+    ensures refused { IfErr result (IsRefusal Binary text.now input.now) }
 {
-    match program(alloc, text, input) {
-        Ok(program) => {
-            let bytes = write_binary(alloc, &program);
-            drop(program);
-            bytes
-        }
-        Err(refusal) => Err(refusal),
-    }
+    write(alloc, text, input, Form::Binary)
 }
 
-/// Draws the program of [`program`], and writes it in the text format, in UTF-8. Never refuses it
-/// as too long. No clause states what the text says; it is tested.
+/// Draws the program of [`binary`], and writes it in the text format, in UTF-8. No clause states
+/// what the text says; it is tested.
 ///
 /// # Errors
 ///
-/// Those of [`program`].
+/// Those of [`binary`], but a program is too long only if no index is left for the global that
+/// counts.
 pub fn text(alloc: Global, text: &[u8], input: &[u8]) -> Result<Vec<u8>, Refusal>
-    ensures ok { IfOk result (λ written. IsTextOf text.now input.now written.items) }
-    ensures refused { IfErr result (λ refusal. IsRefusal text.now input.now refusal) }
-    ensures short { IfErr result IsNotTooLong }
+    ensures ok { IfOk result (λ bytes. IsTextOf text.now input.now bytes.items) }
+    ensures refused { IfErr result (IsRefusal Text text.now input.now) }
 {
-    match program(alloc, text, input) {
-        Ok(program) => {
-            let text = write_text(alloc, &program);
-            drop(program);
-            text
-        }
-        Err(refusal) => Err(refusal),
-    }
+    write(alloc, text, input, Form::Text)
 }

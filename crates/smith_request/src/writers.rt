@@ -2,6 +2,7 @@ ghost use Rattle.std.specs.Prelude.{◌≡◌, IfOk, IfErr};
 ghost use Rattle.smith_binary.specs.declared.error.EncodeError.TheVariants.{Memory};
 ghost use Rattle.smith_binary_program.specs.Programs.{IsEncoded};
 ghost use Rattle.smith_request.specs.Output.{IsText, IsUnwritten};
+ghost use Rattle.smith_request.specs.declared.manner.Form.TheVariants.{Binary};
 ghost use Rattle.smith_request.specs.declared.refusal.Refusal.TheVariants.{Encoding};
 
 use crate::refusal::Refusal;
@@ -13,7 +14,7 @@ use std::alloc::Global;
 pub fn write_binary(alloc: Global, program: &Program) -> Result<Vec<u8>, Refusal>
     ensures encoded { IfOk result (λ bytes.
         IsEncoded program.now.«module» program.now.bodies bytes.items) }
-    ensures refused { IfErr result (IsUnwritten program.now) }
+    ensures refused { IfErr result (IsUnwritten Binary program.now) }
 {
     match smith_binary_program::encode(alloc, program) {
         Ok(bytes) => Ok(bytes),
