@@ -17,7 +17,7 @@ use Rattle.smith_draw_consts.specs.declared.node_choice.Choice.TheVariants as ch
 use Rattle.smith_draw_consts.proofs.ConstFoundLemmas.{few_each, few_if, past_append, past_end}
 
 -- the choices of the items of two lists
-pub each_split : {A B : Type 0} (offer : ℕ → A → List B) (start : ℕ) (xs ys : List A) → each_from offer start (xs ++ ys) ≡ each_from offer start xs ++ each_from offer (start + length xs) ys
+each_split : {A B : Type 0} (offer : ℕ → A → List B) (start : ℕ) (xs ys : List A) → each_from offer start (xs ++ ys) ≡ each_from offer start xs ++ each_from offer (start + length xs) ys
 each_split offer start [] ys = let same : start ≡ start + 0 = omega arith in ap (λ (n : ℕ). each_from offer n ys) same
 each_split offer start (x ∷ xs) ys =
     let same : start + 1 + length xs ≡ start + suc (length xs) = omega arith in

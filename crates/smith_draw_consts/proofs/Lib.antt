@@ -1,7 +1,5 @@
 pub mod BlockCountLemmas
 pub mod KeptOfferLemmas
-pub mod CreatedOfferLemmas
-pub mod CreatedSpanLemmas
 pub mod ClassLemmas
 pub mod KnownLemmas
 pub mod WiderOfferLemmas

@@ -65,7 +65,7 @@ passing_at test start (y ∷ xs) (suc k) index x at passes is =
     unless_first (test y) start index (passing test (start + 1) xs) (passing_at test (start + 1) xs k index x at passes (omega arith))
 
 -- the items of a prefix of a list
-pub front_stands : {A : Type 0} (n : ℕ) (xs : List A) (k : ℕ) (x : A) → slice_get (take n xs) k ≡ Some x → (k < n) × (slice_get xs k ≡ Some x)
+front_stands : {A : Type 0} (n : ℕ) (xs : List A) (k : ℕ) (x : A) → slice_get (take n xs) k ≡ Some x → (k < n) × (slice_get xs k ≡ Some x)
 front_stands zero xs k x at = cc
 front_stands (suc n) [] k x at = cc
 front_stands (suc n) (y ∷ xs) zero x at = (omega arith, at)

@@ -1,5 +1,5 @@
 -- The record of the globals and functions that are offered, kept for many draws.
-use Rattle.std.specs.Prelude.{◌≡◌, ℕ, ◌+◌, ◌*◌, ◌/◌, ◌<◌, ◌≤◌, ◌≢◌, ◌⊎◌, min, nat_lt, Bool, true, false, IsTrue, Option, None, Some, IfSome, List, [], ◌∷◌, ◌++◌, map, take, length, slice_get, slice_index, All, if◌then◌else◌}
+use Rattle.std.specs.Prelude.{◌≡◌, ℕ, ◌+◌, ◌*◌, ◌/◌, ◌<◌, ◌≤◌, ◌≢◌, ◌⊎◌, min, Bool, false, IsTrue, Option, None, Some, IfSome, List, [], ◌∷◌, ◌++◌, map, take, length, slice_get, slice_index, All, if◌then◌else◌}
 use Rattle.std.specs.Borrow.{Bor}
 use Rattle.std.specs.List.{range_with_len}
 use Rattle.smith_types.specs.Subtyping.{IsValInRange}
@@ -8,11 +8,9 @@ use Rattle.smith_syntax.specs.declared.composite_type.SubType.{SubType}
 use Rattle.smith_syntax.specs.declared.entity_type.GlobalType.{GlobalType}
 use Rattle.smith_syntax.specs.declared.value_type.ValType.{ValType}
 use Rattle.smith_draw_types.specs.Below.{is_val_below}
-use Rattle.smith_draw_consts.specs.ConstOffers.{each_from, global_offers, function_offers, type_offers}
+use Rattle.smith_draw_consts.specs.ConstOffers.{each_from, global_offers, function_offers}
 use Rattle.smith_draw_consts.specs.declared.block_counts.BlockCounts.{BlockCounts}
 use Rattle.smith_draw_consts.specs.declared.classes.Classes.{Classes}
-use Rattle.smith_draw_consts.specs.declared.created_offers.CreatedOffer.{CreatedOffer}
-use Rattle.smith_draw_consts.specs.declared.created_offers.CreatedOffers.{CreatedOffers}
 use Rattle.smith_draw_consts.specs.declared.node_choice.Choice.{Choice}
 use Rattle.smith_draw_consts.specs.declared.kept_offers.KeptOffer.{KeptOffer}
 use Rattle.smith_draw_consts.specs.declared.few_items.FewItems.{FewItems}
@@ -120,59 +118,10 @@ pub record AreManyKept (context : Context) (many : ManyItems) : Type 0 where
   pub items : AreItemsRead context many.items
   pub entries : All (IsEntry context many.items) many.kept.items
 
--- the ways to create a value of a type: of a struct, or of an array
-abbrev pub type_ways : Context → ValType → ℕ → Bool → ℕ → SubType → List Choice
-type_ways context wanted fuel arrays index t = type_offers context wanted fuel arrays index t.composite_type.inner
-
--- the number of ways to create values of the first types
-abbrev pub ways_before : Context → ValType → ℕ → Bool → ℕ → ℕ
-ways_before context wanted fuel arrays = offered_before (type_ways context wanted fuel arrays) context.types
-
--- the counts of ways to create structs, or arrays
-abbrev pub counts_of_kind : CreatedOffer → Bool → BlockCounts
-counts_of_kind offer false = offer.structs
-counts_of_kind offer true = offer.arrays
-
--- the entry for a type, with fuel or without, counts the ways to create values of the types read
-pub record IsCreatedOffer (context : Context) (offer : CreatedOffer) : Type 0 where
-  pub wanted : IsValInRange context.types offer.wanted
-  pub structs_seen : offer.structs.seen ≤ length context.types
-  pub structs : IsCounted (ways_before context offer.wanted offer.fuel false) offer.structs
-  pub arrays_seen : offer.arrays.seen ≤ length context.types
-  pub arrays : IsCounted (ways_before context offer.wanted offer.fuel true) offer.arrays
-
--- all entries do
-abbrev pub AreCreatedKept : Context → CreatedOffers → Type 0
-AreCreatedKept context created = All (IsCreatedOffer context) created.entries.items
-
--- the entry is for this type, and with fuel or without as given
-abbrev pub IsCreatedFor : ValType → ℕ → CreatedOffer → Type 0
-IsCreatedFor wanted fuel offer = (offer.wanted ≡ wanted) × (nat_lt 0 offer.fuel ≡ nat_lt 0 fuel)
-
--- so is the entry at this position
-abbrev pub IsCreatedAt : List CreatedOffer → ℕ → ValType → ℕ → Type 0
-IsCreatedAt entries place wanted fuel = (offer : CreatedOffer) × (slice_get entries place ≡ Some offer) × IsCreatedFor wanted fuel offer
-
--- the entry counts all ways to create values of this type with this fuel
-pub record AreWaysCounted (context : Context) (wanted : ValType) (fuel : ℕ) (offer : CreatedOffer) : Type 0 where
-  pub structs_seen : offer.structs.seen ≡ length context.types
-  pub structs : IsCounted (ways_before context wanted fuel false) offer.structs
-  pub arrays_seen : offer.arrays.seen ≡ length context.types
-  pub arrays : IsCounted (ways_before context wanted fuel true) offer.arrays
-
--- so does the entry at this position
-abbrev pub HasWaysAt : Context → List CreatedOffer → ℕ → ValType → ℕ → Type 0
-HasWaysAt context entries place wanted fuel = (offer : CreatedOffer) × (slice_get entries place ≡ Some offer) × AreWaysCounted context wanted fuel offer
-
--- so does the entry at the position, if there is a position
-abbrev pub HasWays : Context → Option CreatedOffers → Option ℕ → ValType → ℕ → Type 0
-HasWays context kept place wanted fuel = IfSome kept (λ created. IfSome place (λ at. HasWaysAt context created.entries.items at wanted fuel))
-
 -- all that is recorded is correct
 pub record AreKeptOffers (context : Context) (kept : KeptOffers) : Type 0 where
   pub few : AreFewRead context kept.few
   pub many : IfSome kept.many (AreManyKept context)
-  pub created : IfSome kept.created (AreCreatedKept context)
 
 -- the entry is for this type, and has read no global past the first `visible`
 abbrev pub IsFor : ValType → ℕ → KeptOffer → Type 0

@@ -10,11 +10,10 @@ ghost use Rattle.smith_draw_consts.specs.KeptOffers.{AreAllRead, AreFewRead, Are
 ghost use Rattle.smith_draw_consts.specs.KeptOffers.{AreKeptOffers, AreManyKept, HasReadAll, IsCounted};
 ghost use Rattle.smith_draw_consts.specs.KeptOffers.{IsEntry, IsFor, IsKeptAt, IsKnown, IsTested};
 ghost use Rattle.smith_draw_consts.specs.KeptOffers.{IsWhole, IsWholeAt, IsWiderOffer, MayOffer};
-ghost use Rattle.smith_draw_consts.specs.KeptOffers.{AreWaysCounted, HasWays, offered_before};
+ghost use Rattle.smith_draw_consts.specs.KeptOffers.{offered_before};
 ghost use Rattle.smith_draw_consts.specs.declared.read_items.ReadItems.{ReadItems as Read};
 
 use crate::block_counts::BlockCounts;
-use crate::created_offers::{CreatedOffer, CreatedOffers, are_counted};
 use crate::few_items::{FewItems, MOST};
 use crate::knowledge::Known;
 use crate::read_items::ReadItems;
@@ -38,8 +37,6 @@ use std::mem;
 /// For a type of unshared references, a first draw counts only the globals near one that is offered
 /// for the top of its hierarchy.
 ///
-/// If there are many types, the ways to create structs and arrays are counted for each wanted type.
-///
 /// Initialisers of tables and of globals may share one value: an entry that has counted defined
 /// globals is not used where only imported globals are visible.
 #[derive(Drop)]
@@ -48,8 +45,6 @@ pub struct KeptOffers {
     few: FewItems,
     // The classes and counts, once there are many globals and functions.
     many: Option<ManyItems>,
-    // The counts of ways to create values, once there are many types.
-    created: Option<CreatedOffers>,
 }
 
 /// The classes of the globals and functions read so far, and an entry for each wanted type.
@@ -82,7 +77,6 @@ impl KeptOffers {
         KeptOffers {
             few: FewItems::new(),
             many: None,
-            created: None,
         }
     }
 
@@ -101,7 +95,6 @@ impl KeptOffers {
         ensures kept { OnOk result (AreKeptOffers (context_of scope.now) self.new) }
         ensures all { IfOk result (λ place.
             HasReadAll (context_of scope.now) wanted place self.new) }
-        ensures created { self.new.created ≡ self.old.created }
         ensures memory { IfErr result (λ e. e ≡ Error.Memory) }
     {
         if self.many.is_none() {
@@ -129,52 +122,6 @@ impl KeptOffers {
         match &self.many {
             Some(many) => Known::Many(&many.items, &many.kept[place]),
             None => Known::Few(&self.few),
-        }
-    }
-}
-
-impl KeptOffers {
-    /// Counts the ways to create a value of the type `wanted` from each type of `scope` that has
-    /// not been read, if ways are counted for `wanted`. Returns the position of the entry for
-    /// `wanted` and `fuel`, or `None` if there is none.
-    pub(crate) fn look_at_types(
-        &mut self,
-        alloc: Global,
-        scope: &Scope<'_>,
-        wanted: ValType,
-        fuel: u32,
-    ) -> Result<Option<usize>, Error>
-        requires scope { IsScope (context_of scope.now) }
-        requires upper { IsValInRange (context_of scope.now).types wanted }
-        requires kept { AreKeptOffers (context_of scope.now) self.old }
-        ensures kept { OnOk result (AreKeptOffers (context_of scope.now) self.new) }
-        ensures counted { IfOk result (λ place.
-            HasWays (context_of scope.now) self.new.created place wanted fuel) }
-        ensures memory { IfErr result (λ e. e ≡ Error.Memory) }
-    {
-        if !are_counted(scope, wanted) {
-            return Ok(None);
-        }
-        if self.created.is_none() {
-            drop(self.created.replace(CreatedOffers::new(alloc)));
-        }
-        match &mut self.created {
-            Some(created) => created.look(alloc, scope, wanted, fuel),
-            None => unreachable!(),
-        }
-    }
-
-    /// Returns the counts of ways to create values at `place`: the position that `look_at_types`
-    /// returned.
-    pub(crate) fn created_at(&self, place: Option<usize>) -> Option<&CreatedOffer>
-        ensures { (context : Context) (wanted : Wanted) (fuel : ℕ)
-            → HasWays context self.now.created place wanted fuel
-            → IfSome result (λ offer. AreWaysCounted context wanted fuel offer.now) }
-    {
-        let place = place?;
-        match &self.created {
-            Some(created) => created.entry(place),
-            None => None,
         }
     }
 }

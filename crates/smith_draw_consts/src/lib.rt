@@ -8,7 +8,6 @@
 mod block_counts;
 mod classes;
 mod constant;
-mod created_offers;
 mod draws;
 mod examples;
 mod expression;
@@ -24,7 +23,6 @@ mod read_items;
 mod references;
 mod scope;
 mod task;
-mod type_span;
 
 pub use draws::{
     arbitrary_const_expr, arbitrary_table_init, draw_const_expr, draw_table_init,

@@ -1,4 +1,4 @@
-ghost use Rattle.std.specs.Prelude.{◌≡◌, ◌<◌, ◌≤◌, ◌++◌, [], ◌∷◌, length, take, drop, Some, IfOk, IfSome};
+ghost use Rattle.std.specs.Prelude.{◌≡◌, ◌<◌, ◌≤◌, ◌++◌, [], ◌∷◌, length, take, drop, Some, IfOk};
 ghost use Rattle.std.specs.Prelude.{IfErr};
 ghost use Rattle.smith_types.specs.Subtyping.{IsValInRange};
 ghost use Rattle.smith_types.specs.Expressions.{unpacked};
@@ -24,18 +24,16 @@ ghost use Rattle.smith_draw_consts.specs.ConstOffers.{
   constant_offers,
   offers,
 };
-ghost use Rattle.smith_draw_consts.specs.KeptOffers.{AreWaysCounted, IsKnown, type_ways};
+ghost use Rattle.smith_draw_consts.specs.KeptOffers.{IsKnown};
 
 // Each of these functions searches the choices of one kind for the one at `place`, counted from the
 // first of them. It returns that choice as an `Err`, so that `?` ends the search. If there are too
 // few choices, it returns the place, counted from the end of them, as an `Ok`.
 
-use crate::created_offers::CreatedOffer;
 use crate::knowledge::{Known, kind_of_function, kind_of_global};
 use crate::node_choice::Choice;
 use crate::references::{gives, i31, is_below, is_offered};
-use crate::scope::{Scope, type_count};
-use crate::type_span::span_of;
+use crate::scope::Scope;
 use smith_config::Config;
 use smith_types::{
     AbstractHeapType, CompositeInnerType, FieldType, HeapType, RefType, ValType, are_defaultable,
@@ -47,7 +45,6 @@ use smith_types::{
 pub(crate) fn past_offers(
     scope: &Scope<'_>,
     known: Known<'_>,
-    created: Option<&CreatedOffer>,
     wanted: ValType,
     fuel: u32,
     place: usize,
@@ -55,13 +52,11 @@ pub(crate) fn past_offers(
     requires scope { IsScope (context_of scope.now) }
     requires upper { IsValInRange (context_of scope.now).types wanted }
     requires known { IsKnown (context_of scope.now) wanted known }
-    requires created { IfSome created (λ offer.
-        AreWaysCounted (context_of scope.now) wanted fuel offer.now) }
     ensures { result ≡ past (offers scope.now.config.now (context_of scope.now) wanted fuel) place }
 {
     let place = past_globals(scope, known, wanted, place)?;
     let place = past_constants(scope, wanted, place)?;
-    past_references(scope, known, created, wanted, fuel, place)
+    past_references(scope, known, wanted, fuel, place)
 }
 
 fn past_globals(
@@ -124,7 +119,6 @@ fn past_constants(scope: &Scope<'_>, wanted: ValType, place: usize) -> Result<us
 fn past_references(
     scope: &Scope<'_>,
     known: Known<'_>,
-    created: Option<&CreatedOffer>,
     wanted: ValType,
     fuel: u32,
     place: usize,
@@ -132,8 +126,6 @@ fn past_references(
     requires scope { IsScope (context_of scope.now) }
     requires upper { IsValInRange (context_of scope.now).types wanted }
     requires known { IsKnown (context_of scope.now) wanted known }
-    requires created { IfSome created (λ offer.
-        AreWaysCounted (context_of scope.now) wanted fuel offer.now) }
     ensures { result
         ≡ past (reference_offers scope.now.config.now (context_of scope.now) wanted fuel) place }
 {
@@ -143,7 +135,7 @@ fn past_references(
             if !scope.config.gc_enabled {
                 return Ok(place);
             }
-            past_created(scope, created, reference, fuel, place)
+            past_created(scope, reference, fuel, place)
         }
         _ => Ok(place),
     }
@@ -200,75 +192,37 @@ fn past_functions_from(
 #[tactic(auto, using(crate::proofs::ConstFoundLemmas::past_append, crate::proofs::ConstFoundLemmas::past_front), unfolding(crate::specs::ConstOffers::past))]
 fn past_created(
     scope: &Scope<'_>,
-    created: Option<&CreatedOffer>,
     wanted: RefType,
     fuel: u32,
     place: usize,
 ) -> Result<usize, Choice>
     requires scope { IsScope (context_of scope.now) }
     requires upper { IsValInRange (context_of scope.now).types (Ref wanted) }
-    requires created { IfSome created (λ offer.
-        AreWaysCounted (context_of scope.now) (Ref wanted) fuel offer.now) }
     ensures { result
         ≡ past (created_offers scope.now.config.now (context_of scope.now) wanted fuel) place }
 {
-    let place = past_types(scope, created, wanted, fuel, false, place)?;
-    let place = past_types(scope, created, wanted, fuel, true, place)?;
+    let place = past_types(scope, ValType::Ref(wanted), fuel, false, place)?;
+    let place = past_types(scope, ValType::Ref(wanted), fuel, true, place)?;
     past_others(scope, wanted, fuel, place)
 }
 
 /// Searches the ways to create a value of each struct type, or of each array type if `arrays` is
-/// `true`, by the counts `created` if they are given. Otherwise reads the types of the span.
-#[tactic(auto, unfolding(crate::specs::ConstOffers::past))]
-fn past_types(
-    scope: &Scope<'_>,
-    created: Option<&CreatedOffer>,
-    reference: RefType,
-    fuel: u32,
-    arrays: bool,
-    place: usize,
-) -> Result<usize, Choice>
-    requires scope { IsScope (context_of scope.now) }
-    requires upper { IsValInRange (context_of scope.now).types (Ref reference) }
-    requires created { IfSome created (λ offer.
-        AreWaysCounted (context_of scope.now) (Ref reference) fuel offer.now) }
-    ensures { result
-        ≡ past (types_offers (context_of scope.now) (Ref reference) fuel arrays) place }
-{
-    let wanted = ValType::Ref(reference);
-    match created {
-        Some(offer) => {
-            let (first, rest) = offer.counts(arrays).search_from(place);
-            past_types_between(scope, wanted, fuel, arrays, first, type_count(scope), rest)
-        }
-        None => {
-            let (first, end) = span_of(scope, reference.heap_type);
-            past_types_between(scope, wanted, fuel, arrays, first, end, place)
-        }
-    }
-}
-
-/// Searches the ways to create a value of the types from the index `first` up to `end`: of structs,
-/// or of arrays if `arrays` is `true`.
+/// `true`.
 #[tactic(auto, using(crate::proofs::ConstFoundLemmas::past_append, crate::proofs::ConstFoundLemmas::past_front), unfolding(crate::specs::ConstOffers::past))]
-pub(crate) fn past_types_between(
+fn past_types(
     scope: &Scope<'_>,
     wanted: ValType,
     fuel: u32,
     arrays: bool,
-    first: usize,
-    end: usize,
     place: usize,
 ) -> Result<usize, Choice>
     requires scope { IsScope (context_of scope.now) }
     requires upper { IsValInRange (context_of scope.now).types wanted }
-    requires there { first ≤ end × end ≤ length (context_of scope.now).types }
-    ensures { result ≡ past (each_from (type_ways (context_of scope.now) wanted fuel arrays) first
-        (drop first (take end (context_of scope.now).types))) place }
+    ensures { result ≡ past (types_offers (context_of scope.now) wanted fuel arrays) place }
 {
-    let types = &scope.spaces.types.types()[..end];
+    let types = scope.spaces.types.types();
     let mut rest = place;
-    for index in first..types.len() {
+    for index in 0..types.len() {
         let inner = &types[index].composite_type.inner;
         rest = past_type(scope, wanted, fuel, arrays, index as u32, inner, rest)?;
     }

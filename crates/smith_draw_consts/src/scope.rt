@@ -1,5 +1,5 @@
-ghost use Rattle.std.specs.Prelude.{◌≡◌, length};
-ghost use Rattle.smith_draw_consts.specs.ConstScopes.{context_of, visible_end};
+ghost use Rattle.std.specs.Prelude.{◌≡◌};
+ghost use Rattle.smith_draw_consts.specs.ConstScopes.{visible_end};
 
 use smith_config::Config;
 use smith_draw_types::Spaces;
@@ -13,13 +13,6 @@ pub(crate) struct Scope<'a> {
     pub spaces: &'a Spaces<'a>,
     /// The number of globals that may be read, from the first.
     pub visible: usize,
-}
-
-/// Returns the number of types of `scope`.
-pub(crate) fn type_count(scope: &Scope<'_>) -> usize
-    ensures { result ≡ length (context_of scope.now).types }
-{
-    scope.spaces.types.types().len()
 }
 
 /// Returns the number of globals that an expression may read, from the first.
