@@ -6,6 +6,9 @@ from building.commands import ROOT, Failed, run, say
 from building.crates import LIBRARY, PROGRAM, below, dependencies
 from building.link import link_library
 
+# The folders of a crate that a proof reads.
+PARTS = ("src", "specs", "proofs")
+
 
 def crate_folder(name: str) -> pathlib.Path:
     """Returns the folder of a crate."""
@@ -23,10 +26,15 @@ def build(kit: pathlib.Path, to: pathlib.Path) -> None:
     link_library(kit, crate_folder(LIBRARY) / f"out/lib{LIBRARY}.a", to)
 
 
-def require(path: pathlib.Path) -> pathlib.Path:
-    """Returns a path that `rt ci` made. Raises `Failed` if there is nothing."""
+def require(name: str, output: str) -> pathlib.Path:
+    """Returns the path of what `rt ci` made of a crate. Raises `Failed` if it isn't there, or if the crate was changed later."""
+    folder = crate_folder(name)
+    path = folder / "out" / output
     if not path.exists():
         raise Failed(f"{path.relative_to(ROOT)} isn't there: `rt ci` makes it")
+    changes = [file.stat().st_mtime for part in PARTS for file in (folder / part).rglob("*")]
+    if max(changes, default=0) > path.stat().st_mtime:
+        raise Failed(f"crates/{name} was changed after `rt ci` proved it: run `rt ci` again")
     return path
 
 
@@ -36,7 +44,7 @@ def build_words(kit: pathlib.Path) -> list:
     words = ["--extern", f"std={kit}/rlibs/std.rlib", "-L", f"dependency={kit}/rlibs"]
     for name in ours[LIBRARY]:
         is_ours = name in ours
-        library = require(crate_folder(name) / f"out/rlib/{name}.rlib") if is_ours else kit / f"rlibs/{name}.rlib"
+        library = require(name, f"rlib/{name}.rlib") if is_ours else kit / f"rlibs/{name}.rlib"
         words += ["--extern", f"{name}={library}"]
         words += ["-L", f"dependency={library.parent}"] * is_ours
     return words
@@ -46,7 +54,7 @@ def build_from_gate(kit: pathlib.Path, work: pathlib.Path, to: pathlib.Path) -> 
     """Builds both in the folder `to` from what `rt ci` left in this checkout.
 
     Proves the library for C once more, over what an earlier check of it kept, and no crate below it."""
-    shutil.copy(require(crate_folder(PROGRAM) / "out" / PROGRAM), to / PROGRAM)
+    shutil.copy(require(PROGRAM, PROGRAM), to / PROGRAM)
     logic = ["--antt-project", kit / "rattle/logic/antt-project.json", "--logic-built", kit / "logic_built"]
     archive, folder = work / f"lib{LIBRARY}.a", crate_folder(LIBRARY)
     kept = ["--incremental", folder / "out/incremental", "--crate-type", "staticlib", "--toolchain", kit / "toolchain"]
