@@ -2,7 +2,7 @@
 package smith
 
 // #cgo CFLAGS: -I${SRCDIR}/..
-// #cgo LDFLAGS: -L${SRCDIR}/../../dist -L${SRCDIR}/../out -l:libsmith.a
+// #cgo LDFLAGS: -L${SRCDIR}/../../dist -l:libsmith.a
 // #include "smith.h"
 import "C"
 
