@@ -142,12 +142,12 @@ static void serve(struct wrapper *wrapper, char **words) {
     if (map && (wrapper->map = shmat(atoi(map), NULL, 0)) == (void *)-1) fail_at("the map");
     start_target(wrapper, words);
     greet(wrapper);
-    uint32_t killed = 0;
+    uint32_t was_killed = 0;
     for (;;) {
-        killed |= read_word(REQUESTS);
+        was_killed |= read_word(REQUESTS);
         if (write_module(wrapper)) {
-            run_target(wrapper, killed);
-            killed = 0;
+            run_target(wrapper, was_killed);
+            was_killed = 0;
         } else {
             run_nothing(wrapper);
         }
