@@ -1,0 +1,76 @@
+/* Modules for fuzzers in C: the configuration of the file that SMITH_CONFIG names, and a buffer that grows with the modules.
+ *
+ * Without SMITH_CONFIG the configuration is the default. If its file can't be read, has more than 64 KiB or holds a wrong configuration,
+ * the process aborts with the reason on standard error, since no test case would reach the target.
+ */
+#ifndef SMITH_GENERATOR_H
+#define SMITH_GENERATOR_H
+
+#include "smith.h"
+
+#include <stdio.h>
+#include <stdlib.h>
+
+struct generator {
+    uint8_t config[1 << 16];
+    size_t config_length;
+    uint8_t *output;
+    size_t room;
+};
+
+typedef struct smith_answer smith_call(const uint8_t *, size_t, const uint8_t *, size_t, uint8_t *, size_t);
+
+/* Returns what `call` answers for the input. The output is at the front of `generator->output`. */
+static inline struct smith_answer generator_call(struct generator *generator, smith_call *call, const uint8_t *input, size_t length) {
+    for (;;) {
+        struct smith_answer answer =
+            call(generator->config, generator->config_length, input, length, generator->output, generator->room);
+        if (answer.status != SMITH_SHORT) return answer;
+        free(generator->output);
+        generator->room = answer.length;
+        if (!(generator->output = (uint8_t *)malloc(generator->room))) abort();
+    }
+}
+
+/* Prints why there is no module of the input, after `name` and a colon. */
+static inline void generator_explain(struct generator *generator, const char *name, const uint8_t *input, size_t length) {
+    size_t words = generator_call(generator, smith_refusal, input, length).length;
+    fprintf(stderr, "%s: %.*s\n", name, (int)words, (const char *)generator->output);
+}
+
+static inline void generator_read_config(struct generator *generator, const char *name) {
+    FILE *file = fopen(name, "rb");
+    if (!file) {
+        perror(name);
+        abort();
+    }
+    generator->config_length = fread(generator->config, 1, sizeof generator->config, file);
+    int next = fgetc(file);
+    if (ferror(file)) {
+        perror(name);
+        abort();
+    }
+    if (next != EOF) {
+        fprintf(stderr, "%s: more than %zu bytes\n", name, sizeof generator->config);
+        abort();
+    }
+    fclose(file);
+}
+
+/* Returns a generator that is never freed. Only a wrong configuration aborts: other refusals may be of the empty input alone. */
+static inline struct generator *generator_new(void) {
+    static const uint8_t no_input[1];
+    struct generator *generator = (struct generator *)calloc(1, sizeof *generator);
+    if (!generator) abort();
+    generator->room = 1 << 16;
+    if (!(generator->output = (uint8_t *)malloc(generator->room))) abort();
+    const char *name = getenv("SMITH_CONFIG");
+    if (!name) return generator;
+    generator_read_config(generator, name);
+    uint32_t status = generator_call(generator, smith_binary, no_input, 0).status;
+    if (status != SMITH_CONFIG_TEXT && status != SMITH_CONFIG) return generator;
+    generator_explain(generator, name, no_input, 0);
+    abort();
+}
+
+#endif

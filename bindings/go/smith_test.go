@@ -1,0 +1,27 @@
+package smith
+
+import (
+	"bytes"
+	"testing"
+)
+
+// FuzzModule is an example of a fuzz target: each input becomes a module. Replace the condition with the code under test.
+func FuzzModule(f *testing.F) {
+	f.Fuzz(func(t *testing.T, input []byte) {
+		module, err := Module("", input)
+		if err != nil {
+			t.Skip(err)
+		}
+		if !bytes.HasPrefix(module, []byte("\x00asm\x01\x00\x00\x00")) {
+			t.Fatal("no module")
+		}
+	})
+}
+
+func TestRefused(t *testing.T) {
+	_, err := Module(`{"max-typos": 3}`, nil)
+	refused, is := err.(*Refused)
+	if !is || refused.Status != 3 || refused.Error() != "configuration, line 1, column 2: there is no field `max-typos`" {
+		t.Fatal(err)
+	}
+}
