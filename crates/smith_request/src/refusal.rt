@@ -2,7 +2,7 @@ ghost use Rattle.std.specs.Prelude.{◌≡◌};
 ghost use Rattle.smith_request.specs.Refusals.{fault_status, error_status, status_of};
 
 use smith_binary::EncodeError;
-use smith_bytes::Error;
+use smith_bytes::{Count, Error, Why};
 use smith_config_json::{ConfigRefusal, Fault};
 use std::fmt;
 
@@ -65,11 +65,36 @@ fn error_status(error: &Error) -> u32
     }
 }
 
+/// Returns in words why the minimum of `count` can't be met, and what to set.
+fn advice(count: Count) -> &'static str {
+    match count {
+        Count::Types => "lower min-types",
+        Count::Imports => "raise max-type-size or the maximums of its kinds, or lower min-imports",
+        Count::Tags => {
+            "the input draws no function type without results: set min-types, and leave exceptions-enabled on"
+        }
+        Count::Funcs => "the input draws no function type: set min-types",
+        Count::Globals => "lower min-globals",
+        Count::Exports => "set a minimum of what is exported, or raise max-type-size",
+        Count::ElementSegments =>
+            "there is no table: set min-tables, or leave bulk-memory-enabled on",
+        Count::Elements => "raise max-elements, or lower min-elements",
+        Count::DataSegments =>
+            "there is no memory: set min-memories, or leave bulk-memory-enabled on",
+        Count::Memories => "raise max-memories",
+        Count::Tables => "raise max-tables",
+    }
+}
+
 impl fmt::Display for Refusal {
     fn fmt<W: fmt::Write>(&self, f: &mut fmt::Formatter<W>) -> fmt::Result {
         match self {
             Refusal::NotUtf8 => f.write_str("the configuration isn't UTF-8"),
             Refusal::Config(refusal) => write!(f, "configuration, {refusal}"),
+            Refusal::Module(Error::IncorrectFormat(Why::Unmet(count))) => {
+                write!(f, "the minimum of {count} isn't met: {}", advice(*count))
+            }
+            Refusal::Module(Error::IncorrectFormat(why)) => write!(f, "{why}"),
             Refusal::Module(error) => write!(f, "{error}"),
             Refusal::Encoding(error) => write!(f, "{error}"),
         }

@@ -1,17 +1,17 @@
 use crate::failure::Failure;
 use crate::fields::fields;
 use crate::request::Request;
-use crate::words::{ARBITRARY, CONFIG};
+use crate::words::{ARBITRARY, CONFIG, PRESET};
 use smith_bytes::{Error, Unstructured};
 use smith_config::{Config, MemoryOffsetChoices};
-use smith_config_json::{Fault, FieldKind, kind_of, read_text};
+use smith_config_json::{Fault, FieldKind, kind_of, preset_named, read_text};
 use smith_types::InstructionKinds;
 use std::alloc::Global;
 use std::str::FromStr;
 
 /// Returns the configuration that `asked` requests: the default, or one drawn from the first bytes
-/// of `u` if a word selects it, with the fields of the configuration file, and then those that are
-/// words.
+/// of `u` if a word selects it, with the preset that is a word, the preset and the fields of the
+/// configuration file, and then the fields that are words.
 pub(crate) fn config_of(
     alloc: Global,
     asked: &Request<'_, '_>,
@@ -30,6 +30,12 @@ fn first_config(asked: &Request<'_, '_>, u: &mut Unstructured<'_>) -> Result<Con
         Ok(config) => Ok(config),
         Err(refusal) => Err(Failure::from(refusal)),
     }
+}
+
+/// Returns the default configuration with the presets and the fields that `asked` sets.
+pub(crate) fn set_default(alloc: Global, asked: &Request<'_, '_>) -> Result<Config, Failure> {
+    let mut config = Config::default();
+    set_fields(alloc, asked, &mut config).and(Ok(config))
 }
 
 /// Checks the configuration that `asked` requests. Of a drawn configuration, which depends on the
@@ -57,10 +63,26 @@ fn set_and_check(
     }
 }
 
-/// Sets the fields of the configuration file, and then those that are words.
+/// Applies the preset that is a word, sets what the configuration file names, and then the fields
+/// that are words.
 fn set_fields(alloc: Global, asked: &Request<'_, '_>, config: &mut Config) -> Result<(), Failure> {
+    set_preset(alloc, asked, config)?;
     set_from_file(alloc, asked, config)?;
     set_from_words(alloc, asked, config)
+}
+
+/// Applies the preset that is a word, if there is one.
+fn set_preset(alloc: Global, asked: &Request<'_, '_>, config: &mut Config) -> Result<(), Failure> {
+    let Some(name) = asked.matches.get_str(PRESET) else {
+        return Ok(());
+    };
+    match preset_named(name) {
+        Some(preset) => {
+            preset.apply(config);
+            Ok(())
+        }
+        None => Err(wrong_value(alloc, PRESET, name)),
+    }
 }
 
 /// Sets the fields that the configuration file names.
@@ -108,7 +130,37 @@ fn set_from_word(
     if is_set(alloc, name, value, config)? {
         return Ok(());
     }
-    Err(Failure::Word(format!(in alloc; "{value:?} is not a value of --{name}")?))
+    Err(wrong_value(alloc, name, value))
+}
+
+/// Returns the failure of a word `value` that is not a value of the word `name`.
+fn wrong_value(alloc: Global, name: &str, value: &str) -> Failure {
+    let wanted = wanted_values(name);
+    match format!(in alloc; "{value:?} is not a value of --{name}, which takes {wanted}") {
+        Ok(sentence) => Failure::Word(sentence),
+        Err(_) => Failure::from(Error::Memory),
+    }
+}
+
+/// Returns in words which values the word `name` takes.
+fn wanted_values(name: &str) -> &'static str {
+    match kind_of(name) {
+        Some(FieldKind::Whole(8)) => "a whole number below 2^8",
+        Some(FieldKind::Whole(32)) => "a whole number below 2^32",
+        Some(FieldKind::Whole(128)) => "a whole number below 2^128",
+        Some(FieldKind::Whole(_)) => "a whole number below 2^64",
+        Some(FieldKind::Flag) => "true or false",
+        Some(FieldKind::InstructionKinds) => {
+            "names of kinds of instructions with commas between them, as --help lists them"
+        }
+        Some(FieldKind::OffsetChoices) => {
+            "three whole numbers below 2^32 with commas between them, one of them above zero"
+        }
+        Some(FieldKind::File) | None => "no value",
+        Some(FieldKind::Preset) => {
+            "run, mvp, 2.0, 3.0, proposals, wabt, binaryen, v8, spidermonkey or jsc"
+        }
+    }
 }
 
 /// Sets the field `name` to the value that the word `value` denotes. Returns whether it denotes a

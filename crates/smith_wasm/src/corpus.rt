@@ -2,14 +2,14 @@ use crate::configuration::check_config;
 use crate::failure::Failure;
 use crate::files::{make_folder, write_whole_file};
 use crate::request::{Request, module_of};
-use crate::words::{COUNT, SEED, SIZE};
+use crate::words::{COUNT, SEED, SIZE, UNTIL, VERBOSE};
 use rand_core::{Rng, SeedableRng};
 use rand_xoshiro::Xoshiro256PlusPlus;
 use smith_request::{Form, Refusal};
 use std::io::IsTerminal;
 
 // The default length of an input.
-const DEFAULT_SIZE: u32 = 1024;
+const DEFAULT_SIZE: u32 = 4096;
 
 // The number of a refusal for lack of memory.
 const NO_MEMORY: u32 = 2;
@@ -17,66 +17,189 @@ const NO_MEMORY: u32 = 2;
 // The number of inputs from one line of progress to the next.
 const STRIDE: u32 = 256;
 
+// The number of refused inputs in a row after which a corpus of a number of files ends.
+const PATIENCE: u32 = 10_000;
+
+/// The end of a corpus.
+#[derive(Clone, Copy)]
+enum End {
+    /// After this number of inputs.
+    Inputs(u32),
+    /// After this number of files.
+    Files(u32),
+}
+
 /// What is made of a corpus.
 #[derive(Drop)]
 struct Corpus {
     /// The number of modules that are written.
     written: u32,
+    /// The number of bytes in them.
+    bytes: u64,
+    /// The number of inputs that were refused since the last module was written.
+    in_a_row: u32,
     /// The number of each refused input, and why it is refused.
     refusals: Vec<(u32, Refusal)>,
 }
 
-/// Writes the modules of the requested number of random inputs into the folder `folder`, each named
-/// by its number, after the configuration has passed its check. Writes no file for an input that is
-/// refused; a file of that name from before stays. At the end, or after a failure, standard error
-/// has a line for each refused input, and a last line that counts.
+/// A reason for which inputs are refused.
+#[derive(Drop)]
+struct Reason {
+    /// The reason in words.
+    words: String,
+    /// The number of inputs.
+    inputs: u32,
+}
+
+/// Writes the modules of random inputs into the folder `folder`, each named by its number, until the
+/// requested number of inputs or files is reached, after the configuration has passed its check.
+/// Writes no file for an input that is refused; a file of that name from before stays. At the end,
+/// or after a failure, standard error has a line for each reason of refusals, or for each refused
+/// input if a word asks for that, and a last line that counts.
 pub(crate) fn make_corpus(
     rt: &HostRuntime,
     asked: &Request<'_, '_>,
     folder: &str,
 ) -> Result<(), Failure> {
+    let end = end_of(rt, asked)?;
+    if folder.is_empty() {
+        return Err(word_failure(rt, "--output-dir names no folder"));
+    }
     check_config(rt.alloc(), asked)?;
     make_folder(rt, folder)?;
-    let count = asked.matches.get_one::<u32>(COUNT).unwrap_or(0);
     let mut corpus = Corpus {
         written: 0,
+        bytes: 0,
+        in_a_row: 0,
         refusals: Vec::new(rt.alloc()),
     };
-    let made = make_each(rt, asked, folder, count, &mut corpus);
-    end_progress(rt, count)?;
-    show_refusals(rt, &corpus)?;
+    let made = make_each(rt, asked, folder, end, &mut corpus);
+    end_progress(rt, end)?;
+    if asked.matches.get_flag(VERBOSE) {
+        show_refusals(rt, &corpus)?;
+    } else {
+        show_reasons(rt, &corpus)?;
+    }
+    show_counts(rt, &corpus)?;
     made
 }
 
-/// Makes the modules of `count` random inputs, and keeps in `corpus` what became of them.
+/// Returns the failure of words that do not fit together.
+fn word_failure(rt: &HostRuntime, sentence: &str) -> Failure {
+    match String::from_str(rt.alloc(), sentence) {
+        Ok(sentence) => Failure::Word(sentence),
+        Err(refused) => Failure::from(refused),
+    }
+}
+
+/// Returns the end of the corpus that the words select.
+fn end_of(rt: &HostRuntime, asked: &Request<'_, '_>) -> Result<End, Failure> {
+    let inputs = asked.matches.get_one::<u32>(COUNT);
+    let files = asked.matches.get_one::<u32>(UNTIL);
+    match (inputs, files) {
+        (Some(count), _) => Ok(End::Inputs(count)),
+        (None, Some(count)) => Ok(End::Files(count)),
+        (None, None) => Err(word_failure(rt, "--output-dir needs --count or --until")),
+    }
+}
+
+/// Returns whether the corpus is whole after the inputs below `number`.
+fn is_whole(end: End, number: u32, corpus: &Corpus) -> bool {
+    match end {
+        End::Inputs(count) => number >= count,
+        End::Files(count) => corpus.written >= count,
+    }
+}
+
+/// Makes the modules of random inputs up to `end`, and keeps in `corpus` what became of them.
 fn make_each(
     rt: &HostRuntime,
     asked: &Request<'_, '_>,
     folder: &str,
-    count: u32,
+    end: End,
     corpus: &mut Corpus,
 ) -> Result<(), Failure> {
     let seed = asked.matches.get_one::<u32>(SEED).unwrap_or(0);
     let mut random = Xoshiro256PlusPlus::seed_from_u64(u64::from(seed));
     let mut input = empty_input(rt, asked)?;
-    for number in 0..count {
-        random.fill_bytes(input.as_mut_slice());
-        match refusal_of(rt, asked, folder, number, input.as_slice())? {
-            Some(refusal) => corpus.refusals.push((number, refusal))?,
-            None => corpus.written = corpus.written.saturating_add(1),
+    for number in 0..u32::MAX {
+        if is_whole(end, number, corpus) {
+            break;
         }
-        show_progress(rt, number, count)?;
+        random.fill_bytes(input.as_mut_slice());
+        make_next(rt, asked, folder, number, input.as_slice(), corpus)?;
+        if matches!(end, End::Files(_)) && corpus.in_a_row >= PATIENCE {
+            return Err(word_failure(rt, "10000 inputs in a row are refused"));
+        }
+        show_progress(rt, number, end)?;
     }
     Ok(())
 }
 
-/// Shows each refused input with its refusal, and how many inputs were written and refused.
+/// Writes the module of `input` as the file of the number `number`, and keeps in `corpus` what became
+/// of it.
+fn make_next(
+    rt: &HostRuntime,
+    asked: &Request<'_, '_>,
+    folder: &str,
+    number: u32,
+    input: &[u8],
+    corpus: &mut Corpus,
+) -> Result<(), Failure> {
+    match write_module(rt, asked, folder, number, input)? {
+        Written::Refused(refusal) => {
+            corpus.refusals.push((number, refusal))?;
+            corpus.in_a_row = corpus.in_a_row.saturating_add(1);
+        }
+        Written::Bytes(length) => {
+            corpus.written = corpus.written.saturating_add(1);
+            corpus.bytes = corpus.bytes.saturating_add(length as u64);
+            corpus.in_a_row = 0;
+        }
+    }
+    Ok(())
+}
+
+/// Shows each refused input with its refusal.
 fn show_refusals(rt: &HostRuntime, corpus: &Corpus) -> Result<(), Failure> {
     for (number, refusal) in &corpus.refusals {
         eprintln!(rt; "smith_wasm: input {number}: refused: {refusal}")?;
     }
-    let (written, refused) = (corpus.written, corpus.refusals.len());
-    eprintln!(rt; "smith_wasm: {written} modules written, {refused} inputs refused")?;
+    Ok(())
+}
+
+/// Shows for each reason how many inputs are refused for it.
+fn show_reasons(rt: &HostRuntime, corpus: &Corpus) -> Result<(), Failure> {
+    let mut reasons: Vec<Reason> = Vec::new(rt.alloc());
+    for (_, refusal) in &corpus.refusals {
+        let words = format!(in rt.alloc(); "{refusal}")?;
+        add_reason(&mut reasons, words)?;
+    }
+    for reason in &reasons {
+        let (inputs, words) = (reason.inputs, reason.words.as_str());
+        eprintln!(rt; "smith_wasm: inputs refused: {inputs}: {words}")?;
+    }
+    Ok(())
+}
+
+/// Counts an input that is refused for the reason `words`.
+fn add_reason(reasons: &mut Vec<Reason>, words: String) -> Result<(), Failure> {
+    for reason in reasons.iter_mut() {
+        if reason.words.as_str() == words.as_str() {
+            reason.inputs = reason.inputs.saturating_add(1);
+            return Ok(());
+        }
+    }
+    reasons.push(Reason { words, inputs: 1 })?;
+    Ok(())
+}
+
+/// Shows how many modules and bytes were written, and how many inputs were refused.
+fn show_counts(rt: &HostRuntime, corpus: &Corpus) -> Result<(), Failure> {
+    let (written, bytes, refused) = (corpus.written, corpus.bytes, corpus.refusals.len());
+    eprintln!(rt;
+        "smith_wasm: {written} modules written, {bytes} bytes, {refused} inputs refused"
+    )?;
     Ok(())
 }
 
@@ -86,23 +209,34 @@ fn empty_input(rt: &HostRuntime, asked: &Request<'_, '_>) -> Result<Vec<u8>, Fai
     Ok(vec![in rt.alloc(); 0; size as usize]?)
 }
 
-/// Writes the module of `input` as the file of the number `number`, or returns why `input` is
-/// refused. Lack of memory is a failure.
-fn refusal_of(
+/// What became of an input.
+#[derive(Drop)]
+enum Written {
+    /// A file of this number of bytes.
+    Bytes(usize),
+    /// No file, for this reason.
+    Refused(Refusal),
+}
+
+/// Writes the module of `input` as the file of the number `number`, unless `input` is refused. Lack
+/// of memory is a failure.
+fn write_module(
     rt: &HostRuntime,
     asked: &Request<'_, '_>,
     folder: &str,
     number: u32,
     input: &[u8],
-) -> Result<Option<Refusal>, Failure> {
+) -> Result<Written, Failure> {
     match module_of(rt.alloc(), asked, input) {
         Ok(bytes) => {
             let ending = ending_of(asked.manner.form);
             let path = format!(in rt.alloc(); "{folder}/{number}.{ending}")?;
             write_whole_file(rt, path.as_str(), bytes.as_slice())?;
-            Ok(None)
+            Ok(Written::Bytes(bytes.len()))
         }
-        Err(Failure::Refused(refusal)) if refusal.status() != NO_MEMORY => Ok(Some(refusal)),
+        Err(Failure::Refused(refusal)) if refusal.status() != NO_MEMORY => {
+            Ok(Written::Refused(refusal))
+        }
         Err(failure) => Err(failure),
     }
 }
@@ -115,15 +249,22 @@ fn ending_of(form: Form) -> &'static str {
 }
 
 /// Shows on a terminal the number of every 256th input.
-fn show_progress(rt: &HostRuntime, number: u32, count: u32) -> Result<(), Failure> {
-    if number % STRIDE == 0 && rt.stderr().is_terminal() {
-        eprint!(rt; "\r{number} of {count}")?;
+fn show_progress(rt: &HostRuntime, number: u32, end: End) -> Result<(), Failure> {
+    if number % STRIDE != 0 || !rt.stderr().is_terminal() {
+        return Ok(());
+    }
+    match end {
+        End::Inputs(count) => eprint!(rt; "\r{number} of {count}")?,
+        End::Files(_) => eprint!(rt; "\r{number}")?,
     }
     Ok(())
 }
 
 /// Ends the line that shows on a terminal the number of an input.
-fn end_progress(rt: &HostRuntime, count: u32) -> Result<(), Failure> {
+fn end_progress(rt: &HostRuntime, end: End) -> Result<(), Failure> {
+    let count = match end {
+        End::Inputs(count) | End::Files(count) => count,
+    };
     if count > 0 && rt.stderr().is_terminal() {
         eprintln!(rt)?;
     }

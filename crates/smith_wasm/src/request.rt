@@ -3,11 +3,18 @@ use crate::corpus::make_corpus;
 use crate::failure::Failure;
 use crate::files::{read_file, read_input, read_text, shows_output, write_file, write_output};
 use crate::warnings::warn;
-use crate::words::{CONFIG, ENSURE_TERMINATION, FUEL, INPUT, OUTPUT, OUTPUT_DIR, WAT};
+use crate::words::{CONFIG, ENSURE_TERMINATION, FUEL, INPUT, NOTES, OUTPUT, OUTPUT_DIR, WAT};
 use clap::ArgMatches;
 use smith_bytes::Unstructured;
+use smith_config_json::fuel;
 use smith_request::{Form, Manner, output};
 use std::alloc::Global;
+
+// The mark that some editors write at the beginning of a text.
+const BYTE_ORDER_MARK: char = '\u{FEFF}';
+
+// The beginning of the notes that follow a text, after the end of its last line.
+const NOTES_BEGIN: &[u8] = b"\n;; ";
 
 // The default number of allowed calls and iterations of loops.
 const DEFAULT_FUEL: u32 = 100;
@@ -25,19 +32,28 @@ pub(crate) struct Request<'m, 'w> {
 
 /// Makes the modules that `matches` requests.
 pub(crate) fn answer(rt: &HostRuntime, matches: &ArgMatches<'_>) -> Result<(), Failure> {
+    let config = config_text(rt, matches)?;
+    let counted = match &config {
+        Some(text) => fuel(rt.alloc(), text.as_str())?,
+        None => None,
+    };
     let asked = Request {
         matches,
-        config: config_text(rt, matches)?,
-        manner: manner_of(matches),
+        config,
+        manner: manner_of(matches, counted),
     };
     make(rt, &asked)
 }
 
-/// Reads the text of the configuration file, if there is one.
+/// Reads the text of the configuration file, if there is one, without a byte order mark.
 fn config_text(rt: &HostRuntime, matches: &ArgMatches<'_>) -> Result<Option<String>, Failure> {
-    match matches.get_str(CONFIG) {
-        Some(path) => Ok(Some(read_text(rt, path)?)),
-        None => Ok(None),
+    let Some(path) = matches.get_str(CONFIG) else {
+        return Ok(None);
+    };
+    let text = read_text(rt, path)?;
+    match text.as_str().strip_prefix(BYTE_ORDER_MARK) {
+        Some(rest) => Ok(Some(String::from_str(rt.alloc(), rest)?)),
+        None => Ok(Some(text)),
     }
 }
 
@@ -52,7 +68,10 @@ fn make(rt: &HostRuntime, asked: &Request<'_, '_>) -> Result<(), Failure> {
 
 /// Makes the module of the input, and writes it.
 fn make_one(rt: &HostRuntime, asked: &Request<'_, '_>) -> Result<(), Failure> {
-    let path = asked.matches.get_str(OUTPUT);
+    let path = match asked.matches.get_str(OUTPUT) {
+        Some("-") => None,
+        path => path,
+    };
     if asked.manner.form == Form::Binary && path.is_none() && shows_output(rt) {
         return Err(Failure::Terminal);
     }
@@ -72,7 +91,22 @@ pub(crate) fn module_of(
 ) -> Result<Vec<u8>, Failure> {
     let mut u = Unstructured::new(input);
     let config = config_of(alloc, asked, &mut u)?;
-    Ok(output(alloc, config, asked.manner, &mut u)?)
+    let mut bytes = output(alloc, config, asked.manner, &mut u)?;
+    if asked.manner.form == Form::Text && !asked.matches.get_flag(NOTES) {
+        let end = end_of_module(bytes.as_slice());
+        bytes.truncate(end);
+    }
+    Ok(bytes)
+}
+
+/// Returns the length of a text without its notes.
+fn end_of_module(text: &[u8]) -> usize {
+    for (place, piece) in text.windows(NOTES_BEGIN.len()).enumerate() {
+        if piece == NOTES_BEGIN {
+            return place.saturating_add(1);
+        }
+    }
+    text.len()
 }
 
 fn input_of(rt: &HostRuntime, path: Option<&str>) -> Result<Vec<u8>, Failure> {
@@ -82,16 +116,21 @@ fn input_of(rt: &HostRuntime, path: Option<&str>) -> Result<Vec<u8>, Failure> {
     }
 }
 
-fn manner_of(matches: &ArgMatches<'_>) -> Manner {
+/// Returns the manner of writing that the words select. `counted` is the fuel of the configuration
+/// file.
+fn manner_of(matches: &ArgMatches<'_>, counted: Option<u32>) -> Manner {
     let form = if matches.get_flag(WAT) {
         Form::Text
     } else {
         Form::Binary
     };
     let fuel = if matches.get_flag(ENSURE_TERMINATION) {
-        Some(matches.get_one::<u32>(FUEL).unwrap_or(DEFAULT_FUEL))
+        matches
+            .get_one::<u32>(FUEL)
+            .or(counted)
+            .or(Some(DEFAULT_FUEL))
     } else {
-        None
+        counted
     };
     Manner { form, fuel }
 }

@@ -1,5 +1,7 @@
+use crate::configuration::set_default;
 use crate::failure::Failure;
 use crate::request::Request;
+use smith_config::Config;
 
 // The fields for two features without instructions here, and the fields of the Rust crate for NaNs
 // in bodies, for custom sections and the encoding, and for components, none of which exist here.
@@ -22,25 +24,34 @@ pub(crate) fn has_no_effect(name: &str) -> bool {
     WITHOUT_EFFECT.contains(&name)
 }
 
-/// Warns of each field that is set and has no effect.
+/// Warns of each field that has no effect and is not set to its default. Fails if a preset or a
+/// field has a wrong value.
 pub(crate) fn warn(rt: &HostRuntime, asked: &Request<'_, '_>) -> Result<(), Failure> {
-    for name in WITHOUT_EFFECT {
-        if is_given(asked, name) {
+    let config = set_default(rt.alloc(), asked)?;
+    let changed = are_changed(&config);
+    drop(config);
+    for (name, is_changed) in WITHOUT_EFFECT.iter().zip(changed.iter()) {
+        if *is_changed {
             eprintln!(rt; "smith_wasm: the field {name} has no effect here")?;
         }
     }
     Ok(())
 }
 
-/// Returns whether a word, or a text in the configuration file, names the field `name`.
-fn is_given(asked: &Request<'_, '_>, name: &str) -> bool {
-    let is_mentioned = match &asked.config {
-        Some(text) => mentions(text.as_str(), name),
-        None => false,
-    };
-    is_mentioned || asked.matches.get_str(name).is_some()
-}
-
-fn mentions(text: &str, name: &str) -> bool {
-    text.split('"').any(|piece| piece == name)
+/// Returns of each field without effect, in their order, whether `config` has another value than the
+/// default.
+fn are_changed(config: &Config) -> [bool; 11] {
+    [
+        config.acquire_release_atomics_enabled,
+        config.multibyte_array_access_enabled,
+        config.canonicalize_nans,
+        config.generate_custom_sections,
+        config.min_uleb_size != 1,
+        config.max_aliases != 1000,
+        config.max_components != 10,
+        config.max_instances != 10,
+        config.max_modules != 10,
+        config.max_nesting_depth != 10,
+        config.max_values != 10,
+    ]
 }

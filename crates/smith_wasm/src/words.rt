@@ -15,8 +15,12 @@ pub(crate) const INPUT: &str = "input";
 pub(crate) const OUTPUT: &str = "output";
 /// The word of the text format.
 pub(crate) const WAT: &str = "wat";
+/// The word of the notes that follow a text.
+pub(crate) const NOTES: &str = "notes";
 /// The word of the configuration file.
 pub(crate) const CONFIG: &str = "config";
+/// The word of a preset.
+pub(crate) const PRESET: &str = "preset";
 /// The word of a drawn configuration.
 pub(crate) const ARBITRARY: &str = "arbitrary";
 /// The word of counted calls and loops.
@@ -25,12 +29,16 @@ pub(crate) const ENSURE_TERMINATION: &str = "ensure-termination";
 pub(crate) const FUEL: &str = "fuel";
 /// The word of the number of modules of a corpus.
 pub(crate) const COUNT: &str = "count";
+/// The word of the number of files of a corpus.
+pub(crate) const UNTIL: &str = "until";
 /// The word of the seed of a corpus.
 pub(crate) const SEED: &str = "seed";
 /// The word of the length of the inputs of a corpus.
 pub(crate) const SIZE: &str = "size";
 /// The word of the folder of a corpus.
 pub(crate) const OUTPUT_DIR: &str = "output-dir";
+/// The word of a line for each refused input.
+pub(crate) const VERBOSE: &str = "verbose";
 
 /// The value of a word.
 #[derive(Clone, Copy)]
@@ -55,14 +63,20 @@ struct Word {
     about: &'static str,
 }
 
-static WORDS: [Word; 10] = [
+/// What a preset is, and the names of all.
+const PRESET_ABOUT: &str =
+    "Begins with a preset, before the configuration file and the fields below: \
+run (modules without imports, whose functions can be called), mvp, 2.0 and 3.0 (versions of the standard), \
+proposals, or what a tool accepts: wabt, binaryen, v8, spidermonkey, jsc.";
+
+static WORDS: [Word; 14] = [
     Word {
         name: OUTPUT,
         short: Some('o'),
         takes: Takes::Text("FILE"),
         needs: None,
         excludes: &[],
-        about: "Writes to this file instead of standard output.",
+        about: "Writes to this file; to standard output if it is - or omitted.",
     },
     Word {
         name: WAT,
@@ -73,12 +87,28 @@ static WORDS: [Word; 10] = [
         about: "Writes the text format instead of the binary format.",
     },
     Word {
+        name: NOTES,
+        short: None,
+        takes: Takes::Nothing,
+        needs: Some(WAT),
+        excludes: &[],
+        about: "Adds comments to a text: raw bodies, and values of interest to who runs the module.",
+    },
+    Word {
         name: CONFIG,
         short: Some('c'),
         takes: Takes::Text("FILE"),
         needs: None,
         excludes: &[],
         about: "Reads the configuration from this file, a JSON object.",
+    },
+    Word {
+        name: PRESET,
+        short: None,
+        takes: Takes::Text("NAME"),
+        needs: None,
+        excludes: &[],
+        about: PRESET_ABOUT,
     },
     Word {
         name: ARBITRARY,
@@ -110,13 +140,21 @@ static WORDS: [Word; 10] = [
         takes: Takes::Number,
         needs: Some(OUTPUT_DIR),
         excludes: &[INPUT, OUTPUT],
-        about: "Makes this number of modules from pseudorandom inputs.",
+        about: "Makes a corpus of this number of pseudorandom inputs.",
+    },
+    Word {
+        name: UNTIL,
+        short: None,
+        takes: Takes::Number,
+        needs: Some(OUTPUT_DIR),
+        excludes: &[INPUT, OUTPUT, COUNT],
+        about: "Makes a corpus of pseudorandom inputs until this number of modules is written.",
     },
     Word {
         name: SEED,
         short: None,
         takes: Takes::Number,
-        needs: Some(COUNT),
+        needs: Some(OUTPUT_DIR),
         excludes: &[],
         about: "The seed of the pseudorandom inputs. The default is 0.",
     },
@@ -124,25 +162,40 @@ static WORDS: [Word; 10] = [
         name: SIZE,
         short: None,
         takes: Takes::Number,
-        needs: Some(COUNT),
+        needs: Some(OUTPUT_DIR),
         excludes: &[],
-        about: "The length of each pseudorandom input in bytes. The default is 1024.",
+        about: "The length of each pseudorandom input in bytes. The default is 4096.",
     },
     Word {
         name: OUTPUT_DIR,
         short: None,
         takes: Takes::Text("DIR"),
-        needs: Some(COUNT),
+        needs: None,
+        excludes: &[INPUT, OUTPUT],
+        about: "Writes a corpus into this folder, each module in a file named by its number.",
+    },
+    Word {
+        name: VERBOSE,
+        short: None,
+        takes: Takes::Nothing,
+        needs: Some(OUTPUT_DIR),
         excludes: &[],
-        about: "Writes the modules into this folder, named by their numbers.",
+        about: "Lists each refused input of a corpus.",
     },
 ];
+
+/// The end of the help.
+const EXAMPLES: &str = "Examples:
+  head -c 4096 /dev/urandom | smith_wasm --preset run --wat
+  smith_wasm input.bin -o module.wasm --preset v8 --max-memories 1
+  smith_wasm --output-dir corpus --until 1000 --preset wabt --seed 7";
 
 /// Creates the command line of the program.
 pub(crate) fn command<'a>(alloc: Global) -> Result<Command<'a>, Failure> {
     let command = Command::new(alloc, "smith_wasm").version(VERSION).about(
         "Makes a valid WebAssembly module from the bytes of a file or of standard input.",
     );
+    let command = command.after_help(EXAMPLES);
     let input = Arg::new(alloc, INPUT)
         .value_name("INPUT")
         .help("The input file; standard input if it is - or omitted.");
@@ -241,5 +294,6 @@ fn kind_name(kind: FieldKind) -> &'static str {
         FieldKind::InstructionKinds => "NAMES",
         FieldKind::OffsetChoices => "INSIDE,NEAR,FAR",
         FieldKind::File => "FILE",
+        FieldKind::Preset => "NAME",
     }
 }
