@@ -137,18 +137,12 @@ impl Decode for ConstInstr {
                 let bits = reader.read_f64()?;
                 Ok(ConstInstr::F64Const(bits))
             }
-            0x23 => {
-                let index = reader.read_u32()?;
-                Ok(ConstInstr::GlobalGet(index))
-            }
+            0x23 => Ok(ConstInstr::GlobalGet(reader.read_u32()?)),
             0xD0 => {
                 let heap = HeapType::decode(reader)?;
                 Ok(ConstInstr::RefNull(heap))
             }
-            0xD2 => {
-                let index = reader.read_u32()?;
-                Ok(ConstInstr::RefFunc(index))
-            }
+            0xD2 => Ok(ConstInstr::RefFunc(reader.read_u32()?)),
             0xFB => read_aggregate(reader),
             0xFD => read_vector(reader),
             0xFE => read_shared(reader),
