@@ -257,7 +257,8 @@ more_decodes {A = A} {B = B} {Content = Content} {Spells = Spells} {content = co
       sound = λ bytes x e. step _ _ _ e (λ item first e. step _ _ _ e (λ y second e.
           let same : (item.0, y) ≡ x = cc in
           subst (λ (p : B × A). IsMore id none Content Spells p bytes) same
-          (section_sound id none Content Spells content content_reads tail.prepend bytes item.0 item.1 y first (tail.sound item.1 y second))));
+          (section_sound id none Content Spells content content_reads tail.prepend bytes item.0 item.1 y first
+          (tail.sound item.1 y second))));
       complete = λ x bytes h.
           let others = tail.complete x.1 h.is_second.second h.is_second.is_second in
           let middle = h.is_second in
