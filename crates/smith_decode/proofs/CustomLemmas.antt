@@ -262,7 +262,9 @@ more_decodes {A = A} {B = B} {Content = Content} {Spells = Spells} {content = co
       complete = λ x bytes h.
           let others = tail.complete x.1 h.is_second.second h.is_second.is_second in
           let middle = h.is_second in
-          let one = optional_settles id ids none Content content read nonzero apart content_reads x.0 x.1 middle.first middle.second middle.is_first others in
+          let one =
+          optional_settles id ids none Content content read nonzero apart content_reads x.0 x.1 middle.first middle.second
+          middle.is_first others in
           let whole : bytes ≡ h.first ++ (h.is_second.first ++ h.is_second.second) = h.whole
           ∙ ap (λ (more : List ℕ). h.first ++ more) h.is_second.whole in
           record {
