@@ -1,4 +1,4 @@
--- Concrete items that stand for abstract ones, as functions for expressions.
+-- Lists and contents of items that are seen as those of the abstract syntax.
 use Rattle.std.proofs.Common.{ℕ, List, [], ◌∷◌, length, map, refl, sym, ap, subst, ◌∙◌}
 use Rattle.std.proofs.lemmas.List.{length-map}
 use Rattle.smith_binary.specs.Numbers.{IsUnsigned}

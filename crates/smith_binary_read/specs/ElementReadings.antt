@@ -40,7 +40,7 @@ mode_view (Active table offset) = active table offset
 abbrev pub element_view : ElementSegment → Elem
 element_view s = record { ty = s.ty; items = elem_items s.items; mode = mode_view s.mode }
 
--- functions, and expressions, before which an offset or a type stands (Element Section)
+-- functions and expressions, after an offset or a type (Element Section)
 abbrev pub IsFirstFuncs : List ConstInstr → List ℕ → List ℕ → Type 0
 IsFirstFuncs offset funcs = Joined (IsExpression offset) (IsFuncs funcs)
 

@@ -1,4 +1,4 @@
--- Readings: what stands at the front of bytes, and the bytes after it, or the first fault.
+-- Readings: the item at the front of bytes, and the bytes after it, or the first fault.
 use Rattle.std.specs.Prelude.{◌≡◌, ℕ, zero, suc, ◌+◌, ◌-◌, ◌^◌, min, Bool, false, List, [], ◌∷◌, length, take, drop, Result, Ok, Err}
 use Rattle.std.specs.Prelude.{nat_lt, ◌==◌, if◌then◌else◌}
 use Rattle.smith_binary_read.specs.declared.error.Reason.{Reason}

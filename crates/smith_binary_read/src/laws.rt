@@ -53,8 +53,8 @@ pub fn definitions_are_read()
     ensures tags { Decodes IsTagDefinition tag_at }
 {}
 
-/// States that a segment is read exactly where bytes begin with one, and that an element segment of the
-/// abstract syntax is spelled exactly by the bytes of those that stand for it.
+/// States that a segment is read exactly where bytes begin with one, and that bytes spell an element
+/// segment of the abstract syntax exactly if they spell a segment that is seen as it.
 pub fn segments_are_read()
     ensures elements { Decodes elements.IsElementSegment elements.segment_at }
     ensures view { Viewed elements.element_view IsElem elements.IsElementSegment }

@@ -155,7 +155,7 @@ module_forth m bytes h =
           (stated_is m.data_count (length m.datas) agrees.1);
     }
 
--- a decoded module that stands for one in the abstract syntax
+-- a decoded module that is seen as one of the abstract syntax
 pub record Decoded (m : Contents) (bytes : List ℕ) : Type 0 where
   pub decoded : Module
   pub is : contents_of decoded ≡ m

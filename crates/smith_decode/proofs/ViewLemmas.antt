@@ -27,7 +27,7 @@ use Rattle.smith_decode.specs.BodyReadings.{run_pair, IsLocalRun, total, IsRunCo
 use Rattle.smith_decode.specs.Modules.{IsCountedBody, table_pair, tag_index, global_pair, export_triple}
 use Rattle.smith_decode.proofs.CustomLemmas.{IsMore}
 
--- an item that stands for itself
+-- an item that is seen as itself
 pub same_viewed : {A : Type 0} {P : A → List ℕ → Type 0} → Viewed (λ (x : A). x) P P
 same_viewed = record { forth = λ item piece h. h; back = λ x piece h. record { item = x; is = refl; form = h } }
 
@@ -82,7 +82,7 @@ data_viewed = record {
   };
 }
 
--- bodies: runs stand for locals
+-- bodies: runs are seen as locals
 run_viewed : Viewed run_pair IsRun IsLocalRun
 run_viewed = record {
   forth = λ item piece h. h;

@@ -42,7 +42,7 @@ abbrev pub IsCountedBody : List ValType × List ℕ → List ℕ → Type 0
 IsCountedBody body piece = (length body.0 < 2 ^ 32) × IsBody body piece
 
 -- the sections of a module that states this number of data segments, in order, with custom sections
--- before, between and behind them (Modules)
+-- before, between and after them (Modules)
 abbrev pub AreSections : Contents → Option ℕ → List ℕ → Type 0
 AreSections m count =
     IsThen 1 (m.types ≡ []) (IsList IsRecGroup m.types)

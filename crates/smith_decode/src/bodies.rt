@@ -17,7 +17,7 @@ pub struct LocalRun {
 /// The body of a function (Code Section).
 #[derive(Debug, Drop)]
 pub struct Body {
-    /// The locals, in runs, since six bytes may stand for 2^32 - 1 locals. There are fewer than 2^32.
+    /// The locals in runs, of which six bytes may have 2^32 - 1. A body has no more.
     pub locals: Items<LocalRun>,
     /// The bytes of the expression, which are not read further.
     pub code: Items<u8>,
