@@ -1,0 +1,14 @@
+pub mod ReadLemmas
+pub mod IntegerLemmas
+pub mod ContentLemmas
+pub mod LoopLemmas
+pub mod ChoiceLemmas
+pub mod TypeLemmas
+pub mod EntityLemmas
+pub mod ImportLemmas
+pub mod InstructionLemmas
+pub mod ExpressionLemmas
+pub mod DefinitionLemmas
+pub mod ViewLemmas
+pub mod ElementLemmas
+pub mod DataLemmas

@@ -1,0 +1,13 @@
+pub mod Readings
+pub mod Decodes
+pub mod Views
+pub mod Numbers
+pub mod Contents
+pub mod Choices
+pub mod TypeReadings
+pub mod EntityReadings
+pub mod ImportReadings
+pub mod InstructionReadings
+pub mod DefinitionReadings
+pub mod ElementReadings
+pub mod DataReadings

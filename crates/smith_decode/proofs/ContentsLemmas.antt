@@ -1,0 +1,212 @@
+-- Decoded modules in the abstract syntax, as a whole.
+use Rattle.std.proofs.Common.{◌≡◌, ℕ, true, eqb, List, [], length, map, Option, Some, None, Result, Ok, Err, refl}
+use Rattle.std.proofs.Common.{sym, ap, subst, ◌∙◌}
+use Rattle.std.specs.Prelude.{IfOk, IfSome}
+use Rattle.std.proofs.lemmas.Bool.{eqb-true, eq-eqb, and_parts}
+use Rattle.std.proofs.lemmas.List.{length-map}
+use Rattle.smith_binary.specs.Pieces.{IsList}
+use Rattle.smith_syntax.specs.declared.composite_type.SubType.{SubType}
+use Rattle.smith_syntax.specs.declared.const_instr.ConstInstr.{ConstInstr}
+use Rattle.smith_syntax.specs.declared.entity_type.ExportKind.{ExportKind}
+use Rattle.smith_syntax.specs.declared.entity_type.GlobalType.{GlobalType}
+use Rattle.smith_syntax.specs.declared.entity_type.MemoryType.{MemoryType}
+use Rattle.smith_syntax.specs.declared.entity_type.TableType.{TableType}
+use Rattle.smith_syntax.specs.declared.imports.Import.{Import}
+use Rattle.smith_syntax.specs.declared.value_type.ValType.{ValType}
+use Rattle.smith_types.specs.Imports.{flattened}
+use Rattle.smith_binary_sections.specs.Types.{IsRecGroup}
+use Rattle.smith_binary_sections.specs.Instructions.{IsIndex}
+use Rattle.smith_binary_sections.specs.Entities.{IsMemoryType, IsTagType}
+use Rattle.smith_binary_sections.specs.Imports.{IsImports}
+use Rattle.smith_binary_sections.specs.Definitions.{IsTable, IsGlobal}
+use Rattle.smith_binary_sections.specs.Exports.{IsExport}
+use Rattle.smith_binary_sections.specs.Data.{Data, IsData}
+use Rattle.smith_binary_sections.specs.Elements.{Elem, IsElem}
+use Rattle.smith_binary_sections.specs.Modules.{Contents}
+use Rattle.smith_binary_read.specs.DataReadings.{segment_view}
+use Rattle.smith_binary_read.specs.ElementReadings.{element_view}
+use Rattle.smith_binary_read.proofs.ElementLemmas.{segment_viewed}
+use Rattle.smith_binary_read.specs.Views.{Viewed}
+use Rattle.smith_binary_read.proofs.ViewLemmas.{list_viewed}
+use Rattle.smith_decode.specs.declared.error.DecodeError.{DecodeError}
+use Rattle.smith_decode.specs.declared.error.DecodeError.TheVariants.{Memory, Malformed}
+use Rattle.smith_decode.specs.declared.modules.Module.{Module}
+use Rattle.smith_decode.specs.BodyReadings.{body_view}
+use Rattle.smith_decode.specs.ModuleReadings.{Parts, module_of, is_number, module_at, Locates}
+use Rattle.smith_decode.specs.Modules.{IsStated, IsCountedBody, IsModuleBinary, contents_of, Returns, table_pair, tag_index, global_pair}
+use Rattle.smith_decode.specs.Modules.{export_triple}
+use Rattle.smith_decode.proofs.CustomLemmas.{IsMore, IsEnd}
+use Rattle.smith_decode.proofs.ModuleLemmas.{AreParts, parts_of, IsDecodedBinary, module_decodes}
+use Rattle.smith_decode.proofs.ViewLemmas.{same_viewed, table_viewed, tag_viewed, global_viewed, export_viewed, imports_viewed, data_viewed}
+use Rattle.smith_decode.proofs.ViewLemmas.{body_viewed, both_views, more_viewed}
+
+-- the parts of a module in the abstract syntax, and the stated number of data segments
+abbrev Abstract : Type 0
+Abstract =
+    List (List SubType) × (List Import × (List ℕ × (List (TableType × List ConstInstr) × (List MemoryType × (List ℕ
+    × (List (GlobalType × List ConstInstr) × (List (List ℕ × ExportKind × ℕ) × (Option ℕ × (List Elem × (Option ℕ
+    × (List (List ValType × List ℕ) × (List Data × Unit {0}))))))))))))
+
+abbrev abstract_of : Contents → Option ℕ → Abstract
+abstract_of m count = (
+  m.types,
+  (
+    m.imports,
+    (
+      m.functions,
+      (
+        m.tables,
+        (m.memories, (m.tags, (m.globals, (m.exports, (m.start, (m.elems, (count, (m.bodies, (m.datas, tt))))))))),
+      ),
+    ),
+  ),
+)
+
+abbrev contents_from : Abstract → Contents
+contents_from a = record {
+  types = a.0;
+  imports = a.1.0;
+  functions = a.1.1.0;
+  tables = a.1.1.1.0;
+  memories = a.1.1.1.1.0;
+  tags = a.1.1.1.1.1.0;
+  globals = a.1.1.1.1.1.1.0;
+  exports = a.1.1.1.1.1.1.1.0;
+  start = a.1.1.1.1.1.1.1.1.0;
+  elems = a.1.1.1.1.1.1.1.1.1.0;
+  bodies = a.1.1.1.1.1.1.1.1.1.1.1.0;
+  datas = a.1.1.1.1.1.1.1.1.1.1.1.1.0;
+}
+
+-- the sections of these parts
+abbrev IsAbstract : Abstract → List ℕ → Type 0
+IsAbstract =
+    IsMore 1 [] (IsList IsRecGroup)
+    (IsMore 2 [] IsImports
+    (IsMore 3 [] (IsList IsIndex)
+    (IsMore 4 [] (IsList IsTable)
+    (IsMore 5 [] (IsList IsMemoryType)
+    (IsMore 13 [] (IsList IsTagType)
+    (IsMore 6 [] (IsList IsGlobal)
+    (IsMore 7 [] (IsList IsExport)
+    (IsMore 8 None IsStated
+    (IsMore 9 [] (IsList IsElem)
+    (IsMore 12 None IsStated
+    (IsMore 10 [] (IsList IsCountedBody)
+    (IsMore 11 [] (IsList IsData) IsEnd))))))))))))
+
+-- decoded parts in the abstract syntax
+abbrev parts_view : Parts → Abstract
+parts_view =
+    both_views (λ types. types)
+    (both_views flattened
+    (both_views (λ functions. functions)
+    (both_views (map table_pair)
+    (both_views (λ memories. memories)
+    (both_views (map tag_index)
+    (both_views (map global_pair)
+    (both_views (map export_triple)
+    (both_views (λ start. start)
+    (both_views (map element_view)
+    (both_views (λ count. count)
+    (both_views (map body_view)
+    (both_views (map segment_view) (λ end. end)))))))))))))
+
+parts_viewed : Viewed parts_view IsAbstract AreParts
+parts_viewed =
+    more_viewed 1 [] [] refl same_viewed
+    (more_viewed 2 [] [] refl imports_viewed
+    (more_viewed 3 [] [] refl same_viewed
+    (more_viewed 4 [] [] refl (list_viewed table_viewed)
+    (more_viewed 5 [] [] refl same_viewed
+    (more_viewed 13 [] [] refl (list_viewed tag_viewed)
+    (more_viewed 6 [] [] refl (list_viewed global_viewed)
+    (more_viewed 7 [] [] refl (list_viewed export_viewed)
+    (more_viewed 8 None None refl same_viewed
+    (more_viewed 9 [] [] refl (list_viewed segment_viewed)
+    (more_viewed 12 None None refl same_viewed
+    (more_viewed 10 [] [] refl (list_viewed body_viewed)
+    (more_viewed 11 [] [] refl (list_viewed data_viewed) same_viewed))))))))))))
+
+-- the numbers of items
+stated_is : (count : Option ℕ) (n : ℕ) → is_number count n ≡ true → IfSome count (λ stated. stated ≡ n)
+stated_is None n e = tt
+stated_is (Some stated) n e = eqb-true stated n e
+
+stated_again : (count : Option ℕ) (n : ℕ) → IfSome count (λ stated. stated ≡ n) → is_number count n ≡ true
+stated_again None n h = refl
+stated_again (Some stated) n h = eq-eqb stated n h
+
+pub module_forth : (m : Module) (bytes : List ℕ) → IsDecodedBinary m bytes → IsModuleBinary (contents_of m) bytes
+module_forth m bytes h =
+    let agrees = and_parts (eqb (length m.functions) (length m.bodies)) (is_number m.data_count (length m.datas)) h.agrees in
+    let functions : length m.functions ≡ length m.bodies = eqb-true (length m.functions) (length m.bodies) agrees.0 in
+    record {
+      count = m.data_count;
+      form = record {
+        first = h.form.first;
+        second = h.form.second;
+        is_first = h.form.is_first;
+        is_second = parts_viewed.forth (parts_of m) h.form.second h.form.is_second;
+        whole = h.form.whole;
+      };
+      bodies = functions ∙ sym (length-map m.bodies body_view);
+      datas = subst (λ (n : ℕ). IfSome m.data_count (λ stated. stated ≡ n)) (sym (length-map m.datas segment_view))
+          (stated_is m.data_count (length m.datas) agrees.1);
+    }
+
+-- a decoded module that is seen as one of the abstract syntax
+pub record Decoded (m : Contents) (bytes : List ℕ) : Type 0 where
+  pub decoded : Module
+  pub is : contents_of decoded ≡ m
+  pub form : IsDecodedBinary decoded bytes
+
+pub module_back : (m : Contents) (bytes : List ℕ) → IsModuleBinary m bytes → Decoded m bytes
+module_back m bytes h =
+    let one = parts_viewed.back (abstract_of m h.count) h.form.second h.form.is_second in
+    let decoded = module_of one.item in
+    let same : contents_of decoded ≡ m = ap contents_from one.is in
+    let count : decoded.data_count ≡ h.count = ap (λ (a : Abstract). a.1.1.1.1.1.1.1.1.1.1.0) one.is in
+    let functions : decoded.functions ≡ m.functions = ap (λ (c : Contents). c.functions) same in
+    let bodies : map body_view decoded.bodies ≡ m.bodies = ap (λ (c : Contents). c.bodies) same in
+    let datas : map segment_view decoded.datas ≡ m.datas = ap (λ (c : Contents). c.datas) same in
+    let many : length decoded.functions ≡ length decoded.bodies =
+    ap length functions ∙ h.bodies ∙ sym (ap length bodies) ∙ length-map decoded.bodies body_view in
+    let stated : IfSome decoded.data_count (λ stated. stated ≡ length decoded.datas) =
+    subst (λ (c : Option ℕ). IfSome c (λ stated. stated ≡ length decoded.datas)) (sym count)
+    (subst (λ (n : ℕ). IfSome h.count (λ stated. stated ≡ n)) (sym (ap length datas) ∙ length-map decoded.datas segment_view) h.datas) in
+    record {
+      decoded = decoded;
+      is = same;
+      form = record {
+        form = record {
+          first = h.form.first;
+          second = h.form.second;
+          is_first = h.form.is_first;
+          is_second = one.form;
+          whole = h.form.whole;
+        };
+        agrees = rw (
+          eq-eqb (length decoded.functions) (length decoded.bodies) many,
+          stated_again decoded.data_count
+              (length decoded.datas) stated,
+        ) refl;
+      };
+    }
+
+-- what a call returned
+pub is_sound : (bytes : List ℕ) (r : Result Module DecodeError) → Locates r bytes (module_at bytes)
+    → IfOk r (λ m. IsModuleBinary (contents_of m) bytes)
+is_sound bytes (Ok m) read = module_forth m bytes (module_decodes.sound bytes m read)
+is_sound bytes (Err e) read = tt
+
+pub is_complete : (bytes : List ℕ) (r : Result Module DecodeError) (m : Contents) → Locates r bytes (module_at bytes)
+    → IsModuleBinary m bytes → Returns m r
+is_complete bytes (Ok x) m read h =
+    let one = module_back m bytes h in
+    let same : one.decoded ≡ x = let e = sym (module_decodes.complete one.decoded bytes one.form) ∙ read in cc in
+    ap contents_of (sym same) ∙ one.is
+is_complete bytes (Err Memory) m read h = tt
+is_complete bytes (Err (Malformed offset reason)) m read h =
+    let one = module_back m bytes h in
+    absurd (let never = sym (module_decodes.complete one.decoded bytes one.form) ∙ read.1 in cc)

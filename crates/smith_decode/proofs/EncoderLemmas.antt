@@ -1,0 +1,188 @@
+-- Modules without custom sections, as an encoder writes them, and what the reading says of modules.
+use Rattle.std.proofs.Common.{◌≡◌, ℕ, ◌<◌, ◌^◌, List, [], ◌∷◌, ◌++◌, length, Option, Some, None, Err, refl, sym, ap, ◌∙◌}
+use Rattle.std.proofs.Common.{append-nil}
+use Rattle.std.specs.Prelude.{All, IfSome}
+use Rattle.std.specs.List.{AllByRecursion}
+use Rattle.std.proofs.lemmas.List.Elements.{recursion_from_All}
+use Rattle.smith_binary.specs.Pieces.{Joined, Each, IsList, IsSection}
+use Rattle.smith_syntax.specs.declared.value_type.ValType.{ValType}
+use Rattle.smith_binary_sections.specs.Codes.{IsBody}
+use Rattle.smith_binary_sections.specs.Data.{IsData}
+use Rattle.smith_binary_sections.specs.Modules.{Contents, IsModule, IsStartSection, IsDataCount}
+use Rattle.smith_binary_sections.specs.Sections.{IsOptionalSection, IsListSection}
+use Rattle.smith_binary_read.specs.declared.error.Fault.{Fault}
+use Rattle.smith_decode.specs.Customs.{AreCustoms, IsThen}
+use Rattle.smith_decode.specs.ModuleReadings.{module_at}
+use Rattle.smith_decode.specs.Modules.{IsStated, IsCountedBody, IsModuleBinary, contents_of}
+use Rattle.smith_decode.proofs.ContentsLemmas.{module_back}
+use Rattle.smith_decode.proofs.CustomLemmas.{no_customs}
+use Rattle.smith_decode.proofs.ModuleLemmas.{module_decodes}
+
+-- a section after no custom section
+pub before_more : {N : Type 0} {P More Then : List ℕ → Type 0} {piece : List ℕ} (id : ℕ) → ((rest : List ℕ) → More rest → Then rest)
+    → Joined (IsOptionalSection id N P) More piece → IsThen id N P Then piece
+before_more {piece = piece} id up h = record {
+  first = [];
+  second = piece;
+  is_first = no_customs;
+  is_second = record { first = h.first; second = h.second; is_first = h.is_first; is_second = up h.second h.is_second; whole = h.whole };
+  whole = refl;
+}
+
+-- another content of a section
+section_as : {P Q : List ℕ → Type 0} {piece : List ℕ} (id : ℕ) → ((content : List ℕ) → P content → Q content) → IsSection id P piece
+    → IsSection id Q piece
+section_as id up h = record {
+  first = h.first;
+  second = h.second;
+  is_first = h.is_first;
+  is_second = record { content = h.is_second.content; is_content = up h.is_second.content h.is_second.is_content; form = h.is_second.form };
+  whole = h.whole;
+}
+
+optional_as : {N M : Type 0} {P Q : List ℕ → Type 0} {piece : List ℕ} (id : ℕ) → (N → M) → ((content : List ℕ) → P content → Q content)
+    → IsOptionalSection id N P piece → IsOptionalSection id M Q piece
+optional_as id nothing up (IsOptionalSection.present h) = IsOptionalSection.present (section_as id up h)
+optional_as id nothing up (IsOptionalSection.absent is empty) = IsOptionalSection.absent (nothing is) empty
+
+-- the first of two pieces
+first_as : {P Q More : List ℕ → Type 0} {piece : List ℕ} → ((first : List ℕ) → P first → Q first) → Joined P More piece
+    → Joined Q More piece
+first_as up h = record { first = h.first; second = h.second; is_first = up h.first h.is_first; is_second = h.is_second; whole = h.whole }
+
+start_form : (start : Option ℕ) (piece : List ℕ) → IsStartSection start piece → IsOptionalSection 8 (start ≡ None) (IsStated start) piece
+start_form (Some index) piece h =
+    IsOptionalSection.present (section_as 8 (λ content is. record { number = index; is = refl; form = is }) h)
+start_form None piece h = IsOptionalSection.absent refl h
+
+-- bodies of few locals
+each_counted : (bodies : List (List ValType × List ℕ)) (piece : List ℕ) → AllByRecursion (λ body. length body.0 < 2 ^ 32) bodies
+    → Each IsBody bodies piece
+    → Each IsCountedBody bodies piece
+unfolding Each
+each_counted [] piece few h = h
+each_counted (body ∷ bodies) piece few h = record {
+  first = h.first;
+  second = h.second;
+  is_first = (few.0, h.is_first);
+  is_second = each_counted bodies h.second few.1 h.is_second;
+  whole = h.whole;
+}
+
+-- the last section, and no byte after it
+last_form : {N : Type 0} {P : List ℕ → Type 0} {piece : List ℕ} (id : ℕ) → IsOptionalSection id N P piece → IsThen id N P AreCustoms piece
+last_form {piece = piece} id h = record {
+  first = [];
+  second = piece;
+  is_first = no_customs;
+  is_second = record { first = piece; second = []; is_first = h; is_second = no_customs; whole = sym (append-nil piece) };
+  whole = refl;
+}
+
+-- the code and data sections
+tail_form : (m : Contents) (piece : List ℕ) → AllByRecursion (λ body. length body.0 < 2 ^ 32) m.bodies
+    → Joined (IsListSection 10 IsBody m.bodies) (IsListSection 11 IsData m.datas) piece
+    → IsThen 10 (m.bodies ≡ []) (IsList IsCountedBody m.bodies) (IsThen 11 (m.datas ≡ []) (IsList IsData m.datas) AreCustoms) piece
+tail_form m piece few h =
+    before_more 10 (λ rest is. last_form 11 is)
+    (first_as (λ first is. optional_as 10 (λ none. none) (λ content one. record {
+      first = one.first;
+      second = one.second;
+      is_first = one.is_first;
+      is_second = each_counted m.bodies one.second few one.is_second;
+      whole = one.whole;
+    }) is) h)
+
+-- sections, and the number of data segments that is stated among them, if it is
+record WithCount (n : ℕ) (Sections : Option ℕ → List ℕ → Type 0) (piece : List ℕ) : Type 0 where
+  pub count : Option ℕ
+  pub stated : IfSome count (λ stated. stated ≡ n)
+  pub form : Sections count piece
+
+then_counted : {N : Type 0} {P More : List ℕ → Type 0} {Then : Option ℕ → List ℕ → Type 0} {piece : List ℕ} {n : ℕ} (id : ℕ)
+    → ((rest : List ℕ) → More rest → WithCount n Then rest) → Joined (IsOptionalSection id N P) More piece
+    → WithCount n (λ count. IsThen id N P (Then count)) piece
+then_counted {piece = piece} id up h =
+    let one = up h.second h.is_second in
+    record {
+      count = one.count;
+      stated = one.stated;
+      form = record {
+        first = [];
+        second = piece;
+        is_first = no_customs;
+        is_second = record { first = h.first; second = h.second; is_first = h.is_first; is_second = one.form; whole = h.whole };
+        whole = refl;
+      };
+    }
+
+-- the sections from the number of data segments on
+abbrev FromCount : Contents → Option ℕ → List ℕ → Type 0
+FromCount m count =
+    IsThen 12 (count ≡ None) (IsStated count)
+    (IsThen 10 (m.bodies ≡ []) (IsList IsCountedBody m.bodies) (IsThen 11 (m.datas ≡ []) (IsList IsData m.datas) AreCustoms))
+
+from_count : (m : Contents) (count : Option ℕ) (piece first second : List ℕ) → IfSome count (λ stated. stated ≡ length m.datas)
+    → IsOptionalSection 12 (count ≡ None) (IsStated count) first
+    → IsThen 10 (m.bodies ≡ []) (IsList IsCountedBody m.bodies) (IsThen 11 (m.datas ≡ []) (IsList IsData m.datas) AreCustoms) second
+    → piece ≡ first ++ second → WithCount (length m.datas) (FromCount m) piece
+from_count m count piece first second stated one two whole = record {
+  count = count;
+  stated = stated;
+  form = record {
+    first = [];
+    second = piece;
+    is_first = no_customs;
+    is_second = record { first = first; second = second; is_first = one; is_second = two; whole = whole };
+    whole = refl;
+  };
+}
+
+counts_form : (m : Contents) (piece first second : List ℕ) → IsDataCount m.datas first
+    → IsThen 10 (m.bodies ≡ []) (IsList IsCountedBody m.bodies) (IsThen 11 (m.datas ≡ []) (IsList IsData m.datas) AreCustoms) second
+    → piece ≡ first ++ second → WithCount (length m.datas) (FromCount m) piece
+counts_form m piece first second (IsOptionalSection.present h) two whole =
+    from_count m (Some (length m.datas)) piece first second refl
+    (IsOptionalSection.present (section_as 12 (λ content is. record { number = length m.datas; is = refl; form = is }) h)) two whole
+counts_form m piece first second (IsOptionalSection.absent is empty) two whole =
+    from_count m None piece first second tt (IsOptionalSection.absent refl empty) two whole
+
+-- a module without custom sections
+pub encoder_form : (m : Contents) (bytes : List ℕ) → IsModule m bytes → length m.functions ≡ length m.bodies
+    → All (λ body. length body.0 < 2 ^ 32) m.bodies → IsModuleBinary m bytes
+encoder_form m bytes h many few =
+    let each = recursion_from_All (λ (body : List ValType × List ℕ). length body.0 < 2 ^ 32) m.bodies few in
+    let sections =
+    then_counted 1 (λ rest h.
+    then_counted 2 (λ rest h.
+    then_counted 3 (λ rest h.
+    then_counted 4 (λ rest h.
+    then_counted 5 (λ rest h.
+    then_counted 13 (λ rest h.
+    then_counted 6 (λ rest h.
+    then_counted 7 (λ rest h.
+    then_counted 8 (λ rest h.
+    then_counted 9 (λ rest h.
+    counts_form m rest h.first h.second h.is_first (tail_form m h.second each h.is_second) h.whole) h)
+    (first_as (λ first is. start_form m.start first is) h)) h) h) h) h) h) h) h) h.is_second in
+    record {
+      count = sections.count;
+      form = record { first = h.first; second = h.second; is_first = h.is_first; is_second = sections.form; whole = h.whole };
+      bodies = many;
+      datas = sections.stated;
+    }
+
+-- bytes are at most one module
+pub module_same : (m n : Contents) (bytes : List ℕ) → IsModuleBinary m bytes → IsModuleBinary n bytes → m ≡ n
+module_same m n bytes h k =
+    let one = module_back m bytes h in
+    let other = module_back n bytes k in
+    let same : one.decoded ≡ other.decoded =
+    let e = sym (module_decodes.complete one.decoded bytes one.form) ∙ module_decodes.complete other.decoded bytes other.form in cc in
+    sym one.is ∙ ap contents_of same ∙ other.is
+
+-- malformed bytes are no module
+pub no_module : (m : Contents) (bytes : List ℕ) (fault : Fault) → module_at bytes ≡ Err fault → IsModuleBinary m bytes → ⊥
+no_module m bytes fault read h =
+    let one = module_back m bytes h in
+    let never = sym (module_decodes.complete one.decoded bytes one.form) ∙ read in cc

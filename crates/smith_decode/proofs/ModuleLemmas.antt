@@ -1,0 +1,237 @@
+-- Modules that are read: the reading is sound and complete for sections of the items that are decoded.
+use Rattle.std.proofs.Common.{◌≡◌, ℕ, ◌<◌, ◌^◌, true, List, [], ◌∷◌, ◌++◌, Option, Some, None, Ok}
+use Rattle.std.proofs.Common.{refl}
+use Rattle.std.proofs.Common.{sym, ap, subst, ◌∙◌, arith}
+use Rattle.std.specs.List.{AllByRecursion}
+use Rattle.std.proofs.lemmas.Bool.{eqb-true, eq-eqb, lt-ltb, ltb-true}
+use Rattle.smith_binary.specs.Pieces.{Joined, IsList}
+use Rattle.smith_binary_sections.specs.Types.{IsRecGroup}
+use Rattle.smith_binary_sections.specs.Instructions.{IsIndex}
+use Rattle.smith_binary_sections.specs.Entities.{IsMemoryType}
+use Rattle.smith_binary_sections.specs.Imports.{IsImportGroup}
+use Rattle.smith_binary_sections.specs.Modules.{IsPreamble}
+use Rattle.smith_binary_read.specs.Readings.{◌>>=◌, mapped_at}
+use Rattle.smith_binary_read.specs.Numbers.{unsigned_at}
+use Rattle.smith_binary_read.specs.Contents.{list_at}
+use Rattle.smith_binary_read.specs.Decodes.{Decodes, DecodesWhole}
+use Rattle.smith_binary_read.specs.DefinitionReadings.{IsTagDefinition, IsGlobalDefinition, IsTableDefinition}
+use Rattle.smith_binary_read.specs.EntityReadings.{IsExportItem}
+use Rattle.smith_binary_read.specs.ElementReadings.{IsElementSegment}
+use Rattle.smith_binary_read.specs.DataReadings.{IsSegment}
+use Rattle.smith_binary_read.proofs.ReadLemmas.{step, test_passed, joined_decodes, byte_sound, whole_decodes}
+use Rattle.smith_binary_read.proofs.IntegerLemmas.{unsigned_decodes}
+use Rattle.smith_binary_read.proofs.ContentLemmas.{list_decodes, sized_decodes}
+use Rattle.smith_binary_read.proofs.ChoiceLemmas.{mapped_sound}
+use Rattle.smith_binary_read.proofs.TypeLemmas.{val_decodes, group_decodes}
+use Rattle.smith_binary_read.proofs.EntityLemmas.{memory_decodes, export_decodes}
+use Rattle.smith_binary_read.proofs.ImportLemmas.{import_group_decodes}
+use Rattle.smith_binary_read.proofs.DefinitionLemmas.{global_def_decodes, table_def_decodes, tag_def_decodes}
+use Rattle.smith_binary_read.proofs.ElementLemmas as element
+use Rattle.smith_binary_read.proofs.DataLemmas as data_segment
+use Rattle.smith_decode.specs.declared.bodies.Body.{Body}
+use Rattle.smith_decode.specs.declared.modules.Module.{Module}
+use Rattle.smith_decode.specs.BodyReadings.{IsLocalRun, total, IsRunContent, IsRunBody, local_run, run_at, body_of, body_whole, body_at}
+use Rattle.smith_decode.specs.CustomReadings.{customs_at}
+use Rattle.smith_decode.specs.ModuleReadings.{literal_at, preamble, preamble_at, index_whole, Bodies, Counts, Starts, Globals, Memories}
+use Rattle.smith_decode.specs.ModuleReadings.{Functions, Parts, module_of, bodies_at, counts_at, starts_at, globals_at, memories_at}
+use Rattle.smith_decode.specs.ModuleReadings.{functions_at, parts_at, sections_at, counts_agree, if_counts_agree, module_at}
+use Rattle.smith_decode.specs.Modules.{IsStated}
+use Rattle.smith_decode.proofs.CustomLemmas.{IsMore, IsEnd, DecodesTail, customs_sound, end_decodes, more_decodes}
+
+-- the sections of a module, with custom sections between them (Modules)
+abbrev pub AreBodies : Bodies → List ℕ → Type 0
+AreBodies = IsMore 10 [] (IsList IsRunBody) (IsMore 11 [] (IsList IsSegment) IsEnd)
+
+abbrev pub AreCounts : Counts → List ℕ → Type 0
+AreCounts = IsMore 12 None IsStated AreBodies
+
+abbrev pub AreStarts : Starts → List ℕ → Type 0
+AreStarts = IsMore 8 None IsStated (IsMore 9 [] (IsList IsElementSegment) AreCounts)
+
+abbrev pub AreGlobals : Globals → List ℕ → Type 0
+AreGlobals = IsMore 6 [] (IsList IsGlobalDefinition) (IsMore 7 [] (IsList IsExportItem) AreStarts)
+
+abbrev pub AreMemories : Memories → List ℕ → Type 0
+AreMemories = IsMore 5 [] (IsList IsMemoryType) (IsMore 13 [] (IsList IsTagDefinition) AreGlobals)
+
+abbrev pub AreFunctions : Functions → List ℕ → Type 0
+AreFunctions = IsMore 3 [] (IsList IsIndex) (IsMore 4 [] (IsList IsTableDefinition) AreMemories)
+
+abbrev pub AreParts : Parts → List ℕ → Type 0
+AreParts = IsMore 1 [] (IsList IsRecGroup) (IsMore 2 [] (IsList IsImportGroup) AreFunctions)
+
+-- a decoded module as its parts
+abbrev pub parts_of : Module → Parts
+parts_of m = (
+  m.types,
+  (
+    m.imports,
+    (
+      m.functions,
+      (
+        m.tables,
+        (
+          m.memories,
+          (
+            m.tags,
+            (
+              m.globals,
+              (
+                m.exports,
+                (
+                  m.start,
+                  (
+                    m.elements,
+                    (
+                      m.data_count,
+                      (m.bodies, (m.datas, tt)),
+                    ),
+                  ),
+                ),
+              ),
+            ),
+          ),
+        ),
+      ),
+    ),
+  ),
+)
+
+-- the bytes of a decoded module
+pub record IsDecodedBinary (m : Module) (bytes : List ℕ) : Type 0 where
+  pub form : Joined IsPreamble (AreParts (parts_of m)) bytes
+  pub agrees : counts_agree m ≡ true
+
+-- these bytes
+literal_sound : (literal bytes rest : List ℕ) → literal_at literal bytes ≡ Ok rest → bytes ≡ literal ++ rest
+literal_sound [] bytes rest e = cc
+literal_sound (byte ∷ literal) bytes rest e = step _ _ _ e (λ front first e. test_passed _ _ _ _ e (λ is e.
+    let one = byte_sound bytes front.0 front.1 first in
+    let same : front.0 ≡ byte = eqb-true front.0 byte is in
+    one.0.whole ∙ ap (λ (piece : List ℕ). piece ++ front.1) one.0.spelled ∙ ap (λ (b : ℕ). b ∷ front.1) same
+    ∙ ap (λ (more : List ℕ). byte ∷ more) (literal_sound literal front.1 rest e)))
+
+literal_complete : (literal rest : List ℕ) → AllByRecursion (λ byte. byte < 256) literal → literal_at literal (literal ++ rest) ≡ Ok rest
+literal_complete [] rest low = refl
+literal_complete (byte ∷ literal) rest low = rw (lt-ltb byte 256 low.0, eq-eqb byte byte refl) (literal_complete literal rest low.1)
+
+-- bodies
+pub run_decodes : Decodes IsLocalRun run_at
+unfolding run_at
+run_decodes =
+    joined_decodes local_run (λ run. run.count) (λ run. run.ty) (λ x y. refl) (λ x y. refl) (λ z. refl) (unsigned_decodes 32) val_decodes
+
+body_content_decodes : DecodesWhole IsRunContent body_whole
+unfolding body_whole
+body_content_decodes = record {
+  sound = λ bytes x e. step _ _ _ e (λ runs first e. test_passed _ _ _ _ e (λ few e.
+      let one = (list_decodes run_decodes).sound bytes runs.0 runs.1 first in
+      let below : total runs.0 < 2 ^ 32 = ltb-true (total runs.0) (2 ^ 32) few in
+      let same : body_of runs.0 runs.1 ≡ x = cc in
+      subst (λ (body : Body). IsRunContent body bytes) same
+      (below, record { first = one.piece; second = runs.1; is_first = one.spelled; is_second = refl; whole = one.whole })));
+  complete = λ x bytes h.
+      rw (
+        ap (list_at run_at) h.1.whole ∙ (list_decodes run_decodes).complete x.locals h.1.first h.1.second h.1.is_first,
+        lt-ltb
+            (total x.locals) (2 ^ 32) h.0,
+      )
+      (ap (λ (code : List ℕ). Ok (body_of x.locals code)) h.1.is_second);
+}
+
+pub body_decodes : Decodes IsRunBody body_at
+unfolding body_at
+body_decodes = sized_decodes body_content_decodes
+
+-- a number that a section states
+stated_reads : Decodes IsStated (mapped_at (λ n. Some n) (unsigned_at 32))
+stated_reads = record {
+  sound = λ bytes x rest e. mapped_sound IsStated (λ n. Some n) (unsigned_decodes 32)
+      (λ y piece h. record { number = y; is = refl; form = h }) bytes x rest e;
+  complete = λ x piece rest h. rw ((unsigned_decodes 32).complete h.number piece rest h.form)
+      (ap (λ (start : Option ℕ). Ok (start, rest)) (sym h.is));
+}
+
+stated_decodes : DecodesWhole IsStated index_whole
+unfolding index_whole
+stated_decodes = whole_decodes stated_reads
+
+-- the sections of a module: one line for each
+bodies_decode : DecodesTail (10 ∷ 11 ∷ []) AreBodies bodies_at
+unfolding bodies_at
+bodies_decode =
+    more_decodes 10 (11 ∷ []) [] (λ e. omega arith) refl (whole_decodes (list_decodes body_decodes))
+    (more_decodes 11 [] [] (λ e. omega arith) refl (whole_decodes (list_decodes data_segment.segment_decodes)) end_decodes)
+
+counts_decode : DecodesTail (12 ∷ 10 ∷ 11 ∷ []) AreCounts counts_at
+unfolding counts_at
+counts_decode = more_decodes 12 (10 ∷ 11 ∷ []) None (λ e. omega arith) refl stated_decodes bodies_decode
+
+starts_decode : DecodesTail (8 ∷ 9 ∷ 12 ∷ 10 ∷ 11 ∷ []) AreStarts starts_at
+unfolding starts_at
+starts_decode =
+    more_decodes 8 (9 ∷ 12 ∷ 10 ∷ 11 ∷ []) None (λ e. omega arith) refl stated_decodes
+    (more_decodes 9 (12 ∷ 10 ∷ 11 ∷ []) [] (λ e. omega arith) refl (whole_decodes (list_decodes element.segment_decodes)) counts_decode)
+
+globals_decode : DecodesTail (6 ∷ 7 ∷ 8 ∷ 9 ∷ 12 ∷ 10 ∷ 11 ∷ []) AreGlobals globals_at
+unfolding globals_at
+globals_decode =
+    more_decodes 6 (7 ∷ 8 ∷ 9 ∷ 12 ∷ 10 ∷ 11 ∷ []) [] (λ e. omega arith) refl (whole_decodes (list_decodes global_def_decodes))
+    (more_decodes 7 (8 ∷ 9 ∷ 12 ∷ 10 ∷ 11 ∷ []) [] (λ e. omega arith) refl (whole_decodes (list_decodes export_decodes)) starts_decode)
+
+memories_decode : DecodesTail (5 ∷ 13 ∷ 6 ∷ 7 ∷ 8 ∷ 9 ∷ 12 ∷ 10 ∷ 11 ∷ []) AreMemories memories_at
+unfolding memories_at
+memories_decode =
+    more_decodes 5 (13 ∷ 6 ∷ 7 ∷ 8 ∷ 9 ∷ 12 ∷ 10 ∷ 11 ∷ []) [] (λ e. omega arith) refl (whole_decodes (list_decodes memory_decodes))
+    (more_decodes 13 (6 ∷ 7 ∷ 8 ∷ 9 ∷ 12 ∷ 10 ∷ 11 ∷ []) [] (λ e. omega arith) refl
+    (whole_decodes (list_decodes tag_def_decodes)) globals_decode)
+
+functions_decode : DecodesTail (3 ∷ 4 ∷ 5 ∷ 13 ∷ 6 ∷ 7 ∷ 8 ∷ 9 ∷ 12 ∷ 10 ∷ 11 ∷ []) AreFunctions functions_at
+unfolding functions_at
+functions_decode =
+    more_decodes 3 (4 ∷ 5 ∷ 13 ∷ 6 ∷ 7 ∷ 8 ∷ 9 ∷ 12 ∷ 10 ∷ 11 ∷ []) [] (λ e. omega arith) refl
+    (whole_decodes (list_decodes (unsigned_decodes 32)))
+    (more_decodes 4 (5 ∷ 13 ∷ 6 ∷ 7 ∷ 8 ∷ 9 ∷ 12 ∷ 10 ∷ 11 ∷ []) [] (λ e. omega arith) refl
+    (whole_decodes (list_decodes table_def_decodes)) memories_decode)
+
+pub parts_decode : DecodesTail (1 ∷ 2 ∷ 3 ∷ 4 ∷ 5 ∷ 13 ∷ 6 ∷ 7 ∷ 8 ∷ 9 ∷ 12 ∷ 10 ∷ 11 ∷ []) AreParts parts_at
+unfolding parts_at
+parts_decode =
+    more_decodes 1 (2 ∷ 3 ∷ 4 ∷ 5 ∷ 13 ∷ 6 ∷ 7 ∷ 8 ∷ 9 ∷ 12 ∷ 10 ∷ 11 ∷ []) [] (λ e. omega arith) refl
+    (whole_decodes (list_decodes group_decodes))
+    (more_decodes 2 (3 ∷ 4 ∷ 5 ∷ 13 ∷ 6 ∷ 7 ∷ 8 ∷ 9 ∷ 12 ∷ 10 ∷ 11 ∷ []) [] (λ e. omega arith) refl
+    (whole_decodes (list_decodes import_group_decodes)) functions_decode)
+
+-- the sections up to the end as a module
+sections_read : (bytes : List ℕ) (m : Module) → sections_at bytes ≡ Ok m → AreParts (parts_of m) bytes
+unfolding sections_at
+sections_read bytes m e = step _ _ _ e (λ parts first e.
+    let same : module_of parts ≡ m = cc in
+    subst (λ (x : Module). AreParts (parts_of x) bytes) same (parts_decode.sound bytes parts first))
+
+-- a module
+pub module_decodes : DecodesWhole IsDecodedBinary module_at
+unfolding module_at sections_at preamble_at
+module_decodes = record {
+  sound = λ bytes x e. step _ _ _ e (λ rest first e. step _ _ _ e
+      (λ settled second e. step _ _ _ e (λ m third e. test_passed _ _ _ _ e (λ agrees e.
+      let customs = customs_sound rest settled second in
+      let same : m ≡ x = cc in
+      subst (λ (y : Module). IsDecodedBinary y bytes) same (record {
+        form = record {
+          first = preamble;
+          second = rest;
+          is_first = refl;
+          is_second = subst (AreParts (parts_of m)) (sym customs.whole)
+              (parts_decode.prepend (parts_of m) customs.piece settled customs.spelled (sections_read settled m third));
+          whole = literal_sound preamble bytes rest first;
+        };
+        agrees = agrees;
+      })))));
+  complete = λ x bytes h.
+      let one = parts_decode.complete (parts_of x) h.form.second h.form.is_second in
+      let whole : bytes ≡ preamble ++ h.form.second = h.form.whole ∙ ap (λ (first : List ℕ). first ++ h.form.second) h.form.is_first in
+      ap (λ (b : List ℕ). preamble_at b >>=
+      (λ rest. customs_at rest >>= (λ settled. sections_at settled >>= (λ m. if_counts_agree m)))) whole
+      ∙ rw (one.skipped, one.is_read, h.agrees) refl;
+}

@@ -1,0 +1,8 @@
+use Rattle.smith_decode.proofs.ContentsLemmas.{is_sound, is_complete}
+use Rattle.smith_decode.proofs.modules.decode.Goals as goal
+
+pub returns-clause-sound : goal.returns-clause-sound
+returns-clause-sound c = is_sound c.args.bytes.now c.read_located.result c.read_located.ensures
+
+pub returns-clause-complete : goal.returns-clause-complete
+returns-clause-complete c = λ m h. is_complete c.args.bytes.now c.read_located.result m c.read_located.ensures h

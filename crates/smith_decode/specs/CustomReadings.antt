@@ -1,0 +1,39 @@
+-- Readings of custom sections, and of sections after which they stand.
+use Rattle.std.specs.Prelude.{◌≡◌, ℕ, zero, suc, ◌==◌, List, length, drop, Result, Ok, Err, if◌then◌else◌}
+use Rattle.smith_binary_read.specs.declared.error.Fault.{Fault}
+use Rattle.smith_binary_read.specs.declared.error.ReadError.{ReadError}
+use Rattle.smith_binary_read.specs.declared.error.Reason.TheVariants.{SectionOrder}
+use Rattle.smith_binary_read.specs.Readings.{Reading, ◌>>=◌, Fails, starts_with, fault_at}
+use Rattle.smith_binary_read.specs.Contents.{name_at, sized_at}
+
+-- the content of a custom section
+unfoldable pub custom_whole : List ℕ → Result (Unit {0}) Fault
+custom_whole bytes = name_at bytes >>= (λ name. Ok tt)
+
+-- the bytes after the custom sections in front, of which there are no more than `most`
+unfoldable pub skip_customs : ℕ → List ℕ → Result (List ℕ) Fault
+skip_customs zero bytes = Ok bytes
+skip_customs (suc most) bytes =
+    if starts_with 0 bytes then (sized_at custom_whole (drop 1 bytes) >>= (λ custom. skip_customs most custom.1)) else Ok bytes
+
+unfoldable pub customs_at : List ℕ → Result (List ℕ) Fault
+customs_at bytes = skip_customs (length bytes) bytes
+
+-- a section whose item is `none` if it is left out, then custom sections
+unfoldable pub section_at : {A : Type 0} → ℕ → A → (List ℕ → Result A Fault) → List ℕ → Reading A
+section_at id none read bytes =
+    if starts_with id bytes then (sized_at read (drop 1 bytes) >>= (λ item. customs_at item.1 >>= (λ rest. Ok (item.0, rest))))
+    else Ok (none, bytes)
+
+-- a section, then more
+abbrev pub more_at : {A B : Type 0} → ℕ → B → (List ℕ → Result B Fault) → (List ℕ → Result A Fault) → List ℕ → Result (B × A) Fault
+more_at id none content read bytes = section_at id none content bytes >>= (λ item. read item.1 >>= (λ x. Ok (item.0, x)))
+
+-- the end of a module
+unfoldable pub end_at : List ℕ → Result (Unit {0}) Fault
+end_at bytes = if length bytes == 0 then Ok tt else fault_at SectionOrder bytes
+
+-- a call left the bytes that are read, unless memory was refused
+abbrev pub GivesRest : Result (Unit {0}) ReadError → List ℕ → Result (List ℕ) Fault → Type 0
+GivesRest (Ok done) rest reading = reading ≡ Ok rest
+GivesRest (Err e) rest reading = Fails e reading

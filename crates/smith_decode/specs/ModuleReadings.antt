@@ -1,0 +1,137 @@
+-- Readings of modules: the section Binary Format, Modules, of the WebAssembly Core Specification 3.0.
+use Rattle.std.specs.Prelude.{◌≡◌, ◌-◌, ◌==◌, ◌&&◌, ℕ, Bool, true, if◌then◌else◌, List, [], ◌∷◌, length, Option, Some, None, Result, Ok}
+use Rattle.std.specs.Prelude.{Err}
+use Rattle.smith_syntax.specs.declared.composite_type.SubType.{SubType}
+use Rattle.smith_syntax.specs.declared.entity_type.MemoryType.{MemoryType}
+use Rattle.smith_syntax.specs.declared.imports.Imports.{Imports}
+use Rattle.smith_binary_read.specs.declared.data.DataSegment.{DataSegment}
+use Rattle.smith_binary_read.specs.declared.definitions.GlobalDefinition.{GlobalDefinition}
+use Rattle.smith_binary_read.specs.declared.definitions.TableDefinition.{TableDefinition}
+use Rattle.smith_binary_read.specs.declared.definitions.TagDefinition.{TagDefinition}
+use Rattle.smith_binary_read.specs.declared.elements.ElementSegment.{ElementSegment}
+use Rattle.smith_binary_read.specs.declared.error.Fault.{Fault}
+use Rattle.smith_binary_read.specs.declared.error.Reason.TheVariants.{UnknownByte, CountMismatch}
+use Rattle.smith_binary_read.specs.declared.exports.Export.{Export}
+use Rattle.smith_binary_read.specs.Readings.{◌>>=◌, fault_at, byte_at, mapped_at, whole_at}
+use Rattle.smith_binary_read.specs.Numbers.{unsigned_at}
+use Rattle.smith_binary_read.specs.Contents.{list_at}
+use Rattle.smith_binary_read.specs.TypeReadings.{group_at}
+use Rattle.smith_binary_read.specs.EntityReadings.{memory_type_at, export_at}
+use Rattle.smith_binary_read.specs.ImportReadings.{import_group_at}
+use Rattle.smith_binary_read.specs.DefinitionReadings.{tag_at, global_at, table_at}
+use Rattle.smith_binary_read.specs.ElementReadings as element
+use Rattle.smith_binary_read.specs.DataReadings as data_segment
+use Rattle.smith_decode.specs.declared.bodies.Body.{Body}
+use Rattle.smith_decode.specs.declared.error.DecodeError.{DecodeError}
+use Rattle.smith_decode.specs.declared.error.DecodeError.TheVariants.{Memory, Malformed}
+use Rattle.smith_decode.specs.declared.modules.Module.{Module}
+use Rattle.smith_decode.specs.BodyReadings.{body_at}
+use Rattle.smith_decode.specs.CustomReadings.{customs_at, end_at, more_at}
+
+-- these bytes
+abbrev pub literal_at : List ℕ → List ℕ → Result (List ℕ) Fault
+literal_at [] bytes = Ok bytes
+literal_at (byte ∷ literal) bytes =
+    byte_at bytes >>= (λ front. if front.0 == byte then literal_at literal front.1 else fault_at UnknownByte bytes)
+
+-- the magic number and the version
+abbrev pub preamble : List ℕ
+preamble = 0x00 ∷ 0x61 ∷ 0x73 ∷ 0x6D ∷ 0x01 ∷ 0x00 ∷ 0x00 ∷ 0x00 ∷ []
+
+unfoldable pub preamble_at : List ℕ → Result (List ℕ) Fault
+preamble_at bytes = literal_at preamble bytes
+
+-- a number that a section states (Start Section, Data Count Section)
+unfoldable pub index_whole : List ℕ → Result (Option ℕ) Fault
+index_whole bytes = whole_at (mapped_at (λ n. Some n) (unsigned_at 32)) bytes
+
+-- the parts of a module, from the last on: bodies and data segments; the number of data segments;
+-- the start function and element segments; globals and exports; memories and tags; functions and tables; types and
+-- imports
+abbrev pub Bodies : Type 0
+Bodies = List Body × (List DataSegment × Unit {0})
+
+abbrev pub Counts : Type 0
+Counts = Option ℕ × Bodies
+
+abbrev pub Starts : Type 0
+Starts = Option ℕ × (List ElementSegment × Counts)
+
+abbrev pub Globals : Type 0
+Globals = List GlobalDefinition × (List Export × Starts)
+
+abbrev pub Memories : Type 0
+Memories = List MemoryType × (List TagDefinition × Globals)
+
+abbrev pub Functions : Type 0
+Functions = List ℕ × (List TableDefinition × Memories)
+
+abbrev pub Parts : Type 0
+Parts = List (List SubType) × (List Imports × Functions)
+
+unfoldable pub bodies_at : List ℕ → Result Bodies Fault
+bodies_at bytes = more_at 10 [] (whole_at (list_at body_at)) (more_at 11 [] (whole_at (list_at data_segment.segment_at)) end_at) bytes
+
+unfoldable pub counts_at : List ℕ → Result Counts Fault
+counts_at bytes = more_at 12 None index_whole bodies_at bytes
+
+unfoldable pub starts_at : List ℕ → Result Starts Fault
+starts_at bytes = more_at 8 None index_whole (more_at 9 [] (whole_at (list_at element.segment_at)) counts_at) bytes
+
+unfoldable pub globals_at : List ℕ → Result Globals Fault
+globals_at bytes = more_at 6 [] (whole_at (list_at global_at)) (more_at 7 [] (whole_at (list_at export_at)) starts_at) bytes
+
+unfoldable pub memories_at : List ℕ → Result Memories Fault
+memories_at bytes = more_at 5 [] (whole_at (list_at memory_type_at)) (more_at 13 [] (whole_at (list_at tag_at)) globals_at) bytes
+
+unfoldable pub functions_at : List ℕ → Result Functions Fault
+functions_at bytes = more_at 3 [] (whole_at (list_at (unsigned_at 32))) (more_at 4 [] (whole_at (list_at table_at)) memories_at) bytes
+
+unfoldable pub parts_at : List ℕ → Result Parts Fault
+parts_at bytes = more_at 1 [] (whole_at (list_at group_at)) (more_at 2 [] (whole_at (list_at import_group_at)) functions_at) bytes
+
+-- a module, by its parts
+abbrev pub module_of : Parts → Module
+module_of p = record {
+  types = p.0;
+  imports = p.1.0;
+  functions = p.1.1.0;
+  tables = p.1.1.1.0;
+  memories = p.1.1.1.1.0;
+  tags = p.1.1.1.1.1.0;
+  globals = p.1.1.1.1.1.1.0;
+  exports = p.1.1.1.1.1.1.1.0;
+  start = p.1.1.1.1.1.1.1.1.0;
+  elements = p.1.1.1.1.1.1.1.1.1.0;
+  data_count = p.1.1.1.1.1.1.1.1.1.1.0;
+  bodies = p.1.1.1.1.1.1.1.1.1.1.1.0;
+  datas = p.1.1.1.1.1.1.1.1.1.1.1.1.0;
+}
+
+unfoldable pub sections_at : List ℕ → Result Module Fault
+sections_at bytes = parts_at bytes >>= (λ parts. Ok (module_of parts))
+
+-- whether there is a body for each function, and as many data segments as are stated, if their number
+-- is stated (Modules)
+abbrev pub is_number : Option ℕ → ℕ → Bool
+is_number None n = true
+is_number (Some stated) n = stated == n
+
+abbrev pub counts_agree : Module → Bool
+counts_agree m = (length m.functions == length m.bodies) && is_number m.data_count (length m.datas)
+
+-- a module, if its numbers of items agree: else a fault at the end (Modules)
+abbrev pub if_counts_agree : Module → Result Module Fault
+if_counts_agree m = if counts_agree m then Ok m else Err (record { left = 0; reason = CountMismatch })
+
+-- a module (Modules)
+unfoldable pub module_at : List ℕ → Result Module Fault
+module_at bytes = preamble_at bytes >>= (λ rest. customs_at rest >>= (λ settled. sections_at settled >>= (λ m. if_counts_agree m)))
+
+-- a call returned what is read of bytes, or the fault with its offset in them, unless memory was
+-- refused
+abbrev pub Locates : Result Module DecodeError → List ℕ → Result Module Fault → Type 0
+Locates (Ok m) bytes reading = reading ≡ Ok m
+Locates (Err Memory) bytes reading = Unit {0}
+Locates (Err (Malformed offset reason)) bytes reading =
+    (left : ℕ) × (reading ≡ Err (record { left = left; reason = reason })) × (offset ≡ length bytes - left)

@@ -1,0 +1,105 @@
+-- Modules with custom sections: the section Binary Format, Modules, of the WebAssembly Core
+-- Specification 3.0.
+use Rattle.std.specs.Prelude.{◌≡◌, ℕ, ◌^◌, ◌<◌, Option, Some, None, List, [], length, map, IfSome, Result, Ok, Err}
+use Rattle.smith_binary.specs.Numbers.{IsUnsigned}
+use Rattle.smith_binary.specs.Pieces.{Joined, IsList}
+use Rattle.smith_syntax.specs.declared.const_instr.ConstInstr.{ConstInstr}
+use Rattle.smith_syntax.specs.declared.entity_type.ExportKind.{ExportKind}
+use Rattle.smith_syntax.specs.declared.entity_type.GlobalType.{GlobalType}
+use Rattle.smith_syntax.specs.declared.entity_type.TableType.{TableType}
+use Rattle.smith_syntax.specs.declared.value_type.ValType.{ValType}
+use Rattle.smith_types.specs.Imports.{flattened}
+use Rattle.smith_binary_sections.specs.Types.{IsRecGroup}
+use Rattle.smith_binary_sections.specs.Instructions.{IsIndex}
+use Rattle.smith_binary_sections.specs.Entities.{IsMemoryType, IsTagType}
+use Rattle.smith_binary_sections.specs.Imports.{IsImports}
+use Rattle.smith_binary_sections.specs.Definitions.{IsTable, IsGlobal}
+use Rattle.smith_binary_sections.specs.Exports.{IsExport}
+use Rattle.smith_binary_sections.specs.Elements.{IsElem}
+use Rattle.smith_binary_sections.specs.Codes.{IsBody}
+use Rattle.smith_binary_sections.specs.Data.{IsData}
+use Rattle.smith_binary_sections.specs.Modules.{Contents, IsPreamble}
+use Rattle.smith_binary_read.specs.declared.definitions.GlobalDefinition.{GlobalDefinition}
+use Rattle.smith_binary_read.specs.declared.definitions.TableDefinition.{TableDefinition}
+use Rattle.smith_binary_read.specs.declared.definitions.TagDefinition.{TagDefinition}
+use Rattle.smith_binary_read.specs.declared.exports.Export.{Export}
+use Rattle.smith_binary_read.specs.DataReadings.{segment_view}
+use Rattle.smith_binary_read.specs.ElementReadings.{element_view}
+use Rattle.smith_decode.specs.declared.error.DecodeError.{DecodeError}
+use Rattle.smith_decode.specs.declared.error.DecodeError.TheVariants.{Memory, Malformed}
+use Rattle.smith_decode.specs.declared.modules.Module.{Module}
+use Rattle.smith_decode.specs.BodyReadings.{body_view}
+use Rattle.smith_decode.specs.Customs.{AreCustoms, IsThen}
+
+-- a number that a section states (Start Section, Data Count Section)
+pub record IsStated (stated : Option ℕ) (piece : List ℕ) : Type 0 where
+  pub number : ℕ
+  pub is : stated ≡ Some number
+  pub form : IsUnsigned 32 number piece
+
+-- a body of fewer than 2^32 locals (Code Section)
+abbrev pub IsCountedBody : List ValType × List ℕ → List ℕ → Type 0
+IsCountedBody body piece = (length body.0 < 2 ^ 32) × IsBody body piece
+
+-- the sections of a module that states this number of data segments, in order, with custom sections
+-- before, between and after them (Modules)
+abbrev pub AreSections : Contents → Option ℕ → List ℕ → Type 0
+AreSections m count =
+    IsThen 1 (m.types ≡ []) (IsList IsRecGroup m.types)
+    (IsThen 2 (m.imports ≡ []) (IsImports m.imports)
+    (IsThen 3 (m.functions ≡ []) (IsList IsIndex m.functions)
+    (IsThen 4 (m.tables ≡ []) (IsList IsTable m.tables)
+    (IsThen 5 (m.memories ≡ []) (IsList IsMemoryType m.memories)
+    (IsThen 13 (m.tags ≡ []) (IsList IsTagType m.tags)
+    (IsThen 6 (m.globals ≡ []) (IsList IsGlobal m.globals)
+    (IsThen 7 (m.exports ≡ []) (IsList IsExport m.exports)
+    (IsThen 8 (m.start ≡ None) (IsStated m.start)
+    (IsThen 9 (m.elems ≡ []) (IsList IsElem m.elems)
+    (IsThen 12 (count ≡ None) (IsStated count)
+    (IsThen 10 (m.bodies ≡ []) (IsList IsCountedBody m.bodies)
+    (IsThen 11 (m.datas ≡ []) (IsList IsData m.datas) AreCustoms))))))))))))
+
+-- a module: the preamble, then its sections; it has a body for each function, and as many data
+-- segments as it states, if it states their number (Modules)
+pub record IsModuleBinary (m : Contents) (bytes : List ℕ) : Type 0 where
+  pub count : Option ℕ
+  pub form : Joined IsPreamble (AreSections m count) bytes
+  pub bodies : length m.functions ≡ length m.bodies
+  pub datas : IfSome count (λ stated. stated ≡ length m.datas)
+
+-- tables, tags, globals and exports in the abstract syntax (Structure, Modules)
+abbrev pub table_pair : TableDefinition → TableType × List ConstInstr
+table_pair table = (table.ty, table.initial)
+
+abbrev pub tag_index : TagDefinition → ℕ
+tag_index tag = tag.0
+
+abbrev pub global_pair : GlobalDefinition → GlobalType × List ConstInstr
+global_pair global = (global.ty, global.initial)
+
+abbrev pub export_triple : Export → List ℕ × ExportKind × ℕ
+export_triple item = (item.name, item.kind, item.index)
+
+-- a decoded module in the abstract syntax (Structure, Modules): imports one by one, locals one by one,
+-- and functions in element segments as expressions
+abbrev pub contents_of : Module → Contents
+contents_of m = record {
+  types = m.types;
+  imports = flattened m.imports;
+  functions = m.functions;
+  tables = map table_pair m.tables;
+  memories = m.memories;
+  tags = map tag_index m.tags;
+  globals = map global_pair m.globals;
+  exports = map export_triple m.exports;
+  start = m.start;
+  elems = map element_view m.elements;
+  bodies = map body_view m.bodies;
+  datas = map segment_view m.datas;
+}
+
+-- a call returned this module, or memory was refused
+abbrev pub Returns : Contents → Result Module DecodeError → Type 0
+Returns m (Ok decoded) = contents_of decoded ≡ m
+Returns m (Err Memory) = Unit {0}
+Returns m (Err (Malformed offset reason)) = ⊥
