@@ -113,7 +113,7 @@ pub(crate) fn choose_of_reference(draft: &Draft, u: &mut Unstructured<'_>) -> Op
 }
 
 /// Chooses a branch on null that leaves a reference of the type `wanted` if it is not taken.
-#[tactic(auto, unfolding(smith_body_reference_branches::specs::NullChoices::br_on_null_value_at))]
+#[tactic(auto, unfolding(crate::specs::NullChoices::br_on_null_value_at))]
 pub fn choose_kept(
     alloc: Global,
     scope: &Scope<'_>,
