@@ -234,11 +234,24 @@ fn write_module(
             write_whole_file(rt, path.as_str(), bytes.as_slice())?;
             Ok(Written::Bytes(bytes.len()))
         }
-        Err(Failure::Refused(refusal)) if refusal.status() != NO_MEMORY => {
-            Ok(Written::Refused(refusal))
-        }
-        Err(failure) => Err(failure),
+        Err(failure) => unless_refused(failure),
     }
+}
+
+/// Returns a refusal as what became of an input, and any other failure as it is.
+fn unless_refused(failure: Failure) -> Result<Written, Failure> {
+    match failure {
+        Failure::Refused(refusal) => unless_no_memory(refusal),
+        other => Err(other),
+    }
+}
+
+/// Returns `refusal` as what became of an input, unless memory ran out.
+fn unless_no_memory(refusal: Refusal) -> Result<Written, Failure> {
+    if refusal.status() == NO_MEMORY {
+        return Err(Failure::Refused(refusal));
+    }
+    Ok(Written::Refused(refusal))
 }
 
 fn ending_of(form: Form) -> &'static str {
