@@ -5,7 +5,7 @@ ghost use Rattle.smith_request.specs.Requests.{HasProgram};
 ghost use Rattle.smith_request.specs.Refusals.{IsRefusal, IsNotTooLong};
 
 use crate::refusal::Refusal;
-use crate::writers::{write_binary, write_text};
+use crate::writers::write_text;
 use smith_bytes::{Error, Unstructured};
 use smith_config::Config;
 use smith_program::Program;
@@ -74,11 +74,16 @@ pub fn binary(alloc: Global, text: &[u8], input: &[u8]) -> Result<Vec<u8>, Refus
     ensures refused { IfErr result (λ refusal. IsRefusal text.now input.now refusal) }
 {
     match program(alloc, text, input) {
-        Ok(program) => {
-            let bytes = write_binary(alloc, &program);
-            drop(program);
-            bytes
-        }
+        Ok(program) => match smith_binary_program::encode(alloc, &program) {
+            Ok(bytes) => {
+                drop(program);
+                Ok(bytes)
+            }
+            Err(fault) => {
+                drop(program);
+                Err(Refusal::Encoding(fault))
+            }
+        },
         Err(refusal) => Err(refusal),
     }
 }
