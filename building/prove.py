@@ -43,10 +43,10 @@ def build_words(kit: pathlib.Path) -> list:
     ours = dependencies()
     words = ["--extern", f"std={kit}/rlibs/std.rlib", "-L", f"dependency={kit}/rlibs"]
     for name in ours[LIBRARY]:
-        is_ours = name in ours
-        library = require(name, f"rlib/{name}.rlib") if is_ours else kit / f"rlibs/{name}.rlib"
+        library = require(name, f"rlib/{name}.rlib") if name in ours else kit / f"rlibs/{name}.rlib"
         words += ["--extern", f"{name}={library}"]
-        words += ["-L", f"dependency={library.parent}"] * is_ours
+    for name in below(LIBRARY):
+        words += ["-L", f"dependency={require(name, f'rlib/{name}.rlib').parent}"]
     return words
 
 
