@@ -16,7 +16,8 @@
  * Any number of threads may call at the same time, each with a buffer of its own. A call allocates with malloc, which must be
  * thread-safe then and align as for max_align_t, and frees all that it allocated with free of the same allocator. Do not call from a
  * signal handler, nor in the child of a process that had several threads when it forked. The stack grows with the depth of blocks in
- * bodies, which is bounded: 64 KiB were enough for all that was tried. The usual 8 MiB are more than enough.
+ * bodies, which is bounded: a thread of 96 KiB was enough for 1,800 inputs under six configurations, and one of 64 KiB was not. Give it
+ * the usual 8 MiB.
  *
  * The processor must have the instructions of x86-64-v2, as SSE4.2 and POPCNT. Neither library checks that.
  *
@@ -63,7 +64,7 @@ struct smith_answer smith_binary(const uint8_t *config, size_t config_length,
                                  const uint8_t *input, size_t input_length,
                                  uint8_t *out, size_t out_length);
 
-/* Writes the module in the text format. The status is any of the above but SMITH_TOO_LONG. */
+/* Writes the module in the text format. The status is SMITH_TOO_LONG only if no index is left for the counter of fuel. */
 struct smith_answer smith_text(const uint8_t *config, size_t config_length,
                                const uint8_t *input, size_t input_length,
                                uint8_t *out, size_t out_length);
