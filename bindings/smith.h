@@ -27,9 +27,9 @@
  * typed over it. smith_binary writes a binary of it. All this is proved for every input. Nothing checks that a caller in C keeps
  * the rules above.
  *
- * A function may run forever, even the start function. The member {"fuel": N} adds a global that counts down from N, at each call and at each
- * iteration of a loop, and a trap at 0. {"max-instructions": 0} makes every body but raw ones `unreachable`. Else whoever instantiates a
- * module should set a time limit.
+ * A function may run forever, even the start function. The member {"fuel": N} adds a global that counts down from N, at each call and at
+ * each iteration of a loop, and a trap at 0. {"max-instructions": 0} makes every body but raw ones `unreachable`. Else whoever
+ * instantiates a module should set a time limit.
  */
 #ifndef SMITH_H
 #define SMITH_H
